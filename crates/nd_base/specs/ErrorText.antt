@@ -1,0 +1,17 @@
+-- What a refusal prints.
+use Rattle.std.specs.Prelude.{ℕ, List, ◌++◌, codes}
+use Rattle.nd_base.specs.declared.error.ErrorKind.{ErrorKind}
+use Rattle.nd_base.specs.declared.error.ErrorKind.TheVariants.{IncompatibleShape, IncompatibleLayout, RangeLimited, OutOfBounds, Unsupported, Overflow}
+
+-- the name of a kind and its sentence
+abbrev pub kind_text : ErrorKind → List ℕ
+kind_text IncompatibleShape = codes "IncompatibleShape: incompatible shapes"
+kind_text IncompatibleLayout = codes "IncompatibleLayout: incompatible memory layout"
+kind_text RangeLimited = codes "RangeLimited: the shape does not fit in type limits"
+kind_text OutOfBounds = codes "OutOfBounds: out of bounds indexing"
+kind_text Unsupported = codes "Unsupported: unsupported operation"
+kind_text Overflow = codes "Overflow: arithmetic overflow"
+
+-- the whole text of a refusal
+abbrev pub shape_error_text : ErrorKind → List ℕ
+shape_error_text kind = codes "ShapeError/" ++ kind_text kind

@@ -1,0 +1,12 @@
+-- What the type of a dimension says of its lists: how many lengths, and whether they need memory.
+use Rattle.std.specs.Prelude.{◌≡◌, ℕ, ◌≤◌, Option, Some, None}
+
+-- n is a count of axes that the type allows
+abbrev pub IsCount : Option ℕ → ℕ → Type 0
+IsCount None n = Unit {0}
+IsCount (Some k) n = n ≡ k
+
+-- a list of n lengths is kept in the value itself
+abbrev pub NeedsNoMemory : Option ℕ → ℕ → Type 0
+NeedsNoMemory None n = n ≤ 4
+NeedsNoMemory (Some k) n = Unit {0}

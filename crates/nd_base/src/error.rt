@@ -1,0 +1,127 @@
+//! Why a shape, a layout or a call on it is refused.
+ghost use Rattle.std.specs.Prelude.{◌≡◌, Some};
+ghost use Rattle.nd_base.specs.ErrorText.{shape_error_text};
+
+use std::alloc::AllocError;
+use std::error::Error;
+use std::fmt;
+use std::marker::Model;
+
+/// The kinds of fault that a shape or a layout can have. Upstream's `ErrorKind`.
+#[derive(Clone, Copy, PartialEq, Debug)]
+pub enum ErrorKind {
+    /// Counts of axes or lengths do not go together.
+    IncompatibleShape,
+    /// The strides do not go with the shape, or with the data as it lies.
+    IncompatibleLayout,
+    /// A number does not fit the type that it is for; no call of this layer answers it.
+    RangeLimited,
+    /// An index, or a layout as a whole, leaves its bounds.
+    OutOfBounds,
+    /// What is asked for is not offered.
+    Unsupported,
+    /// A size or a span passes the greatest `isize`.
+    Overflow,
+}
+
+/// A refusal, with its kind. Upstream's `ShapeError`.
+#[derive(Clone, PartialEq, Drop)]
+pub struct ShapeError {
+    repr: ErrorKind,
+}
+
+impl Model for ShapeError {
+    ghost use Rattle.nd_base.specs.declared.error.ErrorKind.{ErrorKind};
+
+    ghost Value = { ErrorKind };
+
+    ghost view = { λ e. e.repr };
+
+    ghost inverse = { λ kind. record { repr = kind } };
+}
+
+impl ShapeError {
+    /// What kind of refusal it is.
+    #[inline]
+    pub fn kind(&self) -> ErrorKind
+        ensures { result ≡ self.now }
+    {
+        self.repr
+    }
+
+    /// The refusal of a kind.
+    pub fn from_kind(error: ErrorKind) -> Self
+        ensures { result ≡ error }
+    {
+        from_kind(error)
+    }
+}
+
+/// The refusal of a kind. Upstream's `from_kind`.
+pub fn from_kind(kind: ErrorKind) -> ShapeError
+    ensures { result ≡ kind }
+{
+    ShapeError { repr: kind }
+}
+
+/// What the refusal of a kind prints.
+fn text_of(kind: ErrorKind) -> &'static str
+    ensures { result.now ≡ shape_error_text kind }
+{
+    match kind {
+        ErrorKind::IncompatibleShape => "ShapeError/IncompatibleShape: incompatible shapes",
+        ErrorKind::IncompatibleLayout =>
+            "ShapeError/IncompatibleLayout: incompatible memory layout",
+        ErrorKind::RangeLimited => "ShapeError/RangeLimited: the shape does not fit in type limits",
+        ErrorKind::OutOfBounds => "ShapeError/OutOfBounds: out of bounds indexing",
+        ErrorKind::Unsupported => "ShapeError/Unsupported: unsupported operation",
+        ErrorKind::Overflow => "ShapeError/Overflow: arithmetic overflow",
+    }
+}
+
+impl fmt::Display for ShapeError {
+    ghost output = { λ e. Some (shape_error_text e) };
+
+    fn fmt<W: fmt::Write>(&self, f: &mut fmt::Formatter<W>) -> fmt::Result {
+        f.write_str(text_of(self.repr))
+    }
+}
+
+impl fmt::Debug for ShapeError {
+    ghost debug_output = { λ e. Some (shape_error_text e) };
+
+    fn fmt<W: fmt::Write>(&self, f: &mut fmt::Formatter<W>) -> fmt::Result {
+        fmt::Display::fmt(self, f)
+    }
+}
+
+impl Error for ShapeError {}
+
+/// Why a call that makes a layout was refused: by a rule, or for want of memory.
+#[derive(Debug, Drop)]
+pub enum LayoutError {
+    /// A rule refuses it.
+    Shape(ShapeError),
+    /// A growth was refused.
+    Memory(AllocError),
+}
+
+impl From<ShapeError> for LayoutError {
+    ghost use Rattle.nd_base.specs.declared.error.LayoutError.TheVariants.{Shape};
+
+    ghost from_gives = { λ fault error. error ≡ Shape fault };
+
+    fn from(error: ShapeError) -> Self {
+        LayoutError::Shape(error)
+    }
+}
+
+impl From<AllocError> for LayoutError {
+    ghost use Rattle.nd_base.specs.declared.error.LayoutError.TheVariants.{Memory};
+
+    ghost from_gives = { λ fault error. error ≡ Memory fault };
+
+    fn from(error: AllocError) -> Self {
+        LayoutError::Memory(error)
+    }
+}

@@ -1,0 +1,32 @@
+//! A stride is kept as a `usize` and means the `isize` of the same bits.
+ghost use Rattle.std.specs.Prelude.{◌≡◌, ◌<◌, ◌^◌, pos, ◌*ℤ◌};
+ghost use Rattle.std.specs.Int.RustNames.{FitsSigned};
+ghost use Rattle.std.specs.Int.{w64};
+ghost use Rattle.nd_base.specs.Signed.{signed as signed_reading, unsigned as unsigned_bits};
+
+/// What a kept stride means: the signed number of the same 64 bits.
+#[inline]
+pub const fn signed(stride: usize) -> isize
+    ensures { result ≡ signed_reading stride }
+{
+    stride.cast_signed()
+}
+
+/// How a signed stride is kept: the unsigned number of the same 64 bits.
+#[inline]
+pub const fn unsigned(stride: isize) -> usize
+    ensures { result ≡ unsigned_bits stride }
+{
+    stride.cast_unsigned()
+}
+
+/// How many elements lie between the first entry of an axis and its entry `n`: `n` times the stride, with
+/// its sign. Upstream's `stride_offset`.
+#[inline]
+pub fn stride_offset(n: usize, stride: usize) -> isize
+    requires small { n < 2 ^ 63 }
+    requires fits { FitsSigned w64 (pos n *ℤ signed_reading stride) }
+    ensures { result ≡ pos n *ℤ signed_reading stride }
+{
+    n as isize * signed(stride)
+}

@@ -1,0 +1,10 @@
+-- The product so far fits, and times that of the lengths still to come it is that of all.
+use Rattle.std.proofs.Common.{◌≡◌, ◌<◌, ◌*◌, ◌^◌, drop}
+use Rattle.nd_base.specs.Size.{size}
+use Rattle.nd_dim.proofs.sizes.checked_size.Given as goal
+
+abbrev pub invariant-loop-len : goal.invariant-loop-len
+invariant-loop-len l = record {
+  fits : l.size < 2 ^ 64;
+  product : l.size * size (drop l.len-index l.lens) ≡ size l.lens;
+}

@@ -1,0 +1,11 @@
+//! A `Dimension` is one list of lengths: what all shapes and indices share, whatever their type.
+#![tactic(auto)]
+
+mod dimension;
+mod sizes;
+
+pub use dimension::Dimension;
+pub use nd_base::{
+    Axis, Dim, ErrorKind, FixedCount, Ix1, Ix2, LayoutError, Lengths, Order, ShapeError, from_kind,
+    new_ix1, new_ix2, signed, stride_offset, unsigned,
+};
