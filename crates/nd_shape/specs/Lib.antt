@@ -1,0 +1,5 @@
+pub mod Acceptance
+pub mod OwnedRule
+pub mod Place
+pub mod Span
+pub mod ValidLayout

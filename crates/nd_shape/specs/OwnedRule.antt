@@ -1,0 +1,42 @@
+-- The written rule under which no two indices of a layout share a place. It is stricter than that.
+use Rattle.std.specs.Prelude.{◌≡◌, ℕ, ◌<◌, ℤ, pos, negsuc, Bool, true, false, ◌||◌, nat_le, nat_lt, if◌then◌else◌, List, [], ◌∷◌, length, remove, slice_index, slice_index_or, refl}
+use Rattle.std.specs.List.{list_all, range_with_len}
+use Rattle.nd_base.specs.Signed.{magnitude}
+use Rattle.nd_shape.specs.Span.{reach, sum_over_axes}
+
+-- the summed spans of the axes whose strides are of magnitude at most m
+abbrev pub span_up_to : ℕ → List ℕ → List ℤ → ℕ
+span_up_to m shape strides = sum_over_axes (λ len stride. if nat_le (magnitude stride) m then reach len stride else 0) shape strides
+
+-- the magnitude of the stride of an axis
+abbrev pub magnitude_at : List ℤ → ℕ → ℕ
+magnitude_at strides axis = magnitude (slice_index_or strides axis (pos 0))
+
+-- the summed spans of all other axes whose strides are of no greater magnitude
+abbrev pub span_of_others : List ℕ → List ℤ → ℕ → ℕ
+span_of_others shape strides axis = span_up_to (magnitude_at strides axis) (remove shape axis) (remove strides axis)
+
+-- the axis has at most one entry, or its stride steps over all that those others span
+abbrev pub steps_over_others : List ℕ → List ℤ → ℕ → Bool
+steps_over_others shape strides axis = nat_le (slice_index shape axis) 1 || nat_lt (span_of_others shape strides axis) (magnitude_at strides axis)
+
+-- every axis does
+abbrev pub meets_owned_rule : List ℕ → List ℤ → Bool
+meets_owned_rule shape strides = list_all (steps_over_others shape strides) (range_with_len 0 (length shape))
+
+-- the same as a fact
+abbrev pub MeetsOwnedRule : List ℕ → List ℤ → Type 0
+MeetsOwnedRule shape strides = (axis : ℕ) → axis < length shape → 1 < slice_index shape axis → span_of_others shape strides axis < magnitude_at strides axis
+
+-- examples
+row_major_rule : meets_owned_rule (2 ∷ 3 ∷ 2 ∷ []) (pos 6 ∷ negsuc 1 ∷ pos 1 ∷ []) ≡ true
+row_major_rule = refl
+
+too_tight : meets_owned_rule (2 ∷ 3 ∷ 2 ∷ []) (negsuc 4 ∷ pos 2 ∷ negsuc 0 ∷ []) ≡ false
+too_tight = refl
+
+equal_strides : meets_owned_rule (2 ∷ 2 ∷ []) (pos 1 ∷ pos 1 ∷ []) ≡ false
+equal_strides = refl
+
+distinct_but_refused : meets_owned_rule (3 ∷ 2 ∷ []) (pos 2 ∷ pos 3 ∷ []) ≡ false
+distinct_but_refused = refl

@@ -1,0 +1,65 @@
+-- What a slice picks of an axis.
+use Rattle.std.specs.Prelude.{◌≡◌, ℕ, ◌-◌, zero, suc, ℤ, pos, negsuc, ◌+ℤ◌, Bool, false, nat_le, nat_lt, Some, None, List, [], ◌∷◌, reverse, refl}
+use Rattle.std.specs.Option.{option_map_or}
+use Rattle.std.specs.List.{range_with_len}
+use Rattle.nd_base.specs.Signed.{magnitude}
+use Rattle.nd_slice.specs.declared.slice.Slice.{Slice}
+
+-- the number that a bound or an index means on an axis of length len: a negative one counts from the end
+abbrev pub meaning : ℕ → ℤ → ℤ
+meaning len (pos bound) = pos bound
+meaning len (negsuc bound) = pos len +ℤ negsuc bound
+
+-- a number from 0 to len, where a range may begin or end
+abbrev pub is_bound : ℕ → ℤ → Bool
+is_bound len (pos bound) = nat_le bound len
+is_bound len (negsuc bound) = false
+
+-- a number from 0 to len - 1, where an entry is
+abbrev pub is_entry : ℕ → ℤ → Bool
+is_entry len (pos index) = nat_lt index len
+is_entry len (negsuc index) = false
+
+-- where the range of a slice begins
+abbrev pub start_meaning : ℕ → Slice → ℤ
+start_meaning len slice = meaning len slice.start
+
+-- the number that it stops before: a missing end is the end of the axis
+abbrev pub end_meaning : ℕ → Slice → ℤ
+end_meaning len slice = option_map_or (meaning len) slice.end (pos len)
+
+-- from one number up to, not including, another
+abbrev pub range : ℕ → ℕ → List ℕ
+range start end = range_with_len start (end - start)
+
+-- the items at positions step apart, after so many to pass over
+abbrev pub every_after : ℕ → ℕ → List ℕ → List ℕ
+every_after step skip [] = []
+every_after step zero (item ∷ items) = item ∷ every_after step (step - 1) items
+every_after step (suc skip) (item ∷ items) = every_after step skip items
+
+-- the items whose positions are multiples of step
+abbrev pub every : ℕ → List ℕ → List ℕ
+every step items = every_after step 0 items
+
+-- in the direction of a step
+abbrev pub directed : ℤ → List ℕ → List ℕ
+directed (pos step) items = items
+directed (negsuc step) items = reverse items
+
+-- what a slice that fits picks, in order
+abbrev pub picks : ℕ → Slice → List ℕ
+picks len slice = every (magnitude slice.step) (directed slice.step (range (magnitude (start_meaning len slice)) (magnitude (end_meaning len slice))))
+
+-- examples
+from_the_back : picks 4 (record { start = pos 1; end = None; step = negsuc 1 }) ≡ 3 ∷ 1 ∷ []
+from_the_back = refl
+
+from_the_front : picks 10 (record { start = pos 1; end = Some (pos 8); step = pos 3 }) ≡ 1 ∷ 4 ∷ 7 ∷ []
+from_the_front = refl
+
+end_before_start : picks 4 (record { start = pos 3; end = Some (pos 1); step = pos 1 }) ≡ []
+end_before_start = refl
+
+from_the_end : picks 10 (record { start = negsuc 8; end = Some (negsuc 1); step = negsuc 2 }) ≡ 7 ∷ 4 ∷ 1 ∷ []
+from_the_end = refl

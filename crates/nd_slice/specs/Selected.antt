@@ -1,0 +1,20 @@
+-- Which index of the old shape an index of the slice stands for.
+use Rattle.std.specs.Prelude.{◌≡◌, ℕ, pos, negsuc, None, List, [], ◌∷◌, slice_index, refl}
+use Rattle.nd_base.specs.Signed.{magnitude}
+use Rattle.nd_slice.specs.declared.slice.SliceInfoElem.{SliceInfoElem}
+use Rattle.nd_slice.specs.declared.slice.SliceInfoElem.TheVariants as elem
+use Rattle.nd_slice.specs.Picks.{meaning, picks}
+
+-- a slice takes the next entry j and gives its j-th pick; an index gives itself; a new axis takes an entry and gives nothing
+abbrev pub selected : List SliceInfoElem → List ℕ → List ℕ → List ℕ
+selected [] shape index = []
+selected (elem.NewAxis ∷ elems) shape [] = []
+selected (elem.NewAxis ∷ elems) shape (j ∷ index) = selected elems shape index
+selected (elem.Slice start end step ∷ elems) (len ∷ shape) (j ∷ index) = slice_index (picks len (record { start = start; end = end; step = step })) j ∷ selected elems shape index
+selected (elem.Index i ∷ elems) (len ∷ shape) index = magnitude (meaning len i) ∷ selected elems shape index
+selected (elem.Slice start end step ∷ elems) shape index = []
+selected (elem.Index i ∷ elems) shape index = []
+
+-- examples
+of_a_row : selected (elem.Index (negsuc 0) ∷ elem.Slice (pos 1) None (negsuc 0) ∷ []) (2 ∷ 3 ∷ []) (0 ∷ []) ≡ 1 ∷ 2 ∷ []
+of_a_row = refl

@@ -1,0 +1,35 @@
+//! Slices of one axis, and the elements of a whole slice argument.
+
+/// A range of an axis with a step. A negative bound counts from the end of the axis, no end is the end of
+/// the axis, and a negative step begins at the back of the range. Upstream's `Slice`.
+#[derive(Clone, Copy, PartialEq, Eq, Hash, Debug)]
+pub struct Slice {
+    /// The first entry of the range.
+    pub start: isize,
+    /// The entry that the range stops before.
+    pub end: Option<isize>,
+    /// How many entries on the next pick lies; not 0.
+    pub step: isize,
+}
+
+/// A new axis of length 1. Upstream's `NewAxis`.
+#[derive(Clone, Copy, Debug)]
+pub struct NewAxis;
+
+/// One element of a slice argument. Upstream's `SliceInfoElem`.
+#[derive(Clone, Copy, PartialEq, Eq, Hash, Debug)]
+pub enum SliceInfoElem {
+    /// A range with a step, which keeps the axis.
+    Slice {
+        /// The first entry of the range.
+        start: isize,
+        /// The entry that the range stops before.
+        end: Option<isize>,
+        /// How many entries on the next pick lies.
+        step: isize,
+    },
+    /// One entry; the axis goes.
+    Index(isize),
+    /// A new axis of length 1.
+    NewAxis,
+}

@@ -1,0 +1,2 @@
+//! Views: shapes with strides and a start, as functions from indices to places.
+#![tactic(auto)]
