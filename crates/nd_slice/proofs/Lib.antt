@@ -1,1 +1,3 @@
+pub mod Axis
 pub mod Picks
+pub mod Times
