@@ -59,3 +59,55 @@ pub fn to_abs_slice(len: usize, slice: Slice) -> Result<(usize, usize, isize), S
     }
     Ok((start, end.max(start), slice.step))
 }
+
+/// How many entries a step picks between two bounds.
+fn pick_count(start: usize, end: usize, step: isize) -> usize
+    requires order { start ≤ end }
+    requires moves { 0 < magnitude step }
+    ensures { result ≡ length (every (magnitude step) (directed step (range start end))) }
+{
+    (end - start).div_ceil(step.unsigned_abs())
+}
+
+/// The entry that a step picks first between two bounds: the last one for a step back.
+fn first_pick(start: usize, end: usize, step: isize) -> usize
+    requires order { start < end }
+    requires moves { 0 < magnitude step }
+    ensures { result ≡ slice_index (every (magnitude step) (directed step (range start end))) 0 }
+{
+    if step < 0 { end - 1 } else { start }
+}
+
+/// The stride of `count` entries that lie `step` entries of an axis of a stride apart; at most one needs none.
+fn stepped_stride(count: usize, stride: usize, step: isize) -> usize
+    requires { 1 < count → FitsSigned w64 (signed_reading stride *ℤ step) }
+    ensures { signed_reading result ≡ picked_stride count (signed_reading stride) step }
+{
+    if count <= 1 { 0 } else { unsigned(signed(stride) * step) }
+}
+
+/// Slices one axis in place: its length becomes the number of entries picked and its stride the distance in
+/// elements from one of them to the next, 0 where there is at most one. Answers how many elements the first
+/// of them lies behind the first entry, 0 where there is none. Refused as `to_abs_slice` is, and then the
+/// length and the stride stay. Upstream's `do_slice`.
+pub fn do_slice(dim: &mut usize, stride: &mut usize, slice: Slice) -> Result<isize, ShapeError>
+    requires len_fits { dim.old < 2 ^ 63 }
+    requires span_fits { reach dim.old (signed_reading stride.old) ≤ limit }
+    ensures fault { result_err result ≡ slice_fault dim.old slice }
+    ensures len { OnOk result (dim.new ≡ length (picks dim.old slice)) }
+    ensures stride { OnOk result (signed_reading stride.new ≡ picked_stride (length (picks dim.old slice)) (signed_reading stride.old) slice.step) }
+    ensures offset { IfOk result (λ offset. offset ≡ first_offset (picks dim.old slice) (signed_reading stride.old)) }
+    ensures steps { IfOk result (λ offset. (j : ℕ) → j < dim.new → pos (slice_index (picks dim.old slice) j) *ℤ signed_reading stride.old ≡ offset +ℤ (pos j *ℤ signed_reading stride.new)) }
+    ensures within { OnOk result ((j : ℕ) → j < dim.new → slice_index (picks dim.old slice) j < dim.old) }
+    ensures refusal { OnErr result ((dim.new ≡ dim.old) × (stride.new ≡ stride.old)) }
+{
+    let (start, end, step) = to_abs_slice(*dim, slice)?;
+    let offset = if start < end {
+        stride_offset(first_pick(start, end, step), *stride)
+    } else {
+        0
+    };
+    *dim = pick_count(start, end, step);
+    *stride = stepped_stride(*dim, *stride, step);
+    Ok(offset)
+}
