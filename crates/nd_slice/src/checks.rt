@@ -1,0 +1,76 @@
+//! Which slice arguments fit a shape.
+ghost use Rattle.std.specs.Prelude.{◌≡◌};
+ghost use Rattle.std.specs.Result.{result_err};
+ghost use Rattle.nd_slice.specs.SliceFault.{argument_fault, index_fault, in_count, out_count};
+
+use crate::axis_slice::to_abs_slice;
+use crate::elems::SliceElems;
+use crate::slice::{Slice, SliceInfoElem};
+use nd_base::{ErrorKind, Lengths, ShapeError, from_kind};
+use nd_dim::Dimension;
+
+/// How many axes of a shape a slice argument is for: one for each element but a new axis. Upstream's
+/// `in_ndim` of `SliceArg`.
+pub fn in_ndim_of(list: &[SliceInfoElem]) -> usize
+    ensures { result ≡ in_count list.now }
+{
+    list.iter()
+        .filter(|elem| !matches!(elem, SliceInfoElem::NewAxis))
+        .count()
+}
+
+/// How many axes it leaves: one for each element but an index. Upstream's `out_ndim` of `SliceArg`.
+pub fn out_ndim_of(list: &[SliceInfoElem]) -> usize
+    ensures { result ≡ out_count list.now }
+{
+    list.iter()
+        .filter(|elem| !matches!(elem, SliceInfoElem::Index(_)))
+        .count()
+}
+
+/// An index on an axis of `len` entries, from `-len` to `len - 1`; any other is `OutOfBounds`.
+fn check_index(len: usize, index: isize) -> Result<(), ShapeError>
+    ensures { result_err result ≡ index_fault len index }
+{
+    let distance = index.unsigned_abs();
+    if distance < len || (distance == len && index < 0) {
+        Ok(())
+    } else {
+        Err(from_kind(ErrorKind::OutOfBounds))
+    }
+}
+
+/// Whether the elements fit lengths, of axes in order. Refused with `IncompatibleShape` where they are for
+/// more axes or fewer; otherwise as the first element at fault is: a bound or an index that is not on its
+/// axis is `OutOfBounds`, and a step of 0 on a range that is is `Unsupported`.
+pub fn check_elems(shape: &[usize], elems: &[SliceInfoElem]) -> Result<(), ShapeError>
+    ensures { result_err result ≡ argument_fault shape.now elems.now }
+{
+    if in_ndim_of(elems) != shape.len() {
+        return Err(from_kind(ErrorKind::IncompatibleShape));
+    }
+    let mut axis = 0;
+    for elem in elems {
+        match *elem {
+            SliceInfoElem::Slice { start, end, step } => {
+                to_abs_slice(shape[axis], Slice { start, end, step })?;
+                axis += 1;
+            }
+            SliceInfoElem::Index(index) => {
+                check_index(shape[axis], index)?;
+                axis += 1;
+            }
+            SliceInfoElem::NewAxis => {}
+        }
+    }
+    Ok(())
+}
+
+/// Whether a slice argument fits a shape; refused as `check_elems` is. For the panics of upstream's
+/// `slice_collapse`.
+#[inline]
+pub fn check_slice<D: Dimension, S: SliceElems>(dim: &D, slices: &S) -> Result<(), ShapeError>
+    ensures { result_err result ≡ argument_fault (D.list dim.now) (S.list slices.now) }
+{
+    check_elems(dim.slice(), slices.elems())
+}
