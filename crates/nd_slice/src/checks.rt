@@ -10,7 +10,7 @@ use nd_base::{ErrorKind, Lengths, ShapeError, from_kind};
 use nd_dim::Dimension;
 
 /// How many axes of a shape a slice argument is for: one for each element but a new axis. Upstream's
-/// `in_ndim` of `SliceArg`.
+/// `SliceArg::in_ndim`.
 pub fn in_ndim_of(list: &[SliceInfoElem]) -> usize
     ensures { result ≡ in_count list.now }
 {
@@ -19,7 +19,8 @@ pub fn in_ndim_of(list: &[SliceInfoElem]) -> usize
         .count()
 }
 
-/// How many axes it leaves: one for each element but an index. Upstream's `out_ndim` of `SliceArg`.
+/// How many axes a slice argument leaves: one for each element but an index. Upstream's
+/// `SliceArg::out_ndim`.
 pub fn out_ndim_of(list: &[SliceInfoElem]) -> usize
     ensures { result ≡ out_count list.now }
 {
@@ -28,7 +29,8 @@ pub fn out_ndim_of(list: &[SliceInfoElem]) -> usize
         .count()
 }
 
-/// An index on an axis of `len` entries, from `-len` to `len - 1`; any other is `OutOfBounds`.
+/// Whether an index is on an axis of `len` entries, from `-len` to `len - 1`; any other is
+/// `OutOfBounds`.
 fn check_index(len: usize, index: isize) -> Result<(), ShapeError>
     ensures { result_err result ≡ index_fault len index }
 {
@@ -40,9 +42,10 @@ fn check_index(len: usize, index: isize) -> Result<(), ShapeError>
     }
 }
 
-/// Whether the elements fit lengths, of axes in order. Refused with `IncompatibleShape` where they are for
-/// more axes or fewer; otherwise as the first element at fault is: a bound or an index that is not on its
-/// axis is `OutOfBounds`, and a step of 0 on a range that is is `Unsupported`.
+/// Whether the elements of a slice argument fit the lengths of a shape. Refused with
+/// `IncompatibleShape` where they are for more axes or fewer; otherwise as the first element at fault
+/// is: with `OutOfBounds` for a bound or an index that is not on its axis, then with `Unsupported`
+/// for a step of 0. For the panics of upstream's `slice_collapse`.
 pub fn check_elems(shape: &[usize], elems: &[SliceInfoElem]) -> Result<(), ShapeError>
     ensures { result_err result ≡ argument_fault shape.now elems.now }
 {
@@ -66,11 +69,47 @@ pub fn check_elems(shape: &[usize], elems: &[SliceInfoElem]) -> Result<(), Shape
     Ok(())
 }
 
-/// Whether a slice argument fits a shape; refused as `check_elems` is. For the panics of upstream's
-/// `slice_collapse`.
+/// Whether a slice argument fits a shape; refused as `check_elems` is, with the count of axes before
+/// any element. For the panics of upstream's `slice_move`.
 #[inline]
 pub fn check_slice<D: Dimension, S: SliceElems>(dim: &D, slices: &S) -> Result<(), ShapeError>
     ensures { result_err result ≡ argument_fault (D.list dim.now) (S.list slices.now) }
 {
     check_elems(dim.slice(), slices.elems())
+}
+
+#[cfg(test)]
+mod tests {
+    use super::*;
+    use nd_base::new_ix2;
+    use std::test::Fail;
+
+    const fn slice(start: isize, step: isize) -> SliceInfoElem {
+        SliceInfoElem::Slice {
+            start,
+            end: None,
+            step,
+        }
+    }
+
+    #[test]
+    fn r1_rows(rt: HostRuntime) -> Result<(), Fail> {
+        let shape = new_ix2(4, 5);
+        let one = [slice(0, 1)];
+        let few = check_slice(&shape, &one.as_slice()).map_err(|error| error.kind());
+        assert_eq!(rt; few, Err(ErrorKind::IncompatibleShape));
+        let rows = [
+            ([slice(9, 1), slice(0, 0)], Err(ErrorKind::OutOfBounds)),
+            ([slice(0, 0), slice(9, 1)], Err(ErrorKind::Unsupported)),
+            ([slice(0, 1), slice(0, 1)], Ok(())),
+        ];
+        for (elems, answer) in &rows {
+            let of_slice = check_slice(&shape, &elems.as_slice()).map_err(|error| error.kind());
+            assert_eq!(rt; of_slice, *answer);
+            let kept = elems.to_vec(rt.alloc())?;
+            let of_vec = check_slice(&shape, &kept).map_err(|error| error.kind());
+            assert_eq!(rt; of_vec, *answer);
+        }
+        Ok(())
+    }
 }
