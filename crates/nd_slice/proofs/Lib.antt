@@ -1,3 +1,4 @@
+pub mod Every
 pub mod Axis
 pub mod Counts
 pub mod Picks

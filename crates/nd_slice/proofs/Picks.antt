@@ -1,10 +1,11 @@
 -- What `picks` gives, entry by entry.
-use Rattle.std.proofs.Common.{◌≡◌, ℕ, zero, suc, ◌+◌, ◌-◌, ◌*◌, ◌<◌, ◌≤◌, List, [], ◌∷◌, length, get_or, arith, refl, inl, inr}
+use Rattle.std.proofs.Common.{◌≡◌, ℕ, zero, suc, ◌+◌, ◌-◌, ◌*◌, ◌<◌, ◌≤◌, List, [], ◌∷◌, length, get_or, arith, refl, ap, ◌∙◌, inl, inr}
 use Rattle.std.proofs.lemmas.Bool.{cases_lt}
 use Rattle.std.proofs.Math.Nat.{mul-le-mul_right}
 use Rattle.std.specs.Int.{div_ceil}
 use Rattle.std.proofs.lemmas.Grind.{div_ceil_times}
-use Rattle.nd_slice.specs.Picks.{every, every_after}
+use Rattle.nd_slice.specs.Picks.{every}
+use Rattle.nd_slice.proofs.Every.{every_after, every_is}
 
 -- the count c of the picks from n items, by its bounds
 abbrev pub IsCeil : ℕ → ℕ → ℕ → Type 0
@@ -30,17 +31,20 @@ ceil_le n m k c d e h g = elim (cases_lt d c) [
 -- so many of the items, rounded up
 pub length-every : (k : ℕ) (xs : List ℕ) → 0 < k → length (every k xs) ≡ div_ceil (length xs) k
 length-every k xs p =
+    let same : length (every k xs) ≡ length (every_after k 0 xs) = ap length (every_is k xs p) in
     let h = count_every_after k 0 xs p in
     let g : IsCeil (length xs) k (div_ceil (length xs) k) = div_ceil_times (length xs) k p in
-    let up : length (every k xs) ≤ div_ceil (length xs) k = ceil_le (length xs - 0) (length xs) k _ _ (omega arith) h g in
-    let down : div_ceil (length xs) k ≤ length (every k xs) = ceil_le (length xs) (length xs - 0) k _ _ (omega arith) g h in
+    let up : length (every_after k 0 xs) ≤ div_ceil (length xs) k = ceil_le (length xs - 0) (length xs) k _ _ (omega arith) h g in
+    let down : div_ceil (length xs) k ≤ length (every_after k 0 xs) = ceil_le (length xs) (length xs - 0) k _ _ (omega arith) g h in
     omega arith
 
 -- a pick is within the items
 pub every_within : (k : ℕ) (xs : List ℕ) (j : ℕ) → 0 < k → j < length (every k xs) → j * k < length xs
 every_within k xs j p below =
+    let same : length (every k xs) ≡ length (every_after k 0 xs) = ap length (every_is k xs p) in
     let h = count_every_after k 0 xs p in
-    omega (arith, mul-le-mul_right k below)
+    let below_after : suc j ≤ length (every_after k 0 xs) = omega arith in
+    omega (arith, mul-le-mul_right k below_after)
 
 -- the pick at j is the item at j times the step
 pub get-every_after : (k skip : ℕ) (xs : List ℕ) (j i : ℕ) → 0 < k → i ≡ skip + j * k → get_or (every_after k skip xs) j 0 ≡ get_or xs i 0
@@ -53,4 +57,4 @@ get-every_after k (suc skip) (x ∷ xs) j zero p e = absurd (omega arith)
 get-every_after k (suc skip) (x ∷ xs) j (suc i) p e = get-every_after k skip xs j i p (omega arith)
 
 pub get-every : (k : ℕ) (xs : List ℕ) (j : ℕ) → 0 < k → get_or (every k xs) j 0 ≡ get_or xs (j * k) 0
-get-every k xs j p = get-every_after k 0 xs j (j * k) p (omega arith)
+get-every k xs j p = ap (λ ys. get_or ys j 0) (every_is k xs p) ∙ get-every_after k 0 xs j (j * k) p (omega arith)

@@ -1,7 +1,7 @@
 -- What a slice picks of an axis.
-use Rattle.std.specs.Prelude.{◌≡◌, ℕ, ◌-◌, zero, suc, ℤ, pos, negsuc, ◌+ℤ◌, Bool, false, nat_le, nat_lt, Some, None, List, [], ◌∷◌, reverse, refl}
+use Rattle.std.specs.Prelude.{◌≡◌, ℕ, ◌-◌, ◌%◌, ◌==◌, ℤ, pos, negsuc, ◌+ℤ◌, Bool, false, nat_le, nat_lt, Some, None, List, [], ◌∷◌, map, reverse, refl}
 use Rattle.std.specs.Option.{option_map_or}
-use Rattle.std.specs.List.{range_with_len}
+use Rattle.std.specs.List.{enumerate_from, filter, range_with_len}
 use Rattle.nd_base.specs.Signed.{magnitude}
 use Rattle.nd_slice.specs.declared.slice.Slice.{Slice}
 
@@ -32,15 +32,9 @@ end_meaning len slice = option_map_or (meaning len) slice.end (pos len)
 abbrev pub range : ℕ → ℕ → List ℕ
 range start end = range_with_len start (end - start)
 
--- the items at positions step apart, after so many to pass over
-abbrev pub every_after : ℕ → ℕ → List ℕ → List ℕ
-every_after step skip [] = []
-every_after step zero (item ∷ items) = item ∷ every_after step (step - 1) items
-every_after step (suc skip) (item ∷ items) = every_after step skip items
-
--- the items whose positions are multiples of step
+-- the items whose positions, counted from 0, are multiples of step
 abbrev pub every : ℕ → List ℕ → List ℕ
-every step items = every_after step 0 items
+every step items = map (λ item. item.1) (filter (λ item. item.0 % step == 0) (enumerate_from 0 items))
 
 -- in the direction of a step
 abbrev pub directed : ℤ → List ℕ → List ℕ
