@@ -1,7 +1,7 @@
 //! Products and sums that stay within the limit of sizes and spans.
 ghost use Rattle.std.specs.Prelude.{◌≡◌, ◌+◌, ◌*◌, ◌≤◌, length, SomeIff};
 ghost use Rattle.nd_base.specs.Size.{nonzero_size, limit};
-ghost use Rattle.nd_base.specs.Signed.{all_signed};
+ghost use Rattle.nd_base.specs.Signed.{signed as signed_reading, all_signed};
 ghost use Rattle.nd_shape.specs.Span.{reach as reach_of_axis, span};
 
 use nd_dim::signed;
@@ -33,6 +33,16 @@ pub fn checked_nonzero_size(shape: &[usize]) -> Option<usize>
     Some(size)
 }
 
+/// How many elements lie between the first and the last entry of an axis, where that is at most
+/// the greatest `isize`.
+fn checked_reach(len: usize, stride: usize) -> Option<usize>
+    ensures { SomeIff result
+        (reach_of_axis len (signed_reading stride) ≤ limit)
+        (reach_of_axis len (signed_reading stride)) }
+{
+    multiply(len.saturating_sub(1), signed(stride).unsigned_abs())
+}
+
 /// How many elements lie between the lowest and the highest index, where that is at most the
 /// greatest `isize`.
 pub fn checked_span(shape: &[usize], strides: &[usize]) -> Option<usize>
@@ -42,8 +52,7 @@ pub fn checked_span(shape: &[usize], strides: &[usize]) -> Option<usize>
 {
     let mut span = 0usize;
     for (len, stride) in shape.iter().zip(strides) {
-        let reach = multiply(len.saturating_sub(1), signed(*stride).unsigned_abs())?;
-        span = add(span, reach)?;
+        span = add(span, checked_reach(*len, *stride)?)?;
     }
     Some(span)
 }
