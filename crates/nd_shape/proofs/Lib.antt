@@ -1,1 +1,4 @@
+pub mod OffsetBounds
+pub mod OwnedRule
+pub mod Sizes
 pub mod Sums

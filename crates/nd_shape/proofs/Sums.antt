@@ -40,6 +40,12 @@ sum_from_end f shape strides k h =
       | inr l ↦ ap (λ s. sum_over_axes f s (all_signed (drop k strides))) (drop_all k shape l)
     ]
 
+-- a sum of smaller terms is no greater
+pub sum_le : (f g : ℕ → ℤ → ℕ) → ((len : ℕ) (stride : ℤ) → f len stride ≤ g len stride) → (shape : List ℕ) (strides : List ℤ) → sum_over_axes f shape strides ≤ sum_over_axes g shape strides
+sum_le f g h [] strides = omega arith
+sum_le f g h (len ∷ shape) [] = omega arith
+sum_le f g h (len ∷ shape) (stride ∷ strides) = omega (arith, h len stride, sum_le f g h shape strides)
+
 -- a loop over the lengths and strides, which has yielded xs
 module _
     (f : ℕ → ℤ → ℕ)

@@ -1,6 +1,6 @@
 //! Whether two indices of a layout may share an element.
-ghost use Rattle.std.specs.Prelude.{◌≡◌, ◌<◌, ◌≤◌, false, not, ◌&&◌, length};
-ghost use Rattle.nd_base.specs.Signed.{all_signed};
+ghost use Rattle.std.specs.Prelude.{◌≡◌, ◌<◌, ◌≤◌, false, not, ◌&&◌, [], ◌∷◌, length};
+ghost use Rattle.nd_base.specs.Signed.{signed as signed_reading, all_signed};
 ghost use Rattle.nd_base.specs.Size.{is_empty, limit};
 ghost use Rattle.nd_shape.specs.OwnedRule.{MeetsOwnedRule, meets_owned_rule, steps_over_others, span_up_to as span_up_to_magnitude};
 ghost use Rattle.nd_shape.specs.Span.{span};
@@ -9,6 +9,16 @@ ghost use Rattle.nd_shape.specs.ValidLayout.{IsValidLayout};
 use crate::limits::reach;
 use nd_dim::{Dimension, signed};
 
+/// How many elements lie between the first and the last entry of an axis, or 0 where its stride is
+/// of a magnitude past `magnitude`.
+fn reach_up_to(len: usize, stride: usize, magnitude: usize) -> usize
+    requires { span_up_to_magnitude magnitude (len ∷ []) (signed_reading stride ∷ []) ≤ limit }
+    ensures { result ≡ span_up_to_magnitude magnitude (len ∷ []) (signed_reading stride ∷ []) }
+{
+    let stride = signed(stride);
+    if stride.unsigned_abs() <= magnitude { reach(len, stride) } else { 0 }
+}
+
 /// The summed spans of the axes whose strides are of magnitude at most `magnitude`.
 fn span_up_to(shape: &[usize], strides: &[usize], magnitude: usize) -> usize
     requires { span shape.now (all_signed strides.now) ≤ limit }
@@ -16,10 +26,7 @@ fn span_up_to(shape: &[usize], strides: &[usize], magnitude: usize) -> usize
 {
     let mut total = 0usize;
     for (len, stride) in shape.iter().zip(strides) {
-        let stride = signed(*stride);
-        if stride.unsigned_abs() <= magnitude {
-            total += reach(*len, stride);
-        }
+        total += reach_up_to(*len, *stride, magnitude);
     }
     total
 }
