@@ -1,9 +1,10 @@
 -- Facts about the offsets of indices: how they lie within the span, and a sum of them from an axis on.
-use Rattle.std.proofs.Common.{inl, inr, ◌≡◌, ℕ, zero, suc, ◌+◌, ◌-◌, ◌*◌, ◌<◌, ◌≤◌, ℤ, pos, negsuc, neg_ℤ, ◌+ℤ◌, ◌*ℤ◌, ◌≤ℤ◌, ◌<ℤ◌, true, false, List, [], ◌∷◌, length, drop, get_or, refl, ap, sym, ◌∙◌, arith, add-one, drop-cons}
+use Rattle.std.proofs.Common.{inl, inr, min, ◌≡◌, ℕ, zero, suc, ◌+◌, ◌-◌, ◌*◌, ◌<◌, ◌≤◌, ℤ, pos, negsuc, neg_ℤ, ◌+ℤ◌, ◌*ℤ◌, ◌≤ℤ◌, ◌<ℤ◌, true, false, List, [], ◌∷◌, length, drop, get_or, refl, ap, sym, ◌∙◌, arith, add-one, drop-cons}
 use Rattle.std.specs.Prelude.{nat_lt, ◌&&◌}
 use Rattle.std.proofs.Math.Nat.{mul-le-mul_right}
-use Rattle.std.proofs.lemmas.Bool.{and_parts, ltb-true}
+use Rattle.std.proofs.lemmas.Bool.{and_parts, cases_lt, ltb-true}
 use Rattle.std.proofs.lemmas.Int.{ints}
+use Rattle.std.proofs.lemmas.List.{drop_all}
 use Rattle.nd_base.specs.Indices.{is_index}
 use Rattle.nd_base.specs.Signed.{signed, all_signed, magnitude}
 use Rattle.nd_shape.specs.Inside.{IsInside}
@@ -71,6 +72,15 @@ farthest_offset_le (len ∷ shape) (stride ∷ strides) (i ∷ index) h =
     let most : i * magnitude stride ≤ (len - 1) * magnitude stride = mul-le-mul_right (magnitude stride) steps in
     omega (arith, farthest_offset_le shape strides index parts.1)
 
+-- how far an entry lies from the first one
+abbrev pub entry_offset : ℕ → ℤ → ℕ
+entry_offset entry stride = entry * magnitude stride
+
+-- an entry's offset is that far on one side or the other
+pub entry_offset_bounds : (entry : ℕ) (stride : ℤ) → (neg_ℤ (pos (entry_offset entry stride)) ≤ℤ (pos entry *ℤ stride)) × ((pos entry *ℤ stride) ≤ℤ pos (entry_offset entry stride))
+entry_offset_bounds entry (pos s) = (omega (arith, ints), omega (arith, ints))
+entry_offset_bounds entry (negsuc s) = (omega (arith, ints), omega (arith, ints))
+
 -- the offset from axis k on
 abbrev pub offset_from : List ℕ → List ℕ → ℕ → ℤ
 offset_from strides index k = offset_of (all_signed (drop k strides)) (drop k index)
@@ -81,3 +91,16 @@ offset_from_step strides index k h g =
       ap (λ s. offset_of (all_signed (drop k strides)) s) (drop-cons index k 0 h)
       ∙ ap (λ s. offset_of (all_signed s) (get_or index k 0 ∷ drop (suc k) index)) (drop-cons strides k 0 g)
     )
+
+offset_of_none : (index : List ℕ) → offset_of [] index ≡ pos 0
+offset_of_none [] = refl
+offset_of_none (i ∷ index) = refl
+
+pub offset_from_end : (strides index : List ℕ) (k : ℕ) → min (length index) (length strides) ≤ k → offset_from strides index k ≡ pos 0
+offset_from_end strides index k h =
+    elim (cases_lt k (length index)) [
+      | inl l ↦
+        let none : drop k strides ≡ [] = drop_all k strides (omega arith) in
+        ap (λ s. offset_of (all_signed s) (drop k index)) none ∙ offset_of_none (drop k index)
+      | inr l ↦ ap (λ s. offset_of (all_signed (drop k strides)) s) (drop_all k index l)
+    ]

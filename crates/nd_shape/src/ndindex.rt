@@ -1,6 +1,6 @@
 //! What can index an array.
-ghost use Rattle.std.specs.Prelude.{◌≡◌, ℕ, ◌≤◌, List, length};
-ghost use Rattle.std.specs.List.{All};
+ghost use Rattle.std.specs.Prelude.{◌≡◌, ℕ, ◌≤◌, List, length, nat_lt};
+ghost use Rattle.std.specs.List.{All, list_all, zip};
 ghost use Rattle.nd_base.specs.Indices.{is_index as is_index_of_shape};
 ghost use Rattle.nd_base.specs.Signed.{all_signed};
 ghost use Rattle.nd_base.specs.Size.{limit};
@@ -32,11 +32,18 @@ pub trait NdIndex<E: Dimension>: Debug {
         ensures { result ≡ offset_of_index (all_signed (E.list strides.now)) (index_list self.now) };
 }
 
+/// Whether each entry is below the length beside it.
+fn all_below(shape: &[usize], index: &[usize]) -> bool
+    ensures { result ≡ list_all (λ pair. nat_lt pair.1 pair.0) (zip shape.now index.now) }
+{
+    shape.iter().zip(index).all(|(len, entry)| entry < len)
+}
+
 /// Whether the entries are as many as the lengths, each below its length.
 fn is_index(shape: &[usize], index: &[usize]) -> bool
     ensures { result ≡ is_index_of_shape shape.now index.now }
 {
-    shape.len() == index.len() && shape.iter().zip(index).all(|(len, entry)| entry < len)
+    shape.len() == index.len() && all_below(shape, index)
 }
 
 /// The offset of the entries, where they are an index of the shape.
