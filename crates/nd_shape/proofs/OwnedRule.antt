@@ -4,12 +4,13 @@ use Rattle.std.specs.Prelude.{if◌then◌else◌, nat_le, nat_lt, not, ◌||◌
 use Rattle.std.specs.List.{list_all, range_with_len}
 use Rattle.std.proofs.lemmas.Bool.{cond-true, cond_both, leb-true, le-leb, ltb-true, lt-leb, or_cases, or_left, both_ways, false_from_ne_true, true_from_ne_false}
 use Rattle.std.proofs.lemmas.Bool.Decides.{nat_tests}
+use Rattle.std.proofs.lemmas.List.{get_or-map}
 use Rattle.std.proofs.lemmas.List.Folds.{list_all_at}
 use Rattle.std.proofs.lemmas.List.FromFn.{length-range_with_len, get_or-range_with_len}
 use Rattle.std.proofs.lemmas.List.Sums.{list_all-from_AllPass}
-use Rattle.nd_base.specs.Signed.{magnitude}
+use Rattle.nd_base.specs.Signed.{signed, all_signed, magnitude}
 use Rattle.nd_shape.specs.OwnedRule.{span_up_to, magnitude_at, span_of_others, steps_over_others, meets_owned_rule, MeetsOwnedRule}
-use Rattle.nd_shape.specs.Span.{reach, sum_over_axes}
+use Rattle.nd_shape.specs.Span.{reach, span, sum_over_axes}
 
 -- how far an axis reaches, or 0 where its stride is of a magnitude past m
 abbrev pub reach_up_to : ℕ → ℕ → ℤ → ℕ
@@ -24,6 +25,20 @@ sum_and_others f [] strides k h e = absurd (omega arith)
 sum_and_others f (len ∷ shape) [] k h e = absurd (omega arith)
 sum_and_others f (len ∷ shape) (stride ∷ strides) zero h e = refl
 sum_and_others f (len ∷ shape) (stride ∷ strides) (suc k) h e = omega (arith, sum_and_others f shape strides k (omega arith) (omega arith))
+
+-- the stride of an axis, read as signed
+pub signed_at : (strides : List ℕ) (k : ℕ) → k < length strides → get_or (all_signed strides) k (pos 0) ≡ signed (get_or strides k 0)
+signed_at strides k h = get_or-map signed strides k 0 (pos 0) h
+
+-- what one axis spans is at most what all span, and what all up to its own stride span
+pub own_le_span : (shape : List ℕ) (strides : List ℤ) (axis : ℕ) → axis < length shape → length shape ≡ length strides → reach (get_or shape axis 0) (get_or strides axis (pos 0)) ≤ span shape strides
+own_le_span shape strides axis h e = omega (arith, sum_and_others reach shape strides axis h e)
+
+pub own_le_span_up_to : (shape : List ℕ) (strides : List ℤ) (axis : ℕ) → axis < length shape → length shape ≡ length strides → reach (get_or shape axis 0) (get_or strides axis (pos 0)) ≤ span_up_to (magnitude_at strides axis) shape strides
+own_le_span_up_to shape strides axis h e =
+    let m = magnitude_at strides axis in
+    let own : reach_up_to m (get_or shape axis 0) (get_or strides axis (pos 0)) ≡ reach (get_or shape axis 0) (get_or strides axis (pos 0)) = cond-true (nat_le m m) (reach (get_or shape axis 0) (get_or strides axis (pos 0))) 0 (le-leb m m (omega arith)) in
+    omega (arith, own, sum_and_others (reach_up_to m) shape strides axis h e)
 
 -- an axis of at most one entry steps over the others
 pub short_axis : (shape : List ℕ) (strides : List ℤ) (axis : ℕ) → get_or shape axis 0 ≤ 1 → steps_over_others shape strides axis ≡ true
