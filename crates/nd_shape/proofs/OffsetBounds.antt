@@ -1,8 +1,9 @@
 -- Facts about the offsets of indices: how they lie within the span, and a sum of them from an axis on.
 use Rattle.std.proofs.Common.{inl, inr, min, ◌≡◌, ℕ, zero, suc, ◌+◌, ◌-◌, ◌*◌, ◌<◌, ◌≤◌, ℤ, pos, negsuc, neg_ℤ, ◌+ℤ◌, ◌*ℤ◌, ◌≤ℤ◌, ◌<ℤ◌, true, false, Option, Some, None, List, [], ◌∷◌, length, drop, get_or, refl, ap, sym, ◌∙◌, arith, add-one, drop-cons}
 use Rattle.std.specs.Prelude.{nat_lt, ◌&&◌}
+use Rattle.std.specs.List.{list_all, zip}
 use Rattle.std.proofs.Math.Nat.{mul-le-mul_right}
-use Rattle.std.proofs.lemmas.Bool.{and_parts, cases_lt, ltb-true}
+use Rattle.std.proofs.lemmas.Bool.{and_parts, and_right, cases_lt, ltb-true}
 use Rattle.std.proofs.lemmas.Int.{ints}
 use Rattle.std.proofs.lemmas.List.{drop_all}
 use Rattle.std.proofs.iter.Yields.{fronts}
@@ -80,6 +81,19 @@ farthest_offset_le (len ∷ shape) (stride ∷ strides) (i ∷ index) h =
     let steps : i ≤ len - 1 = omega arith in
     let most : i * magnitude stride ≤ (len - 1) * magnitude stride = mul-le-mul_right (magnitude stride) steps in
     omega (arith, farthest_offset_le shape strides index parts.1)
+
+-- the test by counts and pairs is the one of indices
+pub is_index_by_pairs : (shape index : List ℕ) → length shape ≡ length index → list_all (λ pair. nat_lt pair.1 pair.0) (zip shape index) ≡ is_index shape index
+is_index_by_pairs [] [] e = refl
+is_index_by_pairs [] (i ∷ index) e = absurd (omega arith)
+is_index_by_pairs (len ∷ shape) [] e = absurd (omega arith)
+is_index_by_pairs (len ∷ shape) (i ∷ index) e = ap (λ b. nat_lt i len && b) (is_index_by_pairs shape index (omega arith))
+
+pub is_index_of_count : (shape index : List ℕ) → (length shape ≡ length index → ⊥) → is_index shape index ≡ false
+is_index_of_count [] [] ne = absurd (ne refl)
+is_index_of_count [] (i ∷ index) ne = refl
+is_index_of_count (len ∷ shape) [] ne = refl
+is_index_of_count (len ∷ shape) (i ∷ index) ne = and_right (nat_lt i len) (is_index shape index) (is_index_of_count shape index (λ e. ne (omega arith)))
 
 -- how far an entry lies from the first one
 abbrev pub entry_offset : ℕ → ℤ → ℕ

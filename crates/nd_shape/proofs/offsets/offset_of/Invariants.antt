@@ -10,6 +10,6 @@ use Rattle.nd_shape.proofs.offsets.offset_of.Given as goal
 abbrev pub invariant-loop-entry : goal.invariant-loop-entry
 invariant-loop-entry l = record {
   sum : l.offset +ℤ offset_from l.strides l.index (length l.yielded) ≡ offset_of (all_signed l.strides) l.index;
-  low : neg_ℤ (pos limit) ≤ℤ (l.offset -ℤ pos (sum_from entry_offset l.index l.strides (length l.yielded)));
+  low : pos (sum_from entry_offset l.index l.strides (length l.yielded)) ≤ℤ (l.offset +ℤ pos limit);
   high : (l.offset +ℤ pos (sum_from entry_offset l.index l.strides (length l.yielded))) ≤ℤ pos limit;
 }
