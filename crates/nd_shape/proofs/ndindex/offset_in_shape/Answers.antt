@@ -15,6 +15,3 @@ offset_of-requires c =
       small = λ k d below. omega (arith, entry_le_nonzero_size c.args.shape.now c.args.index.now here k d below);
       fits = omega (arith, farthest_offset_le c.args.shape.now (all_signed c.args.strides.now) c.args.index.now here);
     }
-
-pub returns : goal.returns
-returns c = ?
