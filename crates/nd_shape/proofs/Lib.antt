@@ -1,3 +1,4 @@
+pub mod Accepted
 pub mod OffsetBounds
 pub mod OwnedRule
 pub mod Sizes

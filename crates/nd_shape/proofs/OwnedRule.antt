@@ -78,3 +78,9 @@ all_in_range p a (suc n) h =
 
 pub rule_met : (shape : List ℕ) (strides : List ℤ) → ((axis : ℕ) → axis < length shape → steps_over_others shape strides axis ≡ true) → meets_owned_rule shape strides ≡ true
 rule_met shape strides h = all_in_range (steps_over_others shape strides) 0 (length shape) (λ k l. let same : 0 + k ≡ k = omega arith in rw same (h k l))
+
+-- the answer that no two indices may share an element, of a layout with an index, is that the rule is met
+pub rule_from_answer : (empty met : Bool) → (not empty && not met) ≡ false → empty ≡ false → met ≡ true
+rule_from_answer true met h some = absurd (cc)
+rule_from_answer false true h some = refl
+rule_from_answer false false h some = absurd (cc)
