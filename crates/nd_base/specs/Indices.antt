@@ -8,12 +8,12 @@ use Rattle.nd_base.specs.declared.order.Order.TheVariants.{RowMajor, ColumnMajor
 abbrev pub below : ℕ → List ℕ
 below len = range_with_len 0 len
 
--- the indices in row-major order: for each entry of the first axis, in rising order, it put before each index of the rest
+-- the indices in row-major order: the first axis moves slowest
 abbrev pub indices : List ℕ → List (List ℕ)
 indices [] = [] ∷ []
 indices (len ∷ lens) = flat_map (λ i. map (λ index. i ∷ index) (indices lens)) (below len)
 
--- the indices in column-major order: those of the reversed shape, each reversed
+-- the indices in column-major order: the axes are read from the back
 abbrev pub indices_column_major : List ℕ → List (List ℕ)
 indices_column_major shape = map reverse (indices (reverse shape))
 

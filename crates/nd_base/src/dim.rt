@@ -7,7 +7,7 @@ use std::alloc::{AllocError, Global};
 use std::ops::{Index, IndexMut};
 
 /// A dimension: the lengths of the axes, in order.
-#[derive(Clone, Copy, PartialEq, Eq, Hash, Debug)]
+#[derive(Clone, Copy, PartialEq, Eq, Hash, Debug, Default)]
 pub struct Dim<I> {
     index: I,
 }
@@ -45,7 +45,10 @@ impl<const N: usize> Index<usize> for Dim<[usize; N]> {
 }
 
 impl<const N: usize> IndexMut<usize> for Dim<[usize; N]> {
-    fn index_mut(&mut self, axis: usize) -> &mut usize {
+    fn index_mut(&mut self, axis: usize) -> &mut usize
+        requires { axis < length (lengths self.old) }
+        ensures { slice_get (lengths self.old) axis ≡ Some result.now }
+    {
         &mut self.index[axis]
     }
 }
@@ -66,7 +69,7 @@ impl<const N: usize> Lengths for Dim<[usize; N]> {
     }
 
     fn slice(&self) -> &[usize] {
-        &self.index
+        &self.index[..]
     }
 
     fn slice_mut(&mut self) -> &mut [usize] {
@@ -90,4 +93,40 @@ impl<const N: usize> Lengths for Dim<[usize; N]> {
     ghost can_index_below = { λ d i h. h };
 
     ghost index_is = { λ d i v h. h };
+}
+
+#[cfg(test)]
+mod tests {
+    use super::*;
+    use std::process::Abort;
+    use std::test::Fail;
+
+    // What every dimension type can do, through its bound alone.
+    fn behaves<D: Lengths + Drop>(rt: &impl Abort, alloc: Global, dim: &D) -> Result<(), Fail> {
+        let same = dim.duplicate(alloc)?;
+        assert!(rt; same.equal(dim) && same == *dim);
+        assert_eq!(rt; dim.slice().len(), dim.ndim());
+        assert!(rt; D::NDIM.is_none_or(|count| count == dim.ndim()));
+        Ok(())
+    }
+
+    #[test]
+    fn r1_rows(rt: HostRuntime) -> Result<(), Fail> {
+        let one = new_ix1(4);
+        let mut two = new_ix2(2, 3);
+        behaves(&rt, rt.alloc(), &one)?;
+        behaves(&rt, rt.alloc(), &two)?;
+        assert_eq!(rt; one.slice(), [4].as_slice());
+        assert_eq!(rt; two.slice(), [2, 3].as_slice());
+        two[1] = 7;
+        assert_eq!(rt; two.slice(), [2, 7].as_slice());
+        let mut two = new_ix2(2, 7);
+        two.slice_mut()[0] = 5;
+        assert_eq!(rt; two.slice(), [5, 7].as_slice());
+        assert_eq!(rt; two[1], 7);
+        assert!(rt; !two.equal(&new_ix2(7, 5)));
+        assert_eq!(rt; Ix2::zeros(rt.alloc(), 2)?.slice(), [0, 0].as_slice());
+        assert_eq!(rt; Ix1::NDIM, Some(1));
+        Ok(())
+    }
 }

@@ -14,7 +14,7 @@ pub enum ErrorKind {
     IncompatibleShape,
     /// The strides do not go with the shape, or with the data as it lies.
     IncompatibleLayout,
-    /// A number does not fit the type that it is for; no call of this layer answers it.
+    /// A number does not fit the type that it is for. Nothing here is refused so.
     RangeLimited,
     /// An index, or a layout as a whole, leaves its bounds.
     OutOfBounds,
@@ -123,5 +123,57 @@ impl From<AllocError> for LayoutError {
 
     fn from(error: AllocError) -> Self {
         LayoutError::Memory(error)
+    }
+}
+
+#[cfg(test)]
+mod tests {
+    use super::*;
+    use std::test::Fail;
+
+    #[test]
+    fn r1_rows(rt: HostRuntime) -> Result<(), Fail> {
+        let rows = [
+            (
+                ErrorKind::IncompatibleShape,
+                "ShapeError/IncompatibleShape: incompatible shapes",
+            ),
+            (
+                ErrorKind::IncompatibleLayout,
+                "ShapeError/IncompatibleLayout: incompatible memory layout",
+            ),
+            (
+                ErrorKind::RangeLimited,
+                "ShapeError/RangeLimited: the shape does not fit in type limits",
+            ),
+            (
+                ErrorKind::OutOfBounds,
+                "ShapeError/OutOfBounds: out of bounds indexing",
+            ),
+            (
+                ErrorKind::Unsupported,
+                "ShapeError/Unsupported: unsupported operation",
+            ),
+            (
+                ErrorKind::Overflow,
+                "ShapeError/Overflow: arithmetic overflow",
+            ),
+        ];
+        for (kind, text) in rows {
+            let error = ShapeError::from_kind(kind);
+            assert_eq!(rt; error.kind(), kind);
+            assert_eq!(rt; error.to_string(rt.alloc())?.as_str(), text);
+            assert_eq!(rt; format!(in rt.alloc(); "{error:?}")?.as_str(), text);
+            assert!(rt; error.clone()? == error);
+        }
+        Ok(())
+    }
+
+    #[test]
+    fn converts(rt: HostRuntime) {
+        let shape: LayoutError = from_kind(ErrorKind::Overflow).into();
+        assert!(rt; matches!(&shape, LayoutError::Shape(fault) if fault.kind() == ErrorKind::Overflow));
+        let memory: LayoutError = AllocError.into();
+        assert!(rt; matches!(&memory, LayoutError::Memory(_)));
     }
 }

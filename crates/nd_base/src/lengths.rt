@@ -1,4 +1,4 @@
-//! A value of a dimension type is one list of lengths.
+//! What all dimension types share: a value stands for its list of lengths and for nothing else.
 ghost use Rattle.std.specs.Prelude.{◌≡◌, ℕ, ◌<◌, ◌↔◌, List, length, replicate, IsTrue, IsOk, IfOk, Option, Some, slice_get};
 ghost use Rattle.std.specs.Borrow.{Lends, sem, Array, u64 as word};
 ghost use Rattle.nd_base.specs.Lengths.{NeedsNoMemory, IsCount};
@@ -7,33 +7,45 @@ use std::alloc::{AllocError, Global};
 use std::fmt::Debug;
 use std::ops::IndexMut;
 
-/// The number of axes of a type, where the type fixes one.
+/// How many axes every value of a type has, where the type fixes that.
 pub trait FixedCount {
     ghost NDIM: { Option ℕ };
 
+    /// The count of axes, or `None` where values of the type may differ in it. Upstream's `NDIM`.
     const NDIM: Option<usize>;
 }
 
+/// A list of lengths, or of the entries of an index: one number for each axis, in order. What the values
+/// of a type do depends on this list alone. The part of upstream's `Dimension` that needs no other trait.
 pub trait Lengths: FixedCount + Eq + Debug + IndexMut<usize, Output = usize> {
+    // The list that a value stands for.
     ghost list: { Self → List ℕ };
 
+    // The value that stands for another list of as many lengths.
     ghost with_list: { Self → List ℕ → Self };
 
+    /// How many axes there are. Upstream's `ndim`.
     fn ndim(&self) -> usize
         ensures count { result ≡ length (list self.now) }
         ensures fixed { IsCount Self.NDIM (length (list self.now)) };
 
+    /// The lengths, in order. Upstream's `slice`.
     fn slice(&self) -> &[usize]
         ensures list { result.now ≡ list self.now }
         ensures fixed { IsCount Self.NDIM (length (list self.now)) };
 
+    /// The lengths, to be written; their count stays. Upstream's `slice_mut`.
     fn slice_mut(&mut self) -> &mut [usize]
         ensures* writes_back { sem 𝓛 (Lends Self.row (Array word 0) self.entry result (with_list self.old)) }
         ensures list { result.now ≡ list self.old };
 
+    /// Whether both stand for one list. Upstream's `equal`.
     fn equal(&self, other: &Self) -> bool
         ensures { IsTrue result ↔ (list self.now ≡ list other.now) };
 
+    /// `n` zeros, where `n` is a count of axes that the type allows. Upstream's `zeros`.
+    ///
+    /// Errors: want of memory, and none where the type fixes the count or `n` is at most 4.
     fn zeros(alloc: Global, n: usize) -> Result<Self, AllocError>
     where
         Self: Sized,
@@ -41,15 +53,21 @@ pub trait Lengths: FixedCount + Eq + Debug + IndexMut<usize, Output = usize> {
         ensures list { IfOk result (λ d. list d ≡ replicate n 0) }
         ensures memory { NeedsNoMemory Self.NDIM n → IsOk result };
 
+    /// The same list in a value of its own. In place of upstream's `Clone`.
+    ///
+    /// Errors: want of memory, and none where the type fixes the count or there are at most 4 axes.
     fn duplicate(&self, alloc: Global) -> Result<Self, AllocError>
     where
         Self: Sized,
         ensures list { IfOk result (λ d. list d ≡ list self.now) }
         ensures memory { NeedsNoMemory Self.NDIM (length (list self.now)) → IsOk result };
 
+    // Lists of one count replace one another.
     ghost list_of_with_list: { (d : Self) (xs : List ℕ) → length xs ≡ length (list d) → list (with_list d xs) ≡ xs };
 
+    // Each axis can be indexed,
     ghost can_index_below: { (d : Self) (i : ℕ) → i < length (list d) → Self.can_index d i };
 
+    // and shows its length.
     ghost index_is: { (d : Self) (i v : ℕ) → Self.index_gives d i v → slice_get (list d) i ≡ Some v };
 }

@@ -1,4 +1,4 @@
-//! A stride is kept as a `usize` and means the `isize` of the same bits.
+//! Strides: kept in a `usize`, with the meaning of an `isize`.
 ghost use Rattle.std.specs.Prelude.{◌≡◌, ◌<◌, ◌^◌, pos, ◌*ℤ◌};
 ghost use Rattle.std.specs.Int.RustNames.{FitsSigned};
 ghost use Rattle.std.specs.Int.{w64};
@@ -29,4 +29,28 @@ pub fn stride_offset(n: usize, stride: usize) -> isize
     ensures { result ≡ pos n *ℤ signed_reading stride }
 {
     n as isize * signed(stride)
+}
+
+#[cfg(test)]
+mod tests {
+    use super::*;
+
+    #[test]
+    fn r1_rows(rt: HostRuntime) {
+        let rows = [
+            (18446744073709551612, -4),
+            (4, 4),
+            (0, 0),
+            (9223372036854775807, isize::MAX),
+            (9223372036854775808, isize::MIN),
+            (18446744073709551615, -1),
+        ];
+        for (kept, meant) in rows {
+            assert_eq!(rt; signed(kept), meant);
+            assert_eq!(rt; unsigned(meant), kept);
+        }
+        assert_eq!(rt; stride_offset(3, unsigned(-4)), -12);
+        assert_eq!(rt; stride_offset(1, unsigned(isize::MIN)), isize::MIN);
+        assert_eq!(rt; stride_offset(0, unsigned(isize::MIN)), 0);
+    }
 }

@@ -1,4 +1,4 @@
-//! A `Dimension` is one list of lengths: what all shapes and indices share, whatever their type.
+//! What all shapes and indices can do, by their lists of lengths, whatever their type.
 #![tactic(auto)]
 
 mod dimension;

@@ -12,11 +12,11 @@ span_up_to m shape strides = sum_over_axes (λ len stride. if nat_le (magnitude 
 abbrev pub magnitude_at : List ℤ → ℕ → ℕ
 magnitude_at strides axis = magnitude (slice_index_or strides axis (pos 0))
 
--- the summed spans of all other axes whose strides are of no greater magnitude
+-- how far the others reach together, of those whose strides are at most as long
 abbrev pub span_of_others : List ℕ → List ℤ → ℕ → ℕ
 span_of_others shape strides axis = span_up_to (magnitude_at strides axis) (remove shape axis) (remove strides axis)
 
--- the axis has at most one entry, or its stride steps over all that those others span
+-- the axis has at most one entry, or its stride is longer than those others reach
 abbrev pub steps_over_others : List ℕ → List ℤ → ℕ → Bool
 steps_over_others shape strides axis = nat_le (slice_index shape axis) 1 || nat_lt (span_of_others shape strides axis) (magnitude_at strides axis)
 

@@ -1,7 +1,7 @@
 -- Where the indices of a layout lie in the data.
 use Rattle.std.specs.Prelude.{◌≡◌, ℕ, ℤ, pos, negsuc, ◌+ℤ◌, ◌*ℤ◌, Option, Some, None, if◌then◌else◌, List, [], ◌∷◌, map, refl}
 use Rattle.nd_base.specs.declared.order.Order.{Order}
-use Rattle.nd_base.specs.declared.order.Order.TheVariants.{RowMajor}
+use Rattle.nd_base.specs.declared.order.Order.TheVariants.{RowMajor, ColumnMajor}
 use Rattle.nd_base.specs.Indices.{indices_in, is_index}
 
 -- the sum of each entry times its stride
@@ -28,3 +28,6 @@ place_of_an_index = refl
 
 places_by_rows : places RowMajor 0 (3 ∷ 2 ∷ []) (pos 2 ∷ pos 3 ∷ []) ≡ pos 0 ∷ pos 3 ∷ pos 2 ∷ pos 5 ∷ pos 4 ∷ pos 7 ∷ []
 places_by_rows = refl
+
+places_by_columns : places ColumnMajor 0 (2 ∷ 3 ∷ []) (pos 1 ∷ pos 2 ∷ []) ≡ pos 0 ∷ pos 1 ∷ pos 2 ∷ pos 3 ∷ pos 4 ∷ pos 5 ∷ []
+places_by_columns = refl

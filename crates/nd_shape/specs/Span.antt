@@ -1,4 +1,4 @@
--- How far a layout reaches from its first element, on both sides. Axes of length 0 or 1 reach nowhere.
+-- How far a layout reaches, on both sides of the place of its first index. Axes of length 0 or 1 reach nowhere.
 use Rattle.std.specs.Prelude.{◌≡◌, ℕ, ◌+◌, ◌-◌, ◌*◌, ℤ, pos, negsuc, List, [], ◌∷◌, refl}
 use Rattle.nd_base.specs.Signed.{magnitude}
 
@@ -22,15 +22,15 @@ sum_over_axes f [] strides = 0
 sum_over_axes f (len ∷ shape) [] = 0
 sum_over_axes f (len ∷ shape) (stride ∷ strides) = f len stride + sum_over_axes f shape strides
 
--- from the lowest place of an index to the highest
+-- how far the axes reach together, both ways; also where a length is 0 and there is no index
 abbrev pub span : List ℕ → List ℤ → ℕ
 span shape strides = sum_over_axes reach shape strides
 
--- from the lowest place of an index to that of the first index
+-- how far they reach below it
 abbrev pub low_span : List ℕ → List ℤ → ℕ
 low_span shape strides = sum_over_axes reach_down shape strides
 
--- from the place of the first index to the highest place of an index
+-- how far they reach above it
 abbrev pub high_span : List ℕ → List ℤ → ℕ
 high_span shape strides = sum_over_axes reach_up shape strides
 

@@ -3,7 +3,7 @@ use Rattle.std.specs.Prelude.{◌≡◌, ℕ, ◌≤◌, ℤ, List, length}
 use Rattle.nd_base.specs.Size.{nonzero_size, limit}
 use Rattle.nd_shape.specs.Span.{span}
 
--- as many strides as lengths, with the product of the non-zero lengths and the span within the limit
+-- one stride for each length, with sizes and reach within the limit
 pub record IsValidLayout (shape : List ℕ) (strides : List ℤ) : Type 0 where
   pub same_count : length shape ≡ length strides
   pub size_fits : nonzero_size shape ≤ limit

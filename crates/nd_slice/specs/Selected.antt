@@ -5,7 +5,8 @@ use Rattle.nd_slice.specs.declared.slice.SliceInfoElem.{SliceInfoElem}
 use Rattle.nd_slice.specs.declared.slice.SliceInfoElem.TheVariants as elem
 use Rattle.nd_slice.specs.Picks.{meaning, picks}
 
--- a slice takes the next entry j and gives its j-th pick; an index gives itself; a new axis takes an entry and gives nothing
+-- of an argument without fault, read along its elements: the entry for a slice is the position among its picks, that for
+-- a new axis says nothing, and an index has no entry, since it names the one of its old axis
 abbrev pub selected : List SliceInfoElem → List ℕ → List ℕ → List ℕ
 selected [] shape index = []
 selected (elem.NewAxis ∷ elems) shape [] = []
@@ -18,3 +19,6 @@ selected (elem.Index i ∷ elems) shape index = []
 -- examples
 of_a_row : selected (elem.Index (negsuc 0) ∷ elem.Slice (pos 1) None (negsuc 0) ∷ []) (2 ∷ 3 ∷ []) (0 ∷ []) ≡ 1 ∷ 2 ∷ []
 of_a_row = refl
+
+back_between_new_axes : selected (elem.NewAxis ∷ elem.Slice (pos 1) None (negsuc 1) ∷ elem.NewAxis ∷ []) (4 ∷ []) (0 ∷ 1 ∷ 0 ∷ []) ≡ 1 ∷ []
+back_between_new_axes = refl
