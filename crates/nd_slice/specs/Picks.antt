@@ -1,5 +1,5 @@
 -- What a slice picks of an axis.
-use Rattle.std.specs.Prelude.{◌≡◌, ℕ, ◌-◌, ◌%◌, ◌==◌, ℤ, pos, negsuc, ◌+ℤ◌, Bool, false, nat_le, nat_lt, Some, None, List, [], ◌∷◌, map, reverse, refl}
+use Rattle.std.specs.Prelude.{◌≡◌, ℕ, ◌-◌, ◌%◌, ◌==◌, ℤ, pos, negsuc, ◌+ℤ◌, Bool, false, nat_le, nat_lt, Option, Some, None, List, [], ◌∷◌, map, reverse, refl}
 use Rattle.std.specs.Option.{option_map_or}
 use Rattle.std.specs.List.{enumerate_from, filter, range_with_len}
 use Rattle.nd_base.specs.Signed.{magnitude}
@@ -19,6 +19,10 @@ is_bound len (negsuc bound) = false
 abbrev pub is_entry : ℕ → ℤ → Bool
 is_entry len (pos index) = nat_lt index len
 is_entry len (negsuc index) = false
+
+-- the slice of a range with a step
+abbrev pub slice_with : ℤ → Option ℤ → ℤ → Slice
+slice_with start end step = record { start = start; end = end; step = step }
 
 -- where the range of a slice begins
 abbrev pub start_meaning : ℕ → Slice → ℤ

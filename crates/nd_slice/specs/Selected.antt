@@ -3,7 +3,7 @@ use Rattle.std.specs.Prelude.{◌≡◌, ℕ, pos, negsuc, None, List, [], ◌�
 use Rattle.nd_base.specs.Signed.{magnitude}
 use Rattle.nd_slice.specs.declared.slice.SliceInfoElem.{SliceInfoElem}
 use Rattle.nd_slice.specs.declared.slice.SliceInfoElem.TheVariants as elem
-use Rattle.nd_slice.specs.Picks.{meaning, picks}
+use Rattle.nd_slice.specs.Picks.{slice_with, meaning, picks}
 
 -- of an argument without fault, read along its elements: the entry for a slice is the position among its picks, that for
 -- a new axis says nothing, and an index has no entry, since it names the one of its old axis
@@ -11,7 +11,7 @@ abbrev pub selected : List SliceInfoElem → List ℕ → List ℕ → List ℕ
 selected [] shape index = []
 selected (elem.NewAxis ∷ elems) shape [] = []
 selected (elem.NewAxis ∷ elems) shape (j ∷ index) = selected elems shape index
-selected (elem.Slice start end step ∷ elems) (len ∷ shape) (j ∷ index) = slice_index (picks len (record { start = start; end = end; step = step })) j ∷ selected elems shape index
+selected (elem.Slice start end step ∷ elems) (len ∷ shape) (j ∷ index) = slice_index (picks len (slice_with start end step)) j ∷ selected elems shape index
 selected (elem.Index i ∷ elems) (len ∷ shape) index = magnitude (meaning len i) ∷ selected elems shape index
 selected (elem.Slice start end step ∷ elems) shape index = []
 selected (elem.Index i ∷ elems) shape index = []

@@ -1,5 +1,5 @@
 -- Which slice arguments fit a shape, and with which fault any other is refused.
-use Rattle.std.specs.Prelude.{◌≡◌, ℕ, ◌+◌, ℤ, pos, Bool, not, ◌&&◌, ◌==◌, Option, Some, None, if◌then◌else◌, List, [], ◌∷◌, length, refl}
+use Rattle.std.specs.Prelude.{◌≡◌, ℕ, ◌+◌, ℤ, pos, Bool, IsTrue, IsFalse, not, ◌&&◌, ◌==◌, Option, Some, None, if◌then◌else◌, List, [], ◌∷◌, length, refl}
 use Rattle.std.specs.Option.{option_or}
 use Rattle.nd_base.specs.declared.error.ErrorKind.{ErrorKind}
 use Rattle.nd_base.specs.declared.error.ErrorKind.TheVariants.{IncompatibleShape, OutOfBounds, Unsupported}
@@ -7,11 +7,21 @@ use Rattle.nd_base.specs.Signed.{magnitude}
 use Rattle.nd_slice.specs.declared.slice.Slice.{Slice}
 use Rattle.nd_slice.specs.declared.slice.SliceInfoElem.{SliceInfoElem}
 use Rattle.nd_slice.specs.declared.slice.SliceInfoElem.TheVariants as elem
-use Rattle.nd_slice.specs.Picks.{meaning, is_bound, is_entry, start_meaning, end_meaning}
+use Rattle.nd_slice.specs.Picks.{slice_with, meaning, is_bound, is_entry, start_meaning, end_meaning}
 
 -- both ends of a range are between 0 and the length
 abbrev pub is_within : ℕ → Slice → Bool
 is_within len slice = is_bound len (start_meaning len slice) && is_bound len (end_meaning len slice)
+
+-- both ends are bounds of the axis, and the step moves
+pub record SliceFits (len : ℕ) (slice : Slice) : Type 0 where
+  pub start_within : IsTrue (is_bound len (start_meaning len slice))
+  pub end_within : IsTrue (is_bound len (end_meaning len slice))
+  pub step_moves : IsFalse (magnitude slice.step == 0)
+
+-- the index means an entry of the axis
+abbrev pub IndexFits : ℕ → ℤ → Type 0
+IndexFits len index = IsTrue (is_entry len (meaning len index))
 
 -- the fault of a slice on an axis of length len, if any
 abbrev pub slice_fault : ℕ → Slice → Option ErrorKind
@@ -41,7 +51,7 @@ first_fault shape [] = None
 first_fault shape (elem.NewAxis ∷ elems) = first_fault shape elems
 first_fault [] (elem.Slice start end step ∷ elems) = None
 first_fault [] (elem.Index index ∷ elems) = None
-first_fault (len ∷ shape) (elem.Slice start end step ∷ elems) = option_or (slice_fault len (record { start = start; end = end; step = step })) (first_fault shape elems)
+first_fault (len ∷ shape) (elem.Slice start end step ∷ elems) = option_or (slice_fault len (slice_with start end step)) (first_fault shape elems)
 first_fault (len ∷ shape) (elem.Index index ∷ elems) = option_or (index_fault len index) (first_fault shape elems)
 
 -- the fault of a slice argument on a shape: a wrong count of axes before any element

@@ -2,7 +2,7 @@
 use Rattle.std.specs.Prelude.{◌≡◌, ℕ, ℤ, pos, negsuc, ◌+ℤ◌, ◌*ℤ◌, nat_le, if◌then◌else◌, None, List, [], ◌∷◌, length, refl}
 use Rattle.nd_slice.specs.declared.slice.SliceInfoElem.{SliceInfoElem}
 use Rattle.nd_slice.specs.declared.slice.SliceInfoElem.TheVariants as elem
-use Rattle.nd_slice.specs.Picks.{meaning, picks}
+use Rattle.nd_slice.specs.Picks.{slice_with, meaning, picks}
 
 -- the stride of an axis of count entries that lie so many entries of the old axis apart; one entry needs none
 abbrev pub picked_stride : ℕ → ℤ → ℤ → ℤ
@@ -18,7 +18,7 @@ abbrev pub sliced_shape : List SliceInfoElem → List ℕ → List ℕ
 sliced_shape [] shape = []
 sliced_shape (elem.NewAxis ∷ elems) shape = 1 ∷ sliced_shape elems shape
 sliced_shape (elem.Slice start end step ∷ elems) [] = []
-sliced_shape (elem.Slice start end step ∷ elems) (len ∷ shape) = length (picks len (record { start = start; end = end; step = step })) ∷ sliced_shape elems shape
+sliced_shape (elem.Slice start end step ∷ elems) (len ∷ shape) = length (picks len (slice_with start end step)) ∷ sliced_shape elems shape
 sliced_shape (elem.Index index ∷ elems) [] = []
 sliced_shape (elem.Index index ∷ elems) (len ∷ shape) = sliced_shape elems shape
 
@@ -26,7 +26,7 @@ sliced_shape (elem.Index index ∷ elems) (len ∷ shape) = sliced_shape elems s
 abbrev pub sliced_strides : List SliceInfoElem → List ℕ → List ℤ → List ℤ
 sliced_strides [] shape strides = []
 sliced_strides (elem.NewAxis ∷ elems) shape strides = pos 0 ∷ sliced_strides elems shape strides
-sliced_strides (elem.Slice start end step ∷ elems) (len ∷ shape) (stride ∷ strides) = picked_stride (length (picks len (record { start = start; end = end; step = step }))) stride step ∷ sliced_strides elems shape strides
+sliced_strides (elem.Slice start end step ∷ elems) (len ∷ shape) (stride ∷ strides) = picked_stride (length (picks len (slice_with start end step))) stride step ∷ sliced_strides elems shape strides
 sliced_strides (elem.Index index ∷ elems) (len ∷ shape) (stride ∷ strides) = sliced_strides elems shape strides
 sliced_strides (elem.Slice start end step ∷ elems) shape strides = []
 sliced_strides (elem.Index index ∷ elems) shape strides = []
@@ -35,7 +35,7 @@ sliced_strides (elem.Index index ∷ elems) shape strides = []
 abbrev pub sliced_offset : List SliceInfoElem → List ℕ → List ℤ → ℤ
 sliced_offset [] shape strides = pos 0
 sliced_offset (elem.NewAxis ∷ elems) shape strides = sliced_offset elems shape strides
-sliced_offset (elem.Slice start end step ∷ elems) (len ∷ shape) (stride ∷ strides) = first_offset (picks len (record { start = start; end = end; step = step })) stride +ℤ sliced_offset elems shape strides
+sliced_offset (elem.Slice start end step ∷ elems) (len ∷ shape) (stride ∷ strides) = first_offset (picks len (slice_with start end step)) stride +ℤ sliced_offset elems shape strides
 sliced_offset (elem.Index index ∷ elems) (len ∷ shape) (stride ∷ strides) = (meaning len index *ℤ stride) +ℤ sliced_offset elems shape strides
 sliced_offset (elem.Slice start end step ∷ elems) shape strides = pos 0
 sliced_offset (elem.Index index ∷ elems) shape strides = pos 0

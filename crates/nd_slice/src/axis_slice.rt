@@ -1,12 +1,12 @@
 //! A slice of one axis: the entries that it means, and the axis that it leaves.
-ghost use Rattle.std.specs.Prelude.{◌≡◌, ℕ, ◌<◌, ◌≤◌, ◌^◌, max, pos, ◌+ℤ◌, ◌*ℤ◌, ◌≤ℤ◌, IfOk, OnOk, OnErr, OkIff, IsOkUnless, IsTrue, FitsSigned, length, slice_index};
+ghost use Rattle.std.specs.Prelude.{◌≡◌, ℕ, ◌<◌, ◌≤◌, ◌^◌, max, pos, ◌+ℤ◌, ◌*ℤ◌, ◌≤ℤ◌, ◌↔◌, IsOk, IfOk, OnOk, OnErr, OkIff, IsOkUnless, IsTrue, FitsSigned, length, slice_index};
 ghost use Rattle.std.specs.Int.{w64};
 ghost use Rattle.std.specs.Result.{result_err};
 ghost use Rattle.nd_base.specs.Signed.{magnitude, signed as signed_reading};
 ghost use Rattle.nd_base.specs.Size.{limit};
 ghost use Rattle.nd_shape.specs.Span.{reach};
 ghost use Rattle.nd_slice.specs.Picks.{meaning, is_bound, start_meaning, end_meaning, range, directed, every, picks};
-ghost use Rattle.nd_slice.specs.SliceFault.{slice_fault};
+ghost use Rattle.nd_slice.specs.SliceFault.{slice_fault, SliceFits};
 ghost use Rattle.nd_slice.specs.Sliced.{picked_stride, first_offset};
 
 use crate::slice::Slice;
@@ -44,6 +44,7 @@ fn abs_bound(len: usize, bound: isize) -> Result<usize, ShapeError>
 /// from 0 to `len` (`OutOfBounds`), then for a step of 0 (`Unsupported`). Upstream's `to_abs_slice`.
 pub fn to_abs_slice(len: usize, slice: Slice) -> Result<(usize, usize, isize), ShapeError>
     ensures fault { result_err result ≡ slice_fault len slice }
+    ensures fits { IsOk result ↔ SliceFits len slice }
     ensures start { IfOk result (λ (start, end, step). pos start ≡ start_meaning len slice) }
     ensures end { IfOk result (λ (start, end, step).
         end ≡ max start (magnitude (end_meaning len slice))) }
