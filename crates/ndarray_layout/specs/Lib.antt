@@ -1,1 +1,2 @@
-
+pub mod SlicedView
+pub mod View
