@@ -1,6 +1,7 @@
 -- Laws of products of signed numbers.
 use Rattle.std.proofs.Common.{◌≡◌, ℕ, ap, sym, ◌*◌, ◌∙◌, arith, ℤ, pos, ◌+ℤ◌, ◌*ℤ◌}
 use Rattle.std.proofs.lemmas.Int.{ints}
+use Rattle.std.proofs.Math.IntN.{*ℤ_comm}
 use borrow.Author.Differences.{up, down, same_in, sum_is_lem, product_is}
 
 -- an equation, both sides times k
@@ -22,3 +23,6 @@ sum_times a b c =
     let left = product_is (a +ℤ b) c in
     let sum = sum_is_lem a b in
     same_in _ _ (omega (arith, left, ac, bc, sum_is_lem (a *ℤ c) (b *ℤ c), by_times (up c) _ _ sum, by_times (down c) _ _ sum))
+
+pub times_swap : (a b c : ℤ) → (a *ℤ b) *ℤ c ≡ a *ℤ (c *ℤ b)
+times_swap a b c = times_assoc a b c ∙ ap (λ x. a *ℤ x) (*ℤ_comm b c)
