@@ -4,3 +4,4 @@ pub mod Picked
 pub mod PicksFit
 pub mod Slices
 pub mod Times
+pub mod Walks

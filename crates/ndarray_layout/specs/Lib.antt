@@ -1,2 +1,3 @@
 pub mod SlicedView
 pub mod View
+pub mod Walk

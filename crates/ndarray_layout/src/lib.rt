@@ -1,2 +1,4 @@
 //! Views: shapes with strides and a start, as functions from indices to places.
 #![tactic(auto)]
+
+mod places;
