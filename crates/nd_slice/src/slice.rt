@@ -1,4 +1,5 @@
 //! Slices of one axis, and the elements of a whole slice argument.
+ghost use Rattle.std.specs.Prelude.{◌≡◌, ◌≢◌, pos};
 
 /// A range of an axis with a step. A negative bound counts from the end of the axis, no end is the end of
 /// the axis, and a negative step begins at the back of the range. Upstream's `Slice`.
@@ -10,6 +11,18 @@ pub struct Slice {
     pub end: Option<isize>,
     /// How many entries on the next pick lies; not 0.
     pub step: isize,
+}
+
+impl Slice {
+    /// The range from `start` up to, not including, `end`, with every `step`-th entry picked; the three are
+    /// counts of entries, and `step` is not 0. Upstream's `Slice::new`.
+    #[inline]
+    pub fn new(start: isize, end: Option<isize>, step: isize) -> Slice
+        requires { step ≢ pos 0 }
+        ensures { result ≡ record { start = start; end = end; step = step } }
+    {
+        Slice { start, end, step }
+    }
 }
 
 /// A new axis of length 1. Upstream's `NewAxis`.

@@ -1,0 +1,56 @@
+-- The picks between two bounds, by their step.
+use Rattle.std.proofs.Common.{◌≡◌, ℕ, zero, suc, ◌+◌, ◌-◌, ◌*◌, ◌<◌, ◌≤◌, List, [], ◌∷◌, length, get_or, arith, refl, sym, ap, ◌∙◌, inl, inr, reverse}
+use Rattle.std.proofs.lemmas.List.{get_or-reverse, length-reverse}
+use Rattle.std.proofs.lemmas.List.FromFn.{length-range_with_len, get_or-range_with_len}
+use Rattle.std.proofs.Math.IntN.{ℤ, pos, negsuc, ◌+ℤ◌, ◌*ℤ◌}
+use Rattle.std.specs.Int.{div_ceil}
+use Rattle.nd_base.specs.Signed.{magnitude}
+use Rattle.nd_slice.specs.Picks.{every, directed, range}
+use Rattle.nd_slice.proofs.Times.{times_up, times_down}
+use Rattle.nd_slice.proofs.Picks.{length-every, get-every, every_within}
+
+-- the picks of a step from one bound up to another
+abbrev pub between : ℤ → ℕ → ℕ → List ℕ
+between step start end = every (magnitude step) (directed step (range start end))
+
+length-directed : (step : ℤ) (start end : ℕ) → length (directed step (range start end)) ≡ end - start
+length-directed (pos k) start end = length-range_with_len start (end - start)
+length-directed (negsuc k) start end = length-reverse (range start end) ∙ length-range_with_len start (end - start)
+
+pub length-between : (step : ℤ) (start end : ℕ) → 0 < magnitude step → length (between step start end) ≡ div_ceil (end - start) (magnitude step)
+length-between step start end p = length-every (magnitude step) (directed step (range start end)) p ∙ ap (λ n. div_ceil n (magnitude step)) (length-directed step start end)
+
+-- the entries are inside the bounds
+pub between_within : (step : ℤ) (start end j : ℕ) → 0 < magnitude step → j < length (between step start end) → j * magnitude step < end - start
+between_within step start end j p below = omega (arith, every_within (magnitude step) (directed step (range start end)) j p below, length-directed step start end)
+
+-- upward, from the start
+pub pick_up : (k start end j : ℕ) → 0 < k → j < length (between (pos k) start end) → get_or (between (pos k) start end) j 0 ≡ start + j * k
+pick_up k start end j p below = get-every k (range start end) j p ∙ get_or-range_with_len start (end - start) (j * k) 0 (between_within (pos k) start end j p below)
+
+-- downward, from the entry before the end
+pub pick_down : (k start end j : ℕ) → j < length (between (negsuc k) start end) → get_or (between (negsuc k) start end) j 0 + j * suc k + 1 ≡ end
+pick_down k start end j below =
+    let p : 0 < suc k = omega arith in
+    let inside : j * suc k < end - start = between_within (negsuc k) start end j p below in
+    let count : length (range start end) ≡ end - start = length-range_with_len start (end - start) in
+    let at : get_or (between (negsuc k) start end) j 0 ≡ get_or (reverse (range start end)) (j * suc k) 0 = get-every (suc k) (reverse (range start end)) j p in
+    let turned : get_or (reverse (range start end)) (j * suc k) 0 ≡ get_or (range start end) (length (range start end) - 1 - j * suc k) 0 = get_or-reverse (range start end) (j * suc k) 0 (omega arith) in
+    let item : get_or (range start end) (length (range start end) - 1 - j * suc k) 0 ≡ start + (length (range start end) - 1 - j * suc k) = get_or-range_with_len start (end - start) (length (range start end) - 1 - j * suc k) 0 (omega arith) in
+    omega arith
+
+-- the distance from the first entry to the pick at j is j times the step's distance
+pub between_steps : (step : ℤ) (start end j : ℕ) (s : ℤ) → 0 < magnitude step → j < length (between step start end) → pos (get_or (between step start end) j 0) *ℤ s ≡ (pos (get_or (between step start end) 0 0) *ℤ s) +ℤ (pos j *ℤ (s *ℤ step))
+between_steps (pos k) start end j s p below =
+    let first : get_or (between (pos k) start end) 0 0 ≡ start + 0 * k = pick_up k start end 0 p (omega arith) in
+    let here : get_or (between (pos k) start end) j 0 ≡ start + j * k = pick_up k start end j p below in
+    ap (λ n. pos n *ℤ s) (omega arith) ∙ times_up (get_or (between (pos k) start end) 0 0) j k s
+between_steps (negsuc k) start end j s p below =
+    let first : get_or (between (negsuc k) start end) 0 0 + 0 * suc k + 1 ≡ end = pick_down k start end 0 (omega arith) in
+    let here : get_or (between (negsuc k) start end) j 0 + j * suc k + 1 ≡ end = pick_down k start end j below in
+    sym (ap (λ n. (pos n *ℤ s) +ℤ (pos j *ℤ (s *ℤ negsuc k))) (omega arith) ∙ times_down (get_or (between (negsuc k) start end) j 0) j k s)
+
+-- each pick is an entry
+pub between_below : (step : ℤ) (start end j : ℕ) → 0 < magnitude step → j < length (between step start end) → get_or (between step start end) j 0 < end
+between_below (pos k) start end j p below = omega (arith, pick_up k start end j p below, between_within (pos k) start end j p below)
+between_below (negsuc k) start end j p below = omega (arith, pick_down k start end j below)

@@ -1,0 +1,4 @@
+pub mod Axis
+pub mod Picks
+pub mod Slicing
+pub mod Times

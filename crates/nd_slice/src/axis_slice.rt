@@ -1,0 +1,113 @@
+//! A slice of one axis: the entries that it means, and the axis that it leaves.
+ghost use Rattle.std.specs.Prelude.{◌≡◌, ◌≢◌, ℕ, ◌<◌, ◌≤◌, ◌^◌, max, pos, ◌+ℤ◌, ◌*ℤ◌, ◌≤ℤ◌, IfOk, OnOk, OnErr, OkIff, IsOkUnless, IsTrue, FitsSigned, length, slice_index};
+ghost use Rattle.std.specs.Int.{w64};
+ghost use Rattle.std.specs.Result.{result_err};
+ghost use Rattle.nd_base.specs.Signed.{magnitude, signed as signed_reading};
+ghost use Rattle.nd_base.specs.Size.{limit};
+ghost use Rattle.nd_shape.specs.Span.{reach};
+ghost use Rattle.nd_slice.specs.Picks.{meaning, is_bound, start_meaning, end_meaning, range, directed, every, picks};
+ghost use Rattle.nd_slice.specs.SliceFault.{slice_fault};
+ghost use Rattle.nd_slice.specs.Sliced.{picked_stride, first_offset};
+
+use crate::slice::Slice;
+use nd_base::{ErrorKind, ShapeError, from_kind, signed, stride_offset, unsigned};
+
+/// The entry that an index means on an axis of `len` entries: itself, or `len + index` where it is negative.
+/// Upstream's `abs_index`.
+#[inline]
+pub fn abs_index(len: usize, index: isize) -> usize
+    requires { pos 0 ≤ℤ meaning len index }
+    ensures { pos result ≡ meaning len index }
+{
+    let distance = index.unsigned_abs();
+    if index < 0 { len - distance } else { distance }
+}
+
+/// The entry that a bound of a range means, from 0 to `len`; any other is `OutOfBounds`.
+fn abs_bound(len: usize, bound: isize) -> Result<usize, ShapeError>
+    ensures value { OkIff result (IsTrue (is_bound len (meaning len bound))) (magnitude (meaning len bound)) }
+    ensures fault { IsOkUnless result ErrorKind.OutOfBounds }
+{
+    let distance = bound.unsigned_abs();
+    if distance > len {
+        Err(from_kind(ErrorKind::OutOfBounds))
+    } else if bound < 0 {
+        Ok(len - distance)
+    } else {
+        Ok(distance)
+    }
+}
+
+/// The start, the end and the step of a slice on an axis of `len` entries, with the bounds counted from the
+/// first entry. An end before the start becomes the start. Refused where a bound is not from 0 to `len`
+/// (`OutOfBounds`), then for a step of 0 (`Unsupported`). Upstream's `to_abs_slice`.
+pub fn to_abs_slice(len: usize, slice: Slice) -> Result<(usize, usize, isize), ShapeError>
+    ensures fault { result_err result ≡ slice_fault len slice }
+    ensures start { IfOk result (λ (start, end, step). pos start ≡ start_meaning len slice) }
+    ensures end { IfOk result (λ (start, end, step). end ≡ max start (magnitude (end_meaning len slice))) }
+    ensures order { IfOk result (λ (start, end, step). start ≤ end) }
+    ensures within { IfOk result (λ (start, end, step). end ≤ len) }
+    ensures step { IfOk result (λ (start, end, step). step ≡ slice.step) }
+{
+    let start = abs_bound(len, slice.start)?;
+    let end = match slice.end {
+        Some(end) => abs_bound(len, end)?,
+        None => len,
+    };
+    if slice.step == 0 {
+        return Err(from_kind(ErrorKind::Unsupported));
+    }
+    Ok((start, end.max(start), slice.step))
+}
+
+/// How many entries a step picks between two bounds.
+fn pick_count(start: usize, end: usize, step: isize) -> usize
+    requires order { start ≤ end }
+    requires moves { 0 < magnitude step }
+    ensures { result ≡ length (every (magnitude step) (directed step (range start end))) }
+{
+    (end - start).div_ceil(step.unsigned_abs())
+}
+
+/// The entry that a step picks first between two bounds: the last one for a step back.
+fn first_pick(start: usize, end: usize, step: isize) -> usize
+    requires order { start < end }
+    requires moves { 0 < magnitude step }
+    ensures { result ≡ slice_index (every (magnitude step) (directed step (range start end))) 0 }
+{
+    if step < 0 { end - 1 } else { start }
+}
+
+/// The stride of `count` entries that lie `step` entries of an axis of a stride apart; at most one needs none.
+fn stepped_stride(count: usize, stride: usize, step: isize) -> usize
+    requires { 1 < count → FitsSigned w64 (signed_reading stride *ℤ step) }
+    ensures { signed_reading result ≡ picked_stride count (signed_reading stride) step }
+{
+    if count <= 1 { 0 } else { unsigned(signed(stride) * step) }
+}
+
+/// Slices one axis in place: its length becomes the number of entries picked and its stride the distance in
+/// elements from one of them to the next, 0 where there is at most one. Answers how many elements the first
+/// of them lies behind the first entry, 0 where there is none. Refused as `to_abs_slice` is, and then the
+/// length and the stride stay. Upstream's `do_slice`.
+pub fn do_slice(dim: &mut usize, stride: &mut usize, slice: Slice) -> Result<isize, ShapeError>
+    requires len_fits { dim.old < 2 ^ 63 }
+    requires span_fits { reach dim.old (signed_reading stride.old) ≤ limit }
+    ensures fault { result_err result ≡ slice_fault dim.old slice }
+    ensures len { OnOk result (dim.new ≡ length (picks dim.old slice)) }
+    ensures stride { OnOk result (signed_reading stride.new ≡ picked_stride (length (picks dim.old slice)) (signed_reading stride.old) slice.step) }
+    ensures offset { IfOk result (λ offset. offset ≡ first_offset (picks dim.old slice) (signed_reading stride.old)) }
+    ensures steps { IfOk result (λ offset. (j : ℕ) → j < dim.new → pos (slice_index (picks dim.old slice) j) *ℤ signed_reading stride.old ≡ offset +ℤ (pos j *ℤ signed_reading stride.new)) }
+    ensures within { OnOk result ((j : ℕ) → j < dim.new → slice_index (picks dim.old slice) j < dim.old) }
+    ensures refusal { OnErr result ((dim.new ≡ dim.old) × (stride.new ≡ stride.old)) }
+{
+    let (start, end, step) = to_abs_slice(*dim, slice)?;
+    let offset = if start < end {
+        stride_offset(first_pick(start, end, step), *stride)
+    } else {
+        0
+    };
+    *dim = pick_count(start, end, step);
+    *stride = stepped_stride(*dim, *stride, step);
+    Ok(offset)
+}
