@@ -3,5 +3,4 @@ pub mod Offsets
 pub mod Picked
 pub mod PicksFit
 pub mod Slices
-pub mod Times
 pub mod Walks

@@ -5,13 +5,12 @@ use Rattle.std.proofs.lemmas.Bool.{cases_lt, cond-true, cond-false, le-leb, lt-l
 use Rattle.nd_shape.specs.Span.{reach, reach_down, reach_up}
 use Rattle.nd_slice.specs.Sliced.{picked_stride, first_offset}
 use Rattle.ndarray_layout.proofs.Axes.{Within, axis_within, reach_parts}
-use Rattle.ndarray_layout.proofs.Times.{sum_times, times_assoc, times_swap}
 
 -- the picks of a slice that fits an axis of length len
 pub record PicksFit (len : ℕ) (step : ℤ) (picks : List ℕ) : Type 0 where
   pub few : length picks ≤ len
   pub within : (j : ℕ) → j < length picks → get_or picks j 0 < len
-  pub spaced : (j : ℕ) → j < length picks → pos (get_or picks j 0) ≡ pos (get_or picks 0 0) +ℤ (pos j *ℤ step)
+  pub spaced : (j : ℕ) (stride : ℤ) → j < length picks → pos (get_or picks j 0) *ℤ stride ≡ (pos (get_or picks 0 0) *ℤ stride) +ℤ (pos j *ℤ (stride *ℤ step))
 
 -- what is left of an axis reaches no further than the axis
 pub record AxisKept (len : ℕ) (stride : ℤ) (count : ℕ) (new_stride : ℤ) (offset : ℤ) : Type 0 where
@@ -41,9 +40,7 @@ pick_offset len stride step picks j fit h =
     elim (cases_lt 1 (length picks)) [
       | inl many ↦
         let new = picked_many (length picks) stride step many in
-        let apart : (pos (get_or picks 0 0) +ℤ (pos j *ℤ step)) *ℤ stride ≡ (pos (get_or picks 0 0) *ℤ stride) +ℤ ((pos j *ℤ step) *ℤ stride) = sum_times (pos (get_or picks 0 0)) (pos j *ℤ step) stride in
-        let turned : (pos j *ℤ step) *ℤ stride ≡ pos j *ℤ (stride *ℤ step) = times_swap (pos j) step stride in
-        rw (fit.spaced j h, first, new) (rw (← turned) apart)
+        rw (first, new) (fit.spaced j stride h)
       | inr few ↦
         let new = picked_few (length picks) stride step few in
         let zeroth : j ≡ 0 = omega arith in
