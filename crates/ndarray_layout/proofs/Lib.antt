@@ -2,5 +2,6 @@ pub mod Axes
 pub mod Offsets
 pub mod Picked
 pub mod PicksFit
+pub mod SliceSteps
 pub mod Slices
 pub mod Walks

@@ -45,7 +45,7 @@ places_more start i inner lens stride strides e =
     let row = map (λ index. i ∷ index) (indices lens) in
     rw (add-one i) (ap (map (place start (stride ∷ strides))) (indices_more i lens) ∙ map-append (place start (stride ∷ strides)) (indices (i ∷ lens)) row ∙ ap (λ xs. map (place start (stride ∷ strides)) (indices (i ∷ lens)) ++ xs) (row_at start i inner stride strides (indices lens) e))
 
-nonzero_pos : (shape : List ℕ) → 1 ≤ nonzero_size shape
+pub nonzero_pos : (shape : List ℕ) → 1 ≤ nonzero_size shape
 nonzero_pos [] = omega arith
 nonzero_pos (len ∷ lens) = by (nonzero_pos lens) (eqb len 0) refl
   where
