@@ -1,4 +1,5 @@
 pub mod Axis
+pub mod Counts
 pub mod Picks
 pub mod Slicing
 pub mod Times

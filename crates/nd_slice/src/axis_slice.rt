@@ -1,5 +1,5 @@
 //! A slice of one axis: the entries that it means, and the axis that it leaves.
-ghost use Rattle.std.specs.Prelude.{◌≡◌, ◌≢◌, ℕ, ◌<◌, ◌≤◌, ◌^◌, max, pos, ◌+ℤ◌, ◌*ℤ◌, ◌≤ℤ◌, IfOk, OnOk, OnErr, OkIff, IsOkUnless, IsTrue, FitsSigned, length, slice_index};
+ghost use Rattle.std.specs.Prelude.{◌≡◌, ℕ, ◌<◌, ◌≤◌, ◌^◌, max, pos, ◌+ℤ◌, ◌*ℤ◌, ◌≤ℤ◌, IfOk, OnOk, OnErr, OkIff, IsOkUnless, IsTrue, FitsSigned, length, slice_index};
 ghost use Rattle.std.specs.Int.{w64};
 ghost use Rattle.std.specs.Result.{result_err};
 ghost use Rattle.nd_base.specs.Signed.{magnitude, signed as signed_reading};
@@ -12,8 +12,8 @@ ghost use Rattle.nd_slice.specs.Sliced.{picked_stride, first_offset};
 use crate::slice::Slice;
 use nd_base::{ErrorKind, ShapeError, from_kind, signed, stride_offset, unsigned};
 
-/// The entry that an index means on an axis of `len` entries: itself, or `len + index` where it is negative.
-/// Upstream's `abs_index`.
+/// The entry that an index means on an axis of `len` entries: itself, or `len + index` where it is
+/// negative. Upstream's `abs_index`.
 #[inline]
 pub fn abs_index(len: usize, index: isize) -> usize
     requires { pos 0 ≤ℤ meaning len index }
@@ -25,7 +25,8 @@ pub fn abs_index(len: usize, index: isize) -> usize
 
 /// The entry that a bound of a range means, from 0 to `len`; any other is `OutOfBounds`.
 fn abs_bound(len: usize, bound: isize) -> Result<usize, ShapeError>
-    ensures value { OkIff result (IsTrue (is_bound len (meaning len bound))) (magnitude (meaning len bound)) }
+    ensures value { OkIff result (IsTrue (is_bound len (meaning len bound)))
+        (magnitude (meaning len bound)) }
     ensures fault { IsOkUnless result ErrorKind.OutOfBounds }
 {
     let distance = bound.unsigned_abs();
@@ -38,13 +39,14 @@ fn abs_bound(len: usize, bound: isize) -> Result<usize, ShapeError>
     }
 }
 
-/// The start, the end and the step of a slice on an axis of `len` entries, with the bounds counted from the
-/// first entry. An end before the start becomes the start. Refused where a bound is not from 0 to `len`
-/// (`OutOfBounds`), then for a step of 0 (`Unsupported`). Upstream's `to_abs_slice`.
+/// The start, the end and the step of a slice on an axis of `len` entries, with the bounds counted
+/// from the first entry. An end before the start becomes the start. Refused where a bound is not
+/// from 0 to `len` (`OutOfBounds`), then for a step of 0 (`Unsupported`). Upstream's `to_abs_slice`.
 pub fn to_abs_slice(len: usize, slice: Slice) -> Result<(usize, usize, isize), ShapeError>
     ensures fault { result_err result ≡ slice_fault len slice }
     ensures start { IfOk result (λ (start, end, step). pos start ≡ start_meaning len slice) }
-    ensures end { IfOk result (λ (start, end, step). end ≡ max start (magnitude (end_meaning len slice))) }
+    ensures end { IfOk result (λ (start, end, step).
+        end ≡ max start (magnitude (end_meaning len slice))) }
     ensures order { IfOk result (λ (start, end, step). start ≤ end) }
     ensures within { IfOk result (λ (start, end, step). end ≤ len) }
     ensures step { IfOk result (λ (start, end, step). step ≡ slice.step) }
@@ -78,27 +80,37 @@ fn first_pick(start: usize, end: usize, step: isize) -> usize
     if step < 0 { end - 1 } else { start }
 }
 
-/// The stride of `count` entries that lie `step` entries of an axis of a stride apart; at most one needs none.
+/// The stride of `count` entries that lie `step` entries of an axis of a stride apart; at most one
+/// needs none.
 fn stepped_stride(count: usize, stride: usize, step: isize) -> usize
     requires { 1 < count → FitsSigned w64 (signed_reading stride *ℤ step) }
     ensures { signed_reading result ≡ picked_stride count (signed_reading stride) step }
 {
-    if count <= 1 { 0 } else { unsigned(signed(stride) * step) }
+    if count <= 1 {
+        0
+    } else {
+        unsigned(signed(stride) * step)
+    }
 }
 
-/// Slices one axis in place: its length becomes the number of entries picked and its stride the distance in
-/// elements from one of them to the next, 0 where there is at most one. Answers how many elements the first
-/// of them lies behind the first entry, 0 where there is none. Refused as `to_abs_slice` is, and then the
-/// length and the stride stay. Upstream's `do_slice`.
+/// Slices one axis in place: its length becomes the number of entries picked and its stride the
+/// distance in elements from one of them to the next, 0 where there is at most one. Answers how many
+/// elements the first of them lies behind the first entry, with its sign; 0 where there is none.
+/// Refused as `to_abs_slice` is, and then the length and the stride stay. Upstream's `do_slice`.
 pub fn do_slice(dim: &mut usize, stride: &mut usize, slice: Slice) -> Result<isize, ShapeError>
     requires len_fits { dim.old < 2 ^ 63 }
     requires span_fits { reach dim.old (signed_reading stride.old) ≤ limit }
     ensures fault { result_err result ≡ slice_fault dim.old slice }
     ensures len { OnOk result (dim.new ≡ length (picks dim.old slice)) }
-    ensures stride { OnOk result (signed_reading stride.new ≡ picked_stride (length (picks dim.old slice)) (signed_reading stride.old) slice.step) }
-    ensures offset { IfOk result (λ offset. offset ≡ first_offset (picks dim.old slice) (signed_reading stride.old)) }
-    ensures steps { IfOk result (λ offset. (j : ℕ) → j < dim.new → pos (slice_index (picks dim.old slice) j) *ℤ signed_reading stride.old ≡ offset +ℤ (pos j *ℤ signed_reading stride.new)) }
-    ensures within { OnOk result ((j : ℕ) → j < dim.new → slice_index (picks dim.old slice) j < dim.old) }
+    ensures stride { OnOk result (signed_reading stride.new
+        ≡ picked_stride (length (picks dim.old slice)) (signed_reading stride.old) slice.step) }
+    ensures offset { IfOk result (λ offset.
+        offset ≡ first_offset (picks dim.old slice) (signed_reading stride.old)) }
+    ensures steps { IfOk result (λ offset. (j : ℕ) → j < dim.new →
+        pos (slice_index (picks dim.old slice) j) *ℤ signed_reading stride.old
+        ≡ offset +ℤ (pos j *ℤ signed_reading stride.new)) }
+    ensures within { OnOk result ((j : ℕ) → j < dim.new →
+        slice_index (picks dim.old slice) j < dim.old) }
     ensures refusal { OnErr result ((dim.new ≡ dim.old) × (stride.new ≡ stride.old)) }
 {
     let (start, end, step) = to_abs_slice(*dim, slice)?;
@@ -110,4 +122,77 @@ pub fn do_slice(dim: &mut usize, stride: &mut usize, slice: Slice) -> Result<isi
     *dim = pick_count(start, end, step);
     *stride = stepped_stride(*dim, *stride, step);
     Ok(offset)
+}
+
+#[cfg(test)]
+mod tests {
+    use super::*;
+    use std::test::Fail;
+
+    /// One axis, a slice of it, and what it gives: the answer, the length and the stride afterwards.
+    #[derive(Drop)]
+    struct Row {
+        len: usize,
+        stride: isize,
+        slice: Slice,
+        answer: Result<isize, ErrorKind>,
+        len_after: usize,
+        stride_after: isize,
+        ghost len_fits: { len < 2 ^ 63 },
+        ghost span_fits: { reach len stride ≤ limit },
+    }
+
+    impl Row {
+        fn new(
+            axis: (usize, isize),
+            slice: (isize, Option<isize>, isize),
+            answer: Result<isize, ErrorKind>,
+            after: (usize, isize),
+        ) -> Row
+            requires len_fits { axis.0 < 2 ^ 63 }
+            requires span_fits { reach axis.0 axis.1 ≤ limit }
+        {
+            let (start, end, step) = slice;
+            Row {
+                len: axis.0,
+                stride: axis.1,
+                slice: Slice { start, end, step },
+                answer,
+                len_after: after.0,
+                stride_after: after.1,
+            }
+        }
+    }
+
+    #[test]
+    fn r1_rows(rt: HostRuntime) -> Result<(), Fail> {
+        const MAX: usize = 9223372036854775807;
+        const LAST: isize = 9223372036854775806;
+        const MIN: isize = isize::MIN;
+        let rows = [
+            Row::new((4, 1), (3, Some(1), 1), Ok(0), (0, 0)),
+            Row::new((4, 1), (5, Some(2), 1), Err(ErrorKind::OutOfBounds), (4, 1)),
+            Row::new((4, 1), (0, Some(0), 0), Err(ErrorKind::Unsupported), (4, 1)),
+            Row::new((4, 1), (9, Some(0), 0), Err(ErrorKind::OutOfBounds), (4, 1)),
+            Row::new((4, 1), (1, None, -2), Ok(3), (2, -2)),
+            Row::new((MAX, 1), (0, None, MIN), Ok(LAST), (1, 0)),
+            Row::new((MAX, 1), (0, None, LAST), Ok(0), (2, LAST)),
+            Row::new(
+                (MAX, 1),
+                (MIN, None, 1),
+                Err(ErrorKind::OutOfBounds),
+                (MAX, 1),
+            ),
+            Row::new((1, MIN), (0, None, -1), Ok(0), (1, 0)),
+        ];
+        for row in &rows {
+            let mut len = row.len;
+            let mut stride = unsigned(row.stride);
+            let answer = do_slice(&mut len, &mut stride, row.slice).map_err(|error| error.kind());
+            assert_eq!(rt; answer, row.answer);
+            assert_eq!(rt; len, row.len_after);
+            assert_eq!(rt; signed(stride), row.stride_after);
+        }
+        Ok(())
+    }
 }

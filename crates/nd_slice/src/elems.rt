@@ -4,8 +4,8 @@ ghost use Rattle.nd_slice.specs.declared.slice.SliceInfoElem.{SliceInfoElem};
 
 use crate::slice::SliceInfoElem;
 
-/// A list of the elements of a slice argument, however it is kept. For the elements alone it stands in for
-/// upstream's `AsRef<[SliceInfoElem]>` bound of `SliceArg`.
+/// The elements of a slice argument, however they are kept. For upstream's bound
+/// `AsRef<[SliceInfoElem]>` of `SliceArg`.
 pub trait SliceElems {
     ghost list: { Self → List SliceInfoElem };
 

@@ -1,8 +1,8 @@
 //! Slices of one axis, and the elements of a whole slice argument.
 ghost use Rattle.std.specs.Prelude.{◌≡◌, ◌≢◌, pos};
 
-/// A range of an axis with a step. A negative bound counts from the end of the axis, no end is the end of
-/// the axis, and a negative step begins at the back of the range. Upstream's `Slice`.
+/// A range of an axis with a step. A negative bound counts from the end of the axis, no end is the
+/// end of the axis, and a negative step begins at the back of the range. Upstream's `Slice`.
 #[derive(Clone, Copy, PartialEq, Eq, Hash, Debug)]
 pub struct Slice {
     /// The first entry of the range.
@@ -14,8 +14,9 @@ pub struct Slice {
 }
 
 impl Slice {
-    /// The range from `start` up to, not including, `end`, with every `step`-th entry picked; the three are
-    /// counts of entries, and `step` is not 0. Upstream's `Slice::new`.
+    /// The range from `start` up to, not including, `end`, of which every `step`-th entry is picked,
+    /// from the back where `step` is negative; all three count entries, and `step` is not 0.
+    /// Upstream's `Slice::new`.
     #[inline]
     pub fn new(start: isize, end: Option<isize>, step: isize) -> Slice
         requires { step ≢ pos 0 }

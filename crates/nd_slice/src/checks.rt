@@ -1,0 +1,115 @@
+//! Which slice arguments fit a shape.
+ghost use Rattle.std.specs.Prelude.{◌≡◌};
+ghost use Rattle.std.specs.Result.{result_err};
+ghost use Rattle.nd_slice.specs.SliceFault.{argument_fault, index_fault, in_count, out_count};
+
+use crate::axis_slice::to_abs_slice;
+use crate::elems::SliceElems;
+use crate::slice::{Slice, SliceInfoElem};
+use nd_base::{ErrorKind, Lengths, ShapeError, from_kind};
+use nd_dim::Dimension;
+
+/// How many axes of a shape a slice argument is for: one for each element but a new axis. Upstream's
+/// `SliceArg::in_ndim`.
+pub fn in_ndim_of(list: &[SliceInfoElem]) -> usize
+    ensures { result ≡ in_count list.now }
+{
+    list.iter()
+        .filter(|elem| !matches!(elem, SliceInfoElem::NewAxis))
+        .count()
+}
+
+/// How many axes a slice argument leaves: one for each element but an index. Upstream's
+/// `SliceArg::out_ndim`.
+pub fn out_ndim_of(list: &[SliceInfoElem]) -> usize
+    ensures { result ≡ out_count list.now }
+{
+    list.iter()
+        .filter(|elem| !matches!(elem, SliceInfoElem::Index(_)))
+        .count()
+}
+
+/// Whether an index is on an axis of `len` entries, from `-len` to `len - 1`; any other is
+/// `OutOfBounds`.
+fn check_index(len: usize, index: isize) -> Result<(), ShapeError>
+    ensures { result_err result ≡ index_fault len index }
+{
+    let distance = index.unsigned_abs();
+    if distance < len || (distance == len && index < 0) {
+        Ok(())
+    } else {
+        Err(from_kind(ErrorKind::OutOfBounds))
+    }
+}
+
+/// Whether the elements of a slice argument fit the lengths of a shape. Refused with
+/// `IncompatibleShape` where they are for more axes or fewer; otherwise as the first element at fault
+/// is: with `OutOfBounds` for a bound or an index that is not on its axis, then with `Unsupported`
+/// for a step of 0. For the panics of upstream's `slice_collapse`.
+pub fn check_elems(shape: &[usize], elems: &[SliceInfoElem]) -> Result<(), ShapeError>
+    ensures { result_err result ≡ argument_fault shape.now elems.now }
+{
+    if in_ndim_of(elems) != shape.len() {
+        return Err(from_kind(ErrorKind::IncompatibleShape));
+    }
+    let mut axis = 0;
+    for elem in elems {
+        match *elem {
+            SliceInfoElem::Slice { start, end, step } => {
+                to_abs_slice(shape[axis], Slice { start, end, step })?;
+                axis += 1;
+            }
+            SliceInfoElem::Index(index) => {
+                check_index(shape[axis], index)?;
+                axis += 1;
+            }
+            SliceInfoElem::NewAxis => {}
+        }
+    }
+    Ok(())
+}
+
+/// Whether a slice argument fits a shape; refused as `check_elems` is, with the count of axes before
+/// any element. For the panics of upstream's `slice_move`.
+#[inline]
+pub fn check_slice<D: Dimension, S: SliceElems>(dim: &D, slices: &S) -> Result<(), ShapeError>
+    ensures { result_err result ≡ argument_fault (D.list dim.now) (S.list slices.now) }
+{
+    check_elems(dim.slice(), slices.elems())
+}
+
+#[cfg(test)]
+mod tests {
+    use super::*;
+    use nd_base::new_ix2;
+    use std::test::Fail;
+
+    const fn slice(start: isize, step: isize) -> SliceInfoElem {
+        SliceInfoElem::Slice {
+            start,
+            end: None,
+            step,
+        }
+    }
+
+    #[test]
+    fn r1_rows(rt: HostRuntime) -> Result<(), Fail> {
+        let shape = new_ix2(4, 5);
+        let one = [slice(0, 1)];
+        let few = check_slice(&shape, &one.as_slice()).map_err(|error| error.kind());
+        assert_eq!(rt; few, Err(ErrorKind::IncompatibleShape));
+        let rows = [
+            ([slice(9, 1), slice(0, 0)], Err(ErrorKind::OutOfBounds)),
+            ([slice(0, 0), slice(9, 1)], Err(ErrorKind::Unsupported)),
+            ([slice(0, 1), slice(0, 1)], Ok(())),
+        ];
+        for (elems, answer) in &rows {
+            let of_slice = check_slice(&shape, &elems.as_slice()).map_err(|error| error.kind());
+            assert_eq!(rt; of_slice, *answer);
+            let kept = elems.to_vec(rt.alloc())?;
+            let of_vec = check_slice(&shape, &kept).map_err(|error| error.kind());
+            assert_eq!(rt; of_vec, *answer);
+        }
+        Ok(())
+    }
+}
