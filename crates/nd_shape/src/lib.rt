@@ -2,5 +2,14 @@
 #![tactic(auto)]
 
 mod checks;
+mod limits;
+mod ndindex;
+mod offsets;
+mod overlap;
 
-pub use checks::CanIndexCheckMode;
+pub use checks::{
+    CanIndexCheckMode, can_index_slice, max_abs_offset_check_overflow, size_of_shape_checked,
+};
+pub use ndindex::NdIndex;
+pub use offsets::offset_from_low_addr_ptr_to_logical_ptr;
+pub use overlap::dim_stride_overlap;

@@ -1,0 +1,5 @@
+pub mod Accepted
+pub mod OffsetBounds
+pub mod OwnedRule
+pub mod Sizes
+pub mod Sums

@@ -1,0 +1,153 @@
+-- Facts about the offsets of indices: how they lie within the span, and a sum of them from an axis on.
+use Rattle.std.proofs.Common.{inl, inr, min, ◌≡◌, ℕ, zero, suc, ◌+◌, ◌-◌, ◌*◌, ◌<◌, ◌≤◌, ℤ, pos, negsuc, neg_ℤ, ◌+ℤ◌, ◌*ℤ◌, ◌≤ℤ◌, ◌<ℤ◌, true, false, Option, Some, None, List, [], ◌∷◌, length, drop, get_or, refl, ap, sym, ◌∙◌, arith, add-one, drop-cons}
+use Rattle.std.specs.Prelude.{nat_lt, ◌&&◌}
+use Rattle.std.specs.List.{list_all, zip}
+use Rattle.std.proofs.Math.Nat.{mul-le-mul_right}
+use Rattle.std.proofs.lemmas.Bool.{and_parts, and_right, cases_lt, ltb-true}
+use Rattle.std.proofs.lemmas.Int.{ints}
+use Rattle.std.proofs.lemmas.List.{drop_all}
+use Rattle.std.proofs.iter.Yields.{fronts}
+use Rattle.std.proofs.lemmas.Iterator.{zips}
+use Rattle.std.proofs.lemmas.Slice.Zip.{zip_turn, zip_end}
+use Rattle.std.specs.Borrow.{Bor}
+use Rattle.std.specs.Iterator.{Yields}
+use Rattle.std.specs.Iterator.Adapters.{zip_first, zip_second}
+use Rattle.std.specs.Slice.Iter.{iter_rest}
+use Rattle.std.specs.declared.iter.Zip.{Zip}
+use Rattle.std.specs.declared.slice.Iter.{Iter}
+use Rattle.nd_base.specs.Indices.{is_index}
+use Rattle.nd_base.specs.Signed.{signed, all_signed, magnitude}
+use Rattle.nd_shape.specs.Inside.{IsInside}
+use Rattle.nd_shape.specs.Place.{offset_of, place}
+use Rattle.nd_shape.specs.Reach.{farthest_offset}
+use Rattle.nd_shape.specs.Span.{reach, reach_down, reach_up, span, low_span, high_span}
+
+reach_parts : (len : ℕ) (stride : ℤ) → reach_down len stride + reach_up len stride ≡ reach len stride
+reach_parts len (pos s) = omega arith
+reach_parts len (negsuc s) = omega arith
+
+-- the span lies partly below the first index and partly above it
+pub low_high_span : (shape : List ℕ) (strides : List ℤ) → low_span shape strides + high_span shape strides ≡ span shape strides
+low_high_span [] strides = omega arith
+low_high_span (len ∷ shape) [] = omega arith
+low_high_span (len ∷ shape) (stride ∷ strides) = omega (arith, reach_parts len stride, low_high_span shape strides)
+
+-- one entry lies within the reach of its axis
+entry_bounds : (len : ℕ) (stride : ℤ) (i : ℕ) → i < len → (neg_ℤ (pos (reach_down len stride)) ≤ℤ (pos i *ℤ stride)) × ((pos i *ℤ stride) ≤ℤ pos (reach_up len stride))
+entry_bounds len (pos s) i h =
+    let steps : i ≤ len - 1 = omega arith in
+    let most : i * s ≤ (len - 1) * s = mul-le-mul_right s steps in
+    (omega (arith, ints), omega (arith, ints))
+entry_bounds len (negsuc s) i h =
+    let steps : i ≤ len - 1 = omega arith in
+    let most : i * suc s ≤ (len - 1) * suc s = mul-le-mul_right (suc s) steps in
+    (omega (arith, ints), omega (arith, ints))
+
+-- every index lies within the span, on both sides
+pub offset_bounds : (shape : List ℕ) (strides : List ℤ) (index : List ℕ) → is_index shape index ≡ true → length shape ≡ length strides → (neg_ℤ (pos (low_span shape strides)) ≤ℤ offset_of strides index) × (offset_of strides index ≤ℤ pos (high_span shape strides))
+offset_bounds [] [] [] h e = (omega (arith, ints), omega (arith, ints))
+offset_bounds [] (stride ∷ strides) index h e = absurd (omega arith)
+offset_bounds [] [] (i ∷ index) h e = absurd (cc)
+offset_bounds (len ∷ shape) [] index h e = absurd (omega arith)
+offset_bounds (len ∷ shape) (stride ∷ strides) [] h e = absurd (cc)
+offset_bounds (len ∷ shape) (stride ∷ strides) (i ∷ index) h e =
+    let parts = and_parts (nat_lt i len) (is_index shape index) h in
+    let here = entry_bounds len stride i (ltb-true i len parts.0) in
+    let rest = offset_bounds shape strides index parts.1 (omega arith) in
+    (omega (arith, ints, here.0, rest.0), omega (arith, ints, here.1, rest.1))
+
+inside_from : (len : ℕ) (z : ℤ) → pos 0 ≤ℤ z → z <ℤ pos len → IsInside len z
+inside_from len (pos n) low high = omega (arith, ints)
+inside_from len (negsuc n) low high = omega (arith, ints)
+
+-- from the lowest element on, every index lies among the first elements that the span counts
+pub index_inside : (len : ℕ) (shape : List ℕ) (strides : List ℤ) (index : List ℕ) → span shape strides < len → length shape ≡ length strides → is_index shape index ≡ true → IsInside len (place (low_span shape strides) strides index)
+index_inside len shape strides index fits e h =
+    let bounds = offset_bounds shape strides index h e in
+    let whole = low_high_span shape strides in
+    inside_from len (place (low_span shape strides) strides index)
+    (omega (arith, ints, bounds.0))
+    (omega (arith, ints, bounds.1, whole))
+
+-- an index lies no farther than the span, whatever the signs of the strides
+pub farthest_offset_le : (shape : List ℕ) (strides : List ℤ) (index : List ℕ) → is_index shape index ≡ true → farthest_offset strides index ≤ span shape strides
+farthest_offset_le [] strides [] h = omega arith
+farthest_offset_le [] strides (i ∷ index) h = absurd (cc)
+farthest_offset_le (len ∷ shape) strides [] h = absurd (cc)
+farthest_offset_le (len ∷ shape) [] (i ∷ index) h = omega arith
+farthest_offset_le (len ∷ shape) (stride ∷ strides) (i ∷ index) h =
+    let parts = and_parts (nat_lt i len) (is_index shape index) h in
+    let below : i < len = ltb-true i len parts.0 in
+    let steps : i ≤ len - 1 = omega arith in
+    let most : i * magnitude stride ≤ (len - 1) * magnitude stride = mul-le-mul_right (magnitude stride) steps in
+    omega (arith, farthest_offset_le shape strides index parts.1)
+
+-- the test by counts and pairs is the one of indices
+pub is_index_by_pairs : (shape index : List ℕ) → length shape ≡ length index → list_all (λ pair. nat_lt pair.1 pair.0) (zip shape index) ≡ is_index shape index
+is_index_by_pairs [] [] e = refl
+is_index_by_pairs [] (i ∷ index) e = absurd (omega arith)
+is_index_by_pairs (len ∷ shape) [] e = absurd (omega arith)
+is_index_by_pairs (len ∷ shape) (i ∷ index) e = ap (λ b. nat_lt i len && b) (is_index_by_pairs shape index (omega arith))
+
+pub is_index_of_count : (shape index : List ℕ) → (length shape ≡ length index → ⊥) → is_index shape index ≡ false
+is_index_of_count [] [] ne = absurd (ne refl)
+is_index_of_count [] (i ∷ index) ne = refl
+is_index_of_count (len ∷ shape) [] ne = refl
+is_index_of_count (len ∷ shape) (i ∷ index) ne = and_right (nat_lt i len) (is_index shape index) (is_index_of_count shape index (λ e. ne (omega arith)))
+
+-- how far an entry lies from the first one
+abbrev pub entry_offset : ℕ → ℤ → ℕ
+entry_offset entry stride = entry * magnitude stride
+
+-- an entry's offset is that far on one side or the other
+pub entry_offset_bounds : (entry : ℕ) (stride : ℤ) → (neg_ℤ (pos (entry_offset entry stride)) ≤ℤ (pos entry *ℤ stride)) × ((pos entry *ℤ stride) ≤ℤ pos (entry_offset entry stride))
+entry_offset_bounds entry (pos s) = (omega (arith, ints), omega (arith, ints))
+entry_offset_bounds entry (negsuc s) = (omega (arith, ints), omega (arith, ints))
+
+-- the offset from axis k on
+abbrev pub offset_from : List ℕ → List ℕ → ℕ → ℤ
+offset_from strides index k = offset_of (all_signed (drop k strides)) (drop k index)
+
+pub offset_from_step : (strides index : List ℕ) (k : ℕ) → k < length index → k < length strides → offset_from strides index k ≡ (pos (get_or index k 0) *ℤ signed (get_or strides k 0)) +ℤ offset_from strides index (k + 1)
+offset_from_step strides index k h g =
+    rw add-one (
+      ap (λ s. offset_of (all_signed (drop k strides)) s) (drop-cons index k 0 h)
+      ∙ ap (λ s. offset_of (all_signed s) (get_or index k 0 ∷ drop (suc k) index)) (drop-cons strides k 0 g)
+    )
+
+offset_of_none : (index : List ℕ) → offset_of [] index ≡ pos 0
+offset_of_none [] = refl
+offset_of_none (i ∷ index) = refl
+
+-- past the last axis it is 0
+pub offset_from_end : (strides index : List ℕ) (k : ℕ) → min (length index) (length strides) ≤ k → offset_from strides index k ≡ pos 0
+offset_from_end strides index k h =
+    elim (cases_lt k (length index)) [
+      | inl l ↦
+        let none : drop k strides ≡ [] = drop_all k strides (omega arith) in
+        ap (λ s. offset_of (all_signed s) (drop k index)) none ∙ offset_of_none (drop k index)
+      | inr l ↦ ap (λ s. offset_of (all_signed (drop k strides)) s) (drop_all k index l)
+    ]
+
+-- a loop over the entries and strides, which has yielded xs
+module _
+    (index strides : List ℕ)
+    (xs : List (Bor ℕ × Bor ℕ))
+    (s t u : Zip (Iter ℕ) (Iter ℕ))
+    (r : Option (Bor ℕ × Bor ℕ))
+    (first : iter_rest (zip_first s) ≡ index)
+    (second : iter_rest (zip_second s) ≡ strides)
+    (y : Yields (zips fronts fronts) s xs t) where
+  -- at the pair p
+  pub offset_at_turn : (p : Bor ℕ × Bor ℕ) → r ≡ Some p → zips fronts fronts t r u
+      → offset_from strides index (length xs) ≡ (pos p.0.now *ℤ signed p.1.now) +ℤ offset_from strides index (length xs + 1)
+  offset_at_turn p e h =
+      let turn = zip_turn index strides xs s t u r first second y p e h in
+      let step = offset_from_step strides index (length xs) turn.0 turn.1 in
+      rw (turn.2 0, turn.3 0) step
+
+  -- at the end
+  pub offset_at_end : r ≡ None → zips fronts fronts t r u → offset_from strides index (length xs) ≡ pos 0
+  offset_at_end e h =
+      let end = zip_end index strides xs s t u r first second y e h in
+      offset_from_end strides index (length xs) (omega arith)

@@ -1,0 +1,56 @@
+-- Facts about products of the lengths that are not 0.
+use Rattle.std.proofs.Common.{◌≡◌, ◌≢◌, ℕ, zero, suc, ◌+◌, ◌*◌, ◌<◌, ◌≤◌, true, false, eqb, List, [], ◌∷◌, length, drop, get_or, inl, inr, refl, ap, sym, ◌∙◌, arith, add-one, drop-cons, mul-pos, le-mul_of_pos_right, pos_of_ne-zero}
+use Rattle.std.proofs.lemmas.Bool.{and_parts, cases_eq, cond-true, cond-false, eq-eqb, ltb-true, ne_eqb, or_parts, eqb-false}
+use Rattle.std.specs.Prelude.{nat_lt, ◌&&◌}
+use Rattle.nd_base.specs.Indices.{is_index}
+use Rattle.nd_base.specs.Size.{is_empty, nonzero_size, size}
+
+-- a zero length is passed over
+pub nonzero_size_of_zero : (len : ℕ) (lens : List ℕ) → len ≡ 0 → nonzero_size (len ∷ lens) ≡ nonzero_size lens
+nonzero_size_of_zero len lens h = cond-true (eqb len 0) (nonzero_size lens) (len * nonzero_size lens) (eq-eqb len 0 h)
+
+-- any other is a factor
+pub nonzero_size_of_other : (len : ℕ) (lens : List ℕ) → len ≢ 0 → nonzero_size (len ∷ lens) ≡ len * nonzero_size lens
+nonzero_size_of_other len lens h = cond-false (eqb len 0) (nonzero_size lens) (len * nonzero_size lens) (ne_eqb len 0 h)
+
+-- so the product is at least 1
+pub nonzero_size_pos : (shape : List ℕ) → 0 < nonzero_size shape
+nonzero_size_pos [] = omega arith
+nonzero_size_pos (len ∷ lens) =
+    elim (cases_eq len 0) [
+      | inl e ↦ rw (nonzero_size_of_zero len lens e) (nonzero_size_pos lens)
+      | inr e ↦ rw (nonzero_size_of_other len lens e) (mul-pos (pos_of_ne-zero e) (nonzero_size_pos lens))
+    ]
+
+-- with no zero length it is the size
+pub nonzero_size_of_nonempty : (shape : List ℕ) → is_empty shape ≡ false → nonzero_size shape ≡ size shape
+nonzero_size_of_nonempty [] h = refl
+nonzero_size_of_nonempty (len ∷ lens) h =
+    let parts = or_parts (eqb len 0) (is_empty lens) h in
+    nonzero_size_of_other len lens (eqb-false len 0 parts.0) ∙ ap (λ n. len * n) (nonzero_size_of_nonempty lens parts.1)
+
+-- the product from axis k on, where its length is 0, and where it is not
+pub nonzero_size_from_zero : (shape : List ℕ) (k : ℕ) → k < length shape → get_or shape k 0 ≡ 0 → nonzero_size (drop k shape) ≡ nonzero_size (drop (k + 1) shape)
+nonzero_size_from_zero shape k h e = rw add-one (ap nonzero_size (drop-cons shape k 0 h) ∙ nonzero_size_of_zero (get_or shape k 0) (drop (suc k) shape) e)
+
+pub nonzero_size_from_other : (shape : List ℕ) (k : ℕ) → k < length shape → get_or shape k 0 ≢ 0 → nonzero_size (drop k shape) ≡ get_or shape k 0 * nonzero_size (drop (k + 1) shape)
+nonzero_size_from_other shape k h e = rw add-one (ap nonzero_size (drop-cons shape k 0 h) ∙ nonzero_size_of_other (get_or shape k 0) (drop (suc k) shape) e)
+
+-- each entry of an index is at most the product
+pub entry_le_nonzero_size : (shape index : List ℕ) → is_index shape index ≡ true → (k d : ℕ) → k < length index → get_or index k d ≤ nonzero_size shape
+entry_le_nonzero_size [] [] h k d l = omega arith
+entry_le_nonzero_size [] (i ∷ index) h k d l = absurd (cc)
+entry_le_nonzero_size (len ∷ lens) [] h k d l = omega arith
+entry_le_nonzero_size (len ∷ lens) (i ∷ index) h zero d l =
+    let parts = and_parts (nat_lt i len) (is_index lens index) h in
+    let below : i < len = ltb-true i len parts.0 in
+    let whole : len ≤ len * nonzero_size lens = le-mul_of_pos_right len (nonzero_size_pos lens) in
+    let is : nonzero_size (len ∷ lens) ≡ len * nonzero_size lens = nonzero_size_of_other len lens (λ e. omega arith) in
+    omega arith
+entry_le_nonzero_size (len ∷ lens) (i ∷ index) h (suc k) d l =
+    let parts = and_parts (nat_lt i len) (is_index lens index) h in
+    let below : i < len = ltb-true i len parts.0 in
+    let rest : get_or index k d ≤ nonzero_size lens = entry_le_nonzero_size lens index parts.1 k d (omega arith) in
+    let whole : nonzero_size lens ≤ nonzero_size lens * len = le-mul_of_pos_right (nonzero_size lens) (omega arith) in
+    let is : nonzero_size (len ∷ lens) ≡ len * nonzero_size lens = nonzero_size_of_other len lens (λ e. omega arith) in
+    omega arith

@@ -1,0 +1,17 @@
+use Rattle.std.proofs.Common.{◌≡◌, ◌≤◌, true, false, arith, sym, ◌∙◌}
+use Rattle.std.proofs.lemmas.Bool.{cond-true, cond-false}
+use Rattle.nd_base.specs.Indices.{is_index}
+use Rattle.nd_base.specs.Signed.{all_signed}
+use Rattle.nd_shape.proofs.OffsetBounds.{farthest_offset_le}
+use Rattle.nd_shape.proofs.Sizes.{entry_le_nonzero_size}
+use Rattle.nd_shape.proofs.ndindex.offset_in_shape.Goals as goal
+
+pub offset_of-requires : goal.offset_of-requires
+offset_of-requires c =
+    let here : is_index c.args.shape.now c.args.index.now ≡ true = sym c.is_index.ensures ∙ c.if-is_index.true in
+    let size = c.requires.size_fits in
+    let span = c.requires.span_fits in
+    record {
+      small = λ k d below. omega (arith, entry_le_nonzero_size c.args.shape.now c.args.index.now here k d below);
+      fits = omega (arith, farthest_offset_le c.args.shape.now (all_signed c.args.strides.now) c.args.index.now here);
+    }

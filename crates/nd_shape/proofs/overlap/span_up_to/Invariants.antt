@@ -1,0 +1,10 @@
+-- The sum so far, and that of the axes still to come, make the whole.
+use Rattle.std.proofs.Common.{◌≡◌, ◌+◌, length}
+use Rattle.nd_base.specs.Signed.{all_signed}
+use Rattle.nd_shape.specs.OwnedRule.{span_up_to}
+use Rattle.nd_shape.proofs.OwnedRule.{reach_up_to}
+use Rattle.nd_shape.proofs.Sums.{sum_from}
+use Rattle.nd_shape.proofs.overlap.span_up_to.Given as goal
+
+abbrev pub invariant-loop-len : goal.invariant-loop-len
+invariant-loop-len l = l.total + sum_from (reach_up_to l.magnitude) l.shape l.strides (length l.yielded) ≡ span_up_to l.magnitude l.shape (all_signed l.strides)

@@ -1,0 +1,66 @@
+//! Products and sums that stay within the limit of sizes and spans.
+ghost use Rattle.std.specs.Prelude.{◌≡◌, ◌+◌, ◌*◌, ◌≤◌, length, SomeIff};
+ghost use Rattle.nd_base.specs.Size.{nonzero_size, limit};
+ghost use Rattle.nd_base.specs.Signed.{signed as signed_reading, all_signed};
+ghost use Rattle.nd_shape.specs.Span.{reach as reach_of_axis, span};
+
+use nd_dim::signed;
+
+/// The product, where it is at most the greatest `isize`.
+pub fn multiply(a: usize, b: usize) -> Option<usize>
+    ensures { SomeIff result (a * b ≤ limit) (a * b) }
+{
+    a.checked_mul(b).filter(|n| *n <= isize::MAX as usize)
+}
+
+/// The sum, where it is at most the greatest `isize`.
+fn add(a: usize, b: usize) -> Option<usize>
+    ensures { SomeIff result (a + b ≤ limit) (a + b) }
+{
+    a.checked_add(b).filter(|n| *n <= isize::MAX as usize)
+}
+
+/// The product of the lengths that are not 0, where it is at most the greatest `isize`.
+pub fn checked_nonzero_size(shape: &[usize]) -> Option<usize>
+    ensures { SomeIff result (nonzero_size shape.now ≤ limit) (nonzero_size shape.now) }
+{
+    let mut size = 1usize;
+    for len in shape {
+        if *len != 0 {
+            size = multiply(size, *len)?;
+        }
+    }
+    Some(size)
+}
+
+/// How many elements lie between the first and the last entry of an axis, where that is at most
+/// the greatest `isize`.
+fn checked_reach(len: usize, stride: usize) -> Option<usize>
+    ensures { SomeIff result
+        (reach_of_axis len (signed_reading stride) ≤ limit)
+        (reach_of_axis len (signed_reading stride)) }
+{
+    multiply(len.saturating_sub(1), signed(stride).unsigned_abs())
+}
+
+/// How many elements lie between the lowest and the highest index, where that is at most the
+/// greatest `isize`.
+pub fn checked_span(shape: &[usize], strides: &[usize]) -> Option<usize>
+    ensures { SomeIff result
+        (span shape.now (all_signed strides.now) ≤ limit)
+        (span shape.now (all_signed strides.now)) }
+{
+    let mut span = 0usize;
+    for (len, stride) in shape.iter().zip(strides) {
+        span = add(span, checked_reach(*len, *stride)?)?;
+    }
+    Some(span)
+}
+
+/// How many elements lie between the first and the last entry of an axis.
+pub fn reach(len: usize, stride: isize) -> usize
+    requires { reach_of_axis len stride ≤ limit }
+    ensures { result ≡ reach_of_axis len stride }
+{
+    len.saturating_sub(1) * stride.unsigned_abs()
+}

@@ -1,0 +1,81 @@
+//! Whether two indices of a layout may share an element.
+ghost use Rattle.std.specs.Prelude.{◌≡◌, ◌<◌, ◌≤◌, false, not, ◌&&◌, [], ◌∷◌, length};
+ghost use Rattle.nd_base.specs.Signed.{signed as signed_reading, all_signed};
+ghost use Rattle.nd_base.specs.Size.{is_empty, limit};
+ghost use Rattle.nd_shape.specs.OwnedRule.{MeetsOwnedRule, meets_owned_rule, steps_over_others, span_up_to as span_up_to_magnitude};
+ghost use Rattle.nd_shape.specs.Span.{span};
+ghost use Rattle.nd_shape.specs.ValidLayout.{IsValidLayout};
+
+use crate::limits::reach;
+use nd_dim::{Dimension, signed};
+
+/// How many elements lie between the first and the last entry of an axis, or 0 where its stride is
+/// of a magnitude past `magnitude`.
+fn reach_up_to(len: usize, stride: usize, magnitude: usize) -> usize
+    requires { span_up_to_magnitude magnitude (len ∷ []) (signed_reading stride ∷ []) ≤ limit }
+    ensures { result ≡ span_up_to_magnitude magnitude (len ∷ []) (signed_reading stride ∷ []) }
+{
+    let stride = signed(stride);
+    if stride.unsigned_abs() <= magnitude { reach(len, stride) } else { 0 }
+}
+
+/// The summed spans of the axes whose strides are of magnitude at most `magnitude`.
+fn span_up_to(shape: &[usize], strides: &[usize], magnitude: usize) -> usize
+    requires { span shape.now (all_signed strides.now) ≤ limit }
+    ensures { result ≡ span_up_to_magnitude magnitude shape.now (all_signed strides.now) }
+{
+    let mut total = 0usize;
+    for (len, stride) in shape.iter().zip(strides) {
+        total += reach_up_to(*len, *stride, magnitude);
+    }
+    total
+}
+
+/// Whether the stride of an axis of more than one entry steps over no more than the axes of no
+/// greater stride span together.
+fn overlaps_others(shape: &[usize], strides: &[usize], axis: usize) -> bool
+    requires axis { axis < length shape.now }
+    requires same_count { length shape.now ≡ length strides.now }
+    requires span_fits { span shape.now (all_signed strides.now) ≤ limit }
+    ensures { result ≡ not (steps_over_others shape.now (all_signed strides.now) axis) }
+{
+    let len = shape[axis];
+    let stride = signed(strides[axis]);
+    let magnitude = stride.unsigned_abs();
+    len > 1 && magnitude <= span_up_to(shape, strides, magnitude) - reach(len, stride)
+}
+
+/// Whether the layout has an index, and an axis of more than one entry whose stride steps over no
+/// more than the axes of no greater stride span together.
+pub fn has_overlap(shape: &[usize], strides: &[usize]) -> bool
+    requires same_count { length shape.now ≡ length strides.now }
+    requires span_fits { span shape.now (all_signed strides.now) ≤ limit }
+    ensures { result ≡
+        (not (is_empty shape.now) && not (meets_owned_rule shape.now (all_signed strides.now))) }
+{
+    if shape.contains(&0) {
+        return false;
+    }
+    for axis in 0..shape.len() {
+        if overlaps_others(shape, strides, axis) {
+            return true;
+        }
+    }
+    false
+}
+
+/// Whether two indices of a layout may share an element: it has an index, and some axis of more
+/// than one entry has a stride no longer than the summed spans of the other axes of no greater
+/// stride. A layout may be refused by this rule though no two indices share an element.
+///
+/// Takes no memory. Upstream's `dim_stride_overlap`.
+pub fn dim_stride_overlap<D: Dimension>(dim: &D, strides: &D) -> bool
+    requires { IsValidLayout (D.list dim.now) (all_signed (D.list strides.now)) }
+    ensures answer { result ≡
+        (not (is_empty (D.list dim.now))
+            && not (meets_owned_rule (D.list dim.now) (all_signed (D.list strides.now)))) }
+    ensures apart { result ≡ false → is_empty (D.list dim.now) ≡ false →
+        MeetsOwnedRule (D.list dim.now) (all_signed (D.list strides.now)) }
+{
+    has_overlap(dim.slice(), strides.slice())
+}
