@@ -2,6 +2,8 @@ pub mod Axes
 pub mod Offsets
 pub mod Picked
 pub mod PicksFit
+pub mod Reversed
 pub mod SliceSteps
 pub mod Slices
+pub mod Views
 pub mod Walks

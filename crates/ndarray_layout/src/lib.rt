@@ -3,3 +3,6 @@
 
 mod places;
 mod slicing;
+mod strided;
+
+pub use strided::Strided;

@@ -49,5 +49,15 @@ fn entry_place(start: usize, i: usize, stride: usize) -> usize
     requires high { (pos start +ℤ (pos i *ℤ signed_reading stride)) ≤ℤ pos limit }
     ensures { pos result ≡ pos start +ℤ (pos i *ℤ signed_reading stride) }
 {
-    (start as isize + stride_offset(i, stride)) as usize
+    offset_place(start, stride_offset(i, stride))
+}
+
+/// The place that lies an offset behind another one.
+pub fn offset_place(start: usize, offset: isize) -> usize
+    requires first { start ≤ limit }
+    requires low { pos 0 ≤ℤ (pos start +ℤ offset) }
+    requires high { (pos start +ℤ offset) ≤ℤ pos limit }
+    ensures { pos result ≡ pos start +ℤ offset }
+{
+    (start as isize + offset) as usize
 }
