@@ -1,6 +1,6 @@
 -- Facts for one axis that is sliced between two bounds.
-use Rattle.std.proofs.Common.{◌≡◌, ℕ, zero, suc, ◌+◌, ◌-◌, ◌*◌, ◌^◌, ◌<◌, ◌≤◌, max, List, [], ◌∷◌, length, get_or, arith, refl, sym, ap, ◌∙◌, inl, inr, Some, None, Bool, true, false, not, pos_of_ne-zero, subst}
-use Rattle.std.proofs.lemmas.Bool.{cases_lt, eqb-false, le-leb, lt-leb}
+use Rattle.std.proofs.Common.{◌≡◌, ℕ, zero, suc, ◌+◌, ◌-◌, ◌*◌, ◌<◌, ◌≤◌, max, List, [], ◌∷◌, length, get_or, arith, refl, sym, ap, ◌∙◌, inl, inr, Some, None, Bool, true, false, not, pos_of_ne-zero, subst}
+use Rattle.std.proofs.lemmas.Bool.{cases_lt, eqb-false, le-leb, lt-leb, leb-true, and_parts}
 use Rattle.std.proofs.lemmas.Int.{ints, fits_signed_mul}
 use Rattle.std.proofs.lemmas.Grind.{div_ceil_times}
 use Rattle.std.proofs.Math.IntN.{ℤ, pos, negsuc, ◌+ℤ◌, ◌*ℤ◌, *ℤ-zero}
@@ -12,10 +12,10 @@ use Rattle.nd_base.specs.Size.{limit}
 use Rattle.nd_base.specs.declared.error.ErrorKind.TheVariants.{OutOfBounds, Unsupported}
 use Rattle.nd_shape.specs.Span.{reach}
 use Rattle.nd_slice.specs.declared.slice.Slice.{Slice}
-use Rattle.nd_slice.specs.Picks.{every, directed, range, start_meaning, end_meaning, picks}
+use Rattle.nd_slice.specs.Picks.{every, directed, is_bound, start_meaning, end_meaning, picks}
 use Rattle.nd_slice.specs.SliceFault.{slice_fault, is_within}
 use Rattle.nd_slice.specs.Sliced.{first_offset, picked_stride}
-use Rattle.nd_slice.proofs.Axis.{between, between_steps, between_below, between_within, length-between, pick_up, pick_down}
+use Rattle.nd_slice.proofs.Axis.{between, between_steps, between_below, between_within, length-between, pick_down}
 
 -- the picks of a slice, by the bounds that it means
 pub picks_between : (len : ℕ) (slice : Slice) (start end : ℕ) → pos start ≡ start_meaning len slice → end ≡ max start (magnitude (end_meaning len slice)) → picks len slice ≡ between slice.step start end
@@ -111,3 +111,28 @@ offset_at_some step start end first s offset p some e f = f ∙ ap (λ n. pos n 
 
 pub offset_at_none : (step : ℤ) (start end : ℕ) (s offset : ℤ) → 0 < magnitude step → end ≤ start → offset ≡ pos 0 → offset ≡ first_offset (between step start end) s
 offset_at_none step start end s offset p none f = f ∙ sym (offset_of_none (between step start end) s (none_between step start end p none))
+
+-- a bound that fits is at most the length
+bound_below : (len : ℕ) (bound : ℤ) → is_bound len bound ≡ true → magnitude bound ≤ len
+bound_below len (pos bound) h = leb-true bound len h
+bound_below len (negsuc bound) h = absurd (cc)
+
+-- no fault is a range within
+no_range : (within zero_step : Bool) → (if not within then Some OutOfBounds else if zero_step then Some Unsupported else None) ≡ None → within ≡ true
+no_range true zero_step e = refl
+no_range false zero_step e = absurd (cc)
+
+-- how many entries a slice that fits picks
+pub length-picks : (len : ℕ) (slice : Slice) → slice_fault len slice ≡ None → length (picks len slice) ≡ div_ceil (magnitude (end_meaning len slice) - magnitude (start_meaning len slice)) (magnitude slice.step)
+length-picks len slice e = length-between slice.step (magnitude (start_meaning len slice)) (magnitude (end_meaning len slice)) (step_of_fit len slice e)
+
+-- each is on the axis
+pub pick_below : (len : ℕ) (slice : Slice) (j : ℕ) → slice_fault len slice ≡ None → j < length (picks len slice) → get_or (picks len slice) j 0 < len
+pick_below len slice j e below =
+    let within : is_within len slice ≡ true = no_range (is_within len slice) (magnitude slice.step == 0) e in
+    let end : magnitude (end_meaning len slice) ≤ len = bound_below len (end_meaning len slice) (and_parts (is_bound len (start_meaning len slice)) (is_bound len (end_meaning len slice)) within).1 in
+    omega (arith, between_below slice.step (magnitude (start_meaning len slice)) (magnitude (end_meaning len slice)) j (step_of_fit len slice e) below)
+
+-- and lies as many new strides behind the first
+pub pick_offset : (len : ℕ) (slice : Slice) (j : ℕ) (s : ℤ) → slice_fault len slice ≡ None → j < length (picks len slice) → pos (get_or (picks len slice) j 0) *ℤ s ≡ first_offset (picks len slice) s +ℤ (pos j *ℤ picked_stride (length (picks len slice)) s slice.step)
+pick_offset len slice j s e below = picked_steps slice.step (magnitude (start_meaning len slice)) (magnitude (end_meaning len slice)) j s (step_of_fit len slice e) below

@@ -165,6 +165,16 @@ mod tests {
     }
 
     #[test]
+    fn counts_from_the_end(rt: HostRuntime) -> Result<(), Fail> {
+        assert_eq!(rt; abs_index(10, 7), 7);
+        assert_eq!(rt; abs_index(10, -3), 7);
+        let slice = Slice::new(-9, Some(-2), -3);
+        let bounds = to_abs_slice(10, slice).map_err(|error| error.kind());
+        assert_eq!(rt; bounds, Ok((1, 8, -3)));
+        Ok(())
+    }
+
+    #[test]
     fn r1_rows(rt: HostRuntime) -> Result<(), Fail> {
         const MAX: usize = 9223372036854775807;
         const LAST: isize = 9223372036854775806;

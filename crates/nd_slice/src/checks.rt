@@ -93,6 +93,22 @@ mod tests {
     }
 
     #[test]
+    fn row_with_new_axis(rt: HostRuntime) -> Result<(), Fail> {
+        let elems = [
+            SliceInfoElem::Index(-1),
+            SliceInfoElem::NewAxis,
+            slice(0, 1),
+        ];
+        assert_eq!(rt; in_ndim_of(&elems), 2);
+        assert_eq!(rt; out_ndim_of(&elems), 2);
+        let fits = check_elems(&[2, 3], &elems).map_err(|error| error.kind());
+        assert_eq!(rt; fits, Ok(()));
+        let short = check_elems(&[0, 3], &elems).map_err(|error| error.kind());
+        assert_eq!(rt; short, Err(ErrorKind::OutOfBounds));
+        Ok(())
+    }
+
+    #[test]
     fn r1_rows(rt: HostRuntime) -> Result<(), Fail> {
         let shape = new_ix2(4, 5);
         let one = [slice(0, 1)];
