@@ -140,3 +140,6 @@ pub fn can_index_slice<D: Dimension>(
 {
     accept(elem_size, len, dim.slice(), strides.slice(), mode)
 }
+
+#[cfg(test)]
+mod tests;
