@@ -1,5 +1,6 @@
 //! The shape and the strides that a slice argument leaves of a layout.
 ghost use Rattle.std.specs.Prelude.{◌≡◌, ◌<◌, ◌≤◌, ◌^◌, None, length};
+ghost use Rattle.std.specs.Result.{result_err};
 ghost use Rattle.nd_base.specs.Signed.{signed as signed_reading, all_signed};
 ghost use Rattle.nd_base.specs.Size.{limit};
 ghost use Rattle.nd_shape.specs.Span.{reach};
@@ -7,9 +8,25 @@ ghost use Rattle.nd_shape.specs.ValidLayout.{IsValidLayout};
 ghost use Rattle.nd_slice.specs.Picks.{picks};
 ghost use Rattle.nd_slice.specs.SliceFault.{slice_fault, argument_fault, out_count};
 ghost use Rattle.nd_slice.specs.Sliced.{picked_stride, first_offset, sliced_shape, sliced_strides, sliced_offset};
+ghost use Rattle.ndarray_layout.specs.SlicedView.{slice_refusal};
 
-use nd_base::stride_offset;
-use nd_slice::{Slice, SliceInfoElem, abs_index, do_slice};
+use nd_base::{ErrorKind, ShapeError, from_kind, stride_offset};
+use nd_slice::{Slice, SliceInfoElem, abs_index, check_elems, do_slice, out_ndim_of};
+
+/// Whether a slice argument fits the lengths of a shape and leaves as many axes as a type fixes, if it fixes a
+/// count. Refused with `IncompatibleShape` where either count of axes differs, and then as `check_elems` is.
+pub fn check_counts_and_elems(
+    fixed: Option<usize>,
+    shape: &[usize],
+    elems: &[SliceInfoElem],
+) -> Result<(), ShapeError>
+    ensures { result_err result ≡ slice_refusal fixed shape.now elems.now }
+{
+    if let Some(ndim) = fixed && ndim != out_ndim_of(elems) {
+        return Err(from_kind(ErrorKind::IncompatibleShape));
+    }
+    check_elems(shape, elems)
+}
 
 /// Slices one axis with a slice that fits it: the length and the stride that are left, and how many elements
 /// the first pick lies behind the first entry.

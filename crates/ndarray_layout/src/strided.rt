@@ -7,13 +7,18 @@ ghost use Rattle.nd_base.specs.Indices.{is_index};
 ghost use Rattle.nd_shape.specs.Acceptance.{acceptance};
 ghost use Rattle.nd_shape.specs.Inside.{LiesInside};
 ghost use Rattle.nd_shape.specs.Span.{low_span};
+ghost use Rattle.nd_base.specs.Lengths.{NeedsNoMemory};
+ghost use Rattle.nd_slice.specs.SliceFault.{out_count};
+ghost use Rattle.ndarray_layout.specs.SlicedView.{IsSliceOf, KeepsPlaces, shape_fault, slice_refusal};
 ghost use Rattle.ndarray_layout.specs.View.{checked_place, view_places};
 
 use crate::places::{offset_place, push_places};
-use nd_dim::{Dimension, Order, ShapeError};
+use crate::slicing::{check_counts_and_elems, slice_axes};
+use nd_dim::{Dimension, LayoutError, Order, ShapeError};
 use nd_shape::{
     CanIndexCheckMode, NdIndex, can_index_slice, offset_from_low_addr_ptr_to_logical_ptr,
 };
+use nd_slice::{SliceElems, out_ndim_of};
 use std::alloc::{AllocError, Global};
 use std::marker::Model;
 
@@ -99,5 +104,32 @@ impl<D: Dimension + Drop> Strided<D> {
         let mut places = Vec::with_capacity(alloc, size)?;
         push_places(&mut places, order, self.dim.slice(), self.strides.slice(), self.start);
         Ok(places)
+    }
+
+    /// The view of the same data that a slice argument leaves. Refused with `IncompatibleShape` where the
+    /// argument is for more axes or fewer, or leaves more or fewer than the type `E` fixes; then as the first
+    /// element at fault is: with `OutOfBounds` for a bound or an index that is not on its axis, with
+    /// `Unsupported` for a step of 0; and then for want of memory. Upstream's `slice` and `slice_collapse`.
+    pub fn slice<E: Dimension + Drop, S: SliceElems>(
+        &self,
+        alloc: Global,
+        slices: &S,
+    ) -> Result<Strided<E>, LayoutError>
+        ensures refusal { shape_fault result ≡ slice_refusal E.NDIM self.now.shape (S.list slices.now) }
+        ensures memory {
+            slice_refusal E.NDIM self.now.shape (S.list slices.now) ≡ None →
+                NeedsNoMemory E.NDIM (out_count (S.list slices.now)) → IsOk result }
+        ensures sliced { IfOk result (λ v. IsSliceOf (S.list slices.now) self.now v) }
+        ensures places { IfOk result (λ v. KeepsPlaces (S.list slices.now) self.now v) }
+    {
+        let elems = slices.elems();
+        let shape = self.dim.slice();
+        check_counts_and_elems(E::NDIM, shape, elems)?;
+        let ndim = out_ndim_of(elems);
+        let mut dim = E::zeros(alloc, ndim)?;
+        let mut strides = E::zeros(alloc, ndim)?;
+        let offset = slice_axes(elems, shape, self.strides.slice(), dim.slice_mut(), strides.slice_mut());
+        let start = offset_place(self.start, offset);
+        Ok(Strided { start, dim, strides })
     }
 }

@@ -24,4 +24,8 @@ push_places-requires-clause-room g c =
     grind (arith, common_steps, whole, same, c.in_ok-places.ensures)
 
 pub returns : goal.returns
-returns g c = ?
+returns g c =
+    let shape = g.D.Lengths.list c.self.inside.dim in
+    let strides = all_signed (g.D.Lengths.list c.self.inside.strides) in
+    let walked = rw (c.in_ok-places.ensures.items, c.slice.ensures.list, c.slice-2.ensures.list) at c.push_places.ensures.items in
+    rw (← c.self.view_is) (walked ∙ places_nested c.args.order c.self.inside.start shape strides c.self.invariant.valid.same_count)
