@@ -1,5 +1,5 @@
 -- What a view gives: each index of its shape has a place.
-use Rattle.std.proofs.Common.{◌≡◌, ℕ, zero, suc, ◌+◌, ◌-◌, ◌*◌, ◌<◌, ◌≤◌, ◌^◌, ℤ, pos, negsuc, ◌+ℤ◌, ◌*ℤ◌, ◌≤ℤ◌, List, [], ◌∷◌, length, cond, eqb, Bool, true, false, Option, Some, None, arith, refl, sym, ap, ◌∙◌, subst}
+use Rattle.std.proofs.Common.{◌≡◌, ℕ, zero, suc, ◌+◌, ◌-◌, ◌*◌, ◌<◌, ◌≤◌, ◌^◌, ℤ, pos, negsuc, ◌+ℤ◌, ◌*ℤ◌, ◌≤ℤ◌, List, [], ◌∷◌, length, cond, eqb, Bool, true, false, Option, Some, None, arith, refl, sym, ap, ◌∙◌, subst, not, ◌||◌}
 use Rattle.std.proofs.lemmas.Int.{ints}
 use Rattle.std.proofs.lemmas.Bool.{eqb-true, eqb-false}
 use Rattle.std.proofs.Math.Nat.{mul-le-mul_left}
@@ -9,11 +9,12 @@ use Rattle.nd_shape.specs.Place.{offset_of, place, checked_offset}
 use Rattle.nd_shape.specs.Span.{span, low_span, high_span}
 use Rattle.nd_shape.specs.ValidLayout.{IsValidLayout}
 use Rattle.nd_slice.specs.declared.slice.SliceInfoElem.{SliceInfoElem}
-use Rattle.nd_slice.specs.SliceFault.{in_count, first_fault}
+use Rattle.nd_base.specs.declared.error.ErrorKind.TheVariants.{IncompatibleShape}
+use Rattle.nd_slice.specs.SliceFault.{in_count, out_count, first_fault}
 use Rattle.nd_slice.specs.Sliced.{sliced_shape, sliced_strides, sliced_offset}
 use Rattle.nd_slice.specs.Selected.{selected}
 use Rattle.ndarray_layout.specs.View.{View, IsView, place_at, checked_place}
-use Rattle.ndarray_layout.specs.SlicedView.{IsSliceOf, sliced_start}
+use Rattle.ndarray_layout.specs.SlicedView.{IsSliceOf, sliced_start, slice_refusal, is_count}
 use Rattle.ndarray_layout.proofs.Axes.{Within}
 use Rattle.ndarray_layout.proofs.Offsets.{offset_within, span_parts}
 use Rattle.ndarray_layout.proofs.Slices.{SliceKept, slices_kept, PlacesKept, places_kept}
@@ -108,3 +109,20 @@ offset_place_within view index offset v e =
 -- the size of a view fits a word
 pub size_fits : (view : View) → IsView view → size view.shape < 2 ^ 64
 size_fits view v = omega (arith, size_small view.shape, v.valid.size_fits)
+
+-- an argument that is not refused has the right counts and no element at fault
+pub refusal_none : (fixed : Option ℕ) (shape : List ℕ) (elems : List SliceInfoElem) → slice_refusal fixed shape elems ≡ None → (in_count elems ≡ length shape) × (first_fault shape elems ≡ None)
+refusal_none fixed shape elems e = by (eqb (in_count elems) (length shape)) (is_count fixed (out_count elems)) refl e
+  where
+    by : (t u : Bool) → eqb (in_count elems) (length shape) ≡ t → cond (not t || not u) (Some IncompatibleShape) (first_fault shape elems) ≡ None → (in_count elems ≡ length shape) × (first_fault shape elems ≡ None)
+    by true true h g = (eqb-true (in_count elems) (length shape) h, g)
+    by true false h g = absurd (cc)
+    by false true h g = absurd (cc)
+    by false false h g = absurd (cc)
+
+-- a slice that is not refused is a view, whose indices lie where those that they stand for do
+pub slice_is_view : (elems : List SliceInfoElem) (view result : View) → IsView view → in_count elems ≡ length view.shape → first_fault view.shape elems ≡ None → IsSliceOf elems view result → IsView result
+slice_is_view elems view result v counts fits s =
+    let whole = sliced_view elems view result.start v counts fits s.start in
+    let e : record { start = result.start; shape = sliced_shape elems view.shape; strides = sliced_strides elems view.shape view.strides } ≡ result = rw (← s.shape, ← s.strides) refl in
+    subst IsView e whole
