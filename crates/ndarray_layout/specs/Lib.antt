@@ -1,1 +1,3 @@
-
+pub mod SlicedView
+pub mod View
+pub mod Walk

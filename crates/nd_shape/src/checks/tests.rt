@@ -19,10 +19,7 @@ fn strides2(strides: [isize; 2]) -> Ix2 {
 
 /// What fault a call names, if any.
 fn fault_of<T: Drop>(answer: Result<T, ShapeError>) -> Option<ErrorKind> {
-    match answer {
-        Ok(_) => None,
-        Err(fault) => Some(fault.kind()),
-    }
+    answer.err().map(|fault| fault.kind())
 }
 
 /// Element size, length of the data, shape, stride and use, and the fault.
@@ -90,7 +87,8 @@ fn r1_rows(rt: HostRuntime) -> Result<(), Fail> {
         assert_eq!(rt; dim_stride_overlap(&dim, &strides), expected);
     }
     let dim = new_ix2(2, 3);
-    let strides = strides2([3, 1]);
+    let strides = new_ix2(unsigned(3), unsigned(1));
+    assert_eq!(rt; new_ix2(1, 2).index_unchecked(&strides), 5);
     can_index_slice(1, 6, &dim, &strides, OwnedMutable)?;
     for (index, expected) in OFFSETS {
         assert_eq!(rt; new_ix2(index[0], index[1]).index_checked(&dim, &strides), expected);

@@ -1,0 +1,9 @@
+pub mod Axes
+pub mod Offsets
+pub mod Picked
+pub mod PicksFit
+pub mod Reversed
+pub mod SliceSteps
+pub mod Slices
+pub mod Views
+pub mod Walks

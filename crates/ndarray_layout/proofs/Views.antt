@@ -1,0 +1,128 @@
+-- What a view gives: each index of its shape has a place.
+use Rattle.std.proofs.Common.{◌≡◌, ℕ, zero, suc, ◌+◌, ◌-◌, ◌*◌, ◌<◌, ◌≤◌, ◌^◌, ℤ, pos, negsuc, ◌+ℤ◌, ◌*ℤ◌, ◌≤ℤ◌, List, [], ◌∷◌, length, cond, eqb, Bool, true, false, Option, Some, None, arith, refl, sym, ap, ◌∙◌, subst, not, ◌||◌}
+use Rattle.std.proofs.lemmas.Int.{ints}
+use Rattle.std.proofs.lemmas.Bool.{eqb-true, eqb-false}
+use Rattle.std.proofs.Math.Nat.{mul-le-mul_left}
+use Rattle.nd_base.specs.Indices.{is_index}
+use Rattle.nd_base.specs.Size.{nonzero_size, size, limit}
+use Rattle.nd_shape.specs.Place.{offset_of, place, checked_offset}
+use Rattle.nd_shape.specs.Span.{span, low_span, high_span}
+use Rattle.nd_shape.specs.ValidLayout.{IsValidLayout}
+use Rattle.nd_slice.specs.declared.slice.SliceInfoElem.{SliceInfoElem}
+use Rattle.nd_base.specs.declared.error.ErrorKind.TheVariants.{IncompatibleShape}
+use Rattle.nd_slice.specs.SliceFault.{in_count, out_count, first_fault}
+use Rattle.nd_slice.specs.Sliced.{sliced_shape, sliced_strides, sliced_offset}
+use Rattle.nd_slice.specs.Selected.{selected}
+use Rattle.ndarray_layout.specs.View.{View, IsView, place_at, checked_place}
+use Rattle.ndarray_layout.specs.SlicedView.{IsSliceOf, sliced_start, slice_refusal, is_count}
+use Rattle.ndarray_layout.proofs.Axes.{Within}
+use Rattle.ndarray_layout.proofs.Offsets.{offset_within, span_parts}
+use Rattle.ndarray_layout.proofs.Slices.{SliceKept, slices_kept, PlacesKept, places_kept}
+
+-- a layout from its lowest element on
+pub lowest_view : (shape : List ℕ) (strides : List ℤ) → IsValidLayout shape strides → IsView (record { start = low_span shape strides; shape = shape; strides = strides })
+lowest_view shape strides valid = record {
+  valid = valid;
+  low = omega arith;
+  high = omega (arith, span_parts shape strides, valid.span_fits);
+}
+
+-- the place of an index
+pub record HasPlace (view : View) (index : List ℕ) : Type 0 where
+  pub low : pos 0 ≤ℤ place_at view index
+  pub high : place_at view index ≤ℤ pos limit
+
+pub view_place : (view : View) (index : List ℕ) → IsView view → is_index view.shape index ≡ true → HasPlace view index
+view_place view index v h =
+    let offset = offset_within view.shape view.strides index v.valid.same_count h in
+    record {
+      low = omega (arith, ints, offset.above, v.low);
+      high = omega (arith, ints, offset.below, v.high);
+    }
+
+-- an offset that is given is that of an index
+pub some_offset : (shape : List ℕ) (strides : List ℤ) (index : List ℕ) (offset : ℤ) → Some offset ≡ checked_offset shape strides index → (is_index shape index ≡ true) × (offset ≡ offset_of strides index)
+some_offset shape strides index offset e = by (is_index shape index) refl e
+  where
+    by : (t : Bool) → is_index shape index ≡ t → Some offset ≡ cond t (Some (offset_of strides index)) None → (is_index shape index ≡ true) × (offset ≡ offset_of strides index)
+    by true h g = (h, cc)
+    by false h g = absurd (cc)
+
+pub no_offset : (shape : List ℕ) (strides : List ℤ) (index : List ℕ) → None ≡ checked_offset shape strides index → is_index shape index ≡ false
+no_offset shape strides index e = by (is_index shape index) refl e
+  where
+    by : (t : Bool) → is_index shape index ≡ t → None ≡ cond t (Some (offset_of strides index)) None → is_index shape index ≡ false
+    by true h g = absurd (cc)
+    by false h g = h
+
+-- the size fits where the product of the lengths that are not 0 does
+pub size_small : (shape : List ℕ) → size shape ≤ nonzero_size shape
+size_small [] = omega arith
+size_small (len ∷ lens) = by (size_small lens) (eqb len 0) refl
+  where
+    by : size lens ≤ nonzero_size lens → (t : Bool) → eqb len 0 ≡ t → len * size lens ≤ cond t (nonzero_size lens) (len * nonzero_size lens)
+    by rest true e =
+        let zeroth : len ≡ 0 = eqb-true len 0 e in
+        rw zeroth (omega arith)
+    by rest false e = mul-le-mul_left len rest
+
+-- ---- slices
+-- the slice of a view from its start
+pub sliced_view : (elems : List SliceInfoElem) (view : View) (start : ℕ) → IsView view → in_count elems ≡ length view.shape → first_fault view.shape elems ≡ None → pos start ≡ sliced_start elems view → IsView (record { start = start; shape = sliced_shape elems view.shape; strides = sliced_strides elems view.shape view.strides })
+sliced_view elems view start v counts fits e =
+    let kept = slices_kept elems view.shape view.strides v.valid.same_count counts fits in
+    let low = low_span (sliced_shape elems view.shape) (sliced_strides elems view.shape view.strides) in
+    let high = high_span (sliced_shape elems view.shape) (sliced_strides elems view.shape view.strides) in
+    let parts = span_parts (sliced_shape elems view.shape) (sliced_strides elems view.shape view.strides) in
+    let whole = span_parts view.shape view.strides in
+    record {
+      valid = record {
+        same_count = kept.counts;
+        size_fits = omega (arith, kept.size, v.valid.size_fits);
+        span_fits = omega (arith, ints, kept.low, kept.high, parts, whole, v.valid.span_fits);
+      };
+      low = omega (arith, ints, kept.low, v.low, e);
+      high = omega (arith, ints, kept.high, v.high, e);
+    }
+
+-- the slice begins at a place
+pub sliced_start_within : (elems : List SliceInfoElem) (view : View) → IsView view → in_count elems ≡ length view.shape → first_fault view.shape elems ≡ None → (pos 0 ≤ℤ sliced_start elems view) × (sliced_start elems view ≤ℤ pos limit)
+sliced_start_within elems view v counts fits =
+    let kept = slices_kept elems view.shape view.strides v.valid.same_count counts fits in
+    (omega (arith, ints, kept.low, v.low), omega (arith, ints, kept.high, v.high))
+
+-- the indices of a slice lie where the indices that they stand for do
+pub slice_places : (elems : List SliceInfoElem) (view result : View) (index : List ℕ) → IsView view → in_count elems ≡ length view.shape → first_fault view.shape elems ≡ None → IsSliceOf elems view result → is_index result.shape index ≡ true → (is_index view.shape (selected elems view.shape index) ≡ true) × (place_at result index ≡ place_at view (selected elems view.shape index))
+slice_places elems view result index v counts fits s h =
+    let h' : is_index (sliced_shape elems view.shape) index ≡ true = ap (λ shape. is_index shape index) (sym s.shape) ∙ h in
+    let kept = places_kept elems view.shape view.strides index v.valid.same_count counts fits h' in
+    let here : offset_of result.strides index ≡ offset_of (sliced_strides elems view.shape view.strides) index = ap (λ strides. offset_of strides index) s.strides in
+    (kept.within, omega (arith, ints, s.start, here, kept.offset))
+
+-- the place at an offset that is given
+pub offset_place_within : (view : View) (index : List ℕ) (offset : ℤ) → IsView view → Some offset ≡ checked_offset view.shape view.strides index → (pos 0 ≤ℤ (pos view.start +ℤ offset)) × ((pos view.start +ℤ offset) ≤ℤ pos limit)
+offset_place_within view index offset v e =
+    let some = some_offset view.shape view.strides index offset e in
+    let here = view_place view index v some.0 in
+    (rw some.1 here.low, rw some.1 here.high)
+
+-- the size of a view fits a word
+pub size_fits : (view : View) → IsView view → size view.shape < 2 ^ 64
+size_fits view v = omega (arith, size_small view.shape, v.valid.size_fits)
+
+-- an argument that is not refused has the right counts and no element at fault
+pub refusal_none : (fixed : Option ℕ) (shape : List ℕ) (elems : List SliceInfoElem) → slice_refusal fixed shape elems ≡ None → (in_count elems ≡ length shape) × (first_fault shape elems ≡ None)
+refusal_none fixed shape elems e = by (eqb (in_count elems) (length shape)) (is_count fixed (out_count elems)) refl e
+  where
+    by : (t u : Bool) → eqb (in_count elems) (length shape) ≡ t → cond (not t || not u) (Some IncompatibleShape) (first_fault shape elems) ≡ None → (in_count elems ≡ length shape) × (first_fault shape elems ≡ None)
+    by true true h g = (eqb-true (in_count elems) (length shape) h, g)
+    by true false h g = absurd (cc)
+    by false true h g = absurd (cc)
+    by false false h g = absurd (cc)
+
+-- a slice that is not refused is a view, whose indices lie where those that they stand for do
+pub slice_is_view : (elems : List SliceInfoElem) (view result : View) → IsView view → in_count elems ≡ length view.shape → first_fault view.shape elems ≡ None → IsSliceOf elems view result → IsView result
+slice_is_view elems view result v counts fits s =
+    let whole = sliced_view elems view result.start v counts fits s.start in
+    let e : record { start = result.start; shape = sliced_shape elems view.shape; strides = sliced_strides elems view.shape view.strides } ≡ result = rw (← s.shape, ← s.strides) refl in
+    subst IsView e whole

@@ -1,0 +1,52 @@
+-- Each entry of the slowest axis gives the places of the rest of the view from its own start on.
+use Rattle.std.proofs.Common.{◌≡◌, ℕ, ◌+◌, ◌*◌, ◌≤◌, ◌<◌, pos, map, vec_len, vec_capacity, ◌∷◌, ◌++◌, arith, ap, sym, ◌∙◌, append_assoc, List}
+use Rattle.std.proofs.Math.Nat.{mul-le-mul_right}
+use Rattle.nd_base.specs.Signed.{signed, all_signed}
+use Rattle.nd_base.specs.Size.{size}
+use Rattle.nd_base.specs.declared.order.Order.TheVariants.{RowMajor}
+use Rattle.ndarray_layout.specs.View.{IsView, view_places}
+use Rattle.ndarray_layout.specs.Walk.{nested, nested_view}
+use Rattle.ndarray_layout.proofs.Walks.{IsEntry, entry_of, nested_signed, places_more, row_after, walk_whole}
+use Rattle.ndarray_layout.proofs.places.+push_places.Goals as goal
+
+entry : (t : ℕ) (c : goal.After-push_places-arg-1 t) → IsEntry c.args.start c.in-Some-Some.len (nested c.args.order c.in-Some-Some.lens.now) (signed c.in-Some-Some.stride) (all_signed (nested c.args.order c.in-Some-Some.rest.now)) c.loop-i.i
+entry t c = entry_of c.args.order c.args.start c.in-Some-Some.len c.in-Some-Some.stride c.loop-i.i c.args.shape.now c.in-Some-Some.lens.now c.args.strides.now c.in-Some-Some.rest.now c.in-Some-Some.ensures.0 c.in-Some-Some.ensures'.0 c.requires.view c.loop-i-test.true
+
+pub entry_place-requires-clause-small : goal.entry_place-requires-clause-small
+entry_place-requires-clause-small t c = omega (arith, (entry t c).small)
+
+pub entry_place-requires-clause-low : goal.entry_place-requires-clause-low
+entry_place-requires-clause-low t c = (entry t c).low
+
+pub entry_place-requires-clause-high : goal.entry_place-requires-clause-high
+entry_place-requires-clause-high t c = (entry t c).high
+
+-- there is room for one entry more
+room_for : (length_before i len rest capacity whole : ℕ) → i < len → whole ≡ len * rest → length_before + whole ≤ capacity → length_before + i * rest + rest ≤ capacity
+room_for length_before i len rest capacity whole h e room = omega (arith, mul-le-mul_right rest h)
+
+pub push_places-requires : goal.push_places-requires
+push_places-requires t c =
+    let order = c.args.order in
+    let known = entry_of order c.args.start c.in-Some-Some.len c.in-Some-Some.stride c.loop-i.i c.args.shape.now c.in-Some-Some.lens.now c.args.strides.now c.in-Some-Some.rest.now c.in-Some-Some.ensures.0 c.in-Some-Some.ensures'.0 c.requires.view c.loop-i-test.true in
+    let whole : size (nested order c.args.shape.now) ≡ c.in-Some-Some.len * size (nested order c.in-Some-Some.lens.now) = ap size c.in-Some-Some.ensures.0 in
+    ( omega (arith, c.in-Some-Some.ensures.1),
+      ( rw (nested_signed order c.in-Some-Some.rest.now) (known.inner c.entry_place.result c.entry_place.ensures),
+        omega (arith, room_for (vec_len c.args.places.now) c.loop-i.i c.in-Some-Some.len (size (nested order c.in-Some-Some.lens.now)) (vec_capacity c.args.places.now) (size (nested order c.args.shape.now)) c.loop-i-test.true whole c.requires.room) ) )
+
+pub loop-i-preserved : goal.loop-i-preserved
+loop-i-preserved t c =
+    let order = c.args.order in
+    let inner = rw (nested_signed order c.in-Some-Some.rest.now) at c.push_places.ensures.items in
+    let more = places_more c.args.start c.loop-i.i c.entry_place.result (nested order c.in-Some-Some.lens.now) (signed c.in-Some-Some.stride) (all_signed (nested order c.in-Some-Some.rest.now)) c.entry_place.ensures in
+    record {
+      items = row_after _ _ _ _ _ _ inner c.loop-i.invariant.items more;
+      len = omega (arith, c.push_places.ensures.len, c.loop-i.invariant.len);
+      capacity = c.push_places.ensures.capacity ∙ c.loop-i.invariant.capacity;
+    }
+
+pub returns-after-loop-i-clause-items : goal.returns-after-loop-i-clause-items
+returns-after-loop-i-clause-items t c =
+    let all : c.loop-i.i ≡ c.in-Some-Some.len = omega arith in
+    let whole = walk_whole c.args.order c.args.start c.in-Some-Some.len c.in-Some-Some.stride c.loop-i.i c.args.shape.now c.in-Some-Some.lens.now c.args.strides.now c.in-Some-Some.rest.now c.in-Some-Some.ensures.0 c.in-Some-Some.ensures'.0 all in
+    c.loop-i.invariant.items ∙ ap (λ xs. map pos c.args.places.now.items ++ xs) whole

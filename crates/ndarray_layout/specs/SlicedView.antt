@@ -1,0 +1,54 @@
+-- What slicing makes of a view, and which slices are refused.
+use Rattle.std.specs.Prelude.{◌≡◌, ℕ, ℤ, pos, negsuc, ◌+ℤ◌, Bool, true, not, ◌||◌, ◌==◌, Option, Some, None, Result, Ok, Err, if◌then◌else◌, List, [], ◌∷◌, length, refl}
+use Rattle.nd_base.specs.declared.error.ErrorKind.{ErrorKind}
+use Rattle.nd_base.specs.declared.error.ErrorKind.TheVariants.{IncompatibleShape, OutOfBounds}
+use Rattle.nd_base.specs.declared.error.LayoutError.{LayoutError}
+use Rattle.nd_base.specs.declared.error.LayoutError.TheVariants.{Shape, Memory}
+use Rattle.nd_base.specs.Indices.{is_index}
+use Rattle.nd_slice.specs.declared.slice.SliceInfoElem.{SliceInfoElem}
+use Rattle.nd_slice.specs.declared.slice.SliceInfoElem.TheVariants as elem
+use Rattle.nd_slice.specs.SliceFault.{in_count, out_count, first_fault}
+use Rattle.nd_slice.specs.Sliced.{sliced_shape, sliced_strides, sliced_offset}
+use Rattle.nd_slice.specs.Selected.{selected}
+use Rattle.ndarray_layout.specs.View.{View, place_at}
+
+-- the place of the first index that is left
+abbrev pub sliced_start : List SliceInfoElem → View → ℤ
+sliced_start elems view = pos view.start +ℤ sliced_offset elems view.shape view.strides
+
+-- a view is the slice of another by an argument
+pub record IsSliceOf (elems : List SliceInfoElem) (view : View) (result : View) : Type 0 where
+  pub shape : result.shape ≡ sliced_shape elems view.shape
+  pub strides : result.strides ≡ sliced_strides elems view.shape view.strides
+  pub start : pos result.start ≡ sliced_start elems view
+
+-- each index that is left lies where the index that it stands for does
+abbrev pub KeepsPlaces : List SliceInfoElem → View → View → Type 0
+KeepsPlaces elems view result = (index : List ℕ) → is_index result.shape index ≡ true → (is_index view.shape (selected elems view.shape index) ≡ true) × (place_at result index ≡ place_at view (selected elems view.shape index))
+
+-- n is a count of axes that the type allows
+abbrev pub is_count : Option ℕ → ℕ → Bool
+is_count None n = true
+is_count (Some count) n = n == count
+
+-- the fault of an argument on a shape where the slice has a type: counts of axes before any element
+abbrev pub slice_refusal : Option ℕ → List ℕ → List SliceInfoElem → Option ErrorKind
+slice_refusal fixed shape elems =
+    if not (in_count elems == length shape) || not (is_count fixed (out_count elems)) then Some IncompatibleShape
+    else first_fault shape elems
+
+-- the rule that a call refused by, if it did
+abbrev pub shape_fault : {X : Type 0} → Result X LayoutError → Option ErrorKind
+shape_fault (Ok x) = None
+shape_fault (Err (Shape kind)) = Some kind
+shape_fault (Err (Memory e)) = None
+
+-- examples
+one_for_two_axes : slice_refusal (Some 1) (2 ∷ 3 ∷ []) (elem.Slice (pos 1) None (pos 1) ∷ []) ≡ Some IncompatibleShape
+one_for_two_axes = refl
+
+two_axes_for_one : slice_refusal (Some 1) (2 ∷ 3 ∷ []) (elem.Slice (pos 9) None (pos 1) ∷ elem.Slice (pos 0) None (pos 1) ∷ []) ≡ Some IncompatibleShape
+two_axes_for_one = refl
+
+past_the_end : slice_refusal (Some 1) (2 ∷ 3 ∷ []) (elem.Index (pos 1) ∷ elem.Slice (pos 4) None (pos 1) ∷ []) ≡ Some OutOfBounds
+past_the_end = refl
