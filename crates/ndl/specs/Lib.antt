@@ -1,1 +1,6 @@
-
+pub mod Reading
+pub mod Lines
+pub mod Numbers
+pub mod Elements
+pub mod Layouts
+pub mod Script

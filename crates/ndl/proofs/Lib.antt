@@ -1,0 +1,4 @@
+pub mod Parts
+pub mod Digits
+pub mod Entries
+pub mod Slices
