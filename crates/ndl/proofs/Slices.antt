@@ -1,8 +1,9 @@
 -- A text cut at its first separator reads as one cut at all of them, where a number follows.
-use Rattle.std.proofs.Common.{◌≡◌, ◌≢◌, ℕ, ℤ, pos, ◌+◌, List, [], ◌∷◌, length, get_or, eqb, Option, Some, None, refl, sym, ap, ◌∙◌, arith}
+use Rattle.std.proofs.Common.{◌≡◌, ◌≢◌, true, ℕ, ℤ, pos, ◌+◌, List, [], ◌∷◌, length, get_or, take, drop, eqb, nat_eq, Option, Some, None, refl, sym, ap, ◌∙◌, arith}
 use Rattle.std.specs.List.{onto_first}
 use Rattle.std.specs.Option.{option_map}
-use Rattle.std.proofs.lemmas.Bool.{ne_eqb}
+use Rattle.std.proofs.lemmas.Bool.{ne_eqb, and_parts}
+use Rattle.std.specs.Cmp.Lexicographic.{pointwise}
 use Rattle.nd_slice.specs.declared.slice.SliceInfoElem.{SliceInfoElem}
 use Rattle.nd_slice.specs.declared.slice.SliceInfoElem.TheVariants as elem
 use Rattle.ndl.specs.Reading.{◌>>=◌}
@@ -34,7 +35,7 @@ end_part (b ∷ bs) e h =
     let some = some_of_map Some (signed_number_of (b ∷ bs)) e h in
     number_part 46 (λ r. omega arith) (λ x. omega arith) (b ∷ bs) some.0 some.1
 
-abbrev slice_from : ℤ → Option ℤ → Option (Option ℤ) → Option SliceInfoElem
+abbrev pub slice_from : ℤ → Option ℤ → Option (Option ℤ) → Option SliceInfoElem
 slice_from step start end = start >>= λ s. end >>= λ e. Some (elem.Slice s e step)
 
 no_end : (step : ℤ) (start : Option ℤ) → slice_from step start None ≡ None
@@ -59,3 +60,8 @@ not_next step start b (part ∷ more) = refl
 pub one_dot : (step : ℤ) (start rest : List ℕ) → get_or rest 0 0 ≢ 46 → slice_of_bounds step (start ∷ parts 46 rest) ≡ None
 one_dot step start [] ne = refl
 one_dot step start (b ∷ bs) ne = rw (ne_eqb b 46 ne) (not_next step start b (parts 46 bs))
+
+-- both dots are there
+pub cut_bounds : (step : ℤ) (range start rest end : List ℕ) → parts 46 range ≡ start ∷ parts 46 rest → pointwise nat_eq (take 1 rest) (46 ∷ []) ≡ true → end ≡ drop 1 rest → slice_of_bounds step (parts 46 range) ≡ slice_from step (start_of start) (end_of end)
+cut_bounds step range start [] end cut dot e = absurd (cc)
+cut_bounds step range start (b ∷ bs) end cut dot e = rw (cut, (and_parts (eqb b 46) true dot).0) (two_dots step start bs ∙ ap (λ t. slice_from step (start_of start) (end_of t)) (sym e))
