@@ -2,3 +2,4 @@ pub mod Parts
 pub mod Digits
 pub mod Entries
 pub mod Slices
+pub mod FirstLine

@@ -3,8 +3,6 @@ use Rattle.std.specs.Prelude.{◌≡◌, ℕ, Option, Some, None, Result, Ok, Er
 use Rattle.std.specs.Option.{option_and_then}
 use Rattle.ndl.specs.declared.words.WordError.{WordError}
 use Rattle.ndl.specs.declared.words.WordError.TheVariants as word
-use Rattle.ndl.specs.declared.script.ReadError.{ReadError}
-use Rattle.ndl.specs.declared.script.ReadError.TheVariants as script
 
 -- what is read next, where the first can be read
 infixl 10 ◌>>=◌
@@ -27,12 +25,3 @@ IsNoReading word.Memory reading = Unit {0}
 abbrev pub GivesWords : {X Y : Type 0} → (X → Y) → Result X WordError → Option Y → Type 0
 GivesWords view (Ok x) reading = reading ≡ Some (view x)
 GivesWords view (Err e) reading = IsNoReading e reading
-
--- the same of lines, where the number of the first unreadable one tells why
-abbrev pub IsFirstUnreadable : {Y : Type 0} → ReadError → Result Y ℕ → Type 0
-IsFirstUnreadable (script.Unreadable line) reading = reading ≡ Err line
-IsFirstUnreadable script.Memory reading = Unit {0}
-
-abbrev pub Gives : {X Y : Type 0} → (X → Y) → Result X ReadError → Result Y ℕ → Type 0
-Gives view (Ok x) reading = reading ≡ Ok (view x)
-Gives view (Err e) reading = IsFirstUnreadable e reading

@@ -6,6 +6,10 @@ use Rattle.nd_shape.specs.declared.checks.CanIndexCheckMode.TheVariants.{OwnedMu
 use Rattle.nd_slice.specs.declared.slice.SliceInfoElem.{SliceInfoElem}
 use Rattle.nd_slice.specs.declared.slice.SliceInfoElem.TheVariants as elem
 use Rattle.ndl.specs.declared.script.Script.{Script}
+use Rattle.ndl.specs.declared.script.ReadError.{ReadError}
+use Rattle.ndl.specs.declared.script.ReadError.TheVariants as script
+use Rattle.ndl.specs.declared.words.WordError.{WordError}
+use Rattle.ndl.specs.declared.words.WordError.TheVariants as word
 use Rattle.ndl.specs.Lines.{lines_of, words_of}
 use Rattle.ndl.specs.Layouts.{LayoutValue, layout_value, layout_of, slice_of}
 
@@ -16,6 +20,20 @@ pub record ScriptValue : Type 0 where
 
 abbrev pub script_value : Script → ScriptValue
 script_value s = record { layout = layout_value s.layout; slice = option_map (λ v. v.items) s.slice }
+
+-- the same of lines, where the number of the first unreadable one tells why
+abbrev pub IsFirstUnreadable : {Y : Type 0} → ReadError → Result Y ℕ → Type 0
+IsFirstUnreadable (script.Unreadable line) reading = reading ≡ Err line
+IsFirstUnreadable script.Memory reading = Unit {0}
+
+abbrev pub Gives : {X Y : Type 0} → (X → Y) → Result X ReadError → Result Y ℕ → Type 0
+Gives view (Ok x) reading = reading ≡ Ok (view x)
+Gives view (Err e) reading = IsFirstUnreadable e reading
+
+-- the error of a line whose words could not be read
+abbrev pub error_on_line : WordError → ℕ → ReadError
+error_on_line word.Unreadable number = script.Unreadable number
+error_on_line word.Memory number = script.Memory
 
 -- a line's number and its words
 abbrev pub NumberedLine : Type 0
