@@ -1,5 +1,5 @@
 -- The first line of a text, and the numbered lines from it on.
-use Rattle.std.proofs.Common.{◌≡◌, ◌≢◌, ℕ, suc, ◌+◌, ◌-◌, ◌<◌, true, false, cond, ltb, eqb, nat_eq, List, [], ◌∷◌, length, get_or, take, drop, drop-cons, drop_of_length-le, map, Option, Some, None, MatchOption, Bor, refl, sym, ap, ◌∙◌, arith}
+use Rattle.std.proofs.Common.{◌≡◌, ◌≢◌, ℕ, suc, ◌+◌, ◌-◌, ◌<◌, ◌≤◌, true, false, cond, ltb, eqb, nat_eq, List, [], ◌∷◌, length, get_or, take, drop, drop-cons, drop_of_length-le, map, Option, Some, None, MatchOption, Bor, refl, sym, ap, ◌∙◌, arith}
 use Rattle.std.specs.Cmp.Lexicographic.{pointwise}
 use Rattle.std.specs.Option.{unwrap_or}
 use Rattle.std.specs.Str.Lines.{strip_carriage_return, lines_of_parts}
@@ -19,7 +19,8 @@ ended_line text line rest cut = rw cut (first_part line (parts 10 rest) (some_pa
 -- the last byte, as a part of the text and by its index
 last_byte : (line : List ℕ) (at : ℕ) → at + 1 ≡ length line → pointwise nat_eq (drop at line) (13 ∷ []) ≡ eqb (get_or line at 0) 13
 last_byte line at e =
-    let after : drop (suc at) line ≡ [] = drop_of_length-le line (omega arith) in
+    let past : length line ≤ suc at = omega arith in
+    let after : drop (suc at) line ≡ [] = drop_of_length-le line past in
     rw (drop-cons line at 0 (omega arith), after) (and-true (eqb (get_or line at 0) 13))
 
 ends_with_return : (line : List ℕ) → pointwise nat_eq (drop (length line - 1) line) (13 ∷ []) ≡ eqb (get_or line (length line - 1) 0) 13
