@@ -26,8 +26,8 @@ chosen (Err e) P b x h d = rw (false_from_ne_true b (λ t. h (d.0 t))) refl
 
 in_range : (ds : List ℕ) (fits : Bool) (Q : Type 0) → Decides fits Q → Decides (is_decimal ds && fits) ((all_ascii_digits ds ≡ true) × (0 < length ds) × Q)
 in_range ds fits Q d = (
-    λ t. (let p = and_parts (is_decimal ds) fits t in let q = and_parts _ _ p.0 in (q.1, ltb-true _ _ q.0, d.0 p.1)),
-    λ h. and_from _ _ (and_from _ _ (lt-ltb _ _ h.1) h.0) (d.1 h.2)
+  λ t. (let p = and_parts (is_decimal ds) fits t in let q = and_parts _ _ p.0 in (q.1, ltb-true _ _ q.0, d.0 p.1)),
+  λ h. and_from _ _ (and_from _ _ (lt-ltb _ _ h.1) h.0) (d.1 h.2),
 )
 
 -- ---- what is no decimal

@@ -4,8 +4,7 @@ use Rattle.std.specs.Cmp.Lexicographic.{pointwise}
 use Rattle.std.specs.Option.{unwrap_or}
 use Rattle.std.specs.Str.Lines.{strip_carriage_return, lines_of_parts}
 use Rattle.std.proofs.Math.Bool.{and-true}
-use Rattle.ndl.specs.Lines.{lines_of, words_of, parts}
-use Rattle.ndl.specs.Script.{NumberedLine, lines_from}
+use Rattle.ndl.specs.Lines.{lines_of, lines_from, words_of, parts}
 use Rattle.ndl.proofs.Parts.{some_part}
 
 -- the text has a line feed

@@ -1,6 +1,5 @@
 -- The script that an input spells, or the number of its first unreadable line.
-use Rattle.std.specs.Prelude.{◌≡◌, ℕ, pos, negsuc, nat_lt, Option, Some, None, Result, Ok, Err, List, [], ◌∷◌, ◌++◌, length, map, codes, refl}
-use Rattle.std.specs.List.{filter, enumerate_from}
+use Rattle.std.specs.Prelude.{◌≡◌, ℕ, pos, negsuc, Option, Some, None, Result, Ok, Err, List, [], ◌∷◌, ◌++◌, codes, refl}
 use Rattle.std.specs.Option.{option_map, ok_or}
 use Rattle.nd_shape.specs.declared.checks.CanIndexCheckMode.TheVariants.{OwnedMutable}
 use Rattle.nd_slice.specs.declared.slice.SliceInfoElem.{SliceInfoElem}
@@ -10,7 +9,7 @@ use Rattle.ndl.specs.declared.script.ReadError.{ReadError}
 use Rattle.ndl.specs.declared.script.ReadError.TheVariants as script
 use Rattle.ndl.specs.declared.words.WordError.{WordError}
 use Rattle.ndl.specs.declared.words.WordError.TheVariants as word
-use Rattle.ndl.specs.Lines.{lines_of, words_of}
+use Rattle.ndl.specs.Lines.{NumberedLine, lines_from}
 use Rattle.ndl.specs.Layouts.{LayoutValue, layout_value, layout_of, slice_of}
 
 -- a layout and the slice of it, if one is asked for
@@ -34,14 +33,6 @@ Gives view (Err e) reading = IsFirstUnreadable e reading
 abbrev pub error_on_line : WordError → ℕ → ReadError
 error_on_line word.Unreadable number = script.Unreadable number
 error_on_line word.Memory number = script.Memory
-
--- a line's number and its words
-abbrev pub NumberedLine : Type 0
-NumberedLine = ℕ × List (List ℕ)
-
--- the lines that aren't blank, where every line counts, from a number on
-abbrev pub lines_from : ℕ → List ℕ → List NumberedLine
-lines_from number input = filter (λ line. nat_lt 0 (length line.1)) (enumerate_from number (map words_of (lines_of input)))
 
 -- what is read next, where what came before can be read
 infixl 10 ◌>>=◌

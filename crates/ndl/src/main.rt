@@ -1,10 +1,11 @@
 //! Reads a layout and its slice, and prints where its elements lie.
 #![tactic(auto)]
 
-mod words;
-mod numbers;
 mod elements;
 mod layouts;
+mod lines;
+mod numbers;
 mod script;
+mod words;
 
 fn main() {}

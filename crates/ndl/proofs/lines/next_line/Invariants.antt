@@ -1,7 +1,7 @@
 -- So far all lines were blank: those that aren't are in the rest, which begins at this number.
 use Rattle.std.proofs.Common.{◌≡◌, ◌+◌, ◌≤◌, length}
-use Rattle.ndl.specs.Script.{lines_from}
-use Rattle.ndl.proofs.script.next_line.Given as goal
+use Rattle.ndl.specs.Lines.{lines_from}
+use Rattle.ndl.proofs.lines.next_line.Given as goal
 
 abbrev pub invariant-loop-line : goal.invariant-loop-line
 invariant-loop-line l = record {
