@@ -86,3 +86,6 @@ pub fn read_script(alloc: Global, input: &[u8]) -> Result<Script, ReadError>
     let slice = read_slice(alloc, line.rest, line.number + 1)?;
     Ok(Script { layout, slice })
 }
+
+#[cfg(test)]
+mod tests;
