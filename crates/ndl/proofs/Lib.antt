@@ -1,0 +1,5 @@
+pub mod Parts
+pub mod Digits
+pub mod Entries
+pub mod Slices
+pub mod FirstLine

@@ -1,0 +1,81 @@
+//! The words of a line, and the entries of a list.
+ghost use Rattle.std.specs.Prelude.{◌≡◌, ◌<◌, ℕ, List, [], ◌∷◌, Option, map, length, IfOk, IfSome, MatchOption};
+ghost use Rattle.ndl.specs.Lines.{parts, words_of};
+ghost use Rattle.ndl.specs.Numbers.{list_of};
+ghost use Rattle.ndl.specs.Reading.{GivesWords};
+
+use std::alloc::{AllocError, AllocFailed, Global};
+
+/// Why words could not be read.
+#[derive(Debug, Drop)]
+pub enum WordError {
+    /// They aren't of the grammar.
+    Unreadable,
+    /// A growth was refused.
+    Memory,
+}
+
+impl From<AllocError> for WordError {
+    ghost use Rattle.ndl.specs.declared.words.WordError.TheVariants.{Memory};
+
+    ghost from_gives = { λ _ error. error ≡ Memory };
+
+    fn from(_error: AllocError) -> Self {
+        WordError::Memory
+    }
+}
+
+impl<T: Drop> From<AllocFailed<T>> for WordError {
+    ghost use Rattle.ndl.specs.declared.words.WordError.TheVariants.{Memory};
+
+    ghost from_gives = { λ _ error. error ≡ Memory };
+
+    fn from(_error: AllocFailed<T>) -> Self {
+        WordError::Memory
+    }
+}
+
+/// What an entry of a list can be.
+pub trait Entry: Sized + Drop {
+    ghost entry_of: { List ℕ → Option Self };
+
+    /// The entry that a text spells, if it spells one.
+    fn read(text: &[u8]) -> Option<Self>
+        ensures { result ≡ entry_of text.now };
+}
+
+/// The words of a line.
+pub fn words(alloc: Global, line: &[u8]) -> Result<Vec<&[u8]>, AllocError>
+    ensures { IfOk result (λ v. map (λ word. word.now) v.items ≡ words_of line.now) }
+{
+    line.split(|b| *b == b' ')
+        .filter(|word| !word.is_empty())
+        .collect(alloc)
+}
+
+/// What stands before and after the first separator; none without one.
+pub fn split_once(text: &[u8], separator: u8) -> Option<(&[u8], &[u8])>
+    ensures parts { MatchOption result (parts separator text.now ≡ text.now ∷ [])
+        (λ found. parts separator text.now ≡ found.0.now ∷ parts separator found.1.now) }
+    ensures shorter { IfSome result (λ found. length found.1.now < length text.now) }
+{
+    let at = text.iter().position(|b| *b == separator)?;
+    Some((&text[..at], &text[at + 1..]))
+}
+
+/// The entries of a list, parted by commas; `-` is the empty list.
+pub fn list<T: Entry>(alloc: Global, word: &[u8]) -> Result<Vec<T>, WordError>
+    ensures { GivesWords (λ v. v.items) result (list_of T.entry_of word.now) }
+{
+    let mut entries = Vec::new(alloc);
+    if word == b"-".as_slice() {
+        return Ok(entries);
+    }
+    let mut rest = word;
+    while let Some((text, after)) = split_once(rest, b',') {
+        entries.push(T::read(text).ok_or(WordError::Unreadable)?)?;
+        rest = after;
+    }
+    entries.push(T::read(rest).ok_or(WordError::Unreadable)?)?;
+    Ok(entries)
+}
