@@ -1,1 +1,4 @@
-
+pub mod Answer
+pub mod Watched
+pub mod Device
+pub mod Session

@@ -1,4 +1,16 @@
 //! Reads a layout and its slice, and prints where its elements lie.
 #![tactic(auto)]
 
-fn main() {}
+mod answer;
+mod device;
+mod session;
+mod watched;
+
+use crate::watched::Watched;
+use std::process::ExitCode;
+
+fn main(rt: HostRuntime) -> ExitCode {
+    let mut reader = Watched::new(rt.stdin());
+    let mut writer = Watched::new(rt.stdout());
+    ExitCode::from(session::session(rt.alloc(), &mut reader, &mut writer))
+}
