@@ -77,8 +77,8 @@ pub fn write_whole<W: Write>(writer: &mut Watched<W>, text: &[u8])
     let mut written = 0;
     while written < text.len() {
         match writer.write(&text[written..]) {
-            Ok(0) | Err(_) => return,
-            Ok(taken) => written += taken,
+            Ok(taken) if taken > 0 => written += taken,
+            _ => return,
         }
     }
 }
