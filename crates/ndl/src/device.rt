@@ -42,10 +42,7 @@ const PIECE_LEN: usize = 8192;
 ///
 /// It stops at the first read that gives 0 bytes, which is the end of the input, at the first read
 /// that fails, an interrupted one too, and where the bytes read so far do not fit into memory.
-pub fn read_whole<R: Read>(
-    alloc: Global,
-    reader: &mut Watched<R>,
-) -> Result<Vec<u8>, InputError>
+pub fn read_whole<R: Read>(alloc: Global, reader: &mut Watched<R>) -> Result<Vec<u8>, InputError>
     requires { has_failed reader.old ≡ false }
     ensures bytes { IfOk result (λ bytes. IfSome (R.remaining (device reader.old))
         (λ all. bytes.items ≡ all)) }

@@ -3,6 +3,8 @@
 
 mod answer;
 mod device;
+#[cfg(test)]
+mod fakes;
 mod session;
 mod watched;
 

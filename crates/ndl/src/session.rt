@@ -89,10 +89,7 @@ pub fn session<R: Read, W: Write>(
 }
 
 // The answer to all the bytes that are left to read.
-fn answer_input<R: Read>(
-    alloc: Global,
-    reader: &mut Watched<R>,
-) -> Result<Answer, InputError>
+fn answer_input<R: Read>(alloc: Global, reader: &mut Watched<R>) -> Result<Answer, InputError>
     requires { has_failed reader.old ≡ false }
     ensures answer { IfOk result (λ answer. IfSome (R.remaining (device reader.old)) (λ input.
         (answer.text.items ≡ (answer_of input).text)
@@ -104,3 +101,6 @@ fn answer_input<R: Read>(
     let input = read_whole(alloc, reader)?;
     Ok(answer_to(alloc, &input)?)
 }
+
+#[cfg(test)]
+mod tests;

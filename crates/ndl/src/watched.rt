@@ -91,3 +91,6 @@ impl<W: Write> Write for Watched<W> {
         self.inner.flush()
     }
 }
+
+#[cfg(test)]
+mod tests;

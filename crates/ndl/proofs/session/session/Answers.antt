@@ -1,5 +1,3 @@
-use Rattle.std.proofs.Common.{◌≡◌, true, false, ap, sym, ◌∙◌}
-use Rattle.ndl.specs.Watched.{has_failed}
 use Rattle.ndl.proofs.session.session.Goals as goal
 use Rattle.ndl.proofs.session.session.Goals.{in-Ok, in-Err-ReadFailed, in-Err-OutOfMemory}
 
@@ -7,19 +5,19 @@ use Rattle.ndl.proofs.session.session.Goals.{in-Ok, in-Err-ReadFailed, in-Err-Ou
 pub returns-then-failed-clause-input_cut : goal.returns-then-failed-clause-input_cut
 returns-then-failed-clause-input_cut g c read_failed write_failed =
     elim c.match-answer_input.branch [
-      in-Ok w ↦ absurd (let other = w.in-Ok.ensures.failed.0 read_failed in cc)
-    | in-Err-ReadFailed w ↦ (let is = w.writer-is in
-      rw is (w.write_whole-in-Err-ReadFailed.ensures.cut (rw is at write_failed)))
-    | in-Err-OutOfMemory w ↦ absurd (let other = w.in-Err-OutOfMemory.ensures.failed.0 read_failed in
-      let this = w.in-Err-OutOfMemory.field-0-is in cc)
+      | in-Ok w ↦ absurd (let other = w.in-Ok.ensures.failed.0 read_failed in cc)
+      | in-Err-ReadFailed w ↦ (let is = w.writer-is in
+          rw is (w.write_whole-in-Err-ReadFailed.ensures.cut (rw is at write_failed)))
+      | in-Err-OutOfMemory w ↦ absurd (let other = w.in-Err-OutOfMemory.ensures.failed.0 read_failed in
+          let this = w.in-Err-OutOfMemory.field-0-is in cc)
     ]
 
 pub returns-else-failed-clause-input : goal.returns-else-failed-clause-input
 returns-else-failed-clause-input g c read_failed written =
     elim c.match-answer_input.branch [
-      in-Ok w ↦ absurd (let other = w.in-Ok.ensures.failed.0 read_failed in cc)
-    | in-Err-ReadFailed w ↦ (let is = w.writer-is in
-      rw is (w.write_whole-in-Err-ReadFailed.ensures.whole (rw is at written)))
-    | in-Err-OutOfMemory w ↦ absurd (let other = w.in-Err-OutOfMemory.ensures.failed.0 read_failed in
-      let this = w.in-Err-OutOfMemory.field-0-is in cc)
+      | in-Ok w ↦ absurd (let other = w.in-Ok.ensures.failed.0 read_failed in cc)
+      | in-Err-ReadFailed w ↦ (let is = w.writer-is in
+          rw is (w.write_whole-in-Err-ReadFailed.ensures.whole (rw is at written)))
+      | in-Err-OutOfMemory w ↦ absurd (let other = w.in-Err-OutOfMemory.ensures.failed.0 read_failed in
+          let this = w.in-Err-OutOfMemory.field-0-is in cc)
     ]
