@@ -81,11 +81,8 @@ pub fn session<R: Read, W: Write>(
             OUT_OF_MEMORY
         }
     };
-    if writer.failed() {
-        DEVICE_FAILED
-    } else {
-        status
-    }
+    let write_failed = writer.failed();
+    if write_failed { DEVICE_FAILED } else { status }
 }
 
 // The answer to all the bytes that are left to read.

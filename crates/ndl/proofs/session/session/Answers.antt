@@ -2,8 +2,8 @@ use Rattle.ndl.proofs.session.session.Goals as goal
 use Rattle.ndl.proofs.session.session.Goals.{in-Ok, in-Err-ReadFailed, in-Err-OutOfMemory}
 
 -- Only the arm of a failed read has a reader that failed.
-pub returns-then-failed-clause-input_cut : goal.returns-then-failed-clause-input_cut
-returns-then-failed-clause-input_cut g c read_failed write_failed =
+pub returns-then-write_failed-clause-input_cut : goal.returns-then-write_failed-clause-input_cut
+returns-then-write_failed-clause-input_cut g c read_failed write_failed =
     elim c.match-answer_input.branch [
       | in-Ok w ↦ absurd (let other = w.in-Ok.ensures.failed.0 read_failed in cc)
       | in-Err-ReadFailed w ↦ (let is = w.writer-is in
@@ -12,8 +12,8 @@ returns-then-failed-clause-input_cut g c read_failed write_failed =
           let this = w.in-Err-OutOfMemory.field-0-is in cc)
     ]
 
-pub returns-else-failed-clause-input : goal.returns-else-failed-clause-input
-returns-else-failed-clause-input g c read_failed written =
+pub returns-else-write_failed-clause-input : goal.returns-else-write_failed-clause-input
+returns-else-write_failed-clause-input g c read_failed written =
     elim c.match-answer_input.branch [
       | in-Ok w ↦ absurd (let other = w.in-Ok.ensures.failed.0 read_failed in cc)
       | in-Err-ReadFailed w ↦ (let is = w.writer-is in
