@@ -1,5 +1,5 @@
 -- The words of a line that makes a layout, and of one that asks for a slice.
-use Rattle.std.specs.Prelude.{◌≡◌, ℕ, ℤ, pos, negsuc, Option, Some, None, ◌==◌, ◌||◌, if◌then◌else◌, List, [], ◌∷◌, length, codes, refl}
+use Rattle.std.specs.Prelude.{◌≡◌, ℕ, ◌≤◌, ℤ, pos, negsuc, Option, Some, None, ◌==◌, ◌||◌, if◌then◌else◌, List, [], ◌∷◌, length, codes, refl}
 use Rattle.std.specs.Str.{bytes_eq}
 use Rattle.nd_shape.specs.declared.checks.CanIndexCheckMode.{CanIndexCheckMode}
 use Rattle.nd_shape.specs.declared.checks.CanIndexCheckMode.TheVariants.{OwnedMutable, ReadOnly}
@@ -27,6 +27,11 @@ mode_of word = if bytes_eq word (codes "owned") then Some OwnedMutable else if b
 -- a list of one or two entries
 abbrev pub one_or_two : {A : Type 0} → List A → Option (List A)
 one_or_two entries = if length entries == 1 || length entries == 2 then Some entries else None
+
+-- a layout of one or two lengths, and of one or two strides
+pub record HasFewAxes (layout : LayoutValue) : Type 0 where
+  pub lengths : (1 ≤ length layout.shape) × (length layout.shape ≤ 2)
+  pub strides : (1 ≤ length layout.strides) × (length layout.strides ≤ 2)
 
 -- the length of the data, how it is used, the shape and the strides
 abbrev pub layout_of_words : List (List ℕ) → Option LayoutValue

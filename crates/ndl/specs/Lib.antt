@@ -1,10 +1,11 @@
-<<<<<<< HEAD
-pub mod Text
-=======
-pub mod Reading
-pub mod Lines
-pub mod Numbers
+pub mod Answer
+pub mod Device
 pub mod Elements
 pub mod Layouts
+pub mod Lines
+pub mod Numbers
+pub mod Reading
 pub mod Script
->>>>>>> fe2bddc5e62deffd50e22411a46530282dddae03
+pub mod Session
+pub mod Text
+pub mod Watched

@@ -1,0 +1,105 @@
+-- What the program writes, and its exit status, for each input.
+use Rattle.std.specs.Prelude.{◌≡◌, ℕ, ℤ, Option, Some, None, Result, Ok, Err, List, [], ◌∷◌, ◌++◌, length, map, codes, decimal, string_bytes, refl}
+use Rattle.std.specs.Fmt.{signed_decimal, digits}
+use Rattle.nd_base.specs.declared.error.ErrorKind.{ErrorKind}
+use Rattle.nd_base.specs.declared.order.Order.TheVariants.{RowMajor}
+use Rattle.nd_base.specs.ErrorText.{shape_error_text}
+use Rattle.nd_base.specs.Signed.{magnitude}
+use Rattle.nd_shape.specs.Acceptance.{acceptance}
+use Rattle.nd_shape.specs.Span.{low_span}
+use Rattle.nd_slice.specs.Sliced.{sliced_shape, sliced_strides}
+use Rattle.nd_slice.specs.declared.slice.SliceInfoElem.{SliceInfoElem}
+use Rattle.ndarray_layout.specs.SlicedView.{sliced_start, slice_refusal}
+use Rattle.ndarray_layout.specs.View.{View, view_places}
+use Rattle.ndl.specs.declared.answer.Answer.{Answer}
+use Rattle.ndl.specs.Layouts.{LayoutValue}
+use Rattle.ndl.specs.Script.{ScriptValue, script_of}
+use Rattle.ndl.specs.Text.{line, listed}
+
+-- what goes out, and the exit status
+pub record Reply : Type 0 where
+  pub text : List ℕ
+  pub status : ℕ
+
+-- the reply to an input with an unreadable line
+abbrev pub unreadable : ℕ → Reply
+unreadable number = record { text = codes "line " ++ decimal number ++ codes ": unreadable\n"; status = 2 }
+
+-- the reply where a step has a fault: step 0 is the layout, step 1 its slice
+abbrev pub refused : ℕ → ErrorKind → Reply
+refused step kind = record { text = codes "step " ++ decimal step ++ codes ": " ++ shape_error_text kind ++ codes "\n"; status = 1 }
+
+-- the reply where every step was done: the view that is left, and where its elements lie
+abbrev pub listing : View → Reply
+listing view = record {
+    text = line (codes "shape") (listed (codes ",") (map decimal view.shape))
+        ++ line (codes "strides") (listed (codes ",") (map signed_decimal view.strides))
+        ++ line (codes "places") (listed (codes " ") (map signed_decimal (view_places RowMajor view)));
+    status = 0
+  }
+
+-- a fault of a step, or else what comes of it
+abbrev pub unless : ℕ → Option ErrorKind → Reply → Reply
+unless step (Some kind) reply = refused step kind
+unless step None reply = reply
+
+-- the view of a layout over its data, whose first element is the lowest place
+abbrev pub view_of : LayoutValue → View
+view_of layout = record { start = low_span layout.shape layout.strides; shape = layout.shape; strides = layout.strides }
+
+-- the slice of a view
+abbrev pub slice_of_view : List SliceInfoElem → View → View
+slice_of_view elems view = record {
+    start = magnitude (sliced_start elems view);
+    shape = sliced_shape elems view.shape;
+    strides = sliced_strides elems view.shape view.strides
+  }
+
+-- the slice, if one is asked for, has as many axes as the layout
+abbrev pub reply_to_slice : View → Option (List SliceInfoElem) → Reply
+reply_to_slice view None = listing view
+reply_to_slice view (Some elems) = unless 1 (slice_refusal (Some (length view.shape)) view.shape elems) (listing (slice_of_view elems view))
+
+-- elements have size 1
+abbrev pub reply_to_script : ScriptValue → Reply
+reply_to_script script =
+    let layout = script.layout in
+    unless 0 (acceptance 1 layout.len layout.mode layout.shape layout.strides) (reply_to_slice (view_of layout) script.slice)
+
+abbrev pub reply_to_reading : Result ScriptValue ℕ → Reply
+reply_to_reading (Ok script) = reply_to_script script
+reply_to_reading (Err number) = unreadable number
+
+-- the reply to an input
+abbrev pub answer_of : List ℕ → Reply
+answer_of input = reply_to_reading (script_of input)
+
+-- an answer is this reply
+pub record IsReply (answer : Answer) (reply : Reply) : Type 0 where
+  pub text : string_bytes answer.text ≡ reply.text
+  pub status : answer.status ≡ reply.status
+
+-- examples
+back_by_two : answer_of (codes "data 4 owned 4 1\nslice 1..;-2\n") ≡ record { text = codes "shape 2\nstrides -2\nplaces 3 1\n"; status = 0 }
+unfolding digits
+back_by_two = refl
+
+nothing_left : answer_of (codes "data 4 owned 4 1\nslice 2..2\n") ≡ record { text = codes "shape 0\nstrides 0\nplaces -\n"; status = 0 }
+unfolding digits
+nothing_left = refl
+
+one_element_for_two_axes : answer_of (codes "data 6 owned 2,3 3,1\nslice 1..\n") ≡ record { text = codes "step 1: ShapeError/IncompatibleShape: incompatible shapes\n"; status = 1 }
+unfolding digits
+one_element_for_two_axes = refl
+
+counts_differ : answer_of (codes "data 6 owned 2,3 1\n") ≡ record { text = codes "step 0: ShapeError/IncompatibleLayout: incompatible memory layout\n"; status = 1 }
+unfolding digits
+counts_differ = refl
+
+misspelled : answer_of (codes "data 6 owned 2,3 3,1\nslice ..,..\nslise ..\n") ≡ record { text = codes "line 3: unreadable\n"; status = 2 }
+unfolding digits
+misspelled = refl
+
+least_stride : answer_of (codes "data 2 owned 1,2 -9223372036854775808,1\n") ≡ record { text = codes "shape 1,2\nstrides -9223372036854775808,1\nplaces 0 1\n"; status = 0 }
+unfolding digits
+least_stride = refl

@@ -1,0 +1,7 @@
+-- What went out of a text where not all of it did.
+use Rattle.std.specs.Prelude.{ℕ, ◌<◌, List, length, take, Option}
+use Rattle.std.specs.Io.KnownBytes.{Appends}
+
+-- known bytes grow by a beginning of the text, which leaves some of it out
+abbrev pub AppendsBeginning : Option (List ℕ) → Option (List ℕ) → List ℕ → Type 0
+AppendsBeginning old new text = (n : ℕ) × (n < length text) × Appends old new (take n text)
