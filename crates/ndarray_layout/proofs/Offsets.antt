@@ -21,8 +21,8 @@ offset_within (len ∷ shape) (stride ∷ strides) [] e h = absurd (cc)
 offset_within (len ∷ shape) (stride ∷ strides) (i ∷ index) e h =
     let parts = and_parts (nat_lt i len) (is_index shape index) h in
     sum_within (reach_down len stride) (reach_up len stride) (low_span shape strides) (high_span shape strides) (pos i *ℤ stride) (offset_of strides index)
-      (axis_within len i stride (ltb-true i len parts.0))
-      (offset_within shape strides index (omega arith) parts.1)
+    (axis_within len i stride (ltb-true i len parts.0))
+    (offset_within shape strides index (omega arith) parts.1)
 
 -- the span is what lies below and above the first index
 pub span_parts : (shape : List ℕ) (strides : List ℤ) → low_span shape strides + high_span shape strides ≡ span shape strides

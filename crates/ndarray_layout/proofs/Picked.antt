@@ -39,12 +39,12 @@ pick_offset len stride step picks j fit h =
     let first = first_of_some picks stride (omega arith) in
     elim (cases_lt 1 (length picks)) [
       | inl many ↦
-        let new = picked_many (length picks) stride step many in
-        rw (first, new) (fit.spaced j stride h)
+          let new = picked_many (length picks) stride step many in
+          rw (first, new) (fit.spaced j stride h)
       | inr few ↦
-        let new = picked_few (length picks) stride step few in
-        let zeroth : j ≡ 0 = omega arith in
-        rw (zeroth, first, new) (omega (arith, ints))
+          let new = picked_few (length picks) stride step few in
+          let zeroth : j ≡ 0 = omega arith in
+          rw (zeroth, first, new) (omega (arith, ints))
     ]
 
 one_less : (n k : ℕ) → (suc n - 1) * k ≡ n * k

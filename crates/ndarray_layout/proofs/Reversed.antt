@@ -93,8 +93,8 @@ places_nested RowMajor start shape strides e = refl
 places_nested ColumnMajor start shape strides e =
     let turned = reverse strides in
     indices_agree (place start turned) (λ x. place start strides (reverse x)) (reverse shape) (λ x h.
-      let counts : length turned ≡ length x = omega (arith, h, length-reverse shape, length-reverse strides) in
-      ap (λ z. pos start +ℤ z) (sym (offset_reverse turned x counts) ∙ ap (λ s. offset_of s (reverse x)) (reverse-reverse strides)))
+    let counts : length turned ≡ length x = omega (arith, h, length-reverse shape, length-reverse strides) in
+    ap (λ z. pos start +ℤ z) (sym (offset_reverse turned x counts) ∙ ap (λ s. offset_of s (reverse x)) (reverse-reverse strides)))
     ∙ sym (map_after (place start strides) reverse (indices (reverse shape)))
 
 pub size_nested : (order : Order) (shape : List ℕ) → size (nested order shape) ≡ size shape

@@ -22,7 +22,9 @@ pub fn check_counts_and_elems(
 ) -> Result<(), ShapeError>
     ensures { result_err result ≡ slice_refusal fixed shape.now elems.now }
 {
-    if let Some(ndim) = fixed && ndim != out_ndim_of(elems) {
+    if let Some(ndim) = fixed
+        && ndim != out_ndim_of(elems)
+    {
         return Err(from_kind(ErrorKind::IncompatibleShape));
     }
     check_elems(shape, elems)

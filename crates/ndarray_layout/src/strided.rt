@@ -54,14 +54,19 @@ impl<D: Dimension + Drop> Strided<D> {
     ) -> Result<Self, ShapeError>
         ensures fault { result_err result ≡ acceptance elem_size len mode (D.list dim) (all_signed (D.list strides)) }
         ensures view { IfOk result (λ v. v ≡ record {
-            start = low_span (D.list dim) (all_signed (D.list strides));
-            shape = D.list dim;
-            strides = all_signed (D.list strides) }) }
+          start = low_span (D.list dim) (all_signed (D.list strides));
+          shape = D.list dim;
+          strides = all_signed (D.list strides);
+        }) }
         ensures inside { IfOk result (λ v. LiesInside len v.start v.shape v.strides) }
     {
         can_index_slice(elem_size, len, &dim, &strides, mode)?;
         let start = offset_from_low_addr_ptr_to_logical_ptr(&dim, &strides);
-        Ok(Strided { start, dim, strides })
+        Ok(Strided {
+            start,
+            dim,
+            strides,
+        })
     }
 
     /// The place of the first index, in elements from the start of the data.
@@ -102,7 +107,13 @@ impl<D: Dimension + Drop> Strided<D> {
     {
         let size = self.dim.size_checked().unwrap();
         let mut places = Vec::with_capacity(alloc, size)?;
-        push_places(&mut places, order, self.dim.slice(), self.strides.slice(), self.start);
+        push_places(
+            &mut places,
+            order,
+            self.dim.slice(),
+            self.strides.slice(),
+            self.start,
+        );
         Ok(places)
     }
 
@@ -116,9 +127,8 @@ impl<D: Dimension + Drop> Strided<D> {
         slices: &S,
     ) -> Result<Strided<E>, LayoutError>
         ensures refusal { shape_fault result ≡ slice_refusal E.NDIM self.now.shape (S.list slices.now) }
-        ensures memory {
-            slice_refusal E.NDIM self.now.shape (S.list slices.now) ≡ None →
-                NeedsNoMemory E.NDIM (out_count (S.list slices.now)) → IsOk result }
+        ensures memory { slice_refusal E.NDIM self.now.shape (S.list slices.now) ≡ None →
+            NeedsNoMemory E.NDIM (out_count (S.list slices.now)) → IsOk result }
         ensures sliced { IfOk result (λ v. IsSliceOf (S.list slices.now) self.now v) }
         ensures places { IfOk result (λ v. KeepsPlaces (S.list slices.now) self.now v) }
     {
@@ -128,8 +138,21 @@ impl<D: Dimension + Drop> Strided<D> {
         let ndim = out_ndim_of(elems);
         let mut dim = E::zeros(alloc, ndim)?;
         let mut strides = E::zeros(alloc, ndim)?;
-        let offset = slice_axes(elems, shape, self.strides.slice(), dim.slice_mut(), strides.slice_mut());
+        let offset = slice_axes(
+            elems,
+            shape,
+            self.strides.slice(),
+            dim.slice_mut(),
+            strides.slice_mut(),
+        );
         let start = offset_place(self.start, offset);
-        Ok(Strided { start, dim, strides })
+        Ok(Strided {
+            start,
+            dim,
+            strides,
+        })
     }
 }
+
+#[cfg(test)]
+mod tests;

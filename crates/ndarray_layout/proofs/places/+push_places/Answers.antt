@@ -29,10 +29,13 @@ pub push_places-requires : goal.push_places-requires
 push_places-requires t c =
     let order = c.args.order in
     let known = entry_of order c.args.start c.in-Some-Some.len c.in-Some-Some.stride c.loop-i.i c.args.shape.now c.in-Some-Some.lens.now c.args.strides.now c.in-Some-Some.rest.now c.in-Some-Some.ensures.0 c.in-Some-Some.ensures'.0 c.requires.view c.loop-i-test.true in
-    let whole : size (nested order c.args.shape.now) ≡ c.in-Some-Some.len * size (nested order c.in-Some-Some.lens.now) = ap size c.in-Some-Some.ensures.0 in
-    ( omega (arith, c.in-Some-Some.ensures.1),
-      ( rw (nested_signed order c.in-Some-Some.rest.now) (known.inner c.entry_place.result c.entry_place.ensures),
-        omega (arith, room_for (vec_len c.args.places.now) c.loop-i.i c.in-Some-Some.len (size (nested order c.in-Some-Some.lens.now)) (vec_capacity c.args.places.now) (size (nested order c.args.shape.now)) c.loop-i-test.true whole c.requires.room) ) )
+    let whole : size (nested order c.args.shape.now) ≡ c.in-Some-Some.len * size (nested order c.in-Some-Some.lens.now) = ap size c.in-Some-Some.ensures.0 in (
+      omega (arith, c.in-Some-Some.ensures.1),
+      (
+        rw (nested_signed order c.in-Some-Some.rest.now) (known.inner c.entry_place.result c.entry_place.ensures),
+        omega (arith, room_for (vec_len c.args.places.now) c.loop-i.i c.in-Some-Some.len (size (nested order c.in-Some-Some.lens.now)) (vec_capacity c.args.places.now) (size (nested order c.args.shape.now)) c.loop-i-test.true whole c.requires.room),
+      ),
+    )
 
 pub loop-i-preserved : goal.loop-i-preserved
 loop-i-preserved t c =
