@@ -1,5 +1,6 @@
 //! The places of all indices of a view, one after another.
-ghost use Rattle.std.specs.Prelude.{◌≡◌, ℕ, ◌+◌, ◌<◌, ◌≤◌, ◌^◌, pos, ◌+ℤ◌, ◌*ℤ◌, ◌≤ℤ◌, [], ◌∷◌, ◌++◌, map, length, MatchOption, vec_len, vec_capacity};
+ghost use Rattle.std.specs.Prelude.{◌≡◌, ◌+◌, ◌<◌, ◌≤◌, ◌^◌, pos, ◌+ℤ◌, ◌*ℤ◌, ◌≤ℤ◌};
+ghost use Rattle.std.specs.Prelude.{[], ◌∷◌, ◌++◌, map, length, MatchOption, vec_len, vec_capacity};
 ghost use Rattle.nd_base.specs.Signed.{signed as signed_reading, all_signed};
 ghost use Rattle.nd_base.specs.Size.{size, limit};
 ghost use Rattle.nd_base.specs.declared.order.Order.TheVariants.{RowMajor};
@@ -36,7 +37,8 @@ pub fn push_places(
 /// The item of the slowest axis, and the items of the others.
 fn split_slowest(order: Order, items: &[usize]) -> Option<(usize, &[usize])>
     ensures { MatchOption result (items.now ≡ [])
-        (λ p. (nested order items.now ≡ p.0 ∷ nested order p.1.now) × (length p.1.now + 1 ≡ length items.now)) }
+        (λ p. (nested order items.now ≡ p.0 ∷ nested order p.1.now)
+        × (length p.1.now + 1 ≡ length items.now)) }
 {
     let (slowest, others) = match order {
         Order::RowMajor => items.split_first()?,

@@ -29,9 +29,9 @@ fn view2(
 
 /// What rule a slice was refused by, if it was.
 fn fault_of<T: Drop>(answer: Result<T, LayoutError>) -> Option<ErrorKind> {
-    match answer {
-        Err(LayoutError::Shape(fault)) => Some(fault.kind()),
-        _ => None,
+    match answer.err()? {
+        LayoutError::Shape(fault) => Some(fault.kind()),
+        LayoutError::Memory(_fault) => None,
     }
 }
 
@@ -39,6 +39,9 @@ fn fault_of<T: Drop>(answer: Result<T, LayoutError>) -> Option<ErrorKind> {
 const fn range(start: isize, end: Option<isize>, step: isize) -> SliceInfoElem {
     SliceInfoElem::Slice { start, end, step }
 }
+
+/// The greatest `isize`.
+const MAX: usize = 9223372036854775807;
 
 /// Shape, strides, length of the data, use, order, and the places.
 const PLACES: [(
@@ -48,7 +51,7 @@ const PLACES: [(
     CanIndexCheckMode,
     Order,
     &[usize],
-); 4] = [
+); 6] = [
     ([3, 2], [2, 3], 8, ReadOnly, RowMajor, &[0, 3, 2, 5, 4, 7]),
     ([1, 2], [isize::MIN, 1], 2, OwnedMutable, RowMajor, &[0, 1]),
     (
@@ -130,7 +133,10 @@ fn row_with_a_new_axis(rt: HostRuntime) -> Result<(), Fail> {
     let row: Strided<Ix2> = view.slice(rt.alloc(), &elems.as_slice())?;
     assert_eq!(rt; *row.dim(), new_ix2(1, 3));
     assert_eq!(rt; *row.strides(), new_ix2(0, 1));
-    assert_eq!(rt; row.places(rt.alloc(), RowMajor)?.as_slice(), [3, 4, 5].as_slice());
+    assert_eq!(rt;
+        row.places(rt.alloc(), RowMajor)?.as_slice(),
+        [3, 4, 5].as_slice()
+    );
     Ok(())
 }
 
