@@ -70,6 +70,8 @@ const PLACES: [(
         ColumnMajor,
         &[5, 2, 4, 1, 3, 0],
     ),
+    ([MAX, 0], [0, 0], 0, OwnedMutable, RowMajor, &[]),
+    ([0, MAX], [0, 0], 0, OwnedMutable, ColumnMajor, &[]),
 ];
 
 #[test]

@@ -31,10 +31,10 @@ returns g c =
     let view : View = record { start = c.self.inside.start; shape = shape; strides = strides } in
     elim c.if-size-gt0.branch [
       | then-size-gt0 w ↦
-        let walked = rw (c.in_ok-places.ensures.items, w.slice-shape.ensures.list, w.slice-strides.ensures.list) at w.push_places.ensures.items in
-        rw (← c.self.view_is, w.places-is) (walked ∙ places_nested c.args.order c.self.inside.start shape strides c.self.invariant.valid.same_count)
+          let walked = rw (c.in_ok-places.ensures.items, w.slice-shape.ensures.list, w.slice-strides.ensures.list) at w.push_places.ensures.items in
+          rw (← c.self.view_is, w.places-is) (walked ∙ places_nested c.args.order c.self.inside.start shape strides c.self.invariant.valid.same_count)
       | else-size-gt0 w ↦
-        let zeroth = w.if-size-gt0.false in
-        let none : size shape ≡ 0 = grind (arith, common_steps, c.size_checked.ensures, c.unwrap-size.ensures, zeroth) in
-        rw (← c.self.view_is, w.places-is) (ap (map pos) c.in_ok-places.ensures.items ∙ sym (no_places c.args.order view none))
+          let zeroth = w.if-size-gt0.false in
+          let none : size shape ≡ 0 = grind (arith, common_steps, c.size_checked.ensures, c.unwrap-size.ensures, zeroth) in
+          rw (← c.self.view_is, w.places-is) (ap (map pos) c.in_ok-places.ensures.items ∙ sym (no_places c.args.order view none))
     ]
