@@ -1,10 +1,10 @@
 -- Where the indices of a layout lie.
-use Rattle.std.proofs.Common.{◌≡◌, ℕ, zero, suc, ◌+◌, ◌-◌, ◌*◌, ◌<◌, ◌≤◌, ℤ, pos, negsuc, ◌+ℤ◌, ◌*ℤ◌, ◌≤ℤ◌, List, [], ◌∷◌, length, true, arith, refl, nat_lt}
+use Rattle.std.proofs.Common.{◌≡◌, ℕ, ◌+◌, ℤ, pos, ◌+ℤ◌, ◌*ℤ◌, List, [], ◌∷◌, length, true, arith, refl, nat_lt}
 use Rattle.std.proofs.lemmas.Int.{ints}
 use Rattle.std.proofs.lemmas.Bool.{and_parts, ltb-true}
 use Rattle.nd_base.specs.Indices.{is_index}
 use Rattle.nd_shape.specs.Place.{offset_of}
-use Rattle.nd_shape.specs.Span.{reach, reach_down, reach_up, span, low_span, high_span}
+use Rattle.nd_shape.specs.Span.{reach_down, reach_up, span, low_span, high_span}
 use Rattle.ndarray_layout.proofs.Axes.{Within, axis_within, reach_parts}
 
 -- the sum of numbers within bounds

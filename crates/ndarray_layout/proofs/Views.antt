@@ -1,7 +1,7 @@
 -- What a view gives: each index of its shape has a place.
-use Rattle.std.proofs.Common.{◌≡◌, ℕ, zero, suc, ◌+◌, ◌-◌, ◌*◌, ◌<◌, ◌≤◌, ◌^◌, ℤ, pos, negsuc, ◌+ℤ◌, ◌*ℤ◌, ◌≤ℤ◌, List, [], ◌∷◌, length, cond, eqb, Bool, true, false, Option, Some, None, arith, refl, sym, ap, ◌∙◌, subst, not, ◌||◌, map, reverse}
+use Rattle.std.proofs.Common.{◌≡◌, ℕ, zero, suc, ◌*◌, ◌<◌, ◌≤◌, ◌^◌, ℤ, pos, ◌+ℤ◌, ◌≤ℤ◌, List, [], ◌∷◌, length, cond, eqb, Bool, true, false, Option, Some, None, arith, refl, sym, ap, ◌∙◌, subst, not, ◌||◌, map, reverse}
 use Rattle.std.proofs.lemmas.Int.{ints}
-use Rattle.std.proofs.lemmas.Bool.{eqb-true, eqb-false}
+use Rattle.std.proofs.lemmas.Bool.{eqb-true}
 use Rattle.std.proofs.Math.Nat.{mul-le-mul_left, mul-le-mul_right}
 use Rattle.std.specs.List.{flat_map}
 use Rattle.nd_base.specs.declared.order.Order.{Order}
@@ -9,19 +9,18 @@ use Rattle.nd_base.specs.declared.order.Order.TheVariants.{RowMajor, ColumnMajor
 use Rattle.nd_base.specs.Indices.{is_index, indices, below}
 use Rattle.nd_base.specs.Size.{nonzero_size, size, limit}
 use Rattle.nd_shape.specs.Place.{offset_of, place, checked_offset}
-use Rattle.nd_shape.specs.Span.{span, low_span, high_span}
+use Rattle.nd_shape.specs.Span.{low_span, high_span}
 use Rattle.nd_shape.specs.ValidLayout.{IsValidLayout}
 use Rattle.nd_slice.specs.declared.slice.SliceInfoElem.{SliceInfoElem}
 use Rattle.nd_base.specs.declared.error.ErrorKind.TheVariants.{IncompatibleShape}
 use Rattle.nd_slice.specs.SliceFault.{in_count, out_count, first_fault}
-use Rattle.nd_slice.specs.Sliced.{sliced_shape, sliced_strides, sliced_offset}
+use Rattle.nd_slice.specs.Sliced.{sliced_shape, sliced_strides}
 use Rattle.nd_slice.specs.Selected.{selected}
 use Rattle.ndarray_layout.specs.View.{View, IsView, place_at, view_places}
 use Rattle.ndarray_layout.specs.SlicedView.{IsSliceOf, sliced_start, slice_refusal, is_count}
-use Rattle.ndarray_layout.proofs.Axes.{Within}
 use Rattle.ndarray_layout.proofs.Offsets.{offset_within, span_parts}
 use Rattle.ndarray_layout.proofs.Reversed.{size_reverse}
-use Rattle.ndarray_layout.proofs.Slices.{SliceKept, slices_kept, PlacesKept, places_kept}
+use Rattle.ndarray_layout.proofs.Slices.{slices_kept, places_kept}
 
 -- a layout from its lowest element on
 pub lowest_view : (shape : List ℕ) (strides : List ℤ) → IsValidLayout shape strides → IsView (record { start = low_span shape strides; shape = shape; strides = strides })

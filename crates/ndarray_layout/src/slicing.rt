@@ -14,9 +14,9 @@ ghost use Rattle.ndarray_layout.specs.SlicedView.{slice_refusal};
 use nd_base::{ErrorKind, ShapeError, from_kind, stride_offset};
 use nd_slice::{Slice, SliceInfoElem, abs_index, check_elems, do_slice, out_ndim_of};
 
-/// Whether a slice argument fits the lengths of a shape and leaves as many axes as a type fixes, if it
-/// fixes a count. Refused with `IncompatibleShape` where either count of axes differs, and then as
-/// `check_elems` is.
+/// Whether a slice argument fits the lengths of a shape and leaves as many axes as a type fixes, if
+/// it fixes a count. Refused with `IncompatibleShape` where either count of axes differs, and then
+/// as `check_elems` is.
 pub fn check_counts_and_elems(
     fixed: Option<usize>,
     shape: &[usize],
@@ -48,8 +48,8 @@ fn slice_axis(len: usize, stride: usize, slice: Slice) -> (usize, usize, isize)
     (len, stride, offset)
 }
 
-/// Writes the lengths and the strides that an argument which fits leaves, one for each element but an
-/// index. Answers how many elements the first index left lies behind the first index before.
+/// Writes the lengths and the strides that an argument which fits leaves, one for each element but
+/// an index. Answers how many elements the first index left lies behind the first index before.
 pub fn slice_axes(
     elems: &[SliceInfoElem],
     shape: &[usize],

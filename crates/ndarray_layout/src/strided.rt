@@ -115,10 +115,10 @@ impl<D: Dimension + Drop> Strided<D> {
     }
 
     /// The view of the same data that a slice argument leaves. Refused with `IncompatibleShape`
-    /// where the argument is for more axes or fewer, or leaves more or fewer than the type `E` fixes;
-    /// then as the first element at fault is: with `OutOfBounds` for a bound or an index that is not
-    /// on its axis, with `Unsupported` for a step of 0; and then for want of memory. Upstream's
-    /// `slice` and `slice_collapse`.
+    /// where the argument is for more axes or fewer, or leaves more or fewer than the type `E`
+    /// fixes; then as the first element at fault is: with `OutOfBounds` for a bound or an index that
+    /// is not on its axis, with `Unsupported` for a step of 0; and then for want of memory.
+    /// Upstream's `slice` and `slice_collapse`.
     pub fn slice<E: Dimension + Drop, S: SliceElems>(
         &self,
         alloc: Global,

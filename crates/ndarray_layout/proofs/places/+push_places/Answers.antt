@@ -1,11 +1,9 @@
 -- Each entry of the slowest axis gives the places of the rest of the view from its own start on.
-use Rattle.std.proofs.Common.{◌≡◌, ℕ, ◌+◌, ◌*◌, ◌≤◌, ◌<◌, pos, map, vec_len, vec_capacity, ◌∷◌, ◌++◌, arith, ap, sym, ◌∙◌, append_assoc, List}
+use Rattle.std.proofs.Common.{◌≡◌, ℕ, ◌+◌, ◌*◌, ◌≤◌, ◌<◌, pos, map, vec_len, vec_capacity, ◌++◌, arith, ap, ◌∙◌}
 use Rattle.std.proofs.Math.Nat.{mul-le-mul_right}
 use Rattle.nd_base.specs.Signed.{signed, all_signed}
 use Rattle.nd_base.specs.Size.{size}
-use Rattle.nd_base.specs.declared.order.Order.TheVariants.{RowMajor}
-use Rattle.ndarray_layout.specs.View.{IsView, view_places}
-use Rattle.ndarray_layout.specs.Walk.{nested, nested_view}
+use Rattle.ndarray_layout.specs.Walk.{nested}
 use Rattle.ndarray_layout.proofs.Walks.{IsEntry, entry_of, nested_signed, places_more, row_after, walk_whole}
 use Rattle.ndarray_layout.proofs.places.+push_places.Goals as goal
 

@@ -1,11 +1,10 @@
-use Rattle.std.proofs.Common.{rules, ◌≡◌, ◌<◌, ◌≤◌, ◌+◌, ◌∷◌, drop, None, ℤ, pos, ◌*ℤ◌, ◌≤ℤ◌, ◌+ℤ◌, FitsSigned, arith, sym, ap, ◌∙◌, subst, to_z, of_z, get_or}
+use Rattle.std.proofs.Common.{rules, FitsSigned, arith, ◌∙◌, to_z, of_z}
 use Rattle.std.specs.Int.{w64}
-use Rattle.std.proofs.lemmas.Int.{ints, to_z-of_z}
+use Rattle.std.proofs.lemmas.Int.{to_z-of_z}
 use Rattle.nd_base.specs.Signed.{all_signed}
 use Rattle.nd_slice.specs.declared.slice.SliceInfoElem.TheVariants as elem
-use Rattle.nd_slice.specs.Picks.{meaning}
-use Rattle.ndarray_layout.proofs.Slices.{or_none, index_entry}
-use Rattle.ndarray_layout.proofs.SliceSteps.{SlicedSoFar, AtAxis, at_elem, at_both, slice_arm, index_arm, index_within, new_axis_step}
+use Rattle.ndarray_layout.proofs.Slices.{or_none}
+use Rattle.ndarray_layout.proofs.SliceSteps.{AtAxis, at_elem, at_both, slice_arm, index_arm, index_within, new_axis_step}
 use Rattle.ndarray_layout.proofs.slicing.slice_axes.Goals as goal
 use Rattle.ndarray_layout.proofs.slicing.slice_axes.Goals.{in-Slice, in-Index, in-NewAxis}
 

@@ -1,9 +1,8 @@
-use Rattle.std.proofs.Common.{rules, ◌≡◌, ◌+◌, ◌≤◌, ◌<◌, ◌^◌, ◌++◌, [], ℕ, pos, map, sym, ap, ◌∙◌, arith, vec_len, vec_capacity}
+use Rattle.std.proofs.Common.{◌≡◌, ◌<◌, ◌^◌, pos, map, sym, ap, ◌∙◌, arith}
 use Rattle.std.proofs.lemmas.Grind.{common_steps}
 use Rattle.nd_base.specs.Signed.{all_signed}
 use Rattle.nd_base.specs.Size.{size}
-use Rattle.ndarray_layout.specs.View.{View, view_places}
-use Rattle.ndarray_layout.specs.Walk.{nested, nested_view}
+use Rattle.ndarray_layout.specs.View.{View}
 use Rattle.ndarray_layout.proofs.Reversed.{places_nested, size_nested, view_nested}
 use Rattle.ndarray_layout.proofs.Views.{size_fits, no_places}
 use Rattle.ndarray_layout.proofs.strided.Strided.places.Goals as goal
