@@ -51,7 +51,11 @@ fn offset_in_shape(shape: &[usize], strides: &[usize], index: &[usize]) -> Optio
     requires { IsValidLayout shape.now (all_signed strides.now) }
     ensures { result ≡ checked_offset shape.now (all_signed strides.now) index.now }
 {
-    if is_index(shape, index) { Some(offset_of(strides, index)) } else { None }
+    if is_index(shape, index) {
+        Some(offset_of(strides, index))
+    } else {
+        None
+    }
 }
 
 impl<D: Dimension> NdIndex<D> for D {
