@@ -56,13 +56,6 @@ module _
     (first : iter_rest (zip_first s) ≡ shape)
     (second : iter_rest (zip_second s) ≡ strides)
     (y : Yields (zips fronts fronts) s xs t) where
-  -- the pair p stands beside each other in the two
-  pub pair_at_turn : (p : Bor ℕ × Bor ℕ) → r ≡ Some p → zips fronts fronts t r u
-      → (length xs < length shape) × (length xs < length strides) × (p.0.now ≡ get_or shape (length xs) 0) × (p.1.now ≡ get_or strides (length xs) 0)
-  pair_at_turn p e h =
-      let turn = zip_turn shape strides xs s t u r first second y p e h in
-      (turn.0, turn.1, turn.2 0, turn.3 0)
-
   -- at the pair p
   pub sum_at_turn : (p : Bor ℕ × Bor ℕ) → r ≡ Some p → zips fronts fronts t r u
       → sum_from f shape strides (length xs) ≡ f p.0.now (signed p.1.now) + sum_from f shape strides (length xs + 1)

@@ -2,10 +2,11 @@ use Rattle.std.proofs.Common.{rules, ◌≡◌, ◌+◌, ◌≤◌, length, pos,
 use Rattle.std.specs.Prelude.{FitsSigned, unsigned_abs}
 use Rattle.std.proofs.lemmas.Int.{ints, to_z-of_z, fits_signed_from_abs, unsigned_abs-mul}
 use Rattle.std.proofs.lemmas.List.{length_push}
+use Rattle.std.proofs.lemmas.Slice.Zip.{zip_turn}
 use Rattle.nd_base.specs.Signed.{signed}
 use Rattle.nd_base.specs.Size.{limit}
 use Rattle.nd_shape.proofs.OffsetBounds.{entry_offset, entry_offset_bounds, offset_from, offset_at_turn, offset_at_end}
-use Rattle.nd_shape.proofs.Sums.{pair_at_turn, sum_from, sum_at_turn}
+use Rattle.nd_shape.proofs.Sums.{sum_from, sum_at_turn}
 use Rattle.nd_shape.proofs.offsets.offset_of.Goals as goal
 use Rattle.nd_shape.proofs.offsets.offset_of.Goals.{In-Some}
 
@@ -30,9 +31,9 @@ far c =
 
 entry_fits : (c : In-Some) → c.in-Some.entry.now ≤ limit
 entry_fits c =
-    let turn = pair_at_turn entry_offset c.args.index.now c.args.strides.now c.loop-entry.yielded c.into_iter-entry-iterator.result c.loop-entry.entry-iterator c.next.new.self c.next.result
+    let turn = zip_turn c.args.index.now c.args.strides.now c.loop-entry.yielded c.into_iter-entry-iterator.result c.loop-entry.entry-iterator c.next.new.self c.next.result
     (search rules) (search rules) c.loop-entry.yielded_by (c.in-Some.entry, c.in-Some.stride) c.in-Some.is c.next.ensures.steps in
-    rw turn.2 (c.requires.small (length c.loop-entry.yielded) 0 turn.0)
+    rw (turn.2 0) (c.requires.small (length c.loop-entry.yielded) 0 turn.0)
 
 offset_fits : (c : In-Some) → entry_offset c.in-Some.entry.now (signed c.in-Some.stride.now) ≤ limit
 offset_fits c =
