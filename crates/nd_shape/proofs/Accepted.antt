@@ -1,6 +1,6 @@
 -- What an accepted layout is known for.
-use Rattle.std.proofs.Common.{◌≡◌, ℕ, ◌<◌, ◌≤◌, ◌*◌, ℤ, true, false, Bool, List, [], ◌∷◌, length, None, Some, Option, Result, Ok, Err, OnOk, eqb, arith, sym, ◌∙◌, refl}
-use Rattle.std.specs.Prelude.{nat_le, nat_lt, not, ◌&&◌, ◌||◌}
+use Rattle.std.proofs.Common.{◌≡◌, ℕ, ◌<◌, ℤ, true, false, List, [], ◌∷◌, length, None, Result, Ok, Err, OnOk, eqb, arith, sym, ◌∙◌, refl}
+use Rattle.std.specs.Prelude.{nat_le, nat_lt}
 use Rattle.std.specs.Result.{result_err}
 use Rattle.std.proofs.lemmas.Bool.{and_parts, cond-false, leb-false, ltb-true, ne_eqb, or_from}
 use Rattle.std.proofs.lemmas.Grind.{common_steps}

@@ -1,5 +1,5 @@
 -- Facts about the offsets of indices: how they lie within the span, and a sum of them from an axis on.
-use Rattle.std.proofs.Common.{inl, inr, min, ◌≡◌, ℕ, zero, suc, ◌+◌, ◌-◌, ◌*◌, ◌<◌, ◌≤◌, ℤ, pos, negsuc, neg_ℤ, ◌+ℤ◌, ◌*ℤ◌, ◌≤ℤ◌, ◌<ℤ◌, true, false, Option, Some, None, List, [], ◌∷◌, length, drop, get_or, refl, ap, sym, ◌∙◌, arith, add-one, drop-cons}
+use Rattle.std.proofs.Common.{inl, inr, min, ◌≡◌, ℕ, suc, ◌+◌, ◌-◌, ◌*◌, ◌<◌, ◌≤◌, ℤ, pos, negsuc, neg_ℤ, ◌+ℤ◌, ◌*ℤ◌, ◌≤ℤ◌, ◌<ℤ◌, true, false, Option, Some, None, List, [], ◌∷◌, length, drop, get_or, refl, ap, ◌∙◌, arith, add-one, drop-cons}
 use Rattle.std.specs.Prelude.{nat_lt, ◌&&◌}
 use Rattle.std.specs.List.{list_all, zip}
 use Rattle.std.proofs.Math.Nat.{mul-le-mul_right}
@@ -111,8 +111,8 @@ offset_from strides index k = offset_of (all_signed (drop k strides)) (drop k in
 pub offset_from_step : (strides index : List ℕ) (k : ℕ) → k < length index → k < length strides → offset_from strides index k ≡ (pos (get_or index k 0) *ℤ signed (get_or strides k 0)) +ℤ offset_from strides index (k + 1)
 offset_from_step strides index k h g =
     rw add-one (
-      ap (λ s. offset_of (all_signed (drop k strides)) s) (drop-cons index k 0 h)
-      ∙ ap (λ s. offset_of (all_signed s) (get_or index k 0 ∷ drop (suc k) index)) (drop-cons strides k 0 g)
+    ap (λ s. offset_of (all_signed (drop k strides)) s) (drop-cons index k 0 h)
+    ∙ ap (λ s. offset_of (all_signed s) (get_or index k 0 ∷ drop (suc k) index)) (drop-cons strides k 0 g)
     )
 
 offset_of_none : (index : List ℕ) → offset_of [] index ≡ pos 0
@@ -124,8 +124,8 @@ pub offset_from_end : (strides index : List ℕ) (k : ℕ) → min (length index
 offset_from_end strides index k h =
     elim (cases_lt k (length index)) [
       | inl l ↦
-        let none : drop k strides ≡ [] = drop_all k strides (omega arith) in
-        ap (λ s. offset_of (all_signed s) (drop k index)) none ∙ offset_of_none (drop k index)
+          let none : drop k strides ≡ [] = drop_all k strides (omega arith) in
+          ap (λ s. offset_of (all_signed s) (drop k index)) none ∙ offset_of_none (drop k index)
       | inr l ↦ ap (λ s. offset_of (all_signed (drop k strides)) s) (drop_all k index l)
     ]
 

@@ -1,13 +1,12 @@
 -- Facts about the rule for owned data.
-use Rattle.std.proofs.Common.{inl, inr, ◌≡◌, ℕ, zero, suc, ◌+◌, ◌-◌, ◌*◌, ◌<◌, ◌≤◌, ℤ, pos, true, false, Bool, List, [], ◌∷◌, length, get_or, refl, ap, sym, ◌∙◌, arith, add-zero}
-use Rattle.std.specs.Prelude.{if◌then◌else◌, nat_le, nat_lt, not, ◌||◌, ◌&&◌, remove}
+use Rattle.std.proofs.Common.{inl, inr, ◌≡◌, ℕ, zero, suc, ◌+◌, ◌-◌, ◌<◌, ◌≤◌, ℤ, pos, true, false, Bool, List, [], ◌∷◌, length, get_or, refl, ◌∙◌, arith, add-zero}
+use Rattle.std.specs.Prelude.{if◌then◌else◌, nat_le, nat_lt, not, ◌&&◌, remove}
 use Rattle.std.specs.List.{list_all, range_with_len}
-use Rattle.std.proofs.lemmas.Bool.{cond-true, cond_both, leb-true, le-leb, ltb-true, lt-leb, or_cases, or_left, both_ways, false_from_ne_true, true_from_ne_false}
+use Rattle.std.proofs.lemmas.Bool.{cond-true, cond_both, leb-true, le-leb, ltb-true, or_cases, or_left, both_ways, true_from_ne_false}
 use Rattle.std.proofs.lemmas.Bool.Decides.{nat_tests}
 use Rattle.std.proofs.lemmas.List.{get_or-map}
 use Rattle.std.proofs.lemmas.List.Folds.{list_all_at}
 use Rattle.std.proofs.lemmas.List.FromFn.{length-range_with_len, get_or-range_with_len}
-use Rattle.std.proofs.lemmas.List.Sums.{list_all-from_AllPass}
 use Rattle.nd_base.specs.Signed.{signed, all_signed, magnitude}
 use Rattle.nd_shape.specs.OwnedRule.{span_up_to, magnitude_at, span_of_others, steps_over_others, meets_owned_rule, MeetsOwnedRule}
 use Rattle.nd_shape.specs.Span.{reach, span, sum_over_axes}

@@ -1,5 +1,5 @@
 -- Facts about sums over the axes, from an axis on, and about a loop over the lengths and strides at once.
-use Rattle.std.proofs.Common.{inl, inr, ◌≡◌, ℕ, zero, suc, ◌+◌, ◌*◌, ◌<◌, ◌≤◌, ℤ, min, Option, Some, None, List, [], ◌∷◌, length, drop, get_or, map, refl, ap, sym, ◌∙◌, arith, add-one, drop-cons}
+use Rattle.std.proofs.Common.{inl, inr, ◌≡◌, ℕ, suc, ◌+◌, ◌<◌, ◌≤◌, ℤ, min, Option, Some, None, List, [], ◌∷◌, length, drop, get_or, refl, ap, ◌∙◌, arith, add-one, drop-cons}
 use Rattle.std.proofs.iter.Yields.{fronts}
 use Rattle.std.proofs.lemmas.Iterator.{zips}
 use Rattle.std.proofs.lemmas.List.{drop_all}
@@ -22,8 +22,8 @@ sum_from f shape strides k = sum_over_axes f (drop k shape) (all_signed (drop k 
 pub sum_from_step : (f : ℕ → ℤ → ℕ) (shape strides : List ℕ) (k : ℕ) → k < length shape → k < length strides → sum_from f shape strides k ≡ f (get_or shape k 0) (signed (get_or strides k 0)) + sum_from f shape strides (k + 1)
 sum_from_step f shape strides k h g =
     rw add-one (
-      ap (λ s. sum_over_axes f s (all_signed (drop k strides))) (drop-cons shape k 0 h)
-      ∙ ap (λ s. sum_over_axes f (get_or shape k 0 ∷ drop (suc k) shape) (all_signed s)) (drop-cons strides k 0 g)
+    ap (λ s. sum_over_axes f s (all_signed (drop k strides))) (drop-cons shape k 0 h)
+    ∙ ap (λ s. sum_over_axes f (get_or shape k 0 ∷ drop (suc k) shape) (all_signed s)) (drop-cons strides k 0 g)
     )
 
 sum_of_none : (f : ℕ → ℤ → ℕ) (shape : List ℕ) → sum_over_axes f shape [] ≡ 0
@@ -35,8 +35,8 @@ pub sum_from_end : (f : ℕ → ℤ → ℕ) (shape strides : List ℕ) (k : ℕ
 sum_from_end f shape strides k h =
     elim (cases_lt k (length shape)) [
       | inl l ↦
-        let none : drop k strides ≡ [] = drop_all k strides (omega arith) in
-        ap (λ s. sum_over_axes f (drop k shape) (all_signed s)) none ∙ sum_of_none f (drop k shape)
+          let none : drop k strides ≡ [] = drop_all k strides (omega arith) in
+          ap (λ s. sum_over_axes f (drop k shape) (all_signed s)) none ∙ sum_of_none f (drop k shape)
       | inr l ↦ ap (λ s. sum_over_axes f s (all_signed (drop k strides))) (drop_all k shape l)
     ]
 
@@ -56,13 +56,6 @@ module _
     (first : iter_rest (zip_first s) ≡ shape)
     (second : iter_rest (zip_second s) ≡ strides)
     (y : Yields (zips fronts fronts) s xs t) where
-  -- the pair p stands beside each other in the two
-  pub pair_at_turn : (p : Bor ℕ × Bor ℕ) → r ≡ Some p → zips fronts fronts t r u
-      → (length xs < length shape) × (length xs < length strides) × (p.0.now ≡ get_or shape (length xs) 0) × (p.1.now ≡ get_or strides (length xs) 0)
-  pair_at_turn p e h =
-      let turn = zip_turn shape strides xs s t u r first second y p e h in
-      (turn.0, turn.1, turn.2 0, turn.3 0)
-
   -- at the pair p
   pub sum_at_turn : (p : Bor ℕ × Bor ℕ) → r ≡ Some p → zips fronts fronts t r u
       → sum_from f shape strides (length xs) ≡ f p.0.now (signed p.1.now) + sum_from f shape strides (length xs + 1)

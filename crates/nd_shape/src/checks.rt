@@ -49,8 +49,8 @@ pub fn size_of_shape_checked<D: Dimension>(dim: &D) -> Result<usize, ShapeError>
 fn span_within_limits(elem_size: usize, shape: &[usize], strides: &[usize]) -> Option<usize>
     ensures { SomeIff result
         ((nonzero_size shape.now ≤ limit)
-            × (span shape.now (all_signed strides.now) ≤ limit)
-            × (span shape.now (all_signed strides.now) * elem_size ≤ limit))
+        × (span shape.now (all_signed strides.now) ≤ limit)
+        × (span shape.now (all_signed strides.now) * elem_size ≤ limit))
         (span shape.now (all_signed strides.now)) }
 {
     checked_nonzero_size(shape)?;
@@ -134,9 +134,9 @@ pub fn can_index_slice<D: Dimension>(
         (IsValidLayout (D.list dim.now) (all_signed (D.list strides.now))) }
     ensures inside { OnOk result
         (LiesInside len
-            (low_span (D.list dim.now) (all_signed (D.list strides.now)))
-            (D.list dim.now)
-            (all_signed (D.list strides.now))) }
+        (low_span (D.list dim.now) (all_signed (D.list strides.now)))
+        (D.list dim.now)
+        (all_signed (D.list strides.now))) }
 {
     accept(elem_size, len, dim.slice(), strides.slice(), mode)
 }

@@ -20,8 +20,10 @@ pub trait NdIndex<E: Dimension>: Debug {
     /// this is no index of the shape. Upstream's `index_checked`.
     fn index_checked(&self, dim: &E, strides: &E) -> Option<isize>
         requires { IsValidLayout (E.list dim.now) (all_signed (E.list strides.now)) }
-        ensures { result ≡
-            checked_offset (E.list dim.now) (all_signed (E.list strides.now)) (index_list self.now) };
+        ensures { result ≡ checked_offset
+            (E.list dim.now)
+            (all_signed (E.list strides.now))
+            (index_list self.now) };
 
     /// How many elements lie between the first index and this one, with its sign, whatever the
     /// shape. Upstream's `index_unchecked`.
@@ -29,7 +31,8 @@ pub trait NdIndex<E: Dimension>: Debug {
         requires same_count { length (index_list self.now) ≡ length (E.list strides.now) }
         requires small { All (λ entry. entry ≤ limit) (index_list self.now) }
         requires fits { farthest_offset (all_signed (E.list strides.now)) (index_list self.now) ≤ limit }
-        ensures { result ≡ offset_of_index (all_signed (E.list strides.now)) (index_list self.now) };
+        ensures { result ≡
+            offset_of_index (all_signed (E.list strides.now)) (index_list self.now) };
 }
 
 /// Whether each entry is below the length beside it.
@@ -51,7 +54,11 @@ fn offset_in_shape(shape: &[usize], strides: &[usize], index: &[usize]) -> Optio
     requires { IsValidLayout shape.now (all_signed strides.now) }
     ensures { result ≡ checked_offset shape.now (all_signed strides.now) index.now }
 {
-    if is_index(shape, index) { Some(offset_of(strides, index)) } else { None }
+    if is_index(shape, index) {
+        Some(offset_of(strides, index))
+    } else {
+        None
+    }
 }
 
 impl<D: Dimension> NdIndex<D> for D {

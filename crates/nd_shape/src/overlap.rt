@@ -16,7 +16,11 @@ fn reach_up_to(len: usize, stride: usize, magnitude: usize) -> usize
     ensures { result ≡ span_up_to_magnitude magnitude (len ∷ []) (signed_reading stride ∷ []) }
 {
     let stride = signed(stride);
-    if stride.unsigned_abs() <= magnitude { reach(len, stride) } else { 0 }
+    if stride.unsigned_abs() <= magnitude {
+        reach(len, stride)
+    } else {
+        0
+    }
 }
 
 /// The summed spans of the axes whose strides are of magnitude at most `magnitude`.
@@ -73,7 +77,7 @@ pub fn dim_stride_overlap<D: Dimension>(dim: &D, strides: &D) -> bool
     requires { IsValidLayout (D.list dim.now) (all_signed (D.list strides.now)) }
     ensures answer { result ≡
         (not (is_empty (D.list dim.now))
-            && not (meets_owned_rule (D.list dim.now) (all_signed (D.list strides.now)))) }
+        && not (meets_owned_rule (D.list dim.now) (all_signed (D.list strides.now)))) }
     ensures apart { result ≡ false → is_empty (D.list dim.now) ≡ false →
         MeetsOwnedRule (D.list dim.now) (all_signed (D.list strides.now)) }
 {

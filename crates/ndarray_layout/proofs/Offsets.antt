@@ -1,10 +1,10 @@
 -- Where the indices of a layout lie.
-use Rattle.std.proofs.Common.{◌≡◌, ℕ, zero, suc, ◌+◌, ◌-◌, ◌*◌, ◌<◌, ◌≤◌, ℤ, pos, negsuc, ◌+ℤ◌, ◌*ℤ◌, ◌≤ℤ◌, List, [], ◌∷◌, length, true, arith, refl, nat_lt}
+use Rattle.std.proofs.Common.{◌≡◌, ℕ, ◌+◌, ℤ, pos, ◌+ℤ◌, ◌*ℤ◌, List, [], ◌∷◌, length, true, arith, refl, nat_lt}
 use Rattle.std.proofs.lemmas.Int.{ints}
 use Rattle.std.proofs.lemmas.Bool.{and_parts, ltb-true}
 use Rattle.nd_base.specs.Indices.{is_index}
 use Rattle.nd_shape.specs.Place.{offset_of}
-use Rattle.nd_shape.specs.Span.{reach, reach_down, reach_up, span, low_span, high_span}
+use Rattle.nd_shape.specs.Span.{reach_down, reach_up, span, low_span, high_span}
 use Rattle.ndarray_layout.proofs.Axes.{Within, axis_within, reach_parts}
 
 -- the sum of numbers within bounds
@@ -21,8 +21,8 @@ offset_within (len ∷ shape) (stride ∷ strides) [] e h = absurd (cc)
 offset_within (len ∷ shape) (stride ∷ strides) (i ∷ index) e h =
     let parts = and_parts (nat_lt i len) (is_index shape index) h in
     sum_within (reach_down len stride) (reach_up len stride) (low_span shape strides) (high_span shape strides) (pos i *ℤ stride) (offset_of strides index)
-      (axis_within len i stride (ltb-true i len parts.0))
-      (offset_within shape strides index (omega arith) parts.1)
+    (axis_within len i stride (ltb-true i len parts.0))
+    (offset_within shape strides index (omega arith) parts.1)
 
 -- the span is what lies below and above the first index
 pub span_parts : (shape : List ℕ) (strides : List ℤ) → low_span shape strides + high_span shape strides ≡ span shape strides

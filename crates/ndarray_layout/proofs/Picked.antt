@@ -1,5 +1,5 @@
 -- What a slice leaves of one axis: the picks lie within the axis, and apart as their stride says.
-use Rattle.std.proofs.Common.{◌≡◌, ℕ, zero, suc, ◌+◌, ◌-◌, ◌*◌, ◌<◌, ◌≤◌, ℤ, pos, negsuc, ◌+ℤ◌, ◌*ℤ◌, ◌≤ℤ◌, List, [], ◌∷◌, length, get_or, nat_le, inl, inr, arith, refl, sym, ap, ◌∙◌}
+use Rattle.std.proofs.Common.{◌≡◌, ℕ, suc, ◌-◌, ◌*◌, ◌<◌, ◌≤◌, ℤ, pos, negsuc, ◌+ℤ◌, ◌*ℤ◌, ◌≤ℤ◌, List, [], ◌∷◌, length, get_or, nat_le, inl, inr, arith, refl, ap}
 use Rattle.std.proofs.lemmas.Int.{ints}
 use Rattle.std.proofs.lemmas.Bool.{cases_lt, cond-true, cond-false, le-leb, lt-leb}
 use Rattle.nd_shape.specs.Span.{reach, reach_down, reach_up}
@@ -39,12 +39,12 @@ pick_offset len stride step picks j fit h =
     let first = first_of_some picks stride (omega arith) in
     elim (cases_lt 1 (length picks)) [
       | inl many ↦
-        let new = picked_many (length picks) stride step many in
-        rw (first, new) (fit.spaced j stride h)
+          let new = picked_many (length picks) stride step many in
+          rw (first, new) (fit.spaced j stride h)
       | inr few ↦
-        let new = picked_few (length picks) stride step few in
-        let zeroth : j ≡ 0 = omega arith in
-        rw (zeroth, first, new) (omega (arith, ints))
+          let new = picked_few (length picks) stride step few in
+          let zeroth : j ≡ 0 = omega arith in
+          rw (zeroth, first, new) (omega (arith, ints))
     ]
 
 one_less : (n k : ℕ) → (suc n - 1) * k ≡ n * k

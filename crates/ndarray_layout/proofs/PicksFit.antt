@@ -1,5 +1,5 @@
 -- The picks of a slice that fits lie within the axis.
-use Rattle.std.proofs.Common.{◌≡◌, ℕ, ◌-◌, ◌*◌, ◌<◌, ◌≤◌, max, ℤ, pos, negsuc, None, Some, Bool, true, false, not, cond, length, arith, sym, refl, subst, inl, inr, le-mul_of_pos_right, ◌==◌, ◌&&◌}
+use Rattle.std.proofs.Common.{◌≡◌, ℕ, ◌-◌, ◌*◌, ◌<◌, ◌≤◌, max, ℤ, pos, negsuc, None, Some, Bool, true, false, not, cond, length, arith, sym, refl, subst, inl, inr, le-mul_of_pos_right, ◌==◌}
 use Rattle.std.proofs.lemmas.Bool.{cases_lt, and_parts, leb-true}
 use Rattle.nd_base.specs.declared.error.ErrorKind.TheVariants.{OutOfBounds, Unsupported}
 use Rattle.nd_base.specs.Signed.{magnitude}

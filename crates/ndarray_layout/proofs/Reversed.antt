@@ -1,5 +1,5 @@
 -- A layout with its axes turned round: the same sums and products, and the places of the turned indices.
-use Rattle.std.proofs.Common.{◌≡◌, ℕ, zero, suc, ◌+◌, ◌-◌, ◌*◌, ◌<◌, ◌≤◌, ℤ, pos, negsuc, ◌+ℤ◌, ◌*ℤ◌, List, [], ◌∷◌, ◌++◌, length, map, reverse, cond, eqb, Bool, true, false, arith, refl, sym, ap, ◌∙◌}
+use Rattle.std.proofs.Common.{◌≡◌, ℕ, suc, ◌+◌, ◌*◌, ℤ, pos, ◌+ℤ◌, ◌*ℤ◌, List, [], ◌∷◌, ◌++◌, length, map, reverse, cond, eqb, Bool, true, false, arith, refl, sym, ap, ◌∙◌}
 use Rattle.std.specs.List.{flat_map}
 use Rattle.std.proofs.lemmas.Int.{ints}
 use Rattle.std.proofs.lemmas.List.{map-append, reverse-append, reverse-reverse, length-reverse}
@@ -9,8 +9,7 @@ use Rattle.nd_base.specs.Indices.{indices, below}
 use Rattle.nd_base.specs.Size.{nonzero_size, size}
 use Rattle.nd_shape.specs.Place.{offset_of, place, places}
 use Rattle.nd_shape.specs.Span.{sum_over_axes, reach, reach_down, reach_up}
-use Rattle.nd_shape.specs.ValidLayout.{IsValidLayout}
-use Rattle.ndarray_layout.specs.View.{View, IsView, view_places}
+use Rattle.ndarray_layout.specs.View.{IsView, view_places}
 use Rattle.ndarray_layout.specs.Walk.{nested, nested_view}
 
 reverse_cons : {A : Type 0} (x : A) (xs : List A) → reverse (x ∷ xs) ≡ reverse xs ++ x ∷ []
@@ -93,8 +92,8 @@ places_nested RowMajor start shape strides e = refl
 places_nested ColumnMajor start shape strides e =
     let turned = reverse strides in
     indices_agree (place start turned) (λ x. place start strides (reverse x)) (reverse shape) (λ x h.
-      let counts : length turned ≡ length x = omega (arith, h, length-reverse shape, length-reverse strides) in
-      ap (λ z. pos start +ℤ z) (sym (offset_reverse turned x counts) ∙ ap (λ s. offset_of s (reverse x)) (reverse-reverse strides)))
+    let counts : length turned ≡ length x = omega (arith, h, length-reverse shape, length-reverse strides) in
+    ap (λ z. pos start +ℤ z) (sym (offset_reverse turned x counts) ∙ ap (λ s. offset_of s (reverse x)) (reverse-reverse strides)))
     ∙ sym (map_after (place start strides) reverse (indices (reverse shape)))
 
 pub size_nested : (order : Order) (shape : List ℕ) → size (nested order shape) ≡ size shape

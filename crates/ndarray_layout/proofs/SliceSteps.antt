@@ -1,8 +1,7 @@
 -- Slicing axis by axis: what is left by the elements so far, and the slice of the rest.
-use Rattle.std.proofs.Common.{◌≡◌, ℕ, zero, suc, ◌+◌, ◌-◌, ◌*◌, ◌<◌, ◌≤◌, ◌^◌, ℤ, pos, negsuc, ◌+ℤ◌, ◌*ℤ◌, ◌≤ℤ◌, List, [], ◌∷◌, ◌++◌, length, get_or, take, drop, set, map, None, arith, refl, sym, ap, ◌∙◌, append_assoc, add-one, subst, to_z, of_z, cond, eqb, Bool, true, false, pos_of_ne-zero}
+use Rattle.std.proofs.Common.{◌≡◌, ℕ, zero, suc, ◌+◌, ◌*◌, ◌<◌, ◌≤◌, ℤ, pos, ◌+ℤ◌, ◌*ℤ◌, ◌≤ℤ◌, List, [], ◌∷◌, ◌++◌, length, get_or, take, drop, set, None, arith, refl, ap, ◌∙◌, append_assoc, subst, to_z, of_z, cond, eqb, Bool, true, false, pos_of_ne-zero}
 use Rattle.std.specs.Prelude.{FitsSigned}
 use Rattle.std.specs.Int.{w64}
-use Rattle.std.specs.Option.{option_or}
 use Rattle.std.proofs.lemmas.Int.{ints, to_z-of_z}
 use Rattle.std.proofs.lemmas.Bool.{eqb-true, eqb-false}
 use Rattle.std.proofs.Math.ListN.{get_or-map}
@@ -183,12 +182,12 @@ stepped elems shape strides k axis new ns nt offset valid s =
 pub slice_arm : (elems : List SliceInfoElem) (shape strides : List ℕ) (slice : Slice) (k axis new : ℕ) (ns nt : List ℕ) (offset : ℤ) (count kept : ℕ) (moved : ℤ) → IsValidLayout shape (all_signed strides) → AtAxis elems shape strides (elem.Slice slice.start slice.end slice.step) k axis new ns nt offset → count ≡ length (picks (get_or shape axis 0) slice) → signed kept ≡ picked_stride (length (picks (get_or shape axis 0) slice)) (signed (get_or strides axis 0)) slice.step → moved ≡ first_offset (picks (get_or shape axis 0) slice) (signed (get_or strides axis 0)) → Stepped elems shape strides k (axis + 1) (new + 1) (set ns new count) (set nt new kept) (offset +ℤ moved)
 slice_arm elems shape strides slice k axis new ns nt offset count kept moved valid at n t m =
     stepped elems shape strides k (axis + 1) (new + 1) (set ns new count) (set nt new kept) (offset +ℤ moved) valid
-      (slice_step elems shape (all_signed strides) (drop (k + 1) elems) (drop (axis + 1) shape) (drop (axis + 1) (all_signed strides)) new ns nt offset slice (get_or shape axis 0) (signed (get_or strides axis 0)) count kept moved n t m at.so_far)
+    (slice_step elems shape (all_signed strides) (drop (k + 1) elems) (drop (axis + 1) shape) (drop (axis + 1) (all_signed strides)) new ns nt offset slice (get_or shape axis 0) (signed (get_or strides axis 0)) count kept moved n t m at.so_far)
 
 pub index_arm : (elems : List SliceInfoElem) (shape strides : List ℕ) (index : ℤ) (k axis new : ℕ) (ns nt : List ℕ) (offset : ℤ) (moved : ℤ) → IsValidLayout shape (all_signed strides) → AtAxis elems shape strides (elem.Index index) k axis new ns nt offset → moved ≡ meaning (get_or shape axis 0) index *ℤ signed (get_or strides axis 0) → Stepped elems shape strides k (axis + 1) new ns nt (offset +ℤ moved)
 index_arm elems shape strides index k axis new ns nt offset moved valid at m =
     stepped elems shape strides k (axis + 1) new ns nt (offset +ℤ moved) valid
-      (index_step elems shape (all_signed strides) (drop (k + 1) elems) (drop (axis + 1) shape) (drop (axis + 1) (all_signed strides)) new ns nt offset index (get_or shape axis 0) (signed (get_or strides axis 0)) moved m at.so_far)
+    (index_step elems shape (all_signed strides) (drop (k + 1) elems) (drop (axis + 1) shape) (drop (axis + 1) (all_signed strides)) new ns nt offset index (get_or shape axis 0) (signed (get_or strides axis 0)) moved m at.so_far)
 
 -- what an index means, and where it lies
 pub record IsEntryAt (len : ℕ) (stride : ℤ) (index : ℤ) : Type 0 where
@@ -208,7 +207,7 @@ index_within elems shape strides index k axis new ns nt offset at =
       low = rw entry.0 (omega (arith, ints));
       small = λ n e. omega (arith, ints, entry.0, entry.1, e);
       offset_fits = λ n e.
-        let below : n < len = omega (arith, ints, entry.0, entry.1, e) in
-        let axis = axis_within len n stride below in
-        omega (arith, ints, axis.above, axis.below, reach_parts len stride);
+          let below : n < len = omega (arith, ints, entry.0, entry.1, e) in
+          let axis = axis_within len n stride below in
+          omega (arith, ints, axis.above, axis.below, reach_parts len stride);
     }

@@ -1,8 +1,8 @@
 -- A slice of a layout is a layout within it, and its indices lie where the selected ones do.
-use Rattle.std.proofs.Common.{◌≡◌, ℕ, zero, suc, ◌+◌, ◌-◌, ◌*◌, ◌<◌, ◌≤◌, ℤ, pos, negsuc, ◌+ℤ◌, ◌*ℤ◌, ◌≤ℤ◌, List, [], ◌∷◌, length, get_or, nat_lt, Bool, true, false, eqb, cond, Option, Some, None, inl, inr, arith, refl, sym, ap, ◌∙◌, pos_of_ne-zero}
+use Rattle.std.proofs.Common.{◌≡◌, ℕ, ◌*◌, ◌<◌, ◌≤◌, ℤ, pos, negsuc, ◌+ℤ◌, ◌*ℤ◌, ◌≤ℤ◌, List, [], ◌∷◌, length, get_or, nat_lt, Bool, true, false, eqb, cond, Option, Some, None, arith, refl, pos_of_ne-zero}
 use Rattle.std.specs.Option.{option_or}
 use Rattle.std.proofs.lemmas.Int.{ints}
-use Rattle.std.proofs.lemmas.Bool.{and_parts, and_from, ltb-true, lt-ltb, cases_eq, cond-true, cond-false, ne_eqb, eq-eqb, eqb-true, eqb-false}
+use Rattle.std.proofs.lemmas.Bool.{and_parts, and_from, ltb-true, lt-ltb, eqb-true, eqb-false}
 use Rattle.std.proofs.Math.Nat.{mul-le-mul, mul-le-mul_right}
 use Rattle.nd_base.specs.declared.error.ErrorKind.{ErrorKind}
 use Rattle.nd_base.specs.declared.error.ErrorKind.TheVariants.{OutOfBounds}
@@ -10,16 +10,16 @@ use Rattle.nd_base.specs.Indices.{is_index}
 use Rattle.nd_base.specs.Signed.{magnitude}
 use Rattle.nd_base.specs.Size.{nonzero_size}
 use Rattle.nd_shape.specs.Place.{offset_of}
-use Rattle.nd_shape.specs.Span.{reach, reach_down, reach_up, span, low_span, high_span}
+use Rattle.nd_shape.specs.Span.{reach_down, reach_up, low_span, high_span}
 use Rattle.nd_slice.specs.declared.slice.Slice.{Slice}
 use Rattle.nd_slice.specs.declared.slice.SliceInfoElem.{SliceInfoElem}
 use Rattle.nd_slice.specs.declared.slice.SliceInfoElem.TheVariants as elem
 use Rattle.nd_slice.specs.Picks.{picks, meaning, is_entry}
 use Rattle.nd_slice.specs.SliceFault.{slice_fault, index_fault, in_count, first_fault}
-use Rattle.nd_slice.specs.Sliced.{sliced_shape, sliced_strides, sliced_offset, picked_stride, first_offset}
+use Rattle.nd_slice.specs.Sliced.{sliced_shape, sliced_strides, sliced_offset}
 use Rattle.nd_slice.specs.Selected.{selected}
 use Rattle.ndarray_layout.proofs.Axes.{Within, axis_within}
-use Rattle.ndarray_layout.proofs.Picked.{PicksFit, AxisKept, slice_kept, pick_offset}
+use Rattle.ndarray_layout.proofs.Picked.{slice_kept, pick_offset}
 use Rattle.ndarray_layout.proofs.PicksFit.{picks_fit}
 
 pub or_none : (a b : Option ErrorKind) → option_or a b ≡ None → (a ≡ None) × (b ≡ None)

@@ -1,23 +1,26 @@
 -- What a view gives: each index of its shape has a place.
-use Rattle.std.proofs.Common.{◌≡◌, ℕ, zero, suc, ◌+◌, ◌-◌, ◌*◌, ◌<◌, ◌≤◌, ◌^◌, ℤ, pos, negsuc, ◌+ℤ◌, ◌*ℤ◌, ◌≤ℤ◌, List, [], ◌∷◌, length, cond, eqb, Bool, true, false, Option, Some, None, arith, refl, sym, ap, ◌∙◌, subst, not, ◌||◌}
+use Rattle.std.proofs.Common.{◌≡◌, ℕ, zero, suc, ◌*◌, ◌<◌, ◌≤◌, ◌^◌, ℤ, pos, ◌+ℤ◌, ◌≤ℤ◌, List, [], ◌∷◌, length, cond, eqb, Bool, true, false, Option, Some, None, arith, refl, sym, ap, ◌∙◌, subst, not, ◌||◌, map, reverse}
 use Rattle.std.proofs.lemmas.Int.{ints}
-use Rattle.std.proofs.lemmas.Bool.{eqb-true, eqb-false}
-use Rattle.std.proofs.Math.Nat.{mul-le-mul_left}
-use Rattle.nd_base.specs.Indices.{is_index}
+use Rattle.std.proofs.lemmas.Bool.{eqb-true}
+use Rattle.std.proofs.Math.Nat.{mul-le-mul_left, mul-le-mul_right}
+use Rattle.std.specs.List.{flat_map}
+use Rattle.nd_base.specs.declared.order.Order.{Order}
+use Rattle.nd_base.specs.declared.order.Order.TheVariants.{RowMajor, ColumnMajor}
+use Rattle.nd_base.specs.Indices.{is_index, indices, below}
 use Rattle.nd_base.specs.Size.{nonzero_size, size, limit}
 use Rattle.nd_shape.specs.Place.{offset_of, place, checked_offset}
-use Rattle.nd_shape.specs.Span.{span, low_span, high_span}
+use Rattle.nd_shape.specs.Span.{low_span, high_span}
 use Rattle.nd_shape.specs.ValidLayout.{IsValidLayout}
 use Rattle.nd_slice.specs.declared.slice.SliceInfoElem.{SliceInfoElem}
 use Rattle.nd_base.specs.declared.error.ErrorKind.TheVariants.{IncompatibleShape}
 use Rattle.nd_slice.specs.SliceFault.{in_count, out_count, first_fault}
-use Rattle.nd_slice.specs.Sliced.{sliced_shape, sliced_strides, sliced_offset}
+use Rattle.nd_slice.specs.Sliced.{sliced_shape, sliced_strides}
 use Rattle.nd_slice.specs.Selected.{selected}
-use Rattle.ndarray_layout.specs.View.{View, IsView, place_at, checked_place}
+use Rattle.ndarray_layout.specs.View.{View, IsView, place_at, view_places}
 use Rattle.ndarray_layout.specs.SlicedView.{IsSliceOf, sliced_start, slice_refusal, is_count}
-use Rattle.ndarray_layout.proofs.Axes.{Within}
 use Rattle.ndarray_layout.proofs.Offsets.{offset_within, span_parts}
-use Rattle.ndarray_layout.proofs.Slices.{SliceKept, slices_kept, PlacesKept, places_kept}
+use Rattle.ndarray_layout.proofs.Reversed.{size_reverse}
+use Rattle.ndarray_layout.proofs.Slices.{slices_kept, places_kept}
 
 -- a layout from its lowest element on
 pub lowest_view : (shape : List ℕ) (strides : List ℤ) → IsValidLayout shape strides → IsView (record { start = low_span shape strides; shape = shape; strides = strides })
@@ -126,3 +129,21 @@ slice_is_view elems view result v counts fits s =
     let whole = sliced_view elems view result.start v counts fits s.start in
     let e : record { start = result.start; shape = sliced_shape elems view.shape; strides = sliced_strides elems view.shape view.strides } ≡ result = rw (← s.shape, ← s.strides) refl in
     subst IsView e whole
+
+-- ---- a shape without an index
+no_rows : (entries : List ℕ) → flat_map (λ i. map (λ x. i ∷ x) []) entries ≡ []
+no_rows [] = refl
+no_rows (i ∷ entries) = no_rows entries
+
+no_indices : (shape : List ℕ) → size shape ≡ 0 → indices shape ≡ []
+no_indices [] h = absurd (omega arith)
+no_indices (zero ∷ lens) h = refl
+no_indices (suc n ∷ lens) h =
+    let some : 1 ≤ suc n = omega arith in
+    let none : indices lens ≡ [] = no_indices lens (omega (arith, mul-le-mul_right (size lens) some)) in
+    ap (λ rows. flat_map (λ i. map (λ x. i ∷ x) rows) (below (suc n))) none ∙ no_rows (below (suc n))
+
+-- a view of a size of 0 has no place
+pub no_places : (order : Order) (view : View) → size view.shape ≡ 0 → view_places order view ≡ []
+no_places RowMajor view h = ap (map (place view.start view.strides)) (no_indices view.shape h)
+no_places ColumnMajor view h = ap (λ rows. map (place view.start view.strides) (map reverse rows)) (no_indices (reverse view.shape) (size_reverse view.shape ∙ h))

@@ -1,8 +1,8 @@
 -- The walk over the indices of a view, entry by entry of its slowest axis.
-use Rattle.std.proofs.Common.{◌≡◌, ℕ, zero, suc, ◌+◌, ◌-◌, ◌*◌, ◌<◌, ◌≤◌, ◌^◌, ℤ, pos, negsuc, ◌+ℤ◌, ◌*ℤ◌, ◌≤ℤ◌, List, [], ◌∷◌, ◌++◌, length, map, reverse, cond, eqb, Bool, true, false, arith, refl, sym, ap, ◌∙◌, add-one, append_assoc, pos_of_ne-zero, subst}
+use Rattle.std.proofs.Common.{◌≡◌, ℕ, zero, suc, ◌+◌, ◌*◌, ◌<◌, ◌≤◌, ℤ, pos, ◌+ℤ◌, ◌*ℤ◌, ◌≤ℤ◌, List, [], ◌∷◌, ◌++◌, map, reverse, cond, eqb, Bool, true, false, arith, refl, sym, ap, ◌∙◌, add-one, append_assoc, pos_of_ne-zero, subst}
 use Rattle.std.specs.List.{flat_map, range_with_len}
 use Rattle.std.proofs.lemmas.Int.{ints}
-use Rattle.std.proofs.lemmas.Bool.{eqb-true, eqb-false, cond-false, ne_eqb}
+use Rattle.std.proofs.lemmas.Bool.{eqb-false, cond-false, ne_eqb}
 use Rattle.std.proofs.lemmas.List.{map-append, append-nil, reverse-append}
 use Rattle.std.proofs.lemmas.List.Concat.{flat_map-append}
 use Rattle.std.proofs.Math.Nat.{mul-le-mul, mul-le-mul_right, mul-le-mul_left}
@@ -11,12 +11,10 @@ use Rattle.nd_base.specs.declared.order.Order.TheVariants.{RowMajor, ColumnMajor
 use Rattle.nd_base.specs.Indices.{indices, below}
 use Rattle.nd_base.specs.Signed.{signed, all_signed}
 use Rattle.nd_base.specs.Size.{nonzero_size, limit}
-use Rattle.nd_shape.specs.Place.{offset_of, place}
-use Rattle.nd_shape.specs.Span.{reach_down, reach_up, reach, span, low_span, high_span}
-use Rattle.nd_shape.specs.ValidLayout.{IsValidLayout}
-use Rattle.ndarray_layout.specs.View.{View, IsView, view_places}
+use Rattle.nd_shape.specs.Place.{place}
+use Rattle.ndarray_layout.specs.View.{IsView, view_places}
 use Rattle.ndarray_layout.specs.Walk.{nested, nested_view}
-use Rattle.ndarray_layout.proofs.Axes.{Within, axis_within}
+use Rattle.ndarray_layout.proofs.Axes.{axis_within}
 
 -- one number more
 range_more : (a n : ℕ) → range_with_len a (suc n) ≡ range_with_len a n ++ (a + n) ∷ []

@@ -3,6 +3,7 @@ use Rattle.std.specs.Prelude.{◌≡◌, ℕ, ◌+◌, ◌≤◌, ℤ, pos, negs
 use Rattle.nd_base.specs.declared.order.Order.{Order}
 use Rattle.nd_base.specs.declared.order.Order.TheVariants.{RowMajor, ColumnMajor}
 use Rattle.nd_base.specs.Indices.{is_index}
+use Rattle.nd_base.specs.Signed.{all_signed}
 use Rattle.nd_base.specs.Size.{limit}
 use Rattle.nd_shape.specs.Place.{place, places}
 use Rattle.nd_shape.specs.Span.{low_span, high_span}
@@ -13,6 +14,10 @@ pub record View : Type 0 where
   pub start : ℕ
   pub shape : List ℕ
   pub strides : List ℤ
+
+-- the same of strides as they are kept
+abbrev pub view_of : ℕ → List ℕ → List ℕ → View
+view_of start shape strides = record { start = start; shape = shape; strides = all_signed strides }
 
 -- every sum and product fits, and the places of all indices lie from 0 to the limit
 pub record IsView (view : View) : Type 0 where

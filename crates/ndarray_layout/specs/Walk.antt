@@ -1,5 +1,5 @@
 -- The order in which the axes of a view are walked.
-use Rattle.std.specs.Prelude.{◌≡◌, ℕ, ℤ, List, [], ◌∷◌, reverse, refl}
+use Rattle.std.specs.Prelude.{ℕ, ℤ, List, reverse}
 use Rattle.nd_base.specs.declared.order.Order.{Order}
 use Rattle.nd_base.specs.declared.order.Order.TheVariants.{RowMajor, ColumnMajor}
 use Rattle.ndarray_layout.specs.View.{View}

@@ -1,5 +1,6 @@
 //! The places of all indices of a view, one after another.
-ghost use Rattle.std.specs.Prelude.{◌≡◌, ℕ, ◌+◌, ◌<◌, ◌≤◌, ◌^◌, pos, ◌+ℤ◌, ◌*ℤ◌, ◌≤ℤ◌, [], ◌∷◌, ◌++◌, map, length, MatchOption, vec_len, vec_capacity};
+ghost use Rattle.std.specs.Prelude.{◌≡◌, ◌+◌, ◌<◌, ◌≤◌, ◌^◌, pos, ◌+ℤ◌, ◌*ℤ◌, ◌≤ℤ◌};
+ghost use Rattle.std.specs.Prelude.{[], ◌∷◌, ◌++◌, map, length, MatchOption, vec_len, vec_capacity};
 ghost use Rattle.nd_base.specs.Signed.{signed as signed_reading, all_signed};
 ghost use Rattle.nd_base.specs.Size.{size, limit};
 ghost use Rattle.nd_base.specs.declared.order.Order.TheVariants.{RowMajor};
@@ -9,12 +10,17 @@ ghost use Rattle.ndarray_layout.specs.Walk.{nested, nested_view};
 use nd_base::{Order, stride_offset};
 
 /// Appends the places of all indices, in an order, to a list with room for them.
-pub fn push_places(places: &mut Vec<usize>, order: Order, shape: &[usize], strides: &[usize], start: usize)
+pub fn push_places(
+    places: &mut Vec<usize>,
+    order: Order,
+    shape: &[usize],
+    strides: &[usize],
+    start: usize,
+)
     requires view { IsView (nested_view order start shape.now (all_signed strides.now)) }
     requires room { vec_len places.old + size (nested order shape.now) ≤ vec_capacity places.old }
-    ensures items {
-        map pos places.new.items ≡ map pos places.old.items ++
-            view_places RowMajor (nested_view order start shape.now (all_signed strides.now)) }
+    ensures items { map pos places.new.items ≡ map pos places.old.items ++
+        view_places RowMajor (nested_view order start shape.now (all_signed strides.now)) }
     ensures len { vec_len places.new ≡ vec_len places.old + size (nested order shape.now) }
     ensures capacity { vec_capacity places.new ≡ vec_capacity places.old }
 {
@@ -30,9 +36,9 @@ pub fn push_places(places: &mut Vec<usize>, order: Order, shape: &[usize], strid
 
 /// The item of the slowest axis, and the items of the others.
 fn split_slowest(order: Order, items: &[usize]) -> Option<(usize, &[usize])>
-    ensures {
-        MatchOption result (items.now ≡ [])
-            (λ p. (nested order items.now ≡ p.0 ∷ nested order p.1.now) × (length p.1.now + 1 ≡ length items.now)) }
+    ensures { MatchOption result (items.now ≡ [])
+        (λ p. (nested order items.now ≡ p.0 ∷ nested order p.1.now)
+        × (length p.1.now + 1 ≡ length items.now)) }
 {
     let (slowest, others) = match order {
         Order::RowMajor => items.split_first()?,

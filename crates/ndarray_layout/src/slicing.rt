@@ -7,14 +7,16 @@ ghost use Rattle.nd_shape.specs.Span.{reach};
 ghost use Rattle.nd_shape.specs.ValidLayout.{IsValidLayout};
 ghost use Rattle.nd_slice.specs.Picks.{picks};
 ghost use Rattle.nd_slice.specs.SliceFault.{slice_fault, argument_fault, out_count};
-ghost use Rattle.nd_slice.specs.Sliced.{picked_stride, first_offset, sliced_shape, sliced_strides, sliced_offset};
+ghost use Rattle.nd_slice.specs.Sliced.{picked_stride, first_offset};
+ghost use Rattle.nd_slice.specs.Sliced.{sliced_shape, sliced_strides, sliced_offset};
 ghost use Rattle.ndarray_layout.specs.SlicedView.{slice_refusal};
 
 use nd_base::{ErrorKind, ShapeError, from_kind, stride_offset};
 use nd_slice::{Slice, SliceInfoElem, abs_index, check_elems, do_slice, out_ndim_of};
 
-/// Whether a slice argument fits the lengths of a shape and leaves as many axes as a type fixes, if it fixes a
-/// count. Refused with `IncompatibleShape` where either count of axes differs, and then as `check_elems` is.
+/// Whether a slice argument fits the lengths of a shape and leaves as many axes as a type fixes, if
+/// it fixes a count. Refused with `IncompatibleShape` where either count of axes differs, and then
+/// as `check_elems` is.
 pub fn check_counts_and_elems(
     fixed: Option<usize>,
     shape: &[usize],
@@ -22,20 +24,23 @@ pub fn check_counts_and_elems(
 ) -> Result<(), ShapeError>
     ensures { result_err result ≡ slice_refusal fixed shape.now elems.now }
 {
-    if let Some(ndim) = fixed && ndim != out_ndim_of(elems) {
+    if let Some(ndim) = fixed
+        && ndim != out_ndim_of(elems)
+    {
         return Err(from_kind(ErrorKind::IncompatibleShape));
     }
     check_elems(shape, elems)
 }
 
-/// Slices one axis with a slice that fits it: the length and the stride that are left, and how many elements
-/// the first pick lies behind the first entry.
+/// Slices one axis with a slice that fits it: the length and the stride that are left, and how many
+/// elements the first pick lies behind the first entry.
 fn slice_axis(len: usize, stride: usize, slice: Slice) -> (usize, usize, isize)
     requires len_fits { len < 2 ^ 63 }
     requires span_fits { reach len (signed_reading stride) ≤ limit }
     requires fits { slice_fault len slice ≡ None }
     ensures len { result.0 ≡ length (picks len slice) }
-    ensures stride { signed_reading result.1 ≡ picked_stride (length (picks len slice)) (signed_reading stride) slice.step }
+    ensures stride { signed_reading result.1 ≡
+        picked_stride (length (picks len slice)) (signed_reading stride) slice.step }
     ensures offset { result.2 ≡ first_offset (picks len slice) (signed_reading stride) }
 {
     let (mut len, mut stride) = (len, stride);
@@ -43,8 +48,8 @@ fn slice_axis(len: usize, stride: usize, slice: Slice) -> (usize, usize, isize)
     (len, stride, offset)
 }
 
-/// Writes the lengths and the strides that an argument which fits leaves, one for each element but an index.
-/// Answers how many elements the first index left lies behind the first index before.
+/// Writes the lengths and the strides that an argument which fits leaves, one for each element but
+/// an index. Answers how many elements the first index left lies behind the first index before.
 pub fn slice_axes(
     elems: &[SliceInfoElem],
     shape: &[usize],
@@ -57,7 +62,8 @@ pub fn slice_axes(
     requires shape_room { length new_shape.old ≡ out_count elems.now }
     requires strides_room { length new_strides.old ≡ out_count elems.now }
     ensures shape { new_shape.new ≡ sliced_shape elems.now shape.now }
-    ensures strides { all_signed new_strides.new ≡ sliced_strides elems.now shape.now (all_signed strides.now) }
+    ensures strides { all_signed new_strides.new ≡
+        sliced_strides elems.now shape.now (all_signed strides.now) }
     ensures offset { result ≡ sliced_offset elems.now shape.now (all_signed strides.now) }
 {
     let mut old_axis = 0usize;

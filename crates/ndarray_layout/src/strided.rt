@@ -1,16 +1,16 @@
 //! Views of data: a shape and strides that were accepted, with the place of the first index.
-ghost use Rattle.std.specs.Prelude.{◌≡◌, ℕ, pos, Option, Some, None, map, IfOk, IsOk, OnOk, MatchResult};
+ghost use Rattle.std.specs.Prelude.{◌≡◌, pos, None, map, IfOk, IsOk};
 ghost use Rattle.std.specs.Option.{option_map};
 ghost use Rattle.std.specs.Result.{result_err};
 ghost use Rattle.nd_base.specs.Signed.{all_signed};
-ghost use Rattle.nd_base.specs.Indices.{is_index};
 ghost use Rattle.nd_shape.specs.Acceptance.{acceptance};
 ghost use Rattle.nd_shape.specs.Inside.{LiesInside};
 ghost use Rattle.nd_shape.specs.Span.{low_span};
 ghost use Rattle.nd_base.specs.Lengths.{NeedsNoMemory};
 ghost use Rattle.nd_slice.specs.SliceFault.{out_count};
-ghost use Rattle.ndarray_layout.specs.SlicedView.{IsSliceOf, KeepsPlaces, shape_fault, slice_refusal};
-ghost use Rattle.ndarray_layout.specs.View.{checked_place, view_places};
+ghost use Rattle.ndarray_layout.specs.SlicedView.{IsSliceOf, KeepsPlaces};
+ghost use Rattle.ndarray_layout.specs.SlicedView.{shape_fault, slice_refusal};
+ghost use Rattle.ndarray_layout.specs.View.{view_of, checked_place, view_places};
 
 use crate::places::{offset_place, push_places};
 use crate::slicing::{check_counts_and_elems, slice_axes};
@@ -22,8 +22,8 @@ use nd_slice::{SliceElems, out_ndim_of};
 use std::alloc::{AllocError, Global};
 use std::marker::Model;
 
-/// A shape with strides over data, and the place of its first index there. Each index of the shape has a
-/// place in the data.
+/// A shape with strides over data, and the place of its first index there. Each index of the shape
+/// has a place in the data.
 #[derive(Debug, Drop)]
 pub struct Strided<D: Dimension> {
     start: usize,
@@ -32,19 +32,18 @@ pub struct Strided<D: Dimension> {
 }
 
 impl<D: Dimension> Model for Strided<D> {
-    ghost use Rattle.ndarray_layout.specs.View.{View, IsView};
-    ghost use Rattle.nd_base.specs.Signed.{all_signed};
+    ghost use Rattle.ndarray_layout.specs.View.{View, view_of, IsView};
 
     ghost Value = { View };
 
-    ghost view = { λ a. record { start = a.start; shape = D.list a.dim; strides = all_signed (D.list a.strides) } };
+    ghost view = { λ a. view_of a.start (D.list a.dim) (D.list a.strides) };
 
-    ghost invariant = { λ a. IsView (record { start = a.start; shape = D.list a.dim; strides = all_signed (D.list a.strides) }) };
+    ghost invariant = { λ a. IsView (view_of a.start (D.list a.dim) (D.list a.strides)) };
 }
 
 impl<D: Dimension + Drop> Strided<D> {
-    /// The view of a shape and strides over data of `len` elements of `elem_size` bytes, laid so that its
-    /// lowest element is the first of the data. Refused as `can_index_slice` refuses it.
+    /// The view of a shape and strides over data of `len` elements of `elem_size` bytes, with the
+    /// lowest element of the view first in the data. Refused as `can_index_slice` refuses it.
     pub fn new(
         dim: D,
         strides: D,
@@ -52,16 +51,22 @@ impl<D: Dimension + Drop> Strided<D> {
         len: usize,
         mode: CanIndexCheckMode,
     ) -> Result<Self, ShapeError>
-        ensures fault { result_err result ≡ acceptance elem_size len mode (D.list dim) (all_signed (D.list strides)) }
-        ensures view { IfOk result (λ v. v ≡ record {
-            start = low_span (D.list dim) (all_signed (D.list strides));
-            shape = D.list dim;
-            strides = all_signed (D.list strides) }) }
+        ensures fault { result_err result ≡
+            acceptance elem_size len mode (D.list dim) (all_signed (D.list strides)) }
+        ensures view { IfOk result (λ v. v ≡
+            view_of
+            (low_span (D.list dim) (all_signed (D.list strides)))
+            (D.list dim)
+            (D.list strides)) }
         ensures inside { IfOk result (λ v. LiesInside len v.start v.shape v.strides) }
     {
         can_index_slice(elem_size, len, &dim, &strides, mode)?;
         let start = offset_from_low_addr_ptr_to_logical_ptr(&dim, &strides);
-        Ok(Strided { start, dim, strides })
+        Ok(Strided {
+            start,
+            dim,
+            strides,
+        })
     }
 
     /// The place of the first index, in elements from the start of the data.
@@ -102,23 +107,27 @@ impl<D: Dimension + Drop> Strided<D> {
     {
         let size = self.dim.size_checked().unwrap();
         let mut places = Vec::with_capacity(alloc, size)?;
-        push_places(&mut places, order, self.dim.slice(), self.strides.slice(), self.start);
+        if size > 0 {
+            let (shape, strides) = (self.dim.slice(), self.strides.slice());
+            push_places(&mut places, order, shape, strides, self.start);
+        }
         Ok(places)
     }
 
-    /// The view of the same data that a slice argument leaves. Refused with `IncompatibleShape` where the
-    /// argument is for more axes or fewer, or leaves more or fewer than the type `E` fixes; then as the first
-    /// element at fault is: with `OutOfBounds` for a bound or an index that is not on its axis, with
-    /// `Unsupported` for a step of 0; and then for want of memory. Upstream's `slice` and `slice_collapse`.
+    /// The view of the same data that a slice argument leaves. Refused with `IncompatibleShape`
+    /// where the argument is for more axes or fewer, or leaves more or fewer than the type `E`
+    /// fixes; then as the first element at fault is: with `OutOfBounds` for a bound or an index that
+    /// is not on its axis, with `Unsupported` for a step of 0; and then for want of memory.
+    /// Upstream's `slice` and `slice_collapse`.
     pub fn slice<E: Dimension + Drop, S: SliceElems>(
         &self,
         alloc: Global,
         slices: &S,
     ) -> Result<Strided<E>, LayoutError>
-        ensures refusal { shape_fault result ≡ slice_refusal E.NDIM self.now.shape (S.list slices.now) }
-        ensures memory {
-            slice_refusal E.NDIM self.now.shape (S.list slices.now) ≡ None →
-                NeedsNoMemory E.NDIM (out_count (S.list slices.now)) → IsOk result }
+        ensures refusal { shape_fault result ≡
+            slice_refusal E.NDIM self.now.shape (S.list slices.now) }
+        ensures memory { slice_refusal E.NDIM self.now.shape (S.list slices.now) ≡ None →
+            NeedsNoMemory E.NDIM (out_count (S.list slices.now)) → IsOk result }
         ensures sliced { IfOk result (λ v. IsSliceOf (S.list slices.now) self.now v) }
         ensures places { IfOk result (λ v. KeepsPlaces (S.list slices.now) self.now v) }
     {
@@ -128,8 +137,21 @@ impl<D: Dimension + Drop> Strided<D> {
         let ndim = out_ndim_of(elems);
         let mut dim = E::zeros(alloc, ndim)?;
         let mut strides = E::zeros(alloc, ndim)?;
-        let offset = slice_axes(elems, shape, self.strides.slice(), dim.slice_mut(), strides.slice_mut());
+        let offset = slice_axes(
+            elems,
+            shape,
+            self.strides.slice(),
+            dim.slice_mut(),
+            strides.slice_mut(),
+        );
         let start = offset_place(self.start, offset);
-        Ok(Strided { start, dim, strides })
+        Ok(Strided {
+            start,
+            dim,
+            strides,
+        })
     }
 }
+
+#[cfg(test)]
+mod tests;

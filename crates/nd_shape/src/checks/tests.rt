@@ -23,7 +23,14 @@ fn fault_of<T: Drop>(answer: Result<T, ShapeError>) -> Option<ErrorKind> {
 }
 
 /// Element size, length of the data, shape, stride and use, and the fault.
-const ONE_AXIS: [(usize, usize, usize, isize, CanIndexCheckMode, Option<ErrorKind>); 8] = [
+const ONE_AXIS: [(
+    usize,
+    usize,
+    usize,
+    isize,
+    CanIndexCheckMode,
+    Option<ErrorKind>,
+); 8] = [
     (4, 1, 1, -1, OwnedMutable, None),
     (4, 2, 2, 0, OwnedMutable, Some(Unsupported)),
     (4, 2, 2, -1, OwnedMutable, None),
@@ -66,8 +73,11 @@ const OVERLAPS: [([usize; 2], [isize; 2], bool); 3] = [
 ];
 
 /// Indices of the shape 2, 3 with the strides 3, 1, and their offsets.
-const OFFSETS: [([usize; 2], Option<isize>); 3] =
-    [([1, 2], Some(5)), ([1, 3], None), ([2, 0], None)];
+const OFFSETS: [([usize; 2], Option<isize>); 3] = [
+    ([1, 2], Some(5)),
+    ([1, 3], None),
+    ([2, 0], None),
+];
 
 #[test]
 fn r1_rows(rt: HostRuntime) -> Result<(), Fail> {
@@ -91,7 +101,10 @@ fn r1_rows(rt: HostRuntime) -> Result<(), Fail> {
     assert_eq!(rt; new_ix2(1, 2).index_unchecked(&strides), 5);
     can_index_slice(1, 6, &dim, &strides, OwnedMutable)?;
     for (index, expected) in OFFSETS {
-        assert_eq!(rt; new_ix2(index[0], index[1]).index_checked(&dim, &strides), expected);
+        assert_eq!(rt;
+            new_ix2(index[0], index[1]).index_checked(&dim, &strides),
+            expected
+        );
     }
     Ok(())
 }
@@ -99,7 +112,10 @@ fn r1_rows(rt: HostRuntime) -> Result<(), Fail> {
 #[test]
 fn sizes(rt: HostRuntime) -> Result<(), Fail> {
     assert_eq!(rt; size_of_shape_checked(&new_ix2(0, MAX))?, 0);
-    assert_eq!(rt; fault_of(size_of_shape_checked(&new_ix2(0, MAX + 1))), Some(Overflow));
+    assert_eq!(rt;
+        fault_of(size_of_shape_checked(&new_ix2(0, MAX + 1))),
+        Some(Overflow)
+    );
     Ok(())
 }
 
@@ -117,7 +133,10 @@ fn low_offsets(rt: HostRuntime) -> Result<(), Fail> {
     let dim = new_ix1(2);
     let strides = strides1(-isize::MAX);
     can_index_slice(1, MAX + 1, &dim, &strides, OwnedMutable)?;
-    assert_eq!(rt; offset_from_low_addr_ptr_to_logical_ptr(&dim, &strides), MAX);
+    assert_eq!(rt;
+        offset_from_low_addr_ptr_to_logical_ptr(&dim, &strides),
+        MAX
+    );
     let dim = new_ix2(2, 3);
     let strides = strides2([-3, -1]);
     can_index_slice(1, 6, &dim, &strides, OwnedMutable)?;

@@ -1,5 +1,5 @@
-use Rattle.std.proofs.Common.{◌≡◌, ◌≢◌, ◌+◌, ◌*◌, ◌<◌, ◌≤◌, [], arith, drop, get_or, ap, sym, ◌∙◌, drop_of_length-le, mul_assoc, mul-one, le-mul_of_pos_right, subst}
-use Rattle.nd_base.specs.Size.{nonzero_size, limit}
+use Rattle.std.proofs.Common.{◌≡◌, ◌+◌, ◌*◌, ◌≤◌, [], arith, drop, get_or, sym, ◌∙◌, drop_of_length-le, mul_assoc, mul-one, le-mul_of_pos_right}
+use Rattle.nd_base.specs.Size.{nonzero_size}
 use Rattle.nd_shape.proofs.Sizes.{nonzero_size_from_zero, nonzero_size_from_other, nonzero_size_pos}
 use Rattle.nd_shape.proofs.limits.checked_nonzero_size.Goals as goal
 use Rattle.nd_shape.proofs.limits.checked_nonzero_size.Goals.{then-len-ne0+in_ok-size, else-len-ne0}
@@ -26,16 +26,16 @@ loop-len-preserved c =
     let shape = c.args.shape.now in
     elim c.if-len-ne0.branch [
       | then-len-ne0+in_ok-size w ↦
-        let from : nonzero_size (drop i shape) ≡ get_or shape i 0 * nonzero_size (drop (i + 1) shape) = nonzero_size_from_other shape i (omega arith) w.if-len-ne0.true in
-        let known = w.in_ok-size.ensures in
-        record {
-          fits = omega (arith, known, w.size-is);
-          product = rw (w.size-is, known.1, mul_assoc, ← from) c.loop-len.invariant.product;
-        }
+          let from : nonzero_size (drop i shape) ≡ get_or shape i 0 * nonzero_size (drop (i + 1) shape) = nonzero_size_from_other shape i (omega arith) w.if-len-ne0.true in
+          let known = w.in_ok-size.ensures in
+          record {
+            fits = omega (arith, known, w.size-is);
+            product = rw (w.size-is, known.1, mul_assoc, ← from) c.loop-len.invariant.product;
+          }
       | else-len-ne0 w ↦
-        let from : nonzero_size (drop i shape) ≡ nonzero_size (drop (i + 1) shape) = nonzero_size_from_zero shape i (omega arith) w.if-len-ne0.false in
-        record {
-          fits = omega (arith, w.size-is);
-          product = rw (w.size-is, ← from) c.loop-len.invariant.product;
-        }
+          let from : nonzero_size (drop i shape) ≡ nonzero_size (drop (i + 1) shape) = nonzero_size_from_zero shape i (omega arith) w.if-len-ne0.false in
+          record {
+            fits = omega (arith, w.size-is);
+            product = rw (w.size-is, ← from) c.loop-len.invariant.product;
+          }
     ]

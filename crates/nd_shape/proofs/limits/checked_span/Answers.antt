@@ -1,4 +1,4 @@
-use Rattle.std.proofs.Common.{rules, ◌≡◌, ◌+◌, ◌≤◌, length, arith}
+use Rattle.std.proofs.Common.{rules, ◌≡◌, ◌+◌, length, arith}
 use Rattle.std.proofs.lemmas.List.{length_push}
 use Rattle.nd_base.specs.Signed.{signed}
 use Rattle.nd_shape.specs.Span.{reach}
@@ -9,8 +9,8 @@ use Rattle.nd_shape.proofs.limits.checked_span.Goals.{In-Some}
 pub returns : goal.returns
 returns c =
     let end : sum_from reach c.args.shape.now c.args.strides.now (length c.loop-len.yielded) ≡ 0 =
-      sum_at_end reach c.args.shape.now c.args.strides.now c.loop-len.yielded c.into_iter-len-iterator.result c.loop-len.len-iterator c.next.new.self c.next.result
-      (search rules) (search rules) c.loop-len.yielded_by c.in-None.is c.next.ensures.steps in
+    sum_at_end reach c.args.shape.now c.args.strides.now c.loop-len.yielded c.into_iter-len-iterator.result c.loop-len.len-iterator c.next.new.self c.next.result
+    (search rules) (search rules) c.loop-len.yielded_by c.in-None.is c.next.ensures.steps in
     (omega arith, omega arith)
 
 -- the reach of this axis, and that of those behind it

@@ -1,4 +1,4 @@
-use Rattle.std.proofs.Common.{◌≡◌, eqb, arith, sym, ◌∙◌}
+use Rattle.std.proofs.Common.{sym, ◌∙◌}
 use Rattle.std.proofs.lemmas.Bool.{ne_eqb}
 use Rattle.nd_shape.proofs.OffsetBounds.{is_index_by_pairs, is_index_of_count}
 use Rattle.nd_shape.proofs.ndindex.is_index.Goals as goal

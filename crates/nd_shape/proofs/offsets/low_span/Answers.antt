@@ -1,7 +1,7 @@
-use Rattle.std.proofs.Common.{rules, ◌≡◌, ◌+◌, ◌≤◌, length, arith}
+use Rattle.std.proofs.Common.{rules, ◌≡◌, ◌+◌, length, arith}
 use Rattle.std.proofs.lemmas.List.{length_push}
 use Rattle.nd_base.specs.Signed.{signed, all_signed}
-use Rattle.nd_shape.specs.Span.{reach_down, low_span, high_span}
+use Rattle.nd_shape.specs.Span.{reach_down}
 use Rattle.nd_shape.proofs.OffsetBounds.{low_high_span}
 use Rattle.nd_shape.proofs.Sums.{sum_from, sum_at_turn, sum_at_end}
 use Rattle.nd_shape.proofs.offsets.low_span.Goals as goal
@@ -10,8 +10,8 @@ use Rattle.nd_shape.proofs.offsets.low_span.Goals.{In-Some}
 pub returns : goal.returns
 returns c =
     let end : sum_from reach_down c.args.shape.now c.args.strides.now (length c.loop-len.yielded) ≡ 0 =
-      sum_at_end reach_down c.args.shape.now c.args.strides.now c.loop-len.yielded c.into_iter-len-iterator.result c.loop-len.len-iterator c.next.new.self c.next.result
-      (search rules) (search rules) c.loop-len.yielded_by c.in-None.is c.next.ensures.steps in
+    sum_at_end reach_down c.args.shape.now c.args.strides.now c.loop-len.yielded c.into_iter-len-iterator.result c.loop-len.len-iterator c.next.new.self c.next.result
+    (search rules) (search rules) c.loop-len.yielded_by c.in-None.is c.next.ensures.steps in
     omega arith
 
 -- the reach of this axis, and that of those behind it

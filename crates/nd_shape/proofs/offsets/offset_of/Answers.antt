@@ -1,20 +1,20 @@
-use Rattle.std.proofs.Common.{rules, ◌≡◌, ◌+◌, ◌*◌, ◌<◌, ◌≤◌, ◌^◌, length, get_or, ℤ, pos, ◌+ℤ◌, ◌*ℤ◌, ◌≤ℤ◌, neg_ℤ, to_z, of_z, w64, arith, ap, sym, ◌∙◌}
+use Rattle.std.proofs.Common.{rules, ◌≡◌, ◌+◌, ◌≤◌, length, pos, ◌+ℤ◌, ◌*ℤ◌, ◌≤ℤ◌, neg_ℤ, to_z, of_z, w64, arith}
 use Rattle.std.specs.Prelude.{FitsSigned, unsigned_abs}
 use Rattle.std.proofs.lemmas.Int.{ints, to_z-of_z, fits_signed_from_abs, unsigned_abs-mul}
 use Rattle.std.proofs.lemmas.List.{length_push}
-use Rattle.nd_base.specs.Signed.{signed, all_signed, magnitude}
+use Rattle.std.proofs.lemmas.Slice.Zip.{zip_turn}
+use Rattle.nd_base.specs.Signed.{signed}
 use Rattle.nd_base.specs.Size.{limit}
-use Rattle.nd_shape.specs.Place.{offset_of}
 use Rattle.nd_shape.proofs.OffsetBounds.{entry_offset, entry_offset_bounds, offset_from, offset_at_turn, offset_at_end}
-use Rattle.nd_shape.proofs.Sums.{pair_at_turn, sum_from, sum_at_turn}
+use Rattle.nd_shape.proofs.Sums.{sum_from, sum_at_turn}
 use Rattle.nd_shape.proofs.offsets.offset_of.Goals as goal
 use Rattle.nd_shape.proofs.offsets.offset_of.Goals.{In-Some}
 
 pub returns : goal.returns
 returns c =
     let end : offset_from c.args.strides.now c.args.index.now (length c.loop-entry.yielded) ≡ pos 0 =
-      offset_at_end c.args.index.now c.args.strides.now c.loop-entry.yielded c.into_iter-entry-iterator.result c.loop-entry.entry-iterator c.next.new.self c.next.result
-      (search rules) (search rules) c.loop-entry.yielded_by c.in-None.is c.next.ensures.steps in
+    offset_at_end c.args.index.now c.args.strides.now c.loop-entry.yielded c.into_iter-entry-iterator.result c.loop-entry.entry-iterator c.next.new.self c.next.result
+    (search rules) (search rules) c.loop-entry.yielded_by c.in-None.is c.next.ensures.steps in
     omega (arith, ints)
 
 -- this entry's offset, and that of those behind it
@@ -31,9 +31,9 @@ far c =
 
 entry_fits : (c : In-Some) → c.in-Some.entry.now ≤ limit
 entry_fits c =
-    let turn = pair_at_turn entry_offset c.args.index.now c.args.strides.now c.loop-entry.yielded c.into_iter-entry-iterator.result c.loop-entry.entry-iterator c.next.new.self c.next.result
-      (search rules) (search rules) c.loop-entry.yielded_by (c.in-Some.entry, c.in-Some.stride) c.in-Some.is c.next.ensures.steps in
-    rw turn.2 (c.requires.small (length c.loop-entry.yielded) 0 turn.0)
+    let turn = zip_turn c.args.index.now c.args.strides.now c.loop-entry.yielded c.into_iter-entry-iterator.result c.loop-entry.entry-iterator c.next.new.self c.next.result
+    (search rules) (search rules) c.loop-entry.yielded_by (c.in-Some.entry, c.in-Some.stride) c.in-Some.is c.next.ensures.steps in
+    rw (turn.2 0) (c.requires.small (length c.loop-entry.yielded) 0 turn.0)
 
 offset_fits : (c : In-Some) → entry_offset c.in-Some.entry.now (signed c.in-Some.stride.now) ≤ limit
 offset_fits c =
@@ -64,7 +64,7 @@ overflow_add-offset c =
     rw same (omega (arith, ints, bounds.0, bounds.1))
 
 pub loop-entry-preserved : goal.loop-entry-preserved
-loop-entry-preserved c = 
+loop-entry-preserved c =
     let at = (goal.at.loop-entry-preserved c).In-Some in
     let all = far at in
     let x = c.stride_offset-offset.result in

@@ -1,5 +1,5 @@
 -- The offset so far, and that of the axes still to come, make the whole; it is no farther than they allow.
-use Rattle.std.proofs.Common.{◌≡◌, ◌+◌, ◌*◌, ◌≤◌, length, pos, neg_ℤ, ◌+ℤ◌, ◌-ℤ◌, ◌≤ℤ◌}
+use Rattle.std.proofs.Common.{◌≡◌, length, pos, ◌+ℤ◌, ◌≤ℤ◌}
 use Rattle.nd_base.specs.Signed.{all_signed}
 use Rattle.nd_base.specs.Size.{limit}
 use Rattle.nd_shape.specs.Place.{offset_of}

@@ -1,4 +1,4 @@
-use Rattle.std.proofs.Common.{◌≡◌, true, false, sym, ◌∙◌}
+use Rattle.std.proofs.Common.{◌≡◌, sym, ◌∙◌}
 use Rattle.nd_base.specs.Signed.{all_signed}
 use Rattle.nd_base.specs.Size.{is_empty}
 use Rattle.nd_shape.specs.OwnedRule.{meets_owned_rule}

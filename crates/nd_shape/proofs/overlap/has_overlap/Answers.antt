@@ -1,4 +1,4 @@
-use Rattle.std.proofs.Common.{◌≡◌, ◌<◌, ◌≤◌, true, false, length, arith, sym, ◌∙◌, below_more}
+use Rattle.std.proofs.Common.{◌≡◌, true, false, arith, sym, ◌∙◌, below_more}
 use Rattle.std.specs.Prelude.{not}
 use Rattle.std.proofs.lemmas.Bool.{and_from, and_right, not_from_true, not_from_false, not-true, not-false}
 use Rattle.nd_base.specs.Signed.{all_signed}

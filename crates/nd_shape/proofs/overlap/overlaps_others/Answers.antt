@@ -1,8 +1,8 @@
-use Rattle.std.proofs.Common.{rules, ◌≡◌, ◌+◌, ◌-◌, ◌≤◌, length, pos, get_or, to_z, of_z, w64, arith, ap, sym, ◌∙◌}
-use Rattle.std.specs.Prelude.{nat_le, unsigned_abs, FitsSigned}
+use Rattle.std.proofs.Common.{rules, ◌≡◌, ◌-◌, length, pos, get_or, to_z, of_z, w64, arith, ap, sym, ◌∙◌}
+use Rattle.std.specs.Prelude.{unsigned_abs, FitsSigned}
 use Rattle.std.proofs.lemmas.Int.{to_z-of_z}
 use Rattle.std.proofs.lemmas.List.{length-map}
-use Rattle.nd_base.specs.Signed.{signed, all_signed, magnitude}
+use Rattle.nd_base.specs.Signed.{signed, all_signed}
 use Rattle.nd_shape.specs.OwnedRule.{magnitude_at, span_up_to, span_of_others}
 use Rattle.nd_shape.specs.Span.{reach}
 use Rattle.nd_shape.proofs.OwnedRule.{signed_at, own_le_span, own_le_span_up_to, span_less_own, long_axis}

@@ -11,8 +11,8 @@ use Rattle.nd_shape.proofs.overlap.span_up_to.Goals.{In-Some}
 pub returns : goal.returns
 returns c =
     let end : sum_from (reach_up_to c.args.magnitude) c.args.shape.now c.args.strides.now (length c.loop-len.yielded) ≡ 0 =
-      sum_at_end (reach_up_to c.args.magnitude) c.args.shape.now c.args.strides.now c.loop-len.yielded c.into_iter-len-iterator.result c.loop-len.len-iterator c.next.new.self c.next.result
-      (search rules) (search rules) c.loop-len.yielded_by c.in-None.is c.next.ensures.steps in
+    sum_at_end (reach_up_to c.args.magnitude) c.args.shape.now c.args.strides.now c.loop-len.yielded c.into_iter-len-iterator.result c.loop-len.len-iterator c.next.new.self c.next.result
+    (search rules) (search rules) c.loop-len.yielded_by c.in-None.is c.next.ensures.steps in
     omega arith
 
 -- the reach of this axis, and that of those behind it

@@ -1,11 +1,9 @@
 -- Each entry of the slowest axis gives the places of the rest of the view from its own start on.
-use Rattle.std.proofs.Common.{◌≡◌, ℕ, ◌+◌, ◌*◌, ◌≤◌, ◌<◌, pos, map, vec_len, vec_capacity, ◌∷◌, ◌++◌, arith, ap, sym, ◌∙◌, append_assoc, List}
+use Rattle.std.proofs.Common.{◌≡◌, ℕ, ◌+◌, ◌*◌, ◌≤◌, ◌<◌, pos, map, vec_len, vec_capacity, ◌++◌, arith, ap, ◌∙◌}
 use Rattle.std.proofs.Math.Nat.{mul-le-mul_right}
 use Rattle.nd_base.specs.Signed.{signed, all_signed}
 use Rattle.nd_base.specs.Size.{size}
-use Rattle.nd_base.specs.declared.order.Order.TheVariants.{RowMajor}
-use Rattle.ndarray_layout.specs.View.{IsView, view_places}
-use Rattle.ndarray_layout.specs.Walk.{nested, nested_view}
+use Rattle.ndarray_layout.specs.Walk.{nested}
 use Rattle.ndarray_layout.proofs.Walks.{IsEntry, entry_of, nested_signed, places_more, row_after, walk_whole}
 use Rattle.ndarray_layout.proofs.places.+push_places.Goals as goal
 
@@ -29,10 +27,13 @@ pub push_places-requires : goal.push_places-requires
 push_places-requires t c =
     let order = c.args.order in
     let known = entry_of order c.args.start c.in-Some-Some.len c.in-Some-Some.stride c.loop-i.i c.args.shape.now c.in-Some-Some.lens.now c.args.strides.now c.in-Some-Some.rest.now c.in-Some-Some.ensures.0 c.in-Some-Some.ensures'.0 c.requires.view c.loop-i-test.true in
-    let whole : size (nested order c.args.shape.now) ≡ c.in-Some-Some.len * size (nested order c.in-Some-Some.lens.now) = ap size c.in-Some-Some.ensures.0 in
-    ( omega (arith, c.in-Some-Some.ensures.1),
-      ( rw (nested_signed order c.in-Some-Some.rest.now) (known.inner c.entry_place.result c.entry_place.ensures),
-        omega (arith, room_for (vec_len c.args.places.now) c.loop-i.i c.in-Some-Some.len (size (nested order c.in-Some-Some.lens.now)) (vec_capacity c.args.places.now) (size (nested order c.args.shape.now)) c.loop-i-test.true whole c.requires.room) ) )
+    let whole : size (nested order c.args.shape.now) ≡ c.in-Some-Some.len * size (nested order c.in-Some-Some.lens.now) = ap size c.in-Some-Some.ensures.0 in (
+      omega (arith, c.in-Some-Some.ensures.1),
+      (
+        rw (nested_signed order c.in-Some-Some.rest.now) (known.inner c.entry_place.result c.entry_place.ensures),
+        omega (arith, room_for (vec_len c.args.places.now) c.loop-i.i c.in-Some-Some.len (size (nested order c.in-Some-Some.lens.now)) (vec_capacity c.args.places.now) (size (nested order c.args.shape.now)) c.loop-i-test.true whole c.requires.room),
+      ),
+    )
 
 pub loop-i-preserved : goal.loop-i-preserved
 loop-i-preserved t c =

@@ -1,6 +1,4 @@
-use Rattle.std.proofs.Common.{◌≡◌, sym, subst, ℕ}
 use Rattle.nd_base.specs.Signed.{all_signed}
-use Rattle.ndarray_layout.specs.View.{IsView}
 use Rattle.ndarray_layout.proofs.Views.{lowest_view}
 use Rattle.ndarray_layout.proofs.strided.Strided.new.Goals as goal
 

@@ -1,12 +1,12 @@
-use Rattle.std.proofs.Common.{rules, ◌≡◌, ◌+◌, ◌≤◌, ◌<◌, ◌^◌, ◌++◌, [], ℕ, pos, map, sym, ap, ◌∙◌, arith, vec_len, vec_capacity}
+use Rattle.std.proofs.Common.{◌≡◌, ◌<◌, ◌^◌, pos, map, sym, ap, ◌∙◌, arith}
 use Rattle.std.proofs.lemmas.Grind.{common_steps}
 use Rattle.nd_base.specs.Signed.{all_signed}
 use Rattle.nd_base.specs.Size.{size}
-use Rattle.ndarray_layout.specs.View.{View, view_places}
-use Rattle.ndarray_layout.specs.Walk.{nested, nested_view}
+use Rattle.ndarray_layout.specs.View.{View}
 use Rattle.ndarray_layout.proofs.Reversed.{places_nested, size_nested, view_nested}
-use Rattle.ndarray_layout.proofs.Views.{size_fits}
+use Rattle.ndarray_layout.proofs.Views.{size_fits, no_places}
 use Rattle.ndarray_layout.proofs.strided.Strided.places.Goals as goal
+use Rattle.ndarray_layout.proofs.strided.Strided.places.Goals.{then-size-gt0, else-size-gt0}
 
 pub unwrap-size-requires : goal.unwrap-size-requires
 unwrap-size-requires g c =
@@ -15,17 +15,25 @@ unwrap-size-requires g c =
 
 pub push_places-requires-clause-view : goal.push_places-requires-clause-view
 push_places-requires-clause-view g c =
-    rw (c.slice.ensures.list, c.slice-2.ensures.list) (view_nested c.args.order c.self.inside.start (g.D.Lengths.list c.self.inside.dim) (all_signed (g.D.Lengths.list c.self.inside.strides)) c.self.invariant)
+    rw (c.slice-shape.ensures.list, c.slice-strides.ensures.list) (view_nested c.args.order c.self.inside.start (g.D.Lengths.list c.self.inside.dim) (all_signed (g.D.Lengths.list c.self.inside.strides)) c.self.invariant)
 
 pub push_places-requires-clause-room : goal.push_places-requires-clause-room
 push_places-requires-clause-room g c =
-    let whole = size_nested c.args.order c.slice.result.now in
-    let same : size c.slice.result.now ≡ size (g.D.Lengths.list c.self.inside.dim) = ap size c.slice.ensures.list in
+    let whole = size_nested c.args.order c.slice-shape.result.now in
+    let same : size c.slice-shape.result.now ≡ size (g.D.Lengths.list c.self.inside.dim) = ap size c.slice-shape.ensures.list in
     grind (arith, common_steps, whole, same, c.in_ok-places.ensures)
 
 pub returns : goal.returns
 returns g c =
     let shape = g.D.Lengths.list c.self.inside.dim in
     let strides = all_signed (g.D.Lengths.list c.self.inside.strides) in
-    let walked = rw (c.in_ok-places.ensures.items, c.slice.ensures.list, c.slice-2.ensures.list) at c.push_places.ensures.items in
-    rw (← c.self.view_is) (walked ∙ places_nested c.args.order c.self.inside.start shape strides c.self.invariant.valid.same_count)
+    let view : View = record { start = c.self.inside.start; shape = shape; strides = strides } in
+    elim c.if-size-gt0.branch [
+      | then-size-gt0 w ↦
+          let walked = rw (c.in_ok-places.ensures.items, w.slice-shape.ensures.list, w.slice-strides.ensures.list) at w.push_places.ensures.items in
+          rw (← c.self.view_is, w.places-is) (walked ∙ places_nested c.args.order c.self.inside.start shape strides c.self.invariant.valid.same_count)
+      | else-size-gt0 w ↦
+          let zeroth = w.if-size-gt0.false in
+          let none : size shape ≡ 0 = grind (arith, common_steps, c.size_checked.ensures, c.unwrap-size.ensures, zeroth) in
+          rw (← c.self.view_is, w.places-is) (ap (map pos) c.in_ok-places.ensures.items ∙ sym (no_places c.args.order view none))
+    ]

@@ -1,11 +1,10 @@
-use Rattle.std.proofs.Common.{rules, ◌≡◌, ℕ, List, length, FitsSigned, pos, ◌+ℤ◌, sym, ap, ◌∙◌, subst, None}
+use Rattle.std.proofs.Common.{rules, ◌≡◌, length, FitsSigned, pos, ◌+ℤ◌, sym, ap, ◌∙◌, None}
 use Rattle.std.specs.Int.{w64}
 use Rattle.std.proofs.lemmas.Int.{to_z-of_z}
 use Rattle.nd_base.specs.Signed.{all_signed}
-use Rattle.nd_slice.specs.Sliced.{sliced_shape, sliced_strides, sliced_offset}
 use Rattle.nd_slice.specs.SliceFault.{in_count, first_fault}
-use Rattle.ndarray_layout.specs.View.{View, IsView}
-use Rattle.ndarray_layout.specs.SlicedView.{IsSliceOf, sliced_start}
+use Rattle.ndarray_layout.specs.View.{View}
+use Rattle.ndarray_layout.specs.SlicedView.{IsSliceOf}
 use Rattle.ndarray_layout.proofs.Views.{refusal_none, sliced_start_within, slice_is_view, slice_places}
 use Rattle.ndarray_layout.proofs.strided.Strided.slice.Given.{Over}
 use Rattle.ndarray_layout.proofs.strided.Strided.slice.Goals as goal
