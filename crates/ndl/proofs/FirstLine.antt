@@ -1,5 +1,5 @@
 -- The first line of a text, and the numbered lines from it on.
-use Rattle.std.proofs.Common.{◌≡◌, ◌≢◌, ℕ, suc, ◌+◌, ◌-◌, ◌<◌, ◌≤◌, true, false, cond, ltb, eqb, nat_eq, List, [], ◌∷◌, length, get_or, take, drop, drop-cons, drop_of_length-le, map, Option, Some, None, MatchOption, Bor, refl, sym, ap, ◌∙◌, arith}
+use Rattle.std.proofs.Common.{◌≡◌, ◌≢◌, ℕ, suc, ◌+◌, ◌-◌, ◌≤◌, true, false, cond, ltb, eqb, nat_eq, List, [], ◌∷◌, length, get_or, take, drop, drop-cons, drop_of_length-le, Option, Some, None, MatchOption, Bor, refl, sym, ◌∙◌, arith}
 use Rattle.std.specs.Cmp.Lexicographic.{pointwise}
 use Rattle.std.specs.Option.{unwrap_or}
 use Rattle.std.specs.Str.Lines.{strip_carriage_return, lines_of_parts}

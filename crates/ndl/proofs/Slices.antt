@@ -1,5 +1,5 @@
 -- A text cut at its first separator reads as one cut at all of them, where a number follows.
-use Rattle.std.proofs.Common.{◌≡◌, ◌≢◌, true, ℕ, ℤ, pos, ◌+◌, List, [], ◌∷◌, length, get_or, take, drop, eqb, nat_eq, Option, Some, None, refl, sym, ap, ◌∙◌, arith}
+use Rattle.std.proofs.Common.{◌≡◌, ◌≢◌, true, ℕ, ℤ, List, [], ◌∷◌, get_or, take, drop, eqb, nat_eq, Option, Some, None, refl, sym, ap, ◌∙◌, arith}
 use Rattle.std.specs.List.{onto_first}
 use Rattle.std.specs.Option.{option_map}
 use Rattle.std.proofs.lemmas.Bool.{ne_eqb, and_parts}

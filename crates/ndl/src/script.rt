@@ -38,12 +38,12 @@ impl From<AllocError> for ReadError {
     }
 }
 
-impl ReadError {
-    /// The error of a line whose words could not be read.
-    fn on_line(error: WordError, number: usize) -> Self
-        ensures { result ≡ error_on_line error number }
+impl WordError {
+    /// The error of the line whose words could not be read.
+    fn on_line(self, number: usize) -> ReadError
+        ensures { result ≡ error_on_line self number }
     {
-        match error {
+        match self {
             WordError::Unreadable => ReadError::Unreadable(number),
             WordError::Memory => ReadError::Memory,
         }
@@ -62,27 +62,22 @@ fn read_slice(
     let Some(line) = next_line(alloc, text, number)? else {
         return Ok(None);
     };
-    let elements = read_elements(alloc, &line.words).map_err(|error| ReadError::on_line(
-        error,
-        line.number,
-    ))?;
+    let elements = read_elements(alloc, &line.words).map_err(|error| error.on_line(line.number))?;
     match next_line(alloc, line.rest, line.number + 1)? {
         Some(further) => Err(ReadError::Unreadable(further.number)),
         None => Ok(Some(elements)),
     }
 }
 
-/// The script that an input spells. All of it is read first: one unreadable line makes the whole unreadable.
+/// The script that an input spells. All of it is read before any of it is used: one line that can't be
+/// read makes the whole unreadable. The error is the first such line, or that memory ran out.
 pub fn read_script(alloc: Global, input: &[u8]) -> Result<Script, ReadError>
     ensures { Gives script_value result (script_of input.now) }
 {
     let Some(line) = next_line(alloc, input, 1)? else {
         return Err(ReadError::Unreadable(1));
     };
-    let layout = read_layout(alloc, &line.words).map_err(|error| ReadError::on_line(
-        error,
-        line.number,
-    ))?;
+    let layout = read_layout(alloc, &line.words).map_err(|error| error.on_line(line.number))?;
     let slice = read_slice(alloc, line.rest, line.number + 1)?;
     Ok(Script { layout, slice })
 }

@@ -1,8 +1,8 @@
-use Rattle.std.proofs.Common.{◌≡◌, sym, ◌∙◌, Some, None, refl, rules}
+use Rattle.std.proofs.Common.{◌≡◌, sym, ◌∙◌, Some, refl, rules}
 use Rattle.nd_slice.specs.declared.slice.SliceInfoElem.TheVariants as elem
 use Rattle.ndl.specs.Lines.{parts}
-use Rattle.ndl.specs.Elements.{slice_of_bounds, start_of, end_of}
-use Rattle.ndl.proofs.Slices.{slice_from, cut_bounds, one_dot, with_step}
+use Rattle.ndl.specs.Elements.{slice_of_bounds}
+use Rattle.ndl.proofs.Slices.{cut_bounds}
 use Rattle.ndl.proofs.elements.slice.Goals as goal
 
 pub returns-in_err-end : goal.returns-in_err-end

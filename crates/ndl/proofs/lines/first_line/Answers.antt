@@ -1,6 +1,6 @@
-use Rattle.std.proofs.Common.{◌≡◌, ◌∷◌, List, ℕ, Bor, sym, ◌∙◌, ap}
+use Rattle.std.proofs.Common.{◌∷◌, List, ℕ, Bor, sym, ◌∙◌, ap}
 use Rattle.ndl.specs.Lines.{lines_of}
-use Rattle.ndl.proofs.FirstLine.{ended_line, stripped, line_more}
+use Rattle.ndl.proofs.FirstLine.{ended_line, stripped}
 use Rattle.ndl.proofs.lines.first_line.Goals as goal
 
 pub returns-in-Some-clause-lines : goal.returns-in-Some-clause-lines

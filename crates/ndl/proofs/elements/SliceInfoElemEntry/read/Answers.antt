@@ -1,4 +1,4 @@
-use Rattle.std.proofs.Common.{◌≡◌, pos, None, rules, sym, ◌∙◌, refl}
+use Rattle.std.proofs.Common.{◌≡◌, None, rules, sym, ◌∙◌, refl}
 use Rattle.ndl.specs.Lines.{parts}
 use Rattle.ndl.specs.Elements.{element_of, slice_of_bounds}
 use Rattle.ndl.proofs.Slices.{with_step}
