@@ -16,8 +16,8 @@ not_multiple : (k a s q : ℕ) → 0 < s → s < k → a + s ≡ q * k → eqb (
 not_multiple k a s q more less e = ne_eqb (a % k) 0 (λ z.
     let whole : a / k * k + a % k ≡ a = div-add-mod' a k in
     elim (cases_lt (a / k) q) [
-    | inl below ↦ absurd (omega (arith, mul-le-mul_right k below))
-    | inr above ↦ absurd (omega (arith, mul-le-mul_right k above))
+      | inl below ↦ absurd (omega (arith, mul-le-mul_right k below))
+      | inr above ↦ absurd (omega (arith, mul-le-mul_right k above))
     ])
 
 every_from : (k a s q : ℕ) (xs : List ℕ) → s < k → a + s ≡ q * k

@@ -24,15 +24,15 @@ after_result (Ok x) f y e = (x, refl, e)
 -- one entry or two
 few : {A : Type 0} (xs : List A) (ys : List A) → one_or_two xs ≡ Some ys → (1 ≤ length ys) × (length ys ≤ 2)
 few {A} xs ys e = elim (cases_Bool (eqb (length xs) 1 || eqb (length xs) 2)) [
-    | inl one_or_two ↦
-        let some : Some xs ≡ Some ys = rw one_or_two at e in
-        let same : xs ≡ ys = cc in
-        subst (λ zs. (1 ≤ length zs) × (length zs ≤ 2)) same (elim (or_cases (eqb (length xs) 1) (eqb (length xs) 2) one_or_two) [
+  | inl one_or_two ↦
+      let some : Some xs ≡ Some ys = rw one_or_two at e in
+      let same : xs ≡ ys = cc in
+      subst (λ zs. (1 ≤ length zs) × (length zs ≤ 2)) same (elim (or_cases (eqb (length xs) 1) (eqb (length xs) 2) one_or_two) [
         | inl one ↦ (let n : length xs ≡ 1 = eqb-true _ _ one in (omega arith, omega arith))
         | inr two ↦ (let n : length xs ≡ 2 = eqb-true _ _ two in (omega arith, omega arith))
-        ])
-    | inr neither ↦ (let none : None ≡ Some ys = rw neither at e in absurd (cc))
-    ]
+      ])
+  | inr neither ↦ (let none : None ≡ Some ys = rw neither at e in absurd (cc))
+]
 
 few_in_words : (words : List (List ℕ)) (layout : LayoutValue) → layout_of_words words ≡ Some layout → HasFewAxes layout
 few_in_words [] layout e = absurd (cc)

@@ -27,9 +27,9 @@ pub listing_text : (view : View) (t0 t1 t2 t3 : List ℕ) (shape : List ℕ) (st
     → t3 ≡ (listing view).text
 listing_text view t0 t1 t2 t3 shape strides places same_shape same_strides same_places e0 e1 e2 e3 =
     three_lines t0 t1 t2 t3 _ _ _ e0
-        (e1 ∙ ap (λ lens. t0 ++ line (codes "shape") (listed (codes ",") (map decimal lens))) same_shape)
-        (e2 ∙ ap (λ lens. t1 ++ line (codes "strides") (listed (codes ",") (map signed_decimal lens))) same_strides)
-        (e3 ∙ ap (λ texts. t2 ++ line (codes "places") (listed (codes " ") texts)) (sym (printed_places places) ∙ ap (map signed_decimal) same_places))
+    (e1 ∙ ap (λ lens. t0 ++ line (codes "shape") (listed (codes ",") (map decimal lens))) same_shape)
+    (e2 ∙ ap (λ lens. t1 ++ line (codes "strides") (listed (codes ",") (map signed_decimal lens))) same_strides)
+    (e3 ∙ ap (λ texts. t2 ++ line (codes "places") (listed (codes " ") texts)) (sym (printed_places places) ∙ ap (map signed_decimal) same_places))
 
 unless_small : (step : ℕ) (fault : Option ErrorKind) (reply : Reply) → reply.status ≤ 2 → (unless step fault reply).status ≤ 2
 unless_small step None reply small = small

@@ -32,11 +32,11 @@ refused step kind = record { text = codes "step " ++ decimal step ++ codes ": " 
 -- the reply where every step was done: the view that is left, and where its elements lie
 abbrev pub listing : View → Reply
 listing view = record {
-    text = line (codes "shape") (listed (codes ",") (map decimal view.shape))
-        ++ line (codes "strides") (listed (codes ",") (map signed_decimal view.strides))
-        ++ line (codes "places") (listed (codes " ") (map signed_decimal (view_places RowMajor view)));
-    status = 0
-  }
+  text = line (codes "shape") (listed (codes ",") (map decimal view.shape))
+      ++ line (codes "strides") (listed (codes ",") (map signed_decimal view.strides))
+      ++ line (codes "places") (listed (codes " ") (map signed_decimal (view_places RowMajor view)));
+  status = 0;
+}
 
 -- a fault of a step, or else what comes of it
 abbrev pub unless : ℕ → Option ErrorKind → Reply → Reply
@@ -50,10 +50,10 @@ view_of layout = record { start = low_span layout.shape layout.strides; shape = 
 -- the slice of a view
 abbrev pub slice_of_view : List SliceInfoElem → View → View
 slice_of_view elems view = record {
-    start = magnitude (sliced_start elems view);
-    shape = sliced_shape elems view.shape;
-    strides = sliced_strides elems view.shape view.strides
-  }
+  start = magnitude (sliced_start elems view);
+  shape = sliced_shape elems view.shape;
+  strides = sliced_strides elems view.shape view.strides;
+}
 
 -- the slice, if one is asked for, has as many axes as the layout
 abbrev pub reply_to_slice : View → Option (List SliceInfoElem) → Reply

@@ -3,8 +3,7 @@ ghost use Rattle.std.specs.Prelude.{◌≡◌, ◌++◌, IsSome, OnOk, string_by
 ghost use Rattle.ndl.specs.Text.{line, listed, printed};
 
 use std::alloc::AllocError;
-use std::fmt::Display;
-use std::fmt::Write;
+use std::fmt::{Display, Write};
 
 /// Appends the items with the separator between each two, or `-` where there are none.
 pub fn push_list<T: Display + Copy>(

@@ -200,11 +200,7 @@ fn r1_grammar_rows(rt: HostRuntime) {
         ("data 4 owned 4 1\r\n", four, 0),
         ("data 4 owned 4 1\nslice 0..04;01\n", four, 0),
         ("data 4 owned 4 1\n\n   \n", four, 0),
-        (
-            "data 1 read 2 -0\n",
-            "shape 2\nstrides 0\nplaces 0 0\n",
-            0,
-        ),
+        ("data 1 read 2 -0\n", "shape 2\nstrides 0\nplaces 0 0\n", 0),
         ("data 4 owned 4 1\r", "line 1: unreadable\n", 2),
         ("data\t4 owned 4 1\n", "line 1: unreadable\n", 2),
         ("data +4 owned 4 1\n", "line 1: unreadable\n", 2),
@@ -216,8 +212,16 @@ fn r1_grammar_rows(rt: HostRuntime) {
         ("data 4 owned 4 1\nslice 1,,2\n", "line 2: unreadable\n", 2),
         ("data 4 owned 4 1\nmerge 0\n", "line 2: unreadable\n", 2),
         ("data 4 owned 4 1\nreshape C 4\n", "line 2: unreadable\n", 2),
-        ("data 4 owned 4 1\ndata 4 owned 4 1\n", "line 2: unreadable\n", 2),
-        ("data 4 owned 4 9223372036854775808\n", "line 1: unreadable\n", 2),
+        (
+            "data 4 owned 4 1\ndata 4 owned 4 1\n",
+            "line 2: unreadable\n",
+            2,
+        ),
+        (
+            "data 4 owned 4 9223372036854775808\n",
+            "line 1: unreadable\n",
+            2,
+        ),
     ];
     for (script, text, status) in rows {
         let (written, ended) = run(&rt, script);
