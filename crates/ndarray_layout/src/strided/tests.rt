@@ -2,7 +2,7 @@ use super::*;
 use CanIndexCheckMode::{OwnedMutable, ReadOnly};
 use ErrorKind::{IncompatibleShape, OutOfBounds, Unsupported};
 use Order::{ColumnMajor, RowMajor};
-use nd_dim::{ErrorKind, Ix1, Ix2, new_ix1, new_ix2, signed, unsigned};
+use nd_dim::{ErrorKind, Ix1, Ix2, Lengths, new_ix1, new_ix2, signed, unsigned};
 use nd_slice::SliceInfoElem;
 use std::test::Fail;
 
@@ -151,5 +151,29 @@ fn places_of_indices(rt: HostRuntime) -> Result<(), Fail> {
     let view = view1(4, -1, 4, OwnedMutable)?;
     assert_eq!(rt; view.place(&new_ix1(3)), Some(0));
     assert_eq!(rt; view.place(&new_ix1(4)), None);
+    Ok(())
+}
+
+// Run with each of the first requests for memory refused: what a call and a later request of the test's own answer
+// tells whether the call asked for memory.
+#[test]
+fn memory_of_places(rt: HostRuntime) -> Result<(), Fail> {
+    let view = view2([2, 3], [3, 1], 6, OwnedMutable)?;
+    let places = view.places(rt.alloc(), RowMajor);
+    let own = Vec::from_slice(rt.alloc(), &[1]);
+    match places {
+        Ok(places) => assert_eq!(rt; places.as_slice(), [0, 1, 2, 3, 4, 5].as_slice()),
+        Err(_) => assert!(rt; own.is_ok(), "refused though no request was"),
+    }
+    Ok(())
+}
+
+#[test]
+fn memory_of_slice(rt: HostRuntime) -> Result<(), Fail> {
+    let view = view2([2, 3], [3, 1], 6, OwnedMutable)?;
+    let elems = [range(0, None, 1), range(1, None, 1)];
+    let slice = view.slice::<Ix2, _>(rt.alloc(), &elems.as_slice())?;
+    assert_eq!(rt; slice.dim().slice(), [2, 2].as_slice());
+    assert_eq!(rt; slice.start(), 1);
     Ok(())
 }
