@@ -1,4 +1,4 @@
--- The lines of an input, the words of a line and the entries of a list.
+-- The lines of an input, the words of a line, and the parts of a text between separators.
 use Rattle.std.specs.Prelude.{◌≡◌, ℕ, ◌==◌, nat_lt, List, [], ◌∷◌, length, map, codes, refl}
 use Rattle.std.specs.List.{slice_split, filter, enumerate_from}
 use Rattle.std.specs.Str.Lines.{lines}

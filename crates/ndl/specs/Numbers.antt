@@ -13,10 +13,11 @@ is_decimal word = nat_lt 0 (length word) && all_ascii_digits word
 abbrev pub number_of : List ℕ → Option ℕ
 number_of word = if is_decimal word && nat_lt (digits_value 10 word) (2 ^ 64) then Some (digits_value 10 word) else None
 
--- a decimal, and `-` in front of it for its negative, that fits 64 bits with its sign
+-- the negative of a decimal, down to -2^63
 abbrev pub negative_of : List ℕ → Option ℤ
 negative_of digits = if is_decimal digits && nat_le (digits_value 10 digits) (2 ^ 63) then Some (neg_ℤ (pos (digits_value 10 digits))) else None
 
+-- a decimal up to 2^63 - 1, or `-` and a decimal for its negative
 abbrev pub signed_number_of : List ℕ → Option ℤ
 signed_number_of word =
     if starts_with_minus word then negative_of (drop 1 word)

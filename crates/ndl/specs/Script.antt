@@ -20,7 +20,7 @@ pub record ScriptValue : Type 0 where
 abbrev pub script_value : Script → ScriptValue
 script_value s = record { layout = layout_value s.layout; slice = option_map (λ v. v.items) s.slice }
 
--- the same of lines, where the number of the first unreadable one tells why
+-- what a function answered, seen by view, is what the lines spell, or the number of the first unreadable one; it is free to answer that memory ran out
 abbrev pub IsFirstUnreadable : {Y : Type 0} → ReadError → Result Y ℕ → Type 0
 IsFirstUnreadable (script.Unreadable line) reading = reading ≡ Err line
 IsFirstUnreadable script.Memory reading = Unit {0}

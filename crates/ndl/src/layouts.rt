@@ -3,7 +3,8 @@ ghost use Rattle.std.specs.Prelude.{◌≡◌, map};
 ghost use Rattle.ndl.specs.Reading.{GivesWords};
 ghost use Rattle.std.specs.Option.{option_and_then};
 ghost use Rattle.ndl.specs.Numbers.{list_of};
-ghost use Rattle.ndl.specs.Layouts.{layout_value, layout_of, slice_of, mode_of, one_or_two as one_or_two_of};
+ghost use Rattle.ndl.specs.Layouts.{layout_value, layout_of, slice_of, mode_of};
+ghost use Rattle.ndl.specs.Layouts.{one_or_two as one_or_two_of};
 
 use crate::words::{Entry, WordError, list};
 use nd_shape::CanIndexCheckMode;
@@ -38,7 +39,8 @@ fn mode(name: &[u8]) -> Option<CanIndexCheckMode>
 
 /// A list of one or two entries.
 fn one_or_two<T: Entry>(alloc: Global, word: &[u8]) -> Result<Vec<T>, WordError>
-    ensures { GivesWords (λ v. v.items) result (option_and_then one_or_two_of (list_of T.entry_of word.now)) }
+    ensures { GivesWords (λ v. v.items) result
+        (option_and_then one_or_two_of (list_of T.entry_of word.now)) }
 {
     let entries = list(alloc, word)?;
     match entries.len() {

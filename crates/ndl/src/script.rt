@@ -57,7 +57,8 @@ fn read_slice(
     number: usize,
 ) -> Result<Option<Vec<SliceInfoElem>>, ReadError>
     requires { number + length text.now < 2 ^ 64 }
-    ensures { Gives (option_map (λ v. v.items)) result (slice_of_lines (lines_from number text.now)) }
+    ensures { Gives (option_map (λ v. v.items)) result
+        (slice_of_lines (lines_from number text.now)) }
 {
     let Some(line) = next_line(alloc, text, number)? else {
         return Ok(None);
@@ -69,8 +70,8 @@ fn read_slice(
     }
 }
 
-/// The script that an input spells. All of it is read before any of it is used: one line that can't be
-/// read makes the whole unreadable. The error is the first such line, or that memory ran out.
+/// The script that an input spells. All of it is read before any of it is used: one line that can't
+/// be read makes the whole unreadable. The error is the first such line, or that memory ran out.
 pub fn read_script(alloc: Global, input: &[u8]) -> Result<Script, ReadError>
     ensures { Gives script_value result (script_of input.now) }
 {

@@ -1,5 +1,6 @@
 //! The words of a line, and the entries of a list.
-ghost use Rattle.std.specs.Prelude.{◌≡◌, ◌<◌, ℕ, List, [], ◌∷◌, Option, map, length, IfOk, IfSome, MatchOption};
+ghost use Rattle.std.specs.Prelude.{◌≡◌, ◌<◌, ℕ, List, [], ◌∷◌, Option, map, length};
+ghost use Rattle.std.specs.Prelude.{IfOk, IfSome, MatchOption};
 ghost use Rattle.ndl.specs.Lines.{parts, words_of};
 ghost use Rattle.ndl.specs.Numbers.{list_of};
 ghost use Rattle.ndl.specs.Reading.{GivesWords};
