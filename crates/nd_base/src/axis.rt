@@ -1,5 +1,5 @@
 //! An axis of an array.
-ghost use Rattle.std.specs.Prelude.{◌≡◌};
+ghost use Rattle.std.specs.Prelude.{◌≡◌, ◌<◌, length, Some, slice_get, slice_set};
 
 /// An axis, by its place from 0 on. Upstream's `Axis`.
 #[derive(Clone, Copy, PartialEq, Eq, Hash, PartialOrd, Ord, Debug)]
@@ -13,4 +13,20 @@ impl Axis {
     {
         self.0
     }
+}
+
+/// The length of an axis that there is. Upstream's `axis`.
+pub fn axis_of(lens: &[usize], axis: Axis) -> usize
+    requires { axis.0 < length lens.now }
+    ensures { slice_get lens.now axis.0 ≡ Some result }
+{
+    lens[axis.index()]
+}
+
+/// Gives an axis that there is another length. Upstream's `set_axis`.
+pub fn set_axis_of(lens: &mut [usize], axis: Axis, len: usize)
+    requires { axis.0 < length lens.old }
+    ensures { lens.new ≡ slice_set lens.old axis.0 len }
+{
+    lens[axis.index()] = len;
 }

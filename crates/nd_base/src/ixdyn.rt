@@ -1,0 +1,86 @@
+//! The dimension of any number of axes.
+ghost use Rattle.std.specs.Prelude.{◌≡◌, ◌<◌, ◌≤◌, length, replicate, Some, None, IsOk, IfOk, slice_get};
+ghost use Rattle.nd_base.specs.Dim.{lengths, rewritten, lengths_rewritten};
+
+use crate::dim::{Dim, IxDyn};
+use crate::dynindeximpl::IxDynImpl;
+use crate::lengths::{FixedCount, Lengths};
+use std::alloc::{AllocError, Global};
+use std::ops::{Index, IndexMut};
+
+/// A shape or an index of as many axes as the slice has entries. Upstream's `IxDyn(..)`.
+///
+/// Errors: want of memory, and none where there are at most four entries.
+pub fn new_ixdyn(alloc: Global, lens: &[usize]) -> Result<IxDyn, AllocError>
+    ensures list { IfOk result (λ dim. lengths dim ≡ lens.now) }
+    ensures memory { length lens.now ≤ 4 → IsOk result }
+{
+    Ok(Dim {
+        index: IxDynImpl::copy_from(alloc, lens)?,
+    })
+}
+
+impl Index<usize> for Dim<IxDynImpl> {
+    type Output = usize;
+
+    ghost can_index = { λ dim axis. axis < length (lengths dim) };
+
+    ghost index_gives = { λ dim axis len. slice_get (lengths dim) axis ≡ Some len };
+
+    fn index(&self, axis: usize) -> &usize {
+        &self.index[axis]
+    }
+}
+
+impl IndexMut<usize> for Dim<IxDynImpl> {
+    fn index_mut(&mut self, axis: usize) -> &mut usize
+        requires { axis < length (lengths self.old) }
+        ensures { slice_get (lengths self.old) axis ≡ Some result.now }
+    {
+        &mut self.index[axis]
+    }
+}
+
+impl FixedCount for Dim<IxDynImpl> {
+    ghost NDIM = { None };
+
+    const NDIM: Option<usize> = None;
+}
+
+impl Lengths for Dim<IxDynImpl> {
+    ghost list = { lengths };
+
+    ghost with_list = { rewritten };
+
+    fn ndim(&self) -> usize {
+        self.index.as_slice().len()
+    }
+
+    fn slice(&self) -> &[usize] {
+        self.index.as_slice()
+    }
+
+    fn slice_mut(&mut self) -> &mut [usize] {
+        self.index.as_mut_slice()
+    }
+
+    fn equal(&self, other: &Self) -> bool {
+        self.index == other.index
+    }
+
+    fn zeros(alloc: Global, n: usize) -> Result<Self, AllocError> {
+        Ok(Dim {
+            index: IxDynImpl::zeros(alloc, n)?,
+        })
+    }
+
+    fn duplicate(&self, alloc: Global) -> Result<Self, AllocError> {
+        new_ixdyn(alloc, self.slice())
+    }
+
+    ghost list_of_with_list = { lengths_rewritten };
+
+    ghost can_index_below = { λ d i h. h };
+
+    ghost index_is = { λ d i v h. h };
+}
