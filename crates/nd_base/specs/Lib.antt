@@ -1,4 +1,5 @@
 pub mod Dim
+pub mod Entrywise
 pub mod ErrorText
 pub mod Indices
 pub mod Lengths

@@ -5,9 +5,11 @@
 mod axis;
 mod dim;
 mod dynindeximpl;
+mod entries;
 mod error;
 mod ixdyn;
 mod lengths;
+mod ops;
 mod order;
 mod strides;
 
