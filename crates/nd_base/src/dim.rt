@@ -62,28 +62,36 @@ pub const fn new_ix2(i0: usize, i1: usize) -> Ix2
 pub const fn new_ix3(i0: usize, i1: usize, i2: usize) -> Ix3
     ensures { lengths result ≡ i0 ∷ i1 ∷ i2 ∷ [] }
 {
-    Dim { index: [i0, i1, i2] }
+    Dim {
+        index: [i0, i1, i2],
+    }
 }
 
 /// A shape or an index of four axes. Upstream's `Ix4(..)`.
 pub const fn new_ix4(i0: usize, i1: usize, i2: usize, i3: usize) -> Ix4
     ensures { lengths result ≡ i0 ∷ i1 ∷ i2 ∷ i3 ∷ [] }
 {
-    Dim { index: [i0, i1, i2, i3] }
+    Dim {
+        index: [i0, i1, i2, i3],
+    }
 }
 
 /// A shape or an index of five axes. Upstream's `Ix5(..)`.
 pub const fn new_ix5(i0: usize, i1: usize, i2: usize, i3: usize, i4: usize) -> Ix5
     ensures { lengths result ≡ i0 ∷ i1 ∷ i2 ∷ i3 ∷ i4 ∷ [] }
 {
-    Dim { index: [i0, i1, i2, i3, i4] }
+    Dim {
+        index: [i0, i1, i2, i3, i4],
+    }
 }
 
 /// A shape or an index of six axes. Upstream's `Ix6(..)`.
 pub const fn new_ix6(i0: usize, i1: usize, i2: usize, i3: usize, i4: usize, i5: usize) -> Ix6
     ensures { lengths result ≡ i0 ∷ i1 ∷ i2 ∷ i3 ∷ i4 ∷ i5 ∷ [] }
 {
-    Dim { index: [i0, i1, i2, i3, i4, i5] }
+    Dim {
+        index: [i0, i1, i2, i3, i4, i5],
+    }
 }
 
 impl<const N: usize> Default for Dim<[usize; N]> {
@@ -160,6 +168,7 @@ impl<const N: usize> Lengths for Dim<[usize; N]> {
 #[cfg(test)]
 mod tests {
     use super::*;
+    use crate::ixdyn::new_ixdyn;
     use std::process::Abort;
     use std::test::Fail;
 
@@ -178,6 +187,7 @@ mod tests {
         let mut two = new_ix2(2, 3);
         behaves(&rt, rt.alloc(), &one)?;
         behaves(&rt, rt.alloc(), &two)?;
+        behaves(&rt, rt.alloc(), &new_ixdyn(rt.alloc(), &[2, 3])?)?;
         assert_eq!(rt; one.slice(), [4].as_slice());
         assert_eq!(rt; two.slice(), [2, 3].as_slice());
         two[1] = 7;
@@ -190,5 +200,20 @@ mod tests {
         assert_eq!(rt; Ix2::zeros(rt.alloc(), 2)?.slice(), [0, 0].as_slice());
         assert_eq!(rt; Ix1::NDIM, Some(1));
         Ok(())
+    }
+
+    #[test]
+    fn r2_rows(rt: HostRuntime) {
+        assert_eq!(rt; new_ix0().slice().len(), 0);
+        assert_eq!(rt; new_ix1(2).slice(), [2].as_slice());
+        assert_eq!(rt; new_ix2(2, 3).slice(), [2, 3].as_slice());
+        assert_eq!(rt; new_ix3(2, 3, 4).slice(), [2, 3, 4].as_slice());
+        assert_eq!(rt; new_ix4(2, 3, 4, 5).slice(), [2, 3, 4, 5].as_slice());
+        assert_eq!(rt; new_ix5(2, 3, 4, 5, 6).slice(), [2, 3, 4, 5, 6].as_slice());
+        assert_eq!(rt;
+            new_ix6(2, 3, 4, 5, 6, 7).slice(),
+            [2, 3, 4, 5, 6, 7].as_slice()
+        );
+        assert_eq!(rt; Ix3::default().slice(), [0, 0, 0].as_slice());
     }
 }

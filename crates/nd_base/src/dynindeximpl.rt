@@ -1,5 +1,5 @@
 //! A list of any number of lengths: up to four lie in the value itself, more of them in memory.
-ghost use Rattle.std.specs.Prelude.{◌≡◌, ℕ, ◌+◌, ◌<◌, ◌≤◌, ◌^◌, ◌⊎◌, List, length, insert, remove, replicate, Some, IsOk, IfOk, slice_get, nat_eq};
+ghost use Rattle.std.specs.Prelude.{◌≡◌, ℕ, ◌+◌, ◌<◌, ◌≤◌, ◌^◌, ◌⊎◌, List, length, insert, remove, replicate, Some, IsOk, IfOk, slice_get, slice_set, nat_eq};
 ghost use Rattle.std.specs.Borrow.{Lends, sem, Array, u64 as word};
 ghost use Rattle.std.specs.List.{refill};
 ghost use Rattle.std.specs.Iterator.Runs.{EveryRun, ItemsMapTo};
@@ -11,11 +11,10 @@ ghost use Rattle.std.proofs.Common.{rules};
 
 use smallvec::SmallVec;
 use std::alloc::{AllocError, Global};
-use std::fmt;
 use std::hash::{Hash, Hasher};
 use std::marker::Model;
 use std::ops::{Index, IndexMut};
-use std::slice;
+use std::{fmt, slice};
 
 /// The lengths of any number of axes, in order. Upstream's `IxDynImpl`.
 ///
@@ -133,11 +132,14 @@ impl Index<usize> for IxDynImpl {
 }
 
 impl IndexMut<usize> for IxDynImpl {
+    ghost use Rattle.nd_base.specs.contracts.dynindeximpl.IxDynImpl.{the_row};
+
     fn index_mut(&mut self, axis: usize) -> &mut usize
         requires { axis < length self.old }
-        ensures { slice_get self.old axis ≡ Some result.now }
+        ensures* writes_back { sem 𝓛 (Lends the_row word self.entry result (slice_set self.old axis)) }
+        ensures value { slice_get self.old axis ≡ Some result.now }
     {
-        &mut self.as_mut_slice()[axis]
+        self.lens.get_mut(axis).unwrap()
     }
 }
 
@@ -181,5 +183,109 @@ impl Hash for IxDynImpl {
 impl fmt::Debug for IxDynImpl {
     fn fmt<W: fmt::Write>(&self, f: &mut fmt::Formatter<W>) -> fmt::Result {
         f.debug_list().entries(self.as_slice()).finish()
+    }
+}
+
+#[cfg(test)]
+mod tests {
+    use super::*;
+    use std::hash::DefaultHasher;
+    use std::test::Fail;
+
+    fn hash_of<T: Hash>(value: &T) -> u64 {
+        let mut state = DefaultHasher::new();
+        value.hash(&mut state);
+        state.finish()
+    }
+
+    // Whether one small request for memory is granted.
+    fn grants(alloc: Global) -> bool {
+        let mut one = Vec::new(alloc);
+        one.push(1_u8).is_ok()
+    }
+
+    #[test]
+    fn r2_rows(rt: HostRuntime) -> Result<(), Fail> {
+        let alloc = rt.alloc();
+        let rows: [&[usize]; 3] = [&[], &[3, 4, 5], &[1, 2, 3, 4, 5]];
+        for lens in rows {
+            let dim = IxDynImpl::copy_from(alloc, lens)?;
+            let mut items = Vec::new(alloc);
+            items.extend_from_slice(lens)?;
+            let other = IxDynImpl::from_vec(alloc, items)?;
+            assert_eq!(rt; dim.as_slice(), lens);
+            assert!(rt; dim == other);
+            assert_eq!(rt; hash_of(&dim), hash_of(&other));
+        }
+        Ok(())
+    }
+
+    #[test]
+    fn r2_rows_of_edits(rt: HostRuntime) -> Result<(), Fail> {
+        let alloc = rt.alloc();
+        let dim = IxDynImpl::copy_from(alloc, &[2, 3, 4])?;
+        assert_eq!(rt; dim.insert(alloc, 1)?.as_slice(), [2, 1, 3, 4].as_slice());
+        assert_eq!(rt; dim.remove(alloc, 0)?.as_slice(), [3, 4].as_slice());
+        let none = IxDynImpl::copy_from(alloc, &[])?;
+        assert!(rt; none.remove(alloc, 7)? == none);
+        let four = IxDynImpl::copy_from(alloc, &[1, 2, 4, 5])?;
+        let left = IxDynImpl::copy_from(alloc, &[1, 2, 3, 4, 5])?.remove(alloc, 2)?;
+        assert!(rt; left == four);
+        assert_eq!(rt; hash_of(&left), hash_of(&four));
+        Ok(())
+    }
+
+    #[test]
+    fn r2_rows_of_entries(rt: HostRuntime) -> Result<(), Fail> {
+        let mut dim = IxDynImpl::copy_from(rt.alloc(), &[3, 4, 5])?;
+        dim[1] = 7;
+        assert_eq!(rt; dim[1], 7);
+        dim.as_mut_slice()[2] = 9;
+        let mut lens = [3, 7, 9].iter();
+        for len in &dim {
+            assert_eq!(rt; lens.next(), Some(len));
+        }
+        Ok(())
+    }
+
+    // Where one request for memory is refused, whichever it is, a call that needs none goes well. One that
+    // needs memory may be refused, and then the next request is not.
+    fn serves(alloc: Global, called: Result<IxDynImpl, AllocError>, needs_memory: bool) -> bool {
+        let granted = grants(alloc);
+        called.is_ok() || (needs_memory && granted)
+    }
+
+    #[test]
+    fn r9_rows_copy_of_four(rt: HostRuntime) {
+        let copied = IxDynImpl::copy_from(rt.alloc(), &[1, 2, 3, 4]);
+        assert!(rt; serves(rt.alloc(), copied, false));
+    }
+
+    #[test]
+    fn r9_rows_copy_of_five(rt: HostRuntime) {
+        let copied = IxDynImpl::copy_from(rt.alloc(), &[1, 2, 3, 4, 5]);
+        assert!(rt; serves(rt.alloc(), copied, true));
+    }
+
+    #[test]
+    fn r9_rows_insert_into_three(rt: HostRuntime) -> Result<(), Fail> {
+        let three = IxDynImpl::copy_from(rt.alloc(), &[1, 2, 3])?;
+        assert!(rt; serves(rt.alloc(), three.insert(rt.alloc(), 1), false));
+        Ok(())
+    }
+
+    #[test]
+    fn r9_rows_insert_into_four(rt: HostRuntime) -> Result<(), Fail> {
+        let four = IxDynImpl::copy_from(rt.alloc(), &[1, 2, 3, 4])?;
+        assert!(rt; serves(rt.alloc(), four.insert(rt.alloc(), 1), true));
+        Ok(())
+    }
+
+    // To make the five lengths is the first request.
+    #[test]
+    fn r9_rows_remove_from_five(rt: HostRuntime) {
+        if let Ok(five) = IxDynImpl::copy_from(rt.alloc(), &[1, 2, 3, 4, 5]) {
+            assert!(rt; serves(rt.alloc(), five.remove(rt.alloc(), 2), false));
+        }
     }
 }

@@ -172,7 +172,9 @@ mod tests {
     #[test]
     fn converts(rt: HostRuntime) {
         let shape: LayoutError = from_kind(ErrorKind::Overflow).into();
-        assert!(rt; matches!(&shape, LayoutError::Shape(fault) if fault.kind() == ErrorKind::Overflow));
+        assert!(rt;
+            matches!(&shape, LayoutError::Shape(fault) if fault.kind() == ErrorKind::Overflow)
+        );
         let memory: LayoutError = AllocError.into();
         assert!(rt; matches!(&memory, LayoutError::Memory(_)));
     }

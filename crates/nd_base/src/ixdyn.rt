@@ -1,6 +1,7 @@
 //! The dimension of any number of axes.
-ghost use Rattle.std.specs.Prelude.{◌≡◌, ◌<◌, ◌≤◌, length, replicate, Some, None, IsOk, IfOk, slice_get};
-ghost use Rattle.nd_base.specs.Dim.{lengths, rewritten, lengths_rewritten};
+ghost use Rattle.std.specs.Prelude.{◌≡◌, ◌<◌, ◌≤◌, length, replicate, Some, None, IsOk, IfOk, slice_get, slice_set};
+ghost use Rattle.std.specs.Borrow.{Lends, sem, u64 as word};
+ghost use Rattle.nd_base.specs.Dim.{lengths, with_lengths, rewritten, lengths_rewritten};
 
 use crate::dim::{Dim, IxDyn};
 use crate::dynindeximpl::IxDynImpl;
@@ -33,9 +34,14 @@ impl Index<usize> for Dim<IxDynImpl> {
 }
 
 impl IndexMut<usize> for Dim<IxDynImpl> {
+    ghost use Rattle.nd_base.specs.contracts.dim.Dim.{the_row};
+    ghost use Rattle.nd_base.specs.contracts.dynindeximpl.IxDynImpl.{the_row as lengths_row};
+
     fn index_mut(&mut self, axis: usize) -> &mut usize
         requires { axis < length (lengths self.old) }
-        ensures { slice_get (lengths self.old) axis ≡ Some result.now }
+        ensures* writes_back { sem 𝓛 (Lends (the_row lengths_row) word self.entry result
+            (λ len. with_lengths self.old (slice_set (lengths self.old) axis len))) }
+        ensures value { slice_get (lengths self.old) axis ≡ Some result.now }
     {
         &mut self.index[axis]
     }
@@ -83,4 +89,27 @@ impl Lengths for Dim<IxDynImpl> {
     ghost can_index_below = { λ d i h. h };
 
     ghost index_is = { λ d i v h. h };
+}
+
+#[cfg(test)]
+mod tests {
+    use super::*;
+    use std::test::Fail;
+
+    #[test]
+    fn r2_rows(rt: HostRuntime) -> Result<(), Fail> {
+        let mut dim = new_ixdyn(rt.alloc(), &[3, 4, 5])?;
+        assert_eq!(rt; dim.slice(), [3, 4, 5].as_slice());
+        assert_eq!(rt; dim.ndim(), 3);
+        dim[1] = 7;
+        assert_eq!(rt; dim[1], 7);
+        assert!(rt; dim.equal(&new_ixdyn(rt.alloc(), &[3, 7, 5])?));
+        assert!(rt; !dim.equal(&new_ixdyn(rt.alloc(), &[3, 7])?));
+        assert_eq!(rt;
+            IxDyn::zeros(rt.alloc(), 5)?.slice(),
+            [0, 0, 0, 0, 0].as_slice()
+        );
+        assert_eq!(rt; IxDyn::NDIM, None);
+        Ok(())
+    }
 }

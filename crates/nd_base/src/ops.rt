@@ -1,10 +1,11 @@
-//! The operators of dimensions. Counts of axes that differ, and results that are no `usize`, are ruled out.
+//! The operators of dimensions: a condition rules out counts that differ and results that are no `usize`.
 ghost use Rattle.std.specs.Prelude.{◌≡◌, ◌↔◌, [], ◌∷◌, replicate, IsTrue};
 ghost use Rattle.nd_base.specs.Dim.{lengths};
 ghost use Rattle.nd_base.specs.Entrywise.{sums, differences, products, scaled, SumsFit, DifferencesFit, ProductsFit, ScaledFit};
 
+mod dynamic;
+
 use crate::dim::{Dim, Ix1};
-use crate::dynindeximpl::IxDynImpl;
 use crate::entries::{add_to, multiply_by, scale, subtract_from};
 use std::ops::{Add, AddAssign, Mul, MulAssign, Sub, SubAssign};
 
@@ -192,128 +193,65 @@ impl Sub<usize> for Ix1 {
     }
 }
 
-impl AddAssign<&Dim<IxDynImpl>> for Dim<IxDynImpl> {
-    ghost can_add_assign = { λ dim others. SumsFit (lengths dim) (lengths others.now) };
+#[cfg(test)]
+mod tests {
+    use super::*;
+    use crate::dim::{new_ix1, new_ix2};
+    use crate::ixdyn::new_ixdyn;
+    use crate::lengths::Lengths;
+    use std::test::Fail;
 
-    ghost add_assign_gives = { λ dim others result. lengths result ≡ sums (lengths dim) (lengths others.now) };
-
-    #[tactic(auto, using(crate::proofs::Entrywise::refill_sums))]
-    fn add_assign(&mut self, others: &Self) {
-        add_to(self.index.as_mut_slice(), others.index.as_slice());
+    #[test]
+    fn r2_rows(rt: HostRuntime) {
+        let sum = new_ix2(3, 5) + new_ix2(1, 1);
+        assert_eq!(rt; sum.slice(), [4, 6].as_slice());
+        assert_eq!(rt; (sum * 2).slice(), [8, 12].as_slice());
+        assert_eq!(rt; (sum * new_ix2(2, 3)).slice(), [8, 18].as_slice());
+        assert_eq!(rt; (sum - new_ix2(1, 1)).slice(), [3, 5].as_slice());
+        let mut dim = new_ix2(3, 5);
+        dim += new_ix2(1, 1);
+        dim += &new_ix2(1, 2);
+        assert_eq!(rt; dim.slice(), [5, 8].as_slice());
+        dim -= new_ix2(1, 1);
+        dim -= &new_ix2(1, 2);
+        dim *= new_ix2(2, 1);
+        dim *= &new_ix2(1, 3);
+        dim *= 2;
+        assert_eq!(rt; dim.slice(), [12, 30].as_slice());
     }
-}
 
-impl AddAssign for Dim<IxDynImpl> {
-    ghost can_add_assign = { λ dim others. SumsFit (lengths dim) (lengths others) };
-
-    ghost add_assign_gives = { λ dim others result. lengths result ≡ sums (lengths dim) (lengths others) };
-
-    fn add_assign(&mut self, others: Self) {
-        *self += &others;
+    #[test]
+    fn r2_rows_of_one_axis(rt: HostRuntime) {
+        let mut dim = new_ix1(4) + 3 - 2;
+        assert_eq!(rt; dim.slice(), [5].as_slice());
+        dim += 4;
+        dim -= 8;
+        assert_eq!(rt; dim.slice(), [1].as_slice());
     }
-}
 
-impl Add for Dim<IxDynImpl> {
-    type Output = Self;
-
-    ghost can_add = { λ dim others. SumsFit (lengths dim) (lengths others) };
-
-    ghost add_gives = { λ dim others result. lengths result ≡ sums (lengths dim) (lengths others) };
-
-    fn add(mut self, others: Self) -> Self {
-        self += &others;
-        self
+    #[test]
+    fn r2_rows_of_any_count(rt: HostRuntime) -> Result<(), Fail> {
+        let ones = new_ixdyn(rt.alloc(), &[1, 1])?;
+        let mut dim = new_ixdyn(rt.alloc(), &[3, 5])? + ones;
+        assert_eq!(rt; dim.slice(), [4, 6].as_slice());
+        dim = dim * 2;
+        assert_eq!(rt; dim.slice(), [8, 12].as_slice());
+        dim *= new_ixdyn(rt.alloc(), &[2, 1])?;
+        dim -= &new_ixdyn(rt.alloc(), &[6, 2])?;
+        assert_eq!(rt; dim.slice(), [10, 10].as_slice());
+        Ok(())
     }
-}
 
-impl SubAssign<&Dim<IxDynImpl>> for Dim<IxDynImpl> {
-    ghost can_sub_assign = { λ dim others. DifferencesFit (lengths dim) (lengths others.now) };
-
-    ghost sub_assign_gives = { λ dim others result. lengths result ≡ differences (lengths dim) (lengths others.now) };
-
-    #[tactic(auto, using(crate::proofs::Entrywise::refill_differences))]
-    fn sub_assign(&mut self, others: &Self) {
-        subtract_from(self.index.as_mut_slice(), others.index.as_slice());
-    }
-}
-
-impl SubAssign for Dim<IxDynImpl> {
-    ghost can_sub_assign = { λ dim others. DifferencesFit (lengths dim) (lengths others) };
-
-    ghost sub_assign_gives = { λ dim others result. lengths result ≡ differences (lengths dim) (lengths others) };
-
-    fn sub_assign(&mut self, others: Self) {
-        *self -= &others;
-    }
-}
-
-impl Sub for Dim<IxDynImpl> {
-    type Output = Self;
-
-    ghost can_sub = { λ dim others. DifferencesFit (lengths dim) (lengths others) };
-
-    ghost sub_gives = { λ dim others result. lengths result ≡ differences (lengths dim) (lengths others) };
-
-    fn sub(mut self, others: Self) -> Self {
-        self -= &others;
-        self
-    }
-}
-
-impl MulAssign<&Dim<IxDynImpl>> for Dim<IxDynImpl> {
-    ghost can_mul_assign = { λ dim others. ProductsFit (lengths dim) (lengths others.now) };
-
-    ghost mul_assign_gives = { λ dim others result. lengths result ≡ products (lengths dim) (lengths others.now) };
-
-    #[tactic(auto, using(crate::proofs::Entrywise::refill_products))]
-    fn mul_assign(&mut self, others: &Self) {
-        multiply_by(self.index.as_mut_slice(), others.index.as_slice());
-    }
-}
-
-impl MulAssign for Dim<IxDynImpl> {
-    ghost can_mul_assign = { λ dim others. ProductsFit (lengths dim) (lengths others) };
-
-    ghost mul_assign_gives = { λ dim others result. lengths result ≡ products (lengths dim) (lengths others) };
-
-    fn mul_assign(&mut self, others: Self) {
-        *self *= &others;
-    }
-}
-
-impl Mul for Dim<IxDynImpl> {
-    type Output = Self;
-
-    ghost can_mul = { λ dim others. ProductsFit (lengths dim) (lengths others) };
-
-    ghost mul_gives = { λ dim others result. lengths result ≡ products (lengths dim) (lengths others) };
-
-    fn mul(mut self, others: Self) -> Self {
-        self *= &others;
-        self
-    }
-}
-
-impl MulAssign<usize> for Dim<IxDynImpl> {
-    ghost can_mul_assign = { λ dim factor. ScaledFit (lengths dim) factor };
-
-    ghost mul_assign_gives = { λ dim factor result. lengths result ≡ scaled (lengths dim) factor };
-
-    #[tactic(auto, using(crate::proofs::Entrywise::refill_scaled))]
-    fn mul_assign(&mut self, factor: usize) {
-        scale(self.index.as_mut_slice(), factor);
-    }
-}
-
-impl Mul<usize> for Dim<IxDynImpl> {
-    type Output = Self;
-
-    ghost can_mul = { λ dim factor. ScaledFit (lengths dim) factor };
-
-    ghost mul_gives = { λ dim factor result. lengths result ≡ scaled (lengths dim) factor };
-
-    fn mul(mut self, factor: usize) -> Self {
-        self *= factor;
-        self
+    #[test]
+    fn r2_rows_of_zero(rt: HostRuntime) {
+        assert_eq!(rt; Dim::<[usize; 3]>::zero().slice(), [0, 0, 0].as_slice());
+        let rows = [
+            (new_ix2(0, 0), true),
+            (new_ix2(0, 1), false),
+            (new_ix2(1, 0), false),
+        ];
+        for (dim, is_zero) in rows {
+            assert_eq!(rt; dim.is_zero(), is_zero);
+        }
     }
 }

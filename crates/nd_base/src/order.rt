@@ -39,7 +39,11 @@ impl Order {
     pub const fn row_major(row_major: bool) -> Order
         ensures { result ≡ (if row_major then Order.RowMajor else Order.ColumnMajor) }
     {
-        if row_major { Order::RowMajor } else { Order::ColumnMajor }
+        if row_major {
+            Order::RowMajor
+        } else {
+            Order::ColumnMajor
+        }
     }
 
     /// Column-major order where the answer is yes, and else row-major order.
@@ -47,7 +51,11 @@ impl Order {
     pub const fn column_major(column_major: bool) -> Order
         ensures { result ≡ (if column_major then Order.ColumnMajor else Order.RowMajor) }
     {
-        if column_major { Order::ColumnMajor } else { Order::RowMajor }
+        if column_major {
+            Order::ColumnMajor
+        } else {
+            Order::RowMajor
+        }
     }
 
     /// The other order. Upstream's `transpose`.
@@ -60,5 +68,28 @@ impl Order {
             Order::RowMajor => Order::ColumnMajor,
             Order::ColumnMajor => Order::RowMajor,
         }
+    }
+}
+
+#[cfg(test)]
+mod tests {
+    use super::*;
+
+    #[test]
+    fn r2_rows(rt: HostRuntime) {
+        let rows = [
+            (Order::RowMajor, true, Order::ColumnMajor),
+            (Order::ColumnMajor, false, Order::RowMajor),
+        ];
+        for (order, is_row_major, other) in rows {
+            assert_eq!(rt; order.is_row_major(), is_row_major);
+            assert_eq!(rt; order.is_column_major(), !is_row_major);
+            assert_eq!(rt; Order::row_major(is_row_major), order);
+            assert_eq!(rt; Order::column_major(is_row_major), other);
+            assert_eq!(rt; order.transpose(), other);
+            assert_eq!(rt; order.transpose().transpose(), order);
+        }
+        assert_eq!(rt; Order::C, Order::RowMajor);
+        assert_eq!(rt; Order::F, Order::ColumnMajor);
     }
 }
