@@ -43,12 +43,10 @@ mod tests {
             (Axis(2), 4, [2, 3, 7]),
         ];
         for (axis, len, rewritten) in rows {
-            assert_eq!(rt; axis.index() < 3, true);
             let mut lens = [2, 3, 4];
-            if axis.index() < lens.len() {
-                assert_eq!(rt; axis_of(&lens, axis), len);
-                set_axis_of(&mut lens, axis, 7);
-            }
+            assert!(rt; axis.index() < lens.len());
+            assert_eq!(rt; axis_of(&lens, axis), len);
+            set_axis_of(&mut lens, axis, 7);
             assert_eq!(rt; lens, rewritten);
         }
     }

@@ -221,17 +221,35 @@ mod tests {
     }
 
     #[test]
-    fn r2_rows_of_edits(rt: HostRuntime) -> Result<(), Fail> {
-        let alloc = rt.alloc();
-        let dim = IxDynImpl::copy_from(alloc, &[2, 3, 4])?;
-        assert_eq!(rt; dim.insert(alloc, 1)?.as_slice(), [2, 1, 3, 4].as_slice());
-        assert_eq!(rt; dim.remove(alloc, 0)?.as_slice(), [3, 4].as_slice());
-        let none = IxDynImpl::copy_from(alloc, &[])?;
-        assert!(rt; none.remove(alloc, 7)? == none);
-        let four = IxDynImpl::copy_from(alloc, &[1, 2, 4, 5])?;
-        let left = IxDynImpl::copy_from(alloc, &[1, 2, 3, 4, 5])?.remove(alloc, 2)?;
-        assert!(rt; left == four);
-        assert_eq!(rt; hash_of(&left), hash_of(&four));
+    fn r2_rows_of_insert(rt: HostRuntime) -> Result<(), Fail> {
+        let rows: [(&[usize], usize, &[usize]); 3] = [
+            (&[2, 3, 4], 1, &[2, 1, 3, 4]),
+            (&[], 0, &[1]),
+            (&[2, 3, 4, 5], 4, &[2, 3, 4, 5, 1]),
+        ];
+        for (lens, place, wider) in rows {
+            let dim = IxDynImpl::copy_from(rt.alloc(), lens)?;
+            assert!(rt; place <= dim.as_slice().len());
+            assert_eq!(rt; dim.insert(rt.alloc(), place)?.as_slice(), wider);
+        }
+        Ok(())
+    }
+
+    #[test]
+    fn r2_rows_of_remove(rt: HostRuntime) -> Result<(), Fail> {
+        let rows: [(&[usize], usize, &[usize]); 3] = [
+            (&[2, 3, 4], 0, &[3, 4]),
+            (&[], 7, &[]),
+            (&[1, 2, 3, 4, 5], 2, &[1, 2, 4, 5]),
+        ];
+        for (lens, place, narrower) in rows {
+            let dim = IxDynImpl::copy_from(rt.alloc(), lens)?;
+            assert!(rt; place < dim.as_slice().len() || dim.as_slice().is_empty());
+            let left = dim.remove(rt.alloc(), place)?;
+            let same = IxDynImpl::copy_from(rt.alloc(), narrower)?;
+            assert!(rt; left == same);
+            assert_eq!(rt; hash_of(&left), hash_of(&same));
+        }
         Ok(())
     }
 

@@ -59,7 +59,7 @@ impl Lengths for Dim<IxDynImpl> {
     ghost with_list = { rewritten };
 
     fn ndim(&self) -> usize {
-        self.index.as_slice().len()
+        self.slice().len()
     }
 
     fn slice(&self) -> &[usize] {
