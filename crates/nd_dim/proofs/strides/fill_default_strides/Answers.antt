@@ -1,0 +1,28 @@
+use Rattle.std.proofs.Common.{◌≡◌, ◌<◌, ◌≤◌, ◌^◌, ◌+◌, ◌-◌, ◌*◌, length, ℕ, false, drop, get_or, Fits, w64, arith, sym, ap, ◌∙◌, mul_comm}
+use Rattle.std.proofs.lemmas.Bool.{cond-false}
+use Rattle.std.proofs.lemmas.List.FromFn.{fill_by_all}
+use Rattle.nd_base.specs.Size.{size, is_empty}
+use Rattle.nd_base.proofs.Sizes.{size_from}
+use Rattle.nd_dim.specs.Strides.{size_after}
+use Rattle.nd_dim.proofs.Products.{size_drop_le}
+use Rattle.nd_dim.proofs.strides.fill_default_strides.Goals as goal
+
+pub overflow_mul-size : goal.overflow_mul-size
+overflow_mul-size c =
+    let lens = c.args.lens.now in
+    let k = c.loop-axis.axis - 1 in
+    let some : is_empty lens ≡ false = sym c.contains.ensures.value ∙ c.if-contains.false in
+    let next : size (drop k lens) ≡ get_or lens k 0 * size (drop (k + 1) lens) = size_from lens k (omega arith) in
+    let here : k + 1 ≡ c.loop-axis.axis = omega arith in
+    let less = size_drop_le lens k some in
+    let behind : c.loop-axis.size ≡ size (drop (k + 1) lens) = c.loop-axis.invariant.product ∙ ap (λ a. size (drop a lens)) (sym here) in
+    let whole : c.loop-axis.size * get_or lens k 0 ≡ size (drop k lens) = mul_comm c.loop-axis.size (get_or lens k 0) ∙ ap (λ s. get_or lens k 0 * s) behind ∙ sym next in
+    let fits : Fits w64 (size (drop k lens)) = omega arith in
+    rw whole fits
+
+pub returns : goal.returns
+returns c =
+    let lens = c.args.lens.now in
+    let some : is_empty lens ≡ false = sym c.contains.ensures.value ∙ c.if-contains.false in
+    let all : (k : ℕ) → k < length lens → get_or c.loop-axis.strides k 0 ≡ size_after lens k = λ k h. c.loop-axis.invariant.written k (omega arith) h in
+    fill_by_all (size_after lens) c.loop-axis.strides (length lens) 0 (omega arith) all ∙ sym (cond-false (is_empty lens) _ _ some)
