@@ -2,6 +2,7 @@
 #![tactic(auto)]
 
 mod axis_edits;
+mod contiguous;
 mod dimension;
 mod sizes;
 mod stride_axes;
@@ -9,6 +10,7 @@ mod stride_order;
 mod strides;
 
 pub use axis_edits::{insert_axis_into, last_len, remove_axis_into, set_last_len};
+pub use contiguous::is_contiguous;
 pub use dimension::Dimension;
 pub use stride_axes::{max_stride_axis, min_stride_axis};
 pub use stride_order::fill_stride_order;
