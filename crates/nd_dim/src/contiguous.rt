@@ -54,9 +54,12 @@ fn is_packed(lens: &[usize], strides: &[usize]) -> bool
     requires { nonzero_size lens.now ≤ limit }
     ensures { result ≡ is_packed_layout lens.now (all_signed strides.now) }
 {
-    lens.iter().enumerate().all(|(axis, len)| {
-        *len == 1 || magnitude_at(strides, axis) == size_before(lens, strides, axis)
-    })
+    for (axis, len) in lens.iter().enumerate() {
+        if *len != 1 && magnitude_at(strides, axis) != size_before(lens, strides, axis) {
+            return false;
+        }
+    }
+    true
 }
 
 /// Whether the indices fill a stretch of memory without a gap, by a rule on lengths and strides. True

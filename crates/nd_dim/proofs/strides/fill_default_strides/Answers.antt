@@ -1,10 +1,9 @@
-use Rattle.std.proofs.Common.{◌≡◌, ◌<◌, ◌≤◌, ◌^◌, ◌+◌, ◌-◌, ◌*◌, length, ℕ, false, drop, get_or, Fits, w64, arith, sym, ap, ◌∙◌, mul_comm}
+use Rattle.std.proofs.Common.{◌≡◌, ◌<◌, ◌≤◌, ◌^◌, ◌-◌, ◌*◌, length, ℕ, false, drop, get_or, Fits, w64, arith, sym, ◌∙◌}
 use Rattle.std.proofs.lemmas.Bool.{cond-false}
 use Rattle.std.proofs.lemmas.List.FromFn.{fill_by_all}
 use Rattle.nd_base.specs.Size.{size, is_empty}
-use Rattle.nd_base.proofs.Sizes.{size_from}
 use Rattle.nd_dim.specs.Strides.{size_after}
-use Rattle.nd_dim.proofs.Products.{size_drop_le}
+use Rattle.nd_dim.proofs.Products.{size_drop_le, size_drop_more}
 use Rattle.nd_dim.proofs.strides.fill_default_strides.Goals as goal
 
 pub overflow_mul-size : goal.overflow_mul-size
@@ -12,11 +11,8 @@ overflow_mul-size c =
     let lens = c.args.lens.now in
     let k = c.loop-axis.axis - 1 in
     let some : is_empty lens ≡ false = sym c.contains.ensures.value ∙ c.if-contains.false in
-    let next : size (drop k lens) ≡ get_or lens k 0 * size (drop (k + 1) lens) = size_from lens k (omega arith) in
-    let here : k + 1 ≡ c.loop-axis.axis = omega arith in
+    let whole : c.loop-axis.size * get_or lens k 0 ≡ size (drop k lens) = size_drop_more lens c.loop-axis.axis c.loop-axis.size (omega arith) (omega arith) c.loop-axis.invariant.product in
     let less = size_drop_le lens k some in
-    let behind : c.loop-axis.size ≡ size (drop (k + 1) lens) = c.loop-axis.invariant.product ∙ ap (λ a. size (drop a lens)) (sym here) in
-    let whole : c.loop-axis.size * get_or lens k 0 ≡ size (drop k lens) = mul_comm c.loop-axis.size (get_or lens k 0) ∙ ap (λ s. get_or lens k 0 * s) behind ∙ sym next in
     let fits : Fits w64 (size (drop k lens)) = omega arith in
     rw whole fits
 
