@@ -1,5 +1,5 @@
 -- Tests of layouts, axis by axis.
-use Rattle.std.proofs.Common.{inl, inr, Fits, w64, replicate, ◌≡◌, ◌<◌, ◌≤◌, ◌^◌, ◌+◌, ◌*◌, ◌&&◌, ◌↔◌, ℕ, ℤ, pos, Bool, true, false, List, [], ◌∷◌, ◌++◌, length, get_or, map, cond, refl, ap, sym, ◌∙◌, arith, mul-one}
+use Rattle.std.proofs.Common.{inl, inr, Fits, w64, replicate, ◌≡◌, ◌<◌, ◌≤◌, ◌^◌, ◌+◌, ◌*◌, ◌↔◌, ℕ, pos, Bool, true, false, List, [], ◌∷◌, ◌++◌, length, get_or, map, cond, refl, ap, sym, ◌∙◌, arith, mul-one}
 use Rattle.std.specs.List.{list_all, filter, slice_index}
 use Rattle.std.specs.Cmp.Rules.{signed_items}
 use Rattle.std.specs.Prelude.{IsTrue}
@@ -21,17 +21,17 @@ use Rattle.nd_dim.proofs.Products.{size-append, size_drop_le, size_le_nonzero}
 pub all_below : (p : ℕ → Bool) (n : ℕ) → ((k : ℕ) → k < n → p k ≡ true) → list_all p (below n) ≡ true
 all_below p n h =
     list_all-from_AllPass p (below n) (λ k d g.
-      let last : k < n = omega (arith, length-range_with_len 0 n) in
-      let same : get_or (below n) k d ≡ k = get_or-range_with_len 0 n k d last ∙ omega arith in
-      rw same (h k last))
+    let last : k < n = omega (arith, length-range_with_len 0 n) in
+    let same : get_or (below n) k d ≡ k = get_or-range_with_len 0 n k d last ∙ omega arith in
+    rw same (h k last))
 
 pub not_all_below : (p : ℕ → Bool) (n k : ℕ) → k < n → p k ≡ false → list_all p (below n) ≡ false
 not_all_below p n k h fails =
     false_from_ne_true (list_all p (below n)) (λ all.
-      let within : k < length (below n) = omega (arith, length-range_with_len 0 n) in
-      let same : get_or (below n) k 0 ≡ k = get_or-range_with_len 0 n k 0 h ∙ omega arith in
-      let passes : p k ≡ true = rw same at (AllPass-from_list_all p (below n) all k 0 within) in
-      both_ways (p k) fails passes)
+    let within : k < length (below n) = omega (arith, length-range_with_len 0 n) in
+    let same : get_or (below n) k 0 ≡ k = get_or-range_with_len 0 n k 0 h ∙ omega arith in
+    let passes : p k ≡ true = rw same at (AllPass-from_list_all p (below n) all k 0 within) in
+    both_ways (p k) fails passes)
 
 -- the default stride of an axis of a shape with an index
 pub default_at : (lens : List ℕ) (axis : ℕ) → is_empty lens ≡ false → axis < length lens → get_or (default_strides lens) axis 0 ≡ size_after lens axis
@@ -70,12 +70,12 @@ default_small : (lens : List ℕ) (k : ℕ) → nonzero_size lens ≤ limit → 
 default_small lens k top h =
     elim (cases_Bool (is_empty lens)) [
       | inl none ↦
-        let zero' : get_or (default_strides lens) k 0 ≡ 0 = ap (λ xs. get_or xs k 0) (cond-true (is_empty lens) (replicate (length lens) 0) (map (size_after lens) (below (length lens))) none) ∙ get_or-replicate (length lens) k 0 0 h in
-        omega arith
+          let zero' : get_or (default_strides lens) k 0 ≡ 0 = ap (λ xs. get_or xs k 0) (cond-true (is_empty lens) (replicate (length lens) 0) (map (size_after lens) (below (length lens))) none) ∙ get_or-replicate (length lens) k 0 0 h in
+          omega arith
       | inr some ↦
-        let is : get_or (default_strides lens) k 0 ≡ size_after lens k = default_at lens k some h in
-        let less : size_after lens k ≤ size lens = size_drop_le lens (k + 1) some in
-        omega (arith, size_le_nonzero lens)
+          let is : get_or (default_strides lens) k 0 ≡ size_after lens k = default_at lens k some h in
+          let less : size_after lens k ≤ size lens = size_drop_le lens (k + 1) some in
+          omega (arith, size_le_nonzero lens)
     ]
 
 signed_of_small : (n : ℕ) → n ≤ limit → signed n ≡ pos n
@@ -87,15 +87,15 @@ small_from_signed m n h e = sym (of_z-to_z w64 m h) ∙ ap unsigned e
 signed_defaults : (lens strides : List ℕ) → nonzero_size lens ≤ limit → strides ≡ default_strides lens → all_signed strides ≡ map pos (default_strides lens)
 signed_defaults lens strides top e =
     ap all_signed e ∙ ext_get_or (pos 0) (all_signed (default_strides lens)) (map pos (default_strides lens)) (length-map (default_strides lens) signed ∙ sym (length-map (default_strides lens) pos)) (λ k h.
-      let within : k < length (default_strides lens) = omega (arith, length-map (default_strides lens) signed) in
-      get_or-map signed (default_strides lens) k 0 (pos 0) within ∙ signed_of_small (get_or (default_strides lens) k 0) (default_small lens k top (omega (arith, default_count lens))) ∙ sym (get_or-map pos (default_strides lens) k 0 (pos 0) within))
+    let within : k < length (default_strides lens) = omega (arith, length-map (default_strides lens) signed) in
+    get_or-map signed (default_strides lens) k 0 (pos 0) within ∙ signed_of_small (get_or (default_strides lens) k 0) (default_small lens k top (omega (arith, default_count lens))) ∙ sym (get_or-map pos (default_strides lens) k 0 (pos 0) within))
 
 defaults_from_signed : (lens strides : List ℕ) → ((k : ℕ) → Fits w64 (get_or strides k 0)) → all_signed strides ≡ map pos (default_strides lens) → strides ≡ default_strides lens
 defaults_from_signed lens strides fit e =
     let count : length strides ≡ length (default_strides lens) = sym (length-map strides signed) ∙ ap length e ∙ length-map (default_strides lens) pos in
     ext_get_or 0 strides (default_strides lens) count (λ k h.
-      let same : signed (get_or strides k 0) ≡ pos (get_or (default_strides lens) k 0) = sym (get_or-map signed strides k 0 (pos 0) h) ∙ ap (λ xs. get_or xs k (pos 0)) e ∙ get_or-map pos (default_strides lens) k 0 (pos 0) (omega arith) in
-      small_from_signed (get_or strides k 0) (get_or (default_strides lens) k 0) (fit k).fits same)
+    let same : signed (get_or strides k 0) ≡ pos (get_or (default_strides lens) k 0) = sym (get_or-map signed strides k 0 (pos 0) h) ∙ ap (λ xs. get_or xs k (pos 0)) e ∙ get_or-map pos (default_strides lens) k 0 (pos 0) (omega arith) in
+    small_from_signed (get_or strides k 0) (get_or (default_strides lens) k 0) (fit k).fits same)
 
 -- the test of the definition answers what the code's does
 pub default_test : (lens strides : List ℕ) (r : Bool) → ((k : ℕ) → Fits w64 (get_or strides k 0)) → nonzero_size lens ≤ limit → (IsTrue r ↔ (strides ≡ default_strides lens)) → has_default_strides lens (all_signed strides) ≡ r

@@ -1,5 +1,5 @@
 -- Products of the first and of the last lengths of a shape.
-use Rattle.std.proofs.Common.{le_trans, zero, suc, ◌+◌, ◌-◌, add-one, drop-cons, mul_comm, mul-pos, mul-zero, zero-mul, get_or, length, ◌≡◌, ℕ, ◌*◌, ◌<◌, ◌≤◌, true, false, eqb, List, [], ◌∷◌, ◌++◌, take, drop, refl, ap, sym, ◌∙◌, arith, pos_of_ne-zero, mul_assoc, mul-one, one-mul, le-mul_of_pos_right, mul-le-mul_left}
+use Rattle.std.proofs.Common.{le_trans, zero, suc, ◌+◌, ◌-◌, add-one, drop-cons, mul_comm, mul-pos, mul-zero, zero-mul, get_or, length, ◌≡◌, ℕ, ◌*◌, ◌<◌, ◌≤◌, false, eqb, List, [], ◌∷◌, ◌++◌, take, drop, ap, sym, ◌∙◌, arith, pos_of_ne-zero, mul_assoc, mul-one, one-mul, le-mul_of_pos_right, mul-le-mul_left}
 use Rattle.std.proofs.lemmas.Bool.{or_parts, eqb-false, ne_eqb, cond-false}
 use Rattle.std.proofs.lemmas.List.{take_more}
 use Rattle.std.proofs.lemmas.Nat.{mul-le}

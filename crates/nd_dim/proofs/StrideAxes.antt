@@ -1,8 +1,8 @@
 -- The best axis so far, one axis on.
-use Rattle.std.proofs.Common.{inl, inr, ◌⊎◌, ◌≡◌, ◌<◌, ◌≤◌, ◌+◌, ℕ, List, length, get_or, below_more, arith}
+use Rattle.std.proofs.Common.{inl, inr, ◌≡◌, ◌<◌, ◌≤◌, ◌+◌, ℕ, List, length, get_or, below_more, arith}
 use Rattle.std.proofs.lemmas.Bool.{cases_lt}
 use Rattle.std.specs.Prelude.{ℤ}
-use Rattle.nd_dim.specs.AxisOrder.{magnitude_at, IsLong, IsLeastStrideAxis, IsGreatestStrideAxis}
+use Rattle.nd_dim.specs.AxisOrder.{magnitude_at, IsLeastStrideAxis, IsGreatestStrideAxis}
 
 -- what `IsLeastStrideAxis` says, of the axes below i alone
 pub record IsLeastBelow (lens : List ℕ) (strides : List ℤ) (i axis : ℕ) : Type 0 where

@@ -1,5 +1,5 @@
 -- Which layouts fill their stretch of memory without a gap, by the written rule.
-use Rattle.std.specs.Prelude.{◌≡◌, ℕ, ◌==◌, ◌≤◌, Bool, true, false, ◌&&◌, ◌||◌, nat_le, ℤ, pos, negsuc, if◌then◌else◌, List, [], ◌∷◌, length, map, slice_index, slice_index_or, refl}
+use Rattle.std.specs.Prelude.{◌≡◌, ℕ, ◌==◌, Bool, true, false, ◌||◌, nat_le, ℤ, pos, negsuc, if◌then◌else◌, List, [], ◌∷◌, length, map, slice_index, slice_index_or, refl}
 use Rattle.std.specs.List.{list_all, filter}
 use Rattle.std.specs.Ordering.{int_eq}
 use Rattle.std.specs.Cmp.Lexicographic.{pointwise}

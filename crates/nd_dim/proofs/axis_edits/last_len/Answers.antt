@@ -1,4 +1,4 @@
-use Rattle.std.proofs.Common.{suc, ◌≡◌, ℕ, ◌-◌, ◌+◌, length, List, [], ◌∷◌, arith, ap, sym, refl, ◌∙◌}
+use Rattle.std.proofs.Common.{suc, ◌≡◌, ℕ, ◌-◌, length, List, [], ◌∷◌, arith, ap, refl, ◌∙◌}
 use Rattle.std.specs.Prelude.{slice_get, unwrap_or}
 use Rattle.nd_dim.specs.LastLen.{last_len as last_of_lengths}
 use Rattle.nd_dim.proofs.axis_edits.last_len.Goals as goal

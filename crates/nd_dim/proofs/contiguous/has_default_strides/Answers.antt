@@ -1,7 +1,7 @@
-use Rattle.std.proofs.Common.{◌≡◌, ◌<◌, ◌≤◌, ◌^◌, ◌+◌, ◌-◌, ◌*◌, length, ℕ, false, drop, get_or, Fits, w64, arith, sym, ap, ◌∙◌, refl}
+use Rattle.std.proofs.Common.{◌≡◌, ◌<◌, ◌+◌, ◌-◌, ◌*◌, length, ℕ, false, drop, get_or, Fits, w64, arith, sym, ap, ◌∙◌, refl}
 use Rattle.std.proofs.lemmas.Bool.{cond-false}
 use Rattle.std.proofs.lemmas.List.FromFn.{fill_by_all}
-use Rattle.nd_base.specs.Size.{size, is_empty, nonzero_size}
+use Rattle.nd_base.specs.Size.{size, is_empty}
 use Rattle.nd_dim.specs.Strides.{size_after, default_strides}
 use Rattle.nd_dim.proofs.Packed.{default_at}
 use Rattle.nd_dim.proofs.Products.{size_drop_le, size_drop_more, size_le_nonzero}
@@ -24,7 +24,7 @@ returns-then-strides-axis c =
     let some : is_empty lens ≡ false = sym c.contains.ensures.value ∙ c.if-contains.false in
     let here : c.loop-axis.axis ≡ k + 1 = omega arith in
     let default : c.args.strides.now ≡ default_strides lens → get_or c.args.strides.now k 0 ≡ c.loop-axis.size =
-      λ e. ap (λ xs. get_or xs k 0) e ∙ default_at lens k some (omega arith) ∙ ap (λ a. size (drop a lens)) (sym here) ∙ sym c.loop-axis.invariant.product in
+    λ e. ap (λ xs. get_or xs k 0) e ∙ default_at lens k some (omega arith) ∙ ap (λ a. size (drop a lens)) (sym here) ∙ sym c.loop-axis.invariant.product in
     (λ t. absurd (cc), λ e. absurd (c.if-strides-axis.true (default e)))
 
 pub returns : goal.returns

@@ -1,5 +1,5 @@
 -- The product of the later lengths; the axes so far have the strides that the shape has by itself.
-use Rattle.std.proofs.Common.{◌≡◌, ◌≤◌, ◌<◌, ◌+◌, ℕ, length, drop, get_or}
+use Rattle.std.proofs.Common.{◌≡◌, ◌≤◌, ◌<◌, ℕ, length, drop, get_or}
 use Rattle.nd_base.specs.Size.{size}
 use Rattle.nd_dim.specs.Strides.{size_after}
 use Rattle.nd_dim.proofs.contiguous.has_default_strides.Given as goal

@@ -1,4 +1,4 @@
-use Rattle.std.proofs.Common.{◌≡◌, ◌<◌, ◌||◌, ℕ, true, false, get_or, eqb, length, arith, sym, ◌∙◌}
+use Rattle.std.proofs.Common.{◌≡◌, false, get_or, length, arith, sym, ◌∙◌}
 use Rattle.std.proofs.lemmas.Bool.{or_from, ne_eqb}
 use Rattle.nd_base.specs.Signed.{all_signed}
 use Rattle.nd_base.specs.Size.{size}
@@ -13,8 +13,8 @@ returns-then-magnitude_at-size_before c =
     let strides = all_signed c.args.strides.now in
     let k = c.loop-axis.axis in
     let fails : is_packed_at lens strides k ≡ false =
-      or_from _ _ (ne_eqb (get_or lens k 0) 1 c.if-len-ne1.true)
-      (ne_eqb (magnitude_at strides k) (size (lens_before lens strides k)) (λ e. c.if-magnitude_at-size_before.true (c.magnitude_at.ensures ∙ e ∙ sym c.size_before.ensures))) in
+    or_from _ _ (ne_eqb (get_or lens k 0) 1 c.if-len-ne1.true)
+    (ne_eqb (magnitude_at strides k) (size (lens_before lens strides k)) (λ e. c.if-magnitude_at-size_before.true (c.magnitude_at.ensures ∙ e ∙ sym c.size_before.ensures))) in
     sym (not_all_below (is_packed_at lens strides) (length lens) k c.loop-axis-test.true fails)
 
 pub returns : goal.returns

@@ -1,5 +1,5 @@
 -- The product of the later lengths, and those of the axes that are written.
-use Rattle.std.proofs.Common.{◌≡◌, ◌≤◌, ◌<◌, ◌+◌, ℕ, length, drop, get_or}
+use Rattle.std.proofs.Common.{◌≡◌, ◌≤◌, ◌<◌, ℕ, length, drop, get_or}
 use Rattle.nd_base.specs.Size.{size}
 use Rattle.nd_dim.specs.Strides.{size_after}
 use Rattle.nd_dim.proofs.strides.fill_default_strides.Given as goal

@@ -1,5 +1,5 @@
 -- The product of the earlier lengths, and those of the axes that are written.
-use Rattle.std.proofs.Common.{◌≡◌, ◌<◌, ◌+◌, ℕ, length, take, get_or}
+use Rattle.std.proofs.Common.{◌≡◌, ◌<◌, ℕ, take, get_or}
 use Rattle.nd_base.specs.Size.{size}
 use Rattle.nd_dim.specs.Strides.{size_until}
 use Rattle.nd_dim.proofs.strides.fill_fortran_strides.Given as goal
