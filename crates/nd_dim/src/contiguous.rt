@@ -28,7 +28,8 @@ fn has_default_strides(lens: &[usize], strides: &[usize]) -> bool
     true
 }
 
-/// Whether an axis has the lesser stride, whatever the signs, or an equal one and the lesser number.
+/// Whether an axis has the lesser stride, whatever the signs, or an equal one and the lesser
+/// number.
 fn comes_before(strides: &[usize], axis: usize, other: usize) -> bool
     ensures { result ≡ comes_before_axis (all_signed strides.now) axis other }
 {
@@ -62,10 +63,11 @@ fn is_packed(lens: &[usize], strides: &[usize]) -> bool
     true
 }
 
-/// Whether the indices fill a stretch of memory without a gap, by a rule on lengths and strides. True
-/// where the strides are the default ones. Of a lone axis else: where it has at most one entry or the
-/// stride -1. Of other layouts else: where the magnitude of the stride of each axis of other than one
-/// entry is the product of the lengths of all axes before it, in the order of those magnitudes.
+/// Whether the indices fill a stretch of memory without a gap, by a rule on lengths and strides.
+/// True where the strides are the default ones. Of a lone axis else: where it has at most one
+/// entry or the stride -1. Of other layouts else: where the magnitude of the stride of each axis
+/// of other than one entry is the product of the lengths of all axes before it, in the order of
+/// those magnitudes.
 ///
 /// Takes no memory. Upstream's `is_contiguous`.
 pub fn is_contiguous(lens: &[usize], strides: &[usize]) -> bool

@@ -14,8 +14,9 @@ pub(crate) fn magnitude_at(strides: &[usize], axis: usize) -> usize
         .map_or(0, |stride| signed(*stride).unsigned_abs())
 }
 
-/// The axis whose stride is of least magnitude among those of more than one entry, and the last of these
-/// where several are; the last axis where none has more than one entry. Upstream's `min_stride_axis`.
+/// The axis whose stride is of least magnitude among those of more than one entry, and the last
+/// of these where several are; the last axis where none has more than one entry. Upstream's
+/// `min_stride_axis`.
 pub fn min_stride_axis(lens: &[usize], strides: &[usize]) -> usize
     requires some_axis { 0 < length lens.now }
     requires same_count { length lens.now ≡ length strides.now }
@@ -32,8 +33,8 @@ pub fn min_stride_axis(lens: &[usize], strides: &[usize]) -> usize
     least
 }
 
-/// The axis whose stride is of greatest magnitude among those of more than one entry, and the last of
-/// these where several are; the first axis where none has more than one entry. Upstream's
+/// The axis whose stride is of greatest magnitude among those of more than one entry, and the
+/// last of these where several are; the first axis where none has more than one entry. Upstream's
 /// `max_stride_axis`.
 pub fn max_stride_axis(lens: &[usize], strides: &[usize]) -> usize
     requires some_axis { 0 < length lens.now }

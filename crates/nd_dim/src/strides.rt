@@ -3,8 +3,8 @@ ghost use Rattle.std.specs.Prelude.{◌≡◌, ◌<◌, ◌^◌, ◌↔◌, IsTr
 ghost use Rattle.nd_base.specs.Size.{size};
 ghost use Rattle.nd_dim.specs.Strides.{default_strides, fortran_strides, AreEquivalent};
 
-/// Writes the strides by which the last axis moves fastest: each the product of the later lengths, and all
-/// 0 where some length is 0. The strides of upstream's `default_strides`.
+/// Writes the strides by which the last axis moves fastest: each the product of the later
+/// lengths, and all 0 where some length is 0. The strides of upstream's `default_strides`.
 pub fn fill_default_strides(lens: &[usize], strides: &mut [usize])
     requires same_count { length lens.now ≡ length strides.old }
     requires size_fits { size lens.now < 2 ^ 64 }
@@ -21,8 +21,8 @@ pub fn fill_default_strides(lens: &[usize], strides: &mut [usize])
     }
 }
 
-/// Writes the strides by which the first axis moves fastest: each the product of the earlier lengths, and
-/// all 0 where some length is 0. The strides of upstream's `fortran_strides`.
+/// Writes the strides by which the first axis moves fastest: each the product of the earlier
+/// lengths, and all 0 where some length is 0. The strides of upstream's `fortran_strides`.
 pub fn fill_fortran_strides(lens: &[usize], strides: &mut [usize])
     requires same_count { length lens.now ≡ length strides.old }
     requires size_fits { size lens.now < 2 ^ 64 }
@@ -39,8 +39,8 @@ pub fn fill_fortran_strides(lens: &[usize], strides: &mut [usize])
     }
 }
 
-/// Whether both lists of strides have one for each axis, and agree wherever an axis has more than one
-/// entry. Upstream's `strides_equivalent`.
+/// Whether both lists of strides have one for each axis, and agree wherever an axis has more than
+/// one entry. Upstream's `strides_equivalent`.
 pub fn are_equivalent(lens: &[usize], strides: &[usize], others: &[usize]) -> bool
     ensures { IsTrue result ↔ AreEquivalent lens.now strides.now others.now }
 {
