@@ -17,6 +17,9 @@ with_lengths d xs = record d { index = xs }
 abbrev pub rewritten : Dim (List ℕ) → List ℕ → Dim (List ℕ)
 rewritten d xs = record d { index = refill (length d.index) d.index xs }
 
-pub lengths_rewritten : (d : Dim (List ℕ)) (xs : List ℕ) → length xs ≡ length (lengths d) → lengths (rewritten d xs) ≡ xs
+-- as many lengths replace those that there are
+pub lengths_rewritten : (d : Dim (List ℕ)) (xs : List ℕ)
+    → length xs ≡ length (lengths d) → lengths (rewritten d xs) ≡ xs
 lengths_rewritten d xs h =
-    ap (λ n. take n (xs ++ drop (length xs) d.index)) (sym h) ∙ take-append_seam xs (drop (length xs) d.index)
+    ap (λ n. take n (xs ++ drop (length xs) d.index)) (sym h)
+    ∙ take-append_seam xs (drop (length xs) d.index)

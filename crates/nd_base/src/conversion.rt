@@ -1,8 +1,8 @@
 //! From the entries of an index to a tuple.
 ghost use Rattle.std.specs.Prelude.{◌≡◌, [], ◌∷◌};
 
-/// What the entries of an index convert to: no entry to `()`, one to itself, more to a tuple. Upstream's
-/// `Convert`.
+/// What the entries of an index convert to: no entry to `()`, one to itself, more to a tuple.
+/// Upstream's `Convert`.
 pub trait Convert {
     /// The type of the parts.
     type To;
@@ -70,7 +70,8 @@ impl Convert for [usize; 4] {
 impl Convert for [usize; 5] {
     type To = (usize, usize, usize, usize, usize);
 
-    ghost convert_gives = { λ index parts. index ≡ parts.0 ∷ parts.1 ∷ parts.2 ∷ parts.3 ∷ parts.4 ∷ [] };
+    ghost convert_gives = { λ index parts.
+        index ≡ parts.0 ∷ parts.1 ∷ parts.2 ∷ parts.3 ∷ parts.4 ∷ [] };
 
     fn convert(self) -> (usize, usize, usize, usize, usize) {
         let [i0, i1, i2, i3, i4] = self;
@@ -81,7 +82,8 @@ impl Convert for [usize; 5] {
 impl Convert for [usize; 6] {
     type To = (usize, usize, usize, usize, usize, usize);
 
-    ghost convert_gives = { λ index parts. index ≡ parts.0 ∷ parts.1 ∷ parts.2 ∷ parts.3 ∷ parts.4 ∷ parts.5 ∷ [] };
+    ghost convert_gives = { λ index parts.
+        index ≡ parts.0 ∷ parts.1 ∷ parts.2 ∷ parts.3 ∷ parts.4 ∷ parts.5 ∷ [] };
 
     fn convert(self) -> (usize, usize, usize, usize, usize, usize) {
         let [i0, i1, i2, i3, i4, i5] = self;

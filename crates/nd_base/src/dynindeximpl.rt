@@ -112,7 +112,8 @@ impl IxDynImpl {
     /// The lengths, to be written; their count stays.
     #[inline]
     pub fn as_mut_slice(&mut self) -> &mut [usize]
-        ensures* writes_back { sem 𝓛 (Lends the_row (Array word 0) self.entry result (refill (length self.old) self.old)) }
+        ensures* writes_back { sem 𝓛 (Lends the_row (Array word 0) self.entry result
+            (refill (length self.old) self.old)) }
         ensures list { result.now ≡ self.old }
     {
         self.lens.as_mut_slice()
@@ -136,7 +137,8 @@ impl IndexMut<usize> for IxDynImpl {
 
     fn index_mut(&mut self, axis: usize) -> &mut usize
         requires { axis < length self.old }
-        ensures* writes_back { sem 𝓛 (Lends the_row word self.entry result (slice_set self.old axis)) }
+        ensures* writes_back { sem 𝓛 (Lends the_row word self.entry result
+            (slice_set self.old axis)) }
         ensures value { slice_get self.old axis ≡ Some result.now }
     {
         self.lens.get_mut(axis).unwrap()
@@ -266,8 +268,8 @@ mod tests {
         Ok(())
     }
 
-    // Where one request for memory is refused, whichever it is, a call that needs none goes well. One that
-    // needs memory may be refused, and then the next request is not.
+    // Where one request for memory is refused, whichever it is, a call that needs none goes well.
+    // One that needs memory may be refused, and then the next request is not.
     fn serves(alloc: Global, called: Result<IxDynImpl, AllocError>, needs_memory: bool) -> bool {
         let granted = grants(alloc);
         called.is_ok() || (needs_memory && granted)

@@ -1,4 +1,4 @@
-//! The operators of dimensions: a condition rules out counts that differ and results that are no `usize`.
+//! The operators of dimensions. Their conditions rule out other counts and results that do not fit.
 ghost use Rattle.std.specs.Prelude.{◌≡◌, ◌↔◌, [], ◌∷◌, replicate, IsTrue};
 ghost use Rattle.nd_base.specs.Dim.{lengths};
 ghost use Rattle.nd_base.specs.Entrywise.{sums, differences, products, scaled, SumsFit, DifferencesFit, ProductsFit, ScaledFit};
@@ -28,7 +28,8 @@ impl<const N: usize> Dim<[usize; N]> {
 impl<const N: usize> AddAssign<&Dim<[usize; N]>> for Dim<[usize; N]> {
     ghost can_add_assign = { λ dim others. SumsFit (lengths dim) (lengths others.now) };
 
-    ghost add_assign_gives = { λ dim others result. lengths result ≡ sums (lengths dim) (lengths others.now) };
+    ghost add_assign_gives = { λ dim others result.
+        lengths result ≡ sums (lengths dim) (lengths others.now) };
 
     fn add_assign(&mut self, others: &Self) {
         add_to(&mut self.index, &others.index);
@@ -38,7 +39,8 @@ impl<const N: usize> AddAssign<&Dim<[usize; N]>> for Dim<[usize; N]> {
 impl<const N: usize> AddAssign for Dim<[usize; N]> {
     ghost can_add_assign = { λ dim others. SumsFit (lengths dim) (lengths others) };
 
-    ghost add_assign_gives = { λ dim others result. lengths result ≡ sums (lengths dim) (lengths others) };
+    ghost add_assign_gives = { λ dim others result.
+        lengths result ≡ sums (lengths dim) (lengths others) };
 
     fn add_assign(&mut self, others: Self) {
         *self += &others;
@@ -61,7 +63,8 @@ impl<const N: usize> Add for Dim<[usize; N]> {
 impl<const N: usize> SubAssign<&Dim<[usize; N]>> for Dim<[usize; N]> {
     ghost can_sub_assign = { λ dim others. DifferencesFit (lengths dim) (lengths others.now) };
 
-    ghost sub_assign_gives = { λ dim others result. lengths result ≡ differences (lengths dim) (lengths others.now) };
+    ghost sub_assign_gives = { λ dim others result.
+        lengths result ≡ differences (lengths dim) (lengths others.now) };
 
     fn sub_assign(&mut self, others: &Self) {
         subtract_from(&mut self.index, &others.index);
@@ -71,7 +74,8 @@ impl<const N: usize> SubAssign<&Dim<[usize; N]>> for Dim<[usize; N]> {
 impl<const N: usize> SubAssign for Dim<[usize; N]> {
     ghost can_sub_assign = { λ dim others. DifferencesFit (lengths dim) (lengths others) };
 
-    ghost sub_assign_gives = { λ dim others result. lengths result ≡ differences (lengths dim) (lengths others) };
+    ghost sub_assign_gives = { λ dim others result.
+        lengths result ≡ differences (lengths dim) (lengths others) };
 
     fn sub_assign(&mut self, others: Self) {
         *self -= &others;
@@ -83,7 +87,8 @@ impl<const N: usize> Sub for Dim<[usize; N]> {
 
     ghost can_sub = { λ dim others. DifferencesFit (lengths dim) (lengths others) };
 
-    ghost sub_gives = { λ dim others result. lengths result ≡ differences (lengths dim) (lengths others) };
+    ghost sub_gives = { λ dim others result.
+        lengths result ≡ differences (lengths dim) (lengths others) };
 
     fn sub(mut self, others: Self) -> Self {
         self -= &others;
@@ -94,7 +99,8 @@ impl<const N: usize> Sub for Dim<[usize; N]> {
 impl<const N: usize> MulAssign<&Dim<[usize; N]>> for Dim<[usize; N]> {
     ghost can_mul_assign = { λ dim others. ProductsFit (lengths dim) (lengths others.now) };
 
-    ghost mul_assign_gives = { λ dim others result. lengths result ≡ products (lengths dim) (lengths others.now) };
+    ghost mul_assign_gives = { λ dim others result.
+        lengths result ≡ products (lengths dim) (lengths others.now) };
 
     fn mul_assign(&mut self, others: &Self) {
         multiply_by(&mut self.index, &others.index);
@@ -104,7 +110,8 @@ impl<const N: usize> MulAssign<&Dim<[usize; N]>> for Dim<[usize; N]> {
 impl<const N: usize> MulAssign for Dim<[usize; N]> {
     ghost can_mul_assign = { λ dim others. ProductsFit (lengths dim) (lengths others) };
 
-    ghost mul_assign_gives = { λ dim others result. lengths result ≡ products (lengths dim) (lengths others) };
+    ghost mul_assign_gives = { λ dim others result.
+        lengths result ≡ products (lengths dim) (lengths others) };
 
     fn mul_assign(&mut self, others: Self) {
         *self *= &others;
@@ -116,7 +123,8 @@ impl<const N: usize> Mul for Dim<[usize; N]> {
 
     ghost can_mul = { λ dim others. ProductsFit (lengths dim) (lengths others) };
 
-    ghost mul_gives = { λ dim others result. lengths result ≡ products (lengths dim) (lengths others) };
+    ghost mul_gives = { λ dim others result.
+        lengths result ≡ products (lengths dim) (lengths others) };
 
     fn mul(mut self, others: Self) -> Self {
         self *= &others;
@@ -173,7 +181,8 @@ impl Add<usize> for Ix1 {
 impl SubAssign<usize> for Ix1 {
     ghost can_sub_assign = { λ dim len. DifferencesFit (lengths dim) (len ∷ []) };
 
-    ghost sub_assign_gives = { λ dim len result. lengths result ≡ differences (lengths dim) (len ∷ []) };
+    ghost sub_assign_gives = { λ dim len result.
+        lengths result ≡ differences (lengths dim) (len ∷ []) };
 
     fn sub_assign(&mut self, len: usize) {
         subtract_from(&mut self.index, &[len]);

@@ -11,7 +11,8 @@ use std::ops::{Add, AddAssign, Mul, MulAssign, Sub, SubAssign};
 impl AddAssign<&Dim<IxDynImpl>> for Dim<IxDynImpl> {
     ghost can_add_assign = { λ dim others. SumsFit (lengths dim) (lengths others.now) };
 
-    ghost add_assign_gives = { λ dim others result. lengths result ≡ sums (lengths dim) (lengths others.now) };
+    ghost add_assign_gives = { λ dim others result.
+        lengths result ≡ sums (lengths dim) (lengths others.now) };
 
     #[tactic(auto, using(crate::proofs::Entrywise::refill_sums))]
     fn add_assign(&mut self, others: &Self) {
@@ -22,7 +23,8 @@ impl AddAssign<&Dim<IxDynImpl>> for Dim<IxDynImpl> {
 impl AddAssign for Dim<IxDynImpl> {
     ghost can_add_assign = { λ dim others. SumsFit (lengths dim) (lengths others) };
 
-    ghost add_assign_gives = { λ dim others result. lengths result ≡ sums (lengths dim) (lengths others) };
+    ghost add_assign_gives = { λ dim others result.
+        lengths result ≡ sums (lengths dim) (lengths others) };
 
     fn add_assign(&mut self, others: Self) {
         *self += &others;
@@ -45,7 +47,8 @@ impl Add for Dim<IxDynImpl> {
 impl SubAssign<&Dim<IxDynImpl>> for Dim<IxDynImpl> {
     ghost can_sub_assign = { λ dim others. DifferencesFit (lengths dim) (lengths others.now) };
 
-    ghost sub_assign_gives = { λ dim others result. lengths result ≡ differences (lengths dim) (lengths others.now) };
+    ghost sub_assign_gives = { λ dim others result.
+        lengths result ≡ differences (lengths dim) (lengths others.now) };
 
     #[tactic(auto, using(crate::proofs::Entrywise::refill_differences))]
     fn sub_assign(&mut self, others: &Self) {
@@ -56,7 +59,8 @@ impl SubAssign<&Dim<IxDynImpl>> for Dim<IxDynImpl> {
 impl SubAssign for Dim<IxDynImpl> {
     ghost can_sub_assign = { λ dim others. DifferencesFit (lengths dim) (lengths others) };
 
-    ghost sub_assign_gives = { λ dim others result. lengths result ≡ differences (lengths dim) (lengths others) };
+    ghost sub_assign_gives = { λ dim others result.
+        lengths result ≡ differences (lengths dim) (lengths others) };
 
     fn sub_assign(&mut self, others: Self) {
         *self -= &others;
@@ -68,7 +72,8 @@ impl Sub for Dim<IxDynImpl> {
 
     ghost can_sub = { λ dim others. DifferencesFit (lengths dim) (lengths others) };
 
-    ghost sub_gives = { λ dim others result. lengths result ≡ differences (lengths dim) (lengths others) };
+    ghost sub_gives = { λ dim others result.
+        lengths result ≡ differences (lengths dim) (lengths others) };
 
     fn sub(mut self, others: Self) -> Self {
         self -= &others;
@@ -79,7 +84,8 @@ impl Sub for Dim<IxDynImpl> {
 impl MulAssign<&Dim<IxDynImpl>> for Dim<IxDynImpl> {
     ghost can_mul_assign = { λ dim others. ProductsFit (lengths dim) (lengths others.now) };
 
-    ghost mul_assign_gives = { λ dim others result. lengths result ≡ products (lengths dim) (lengths others.now) };
+    ghost mul_assign_gives = { λ dim others result.
+        lengths result ≡ products (lengths dim) (lengths others.now) };
 
     #[tactic(auto, using(crate::proofs::Entrywise::refill_products))]
     fn mul_assign(&mut self, others: &Self) {
@@ -90,7 +96,8 @@ impl MulAssign<&Dim<IxDynImpl>> for Dim<IxDynImpl> {
 impl MulAssign for Dim<IxDynImpl> {
     ghost can_mul_assign = { λ dim others. ProductsFit (lengths dim) (lengths others) };
 
-    ghost mul_assign_gives = { λ dim others result. lengths result ≡ products (lengths dim) (lengths others) };
+    ghost mul_assign_gives = { λ dim others result.
+        lengths result ≡ products (lengths dim) (lengths others) };
 
     fn mul_assign(&mut self, others: Self) {
         *self *= &others;
@@ -102,7 +109,8 @@ impl Mul for Dim<IxDynImpl> {
 
     ghost can_mul = { λ dim others. ProductsFit (lengths dim) (lengths others) };
 
-    ghost mul_gives = { λ dim others result. lengths result ≡ products (lengths dim) (lengths others) };
+    ghost mul_gives = { λ dim others result.
+        lengths result ≡ products (lengths dim) (lengths others) };
 
     fn mul(mut self, others: Self) -> Self {
         self *= &others;

@@ -6,5 +6,6 @@ use Rattle.nd_base.proofs.entries.scale.Goals as goal
 
 pub loop-len-preserved : goal.loop-len-preserved
 loop-len-preserved c =
-    map_over_more (λ len. len * c.args.factor) c.args.lens.now c.loop-len.lens c.loop-len.len-index _ (omega arith) c.loop-len.invariant
+    map_over_more (λ len. len * c.args.factor) c.args.lens.now c.loop-len.lens
+    c.loop-len.len-index _ (omega arith) c.loop-len.invariant
     (get_or_default c.loop-len.lens c.loop-len.len-index 0 _ (omega arith))

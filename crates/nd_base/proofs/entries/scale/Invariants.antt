@@ -4,4 +4,5 @@ use Rattle.nd_base.proofs.entries.scale.Given as goal
 
 abbrev pub invariant-loop-len : goal.invariant-loop-len
 invariant-loop-len l =
-    l.lens ≡ map (λ len. len * l.factor) (take l.len-index l.initial.lens) ++ drop l.len-index l.initial.lens
+    l.lens ≡ map (λ len. len * l.factor) (take l.len-index l.initial.lens)
+    ++ drop l.len-index l.initial.lens

@@ -5,12 +5,15 @@ use Rattle.nd_base.proofs.entries.subtract_from.Goals as goal
 
 pub overflow_sub-lens : goal.overflow_sub-lens
 overflow_sub-lens c =
-    combined_read (λ x y. y ≤ x) (λ x y. x - y) _ _ _ _ c.requires c.loop-axis.invariant c.loop-axis-test.true
+    combined_read (λ x y. y ≤ x) (λ x y. x - y) _ _ _ _
+    c.requires c.loop-axis.invariant c.loop-axis-test.true
 
 pub loop-axis-preserved : goal.loop-axis-preserved
 loop-axis-preserved c =
-    combined_more (λ x y. y ≤ x) (λ x y. x - y) _ _ _ _ c.requires c.loop-axis.invariant c.loop-axis-test.true
+    combined_more (λ x y. y ≤ x) (λ x y. x - y) _ _ _ _
+    c.requires c.loop-axis.invariant c.loop-axis-test.true
 
 pub returns : goal.returns
 returns c =
-    combined_all (λ x y. y ≤ x) (λ x y. x - y) _ _ _ _ c.requires c.loop-axis.invariant (omega arith)
+    combined_all (λ x y. y ≤ x) (λ x y. x - y) _ _ _ _
+    c.requires c.loop-axis.invariant (omega arith)
