@@ -1,5 +1,8 @@
 -- The list of lengths that a dimension is.
-use Rattle.std.specs.Prelude.{ℕ, List}
+use Rattle.std.specs.Prelude.{◌≡◌, ℕ, List, ◌++◌, take, drop, length}
+use Rattle.std.specs.List.{refill}
+use Rattle.std.proofs.Common.{ap, sym, ◌∙◌}
+use Rattle.std.proofs.Math.Seq.{take-append_seam}
 use Rattle.nd_base.specs.declared.dim.Dim.{Dim}
 
 -- its lengths, in order
@@ -9,3 +12,14 @@ lengths d = d.index
 -- the same with other lengths
 abbrev pub with_lengths : Dim (List ℕ) → List ℕ → Dim (List ℕ)
 with_lengths d xs = record d { index = xs }
+
+-- the same with other lengths, as many as it has
+abbrev pub rewritten : Dim (List ℕ) → List ℕ → Dim (List ℕ)
+rewritten d xs = record d { index = refill (length d.index) d.index xs }
+
+-- as many lengths replace those that there are
+pub lengths_rewritten : (d : Dim (List ℕ)) (xs : List ℕ)
+    → length xs ≡ length (lengths d) → lengths (rewritten d xs) ≡ xs
+lengths_rewritten d xs h =
+    ap (λ n. take n (xs ++ drop (length xs) d.index)) (sym h)
+    ∙ take-append_seam xs (drop (length xs) d.index)

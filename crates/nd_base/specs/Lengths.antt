@@ -10,3 +10,8 @@ IsCount (Some k) n = n ≡ k
 abbrev pub NeedsNoMemory : Option ℕ → ℕ → Type 0
 NeedsNoMemory None n = n ≤ 4
 NeedsNoMemory (Some k) n = Unit {0}
+
+-- how many lengths the default value has: as many as the type fixes, or one
+abbrev pub default_count : Option ℕ → ℕ
+default_count None = 1
+default_count (Some k) = k

@@ -1,6 +1,12 @@
 pub mod Dim
+pub mod Entrywise
 pub mod ErrorText
 pub mod Indices
 pub mod Lengths
+pub mod Order
+pub mod Place
+pub mod Reach
 pub mod Signed
 pub mod Size
+pub mod Span
+pub mod ValidLayout

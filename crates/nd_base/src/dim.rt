@@ -1,22 +1,50 @@
 //! The dimension types.
-ghost use Rattle.std.specs.Prelude.{◌≡◌, ◌<◌, [], ◌∷◌, Some, length, slice_get, refl};
+ghost use Rattle.std.specs.Prelude.{◌≡◌, ◌↔◌, ◌<◌, IsTrue, [], ◌∷◌, Some, length, replicate, slice_get, refl};
+ghost use Rattle.std.specs.Cmp.{unsigned_Decides};
+ghost use Rattle.std.proofs.lemmas.Slice.Eq.{slice_eq-Decides};
 ghost use Rattle.nd_base.specs.Dim.{lengths, with_lengths};
 
+use crate::dynindeximpl::IxDynImpl;
 use crate::lengths::{FixedCount, Lengths};
 use std::alloc::{AllocError, Global};
 use std::ops::{Index, IndexMut};
 
 /// A dimension: the lengths of the axes, in order.
-#[derive(Clone, Copy, PartialEq, Eq, Hash, Debug, Default)]
+#[derive(Clone, Copy, Drop, PartialEq, Eq, Hash, Debug)]
 pub struct Dim<I> {
-    index: I,
+    pub(crate) index: I,
 }
+
+/// No axes.
+pub type Ix0 = Dim<[usize; 0]>;
 
 /// One axis.
 pub type Ix1 = Dim<[usize; 1]>;
 
 /// Two axes.
 pub type Ix2 = Dim<[usize; 2]>;
+
+/// Three axes.
+pub type Ix3 = Dim<[usize; 3]>;
+
+/// Four axes.
+pub type Ix4 = Dim<[usize; 4]>;
+
+/// Five axes.
+pub type Ix5 = Dim<[usize; 5]>;
+
+/// Six axes.
+pub type Ix6 = Dim<[usize; 6]>;
+
+/// Any number of axes.
+pub type IxDyn = Dim<IxDynImpl>;
+
+/// The shape or the index of no axes. Upstream's `Ix0()`.
+pub const fn new_ix0() -> Ix0
+    ensures { lengths result ≡ [] }
+{
+    Dim { index: [] }
+}
 
 /// A shape or an index of one axis. Upstream's `Ix1(..)`.
 pub const fn new_ix1(i0: usize) -> Ix1
@@ -30,6 +58,60 @@ pub const fn new_ix2(i0: usize, i1: usize) -> Ix2
     ensures { lengths result ≡ i0 ∷ i1 ∷ [] }
 {
     Dim { index: [i0, i1] }
+}
+
+/// A shape or an index of three axes. Upstream's `Ix3(..)`.
+pub const fn new_ix3(i0: usize, i1: usize, i2: usize) -> Ix3
+    ensures { lengths result ≡ i0 ∷ i1 ∷ i2 ∷ [] }
+{
+    Dim {
+        index: [i0, i1, i2],
+    }
+}
+
+/// A shape or an index of four axes. Upstream's `Ix4(..)`.
+pub const fn new_ix4(i0: usize, i1: usize, i2: usize, i3: usize) -> Ix4
+    ensures { lengths result ≡ i0 ∷ i1 ∷ i2 ∷ i3 ∷ [] }
+{
+    Dim {
+        index: [i0, i1, i2, i3],
+    }
+}
+
+/// A shape or an index of five axes. Upstream's `Ix5(..)`.
+pub const fn new_ix5(i0: usize, i1: usize, i2: usize, i3: usize, i4: usize) -> Ix5
+    ensures { lengths result ≡ i0 ∷ i1 ∷ i2 ∷ i3 ∷ i4 ∷ [] }
+{
+    Dim {
+        index: [i0, i1, i2, i3, i4],
+    }
+}
+
+/// A shape or an index of six axes. Upstream's `Ix6(..)`.
+pub const fn new_ix6(i0: usize, i1: usize, i2: usize, i3: usize, i4: usize, i5: usize) -> Ix6
+    ensures { lengths result ≡ i0 ∷ i1 ∷ i2 ∷ i3 ∷ i4 ∷ i5 ∷ [] }
+{
+    Dim {
+        index: [i0, i1, i2, i3, i4, i5],
+    }
+}
+
+impl<const N: usize> Dim<[usize; N]> {
+    /// The dimension of these lengths. Upstream's `Dim::new`.
+    #[inline]
+    pub const fn new(index: [usize; N]) -> Self
+        ensures { lengths result ≡ index.entry }
+    {
+        Dim { index }
+    }
+}
+
+impl<const N: usize> Default for Dim<[usize; N]> {
+    ghost is_default = { λ d. lengths d ≡ replicate N 0 };
+
+    fn default() -> Self {
+        Dim { index: [0; N] }
+    }
 }
 
 impl<const N: usize> Index<usize> for Dim<[usize; N]> {
@@ -88,6 +170,8 @@ impl<const N: usize> Lengths for Dim<[usize; N]> {
         Ok(*self)
     }
 
+    ghost eq_of_lists = { λ d e. slice_eq-Decides unsigned_Decides (lengths d) (lengths e) _ refl };
+
     ghost list_of_with_list = { λ d xs h. refl };
 
     ghost can_index_below = { λ d i h. h };
@@ -98,13 +182,21 @@ impl<const N: usize> Lengths for Dim<[usize; N]> {
 #[cfg(test)]
 mod tests {
     use super::*;
+    use crate::ixdyn::new_ixdyn;
     use std::process::Abort;
     use std::test::Fail;
 
+    // `==` by the bound alone.
+    fn are_one<D: Lengths>(dim: &D, other: &D) -> bool
+        ensures { IsTrue result ↔ (D.list dim.now ≡ D.list other.now) }
+    {
+        dim == other
+    }
+
     // What every dimension type can do, through its bound alone.
-    fn behaves<D: Lengths + Drop>(rt: &impl Abort, alloc: Global, dim: &D) -> Result<(), Fail> {
+    fn behaves<D: Lengths>(rt: &impl Abort, alloc: Global, dim: &D) -> Result<(), Fail> {
         let same = dim.duplicate(alloc)?;
-        assert!(rt; same.equal(dim) && same == *dim);
+        assert!(rt; same.equal(dim) && are_one(&same, dim));
         assert_eq!(rt; dim.slice().len(), dim.ndim());
         assert!(rt; D::NDIM.is_none_or(|count| count == dim.ndim()));
         Ok(())
@@ -116,6 +208,7 @@ mod tests {
         let mut two = new_ix2(2, 3);
         behaves(&rt, rt.alloc(), &one)?;
         behaves(&rt, rt.alloc(), &two)?;
+        behaves(&rt, rt.alloc(), &new_ixdyn(rt.alloc(), &[2, 3])?)?;
         assert_eq!(rt; one.slice(), [4].as_slice());
         assert_eq!(rt; two.slice(), [2, 3].as_slice());
         two[1] = 7;
@@ -128,5 +221,20 @@ mod tests {
         assert_eq!(rt; Ix2::zeros(rt.alloc(), 2)?.slice(), [0, 0].as_slice());
         assert_eq!(rt; Ix1::NDIM, Some(1));
         Ok(())
+    }
+
+    #[test]
+    fn r2_rows(rt: HostRuntime) {
+        assert_eq!(rt; new_ix0().slice().len(), 0);
+        assert_eq!(rt; new_ix1(2).slice(), [2].as_slice());
+        assert_eq!(rt; new_ix2(2, 3).slice(), [2, 3].as_slice());
+        assert_eq!(rt; new_ix3(2, 3, 4).slice(), [2, 3, 4].as_slice());
+        assert_eq!(rt; new_ix4(2, 3, 4, 5).slice(), [2, 3, 4, 5].as_slice());
+        assert_eq!(rt; new_ix5(2, 3, 4, 5, 6).slice(), [2, 3, 4, 5, 6].as_slice());
+        assert_eq!(rt;
+            new_ix6(2, 3, 4, 5, 6, 7).slice(),
+            [2, 3, 4, 5, 6, 7].as_slice()
+        );
+        assert_eq!(rt; Ix3::default().slice(), [0, 0, 0].as_slice());
     }
 }

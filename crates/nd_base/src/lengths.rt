@@ -1,5 +1,6 @@
 //! What all dimension types share: a value stands for its list of lengths and for nothing else.
 ghost use Rattle.std.specs.Prelude.{◌≡◌, ℕ, ◌<◌, ◌↔◌, List, length, replicate, IsTrue, IsOk, IfOk, Option, Some, slice_get};
+ghost use Rattle.std.specs.Bool.{Decides};
 ghost use Rattle.std.specs.Borrow.{Lends, sem, Array, u64 as word};
 ghost use Rattle.nd_base.specs.Lengths.{NeedsNoMemory, IsCount};
 
@@ -17,7 +18,7 @@ pub trait FixedCount {
 
 /// A list of lengths, or of the entries of an index: one number for each axis, in order. What the values
 /// of a type do depends on this list alone. The part of upstream's `Dimension` that needs no other trait.
-pub trait Lengths: FixedCount + Eq + Debug + IndexMut<usize, Output = usize> {
+pub trait Lengths: FixedCount + Eq + Debug + IndexMut<usize, Output = usize> + Drop {
     // The list that a value stands for.
     ghost list: { Self → List ℕ };
 
@@ -61,6 +62,9 @@ pub trait Lengths: FixedCount + Eq + Debug + IndexMut<usize, Output = usize> {
         Self: Sized,
         ensures list { IfOk result (λ d. list d ≡ list self.now) }
         ensures memory { NeedsNoMemory Self.NDIM (length (list self.now)) → IsOk result };
+
+    // `==` tells whether the lists are one.
+    ghost eq_of_lists: { (d e : Self) → Decides (Self.PartialEq.eq d e) (list d ≡ list e) };
 
     // Lists of one count replace one another.
     ghost list_of_with_list: { (d : Self) (xs : List ℕ) → length xs ≡ length (list d) → list (with_list d xs) ≡ xs };

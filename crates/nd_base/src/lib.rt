@@ -2,16 +2,31 @@
 //! errors, and strides read as signed numbers.
 #![tactic(auto)]
 
+mod arithmetic;
 mod axis;
+mod conversion;
 mod dim;
+mod dynindeximpl;
+mod entries;
 mod error;
+mod ixdyn;
 mod lengths;
+mod offsets;
+mod ops;
 mod order;
 mod strides;
 
-pub use axis::Axis;
-pub use dim::{Dim, Ix1, Ix2, new_ix1, new_ix2};
+pub use arithmetic::{Arithmetic, Scale};
+pub use axis::{Axis, axis_of, set_axis_of};
+pub use conversion::Convert;
+pub use dim::{
+    Dim, Ix0, Ix1, Ix2, Ix3, Ix4, Ix5, Ix6, IxDyn, new_ix0, new_ix1, new_ix2, new_ix3, new_ix4,
+    new_ix5, new_ix6,
+};
+pub use dynindeximpl::IxDynImpl;
 pub use error::{ErrorKind, LayoutError, ShapeError, from_kind};
+pub use ixdyn::new_ixdyn;
 pub use lengths::{FixedCount, Lengths};
+pub use offsets::{offset_of, stride_offset_checked};
 pub use order::Order;
 pub use strides::{signed, stride_offset, unsigned};

@@ -1,5 +1,6 @@
 //! In which order the indices of a shape are read.
-ghost use Rattle.std.specs.Prelude.{◌≡◌};
+ghost use Rattle.std.specs.Prelude.{◌≡◌, ◌↔◌, IsTrue, cond, if◌then◌else◌};
+ghost use Rattle.nd_base.specs.Order.{transposed};
 
 /// The order in which the indices of a shape are read. Upstream's `Order`.
 #[derive(Clone, Copy, PartialEq, Eq, Debug)]
@@ -8,4 +9,87 @@ pub enum Order {
     RowMajor,
     /// The first axis moves fastest.
     ColumnMajor,
+}
+
+impl Order {
+    /// Row-major order under C's name. Upstream's `Order::C`.
+    pub const C: Order = Order::RowMajor;
+
+    /// Column-major order under Fortran's name. Upstream's `Order::F`.
+    pub const F: Order = Order::ColumnMajor;
+
+    /// Whether the last axis moves fastest.
+    #[inline]
+    pub const fn is_row_major(self) -> bool
+        ensures { IsTrue result ↔ (self ≡ Order.RowMajor) }
+    {
+        matches!(self, Order::RowMajor)
+    }
+
+    /// Whether the first axis moves fastest.
+    #[inline]
+    pub const fn is_column_major(self) -> bool
+        ensures { IsTrue result ↔ (self ≡ Order.ColumnMajor) }
+    {
+        matches!(self, Order::ColumnMajor)
+    }
+
+    /// Row-major order where the answer is yes, and else column-major order.
+    #[inline]
+    pub const fn row_major(row_major: bool) -> Order
+        ensures { result ≡ (if row_major then Order.RowMajor else Order.ColumnMajor) }
+    {
+        if row_major {
+            Order::RowMajor
+        } else {
+            Order::ColumnMajor
+        }
+    }
+
+    /// Column-major order where the answer is yes, and else row-major order.
+    #[inline]
+    pub const fn column_major(column_major: bool) -> Order
+        ensures { result ≡ (if column_major then Order.ColumnMajor else Order.RowMajor) }
+    {
+        if column_major {
+            Order::ColumnMajor
+        } else {
+            Order::RowMajor
+        }
+    }
+
+    /// The other order. Upstream's `transpose`.
+    #[inline]
+    pub const fn transpose(self) -> Order
+        ensures other { result ≡ transposed self }
+        ensures back { transposed result ≡ self }
+    {
+        match self {
+            Order::RowMajor => Order::ColumnMajor,
+            Order::ColumnMajor => Order::RowMajor,
+        }
+    }
+}
+
+#[cfg(test)]
+mod tests {
+    use super::*;
+
+    #[test]
+    fn r2_rows(rt: HostRuntime) {
+        let rows = [
+            (Order::RowMajor, true, Order::ColumnMajor),
+            (Order::ColumnMajor, false, Order::RowMajor),
+        ];
+        for (order, is_row_major, other) in rows {
+            assert_eq!(rt; order.is_row_major(), is_row_major);
+            assert_eq!(rt; order.is_column_major(), !is_row_major);
+            assert_eq!(rt; Order::row_major(is_row_major), order);
+            assert_eq!(rt; Order::column_major(is_row_major), other);
+            assert_eq!(rt; order.transpose(), other);
+            assert_eq!(rt; order.transpose().transpose(), order);
+        }
+        assert_eq!(rt; Order::C, Order::RowMajor);
+        assert_eq!(rt; Order::F, Order::ColumnMajor);
+    }
 }

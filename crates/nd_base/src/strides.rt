@@ -7,7 +7,8 @@ ghost use Rattle.nd_base.specs.Signed.{signed as signed_reading, unsigned as uns
 /// What a kept stride means: the signed number of the same 64 bits.
 #[inline]
 pub const fn signed(stride: usize) -> isize
-    ensures { result ≡ signed_reading stride }
+    ensures same_bits { result ≡ signed_reading stride }
+    ensures back { unsigned_bits result ≡ stride }
 {
     stride.cast_signed()
 }
@@ -15,7 +16,8 @@ pub const fn signed(stride: usize) -> isize
 /// How a signed stride is kept: the unsigned number of the same 64 bits.
 #[inline]
 pub const fn unsigned(stride: isize) -> usize
-    ensures { result ≡ unsigned_bits stride }
+    ensures same_bits { result ≡ unsigned_bits stride }
+    ensures back { signed_reading result ≡ stride }
 {
     stride.cast_unsigned()
 }

@@ -1,0 +1,4 @@
+pub mod AxisOrder
+pub mod Contiguous
+pub mod LastLen
+pub mod Strides

@@ -1,19 +1,305 @@
 //! What a shape and an index can do, whatever their type.
-ghost use Rattle.std.specs.Prelude.{◌<◌, ◌^◌, SomeIff};
-ghost use Rattle.nd_base.specs.Size.{size};
+ghost use Rattle.std.specs.List.{All};
+ghost use Rattle.std.specs.Option.{option_map};
+ghost use Rattle.std.specs.Prelude.{◌≡◌, ℕ, ◌+◌, ◌-◌, ◌<◌, ◌≤◌, ◌^◌, ◌↔◌, ◌⊎◌, length, insert, remove, replicate, slice_set, Some, None, SomeIff, IsTrue, IsOk, IfOk};
+ghost use Rattle.nd_base.specs.Dim.{lengths};
+ghost use Rattle.nd_base.specs.Lengths.{IsCount, NeedsNoMemory, default_count};
+ghost use Rattle.nd_base.specs.Place.{offset_of as offset_of_index, checked_offset};
+ghost use Rattle.nd_base.specs.Reach.{farthest_offset};
+ghost use Rattle.nd_base.specs.Signed.{all_signed};
+ghost use Rattle.nd_base.specs.Size.{size, nonzero_size, limit};
+ghost use Rattle.nd_base.specs.ValidLayout.{IsValidLayout};
+ghost use Rattle.nd_dim.specs.AxisOrder.{IsLeastStrideAxis, IsGreatestStrideAxis, IsStrideOrder};
+ghost use Rattle.nd_dim.specs.Contiguous.{is_contiguous as is_contiguous_layout};
+ghost use Rattle.nd_dim.specs.LastLen.{last_len as last_of_lengths};
+ghost use Rattle.nd_dim.specs.Strides.{default_strides as default_strides_of, fortran_strides as fortran_strides_of, AreEquivalent};
 
-use crate::sizes::checked_size;
-use nd_base::{Dim, Lengths};
+use crate::axis_edits::{insert_axis_into, last_len, remove_axis_into, set_last_len};
+use crate::contiguous::is_contiguous;
+use crate::conversion::IntoDimension;
+use crate::sizes::{checked_size, product};
+use crate::stride_axes::{max_stride_axis, min_stride_axis};
+use crate::stride_order::fill_stride_order;
+use crate::strides::{are_equivalent, fill_default_strides, fill_fortran_strides};
+use nd_base::{
+    Arithmetic, Axis, IxDyn, Lengths, Scale, new_ixdyn, offset_of, stride_offset_checked,
+};
+use std::alloc::{AllocError, Global};
 
-/// A shape or an index: one list of lengths. Upstream's `Dimension`.
-pub trait Dimension: Lengths {
+/// A shape, an index, or a list of strides: one list of numbers, one for each axis. Upstream's
+/// `Dimension`.
+pub trait Dimension: Lengths + Arithmetic + Scale {
+    /// A number, a tuple or the dimension itself: the form that a pattern takes apart. Upstream's
+    /// `Pattern`.
+    type Pattern: IntoDimension<Dim = Self>;
+
+    /// The type of one axis less, where there is one. Upstream's `Smaller`.
+    type Smaller: Lengths;
+
+    /// The type of one axis more. Upstream's `Larger`.
+    type Larger: Lengths;
+
+    /// The same list in the form that a pattern takes apart. Upstream's `into_pattern`.
+    fn into_pattern(self) -> Self::Pattern
+        ensures { Self.Pattern.lens result ≡ Self.list self };
+
+    /// The same list, as a dimension of any number of axes. Upstream's `into_dyn`.
+    ///
+    /// Errors: want of memory, and none where there are at most 4 axes.
+    fn into_dyn(self, alloc: Global) -> Result<IxDyn, AllocError>
+    where
+        Self: Sized,
+        ensures list { IfOk result (λ dim. lengths dim ≡ Self.list self) }
+        ensures memory { length (Self.list self) ≤ 4 → IsOk result }
+    {
+        new_ixdyn(alloc, self.slice())
+    }
+
+    // The smaller type has one axis less, or none,
+    ghost smaller_count: { (n : ℕ) → IsCount Self.FixedCount.NDIM n → IsCount Self.Smaller.NDIM (n - 1) };
+
+    // and the larger one has one axis more.
+    ghost larger_count: { (n : ℕ) → IsCount Self.FixedCount.NDIM n → IsCount Self.Larger.NDIM (n + 1) };
+
+    /// The product of all lengths, which fits. Upstream's `size`.
+    #[inline]
+    final fn size(&self) -> usize
+        requires { size (Self.list self.now) < 2 ^ 64 }
+        ensures { result ≡ size (Self.list self.now) }
+    {
+        product(self.slice())
+    }
+
     /// The product of all lengths, where it fits; 0 wherever a length is 0. Upstream's `size_checked`.
     #[inline]
-    fn size_checked(&self) -> Option<usize>
+    final fn size_checked(&self) -> Option<usize>
         ensures { SomeIff result (size (Self.list self.now) < 2 ^ 64) (size (Self.list self.now)) }
     {
         checked_size(self.slice())
     }
-}
 
-impl<const N: usize> Dimension for Dim<[usize; N]> {}
+    /// The strides, in elements, by which the last axis moves fastest; all 0 where a length is 0.
+    /// The size fits. Upstream's `default_strides`.
+    ///
+    /// Errors: want of memory, and none where the type fixes the count or there are at most 4 axes.
+    final fn default_strides(&self, alloc: Global) -> Result<Self, AllocError>
+    where
+        Self: Sized,
+        requires { size (Self.list self.now) < 2 ^ 64 }
+        ensures list { IfOk result (λ strides.
+            Self.list strides ≡ default_strides_of (Self.list self.now)) }
+        ensures memory { NeedsNoMemory Self.NDIM (length (Self.list self.now)) → IsOk result }
+    {
+        let mut strides = Self::zeros(alloc, self.ndim())?;
+        fill_default_strides(self.slice(), strides.slice_mut());
+        Ok(strides)
+    }
+
+    /// The strides, in elements, by which the first axis moves fastest; all 0 where a length is 0.
+    /// The size fits. Upstream's `fortran_strides`.
+    ///
+    /// Errors: want of memory, and none where the type fixes the count or there are at most 4 axes.
+    final fn fortran_strides(&self, alloc: Global) -> Result<Self, AllocError>
+    where
+        Self: Sized,
+        requires { size (Self.list self.now) < 2 ^ 64 }
+        ensures list { IfOk result (λ strides.
+            Self.list strides ≡ fortran_strides_of (Self.list self.now)) }
+        ensures memory { NeedsNoMemory Self.NDIM (length (Self.list self.now)) → IsOk result }
+    {
+        let mut strides = Self::zeros(alloc, self.ndim())?;
+        fill_fortran_strides(self.slice(), strides.slice_mut());
+        Ok(strides)
+    }
+
+    /// Zeros, as many as the type fixes, or one where it fixes no count. In place of upstream's
+    /// `Default`.
+    ///
+    /// Errors: none.
+    final fn default_in(alloc: Global) -> Result<Self, AllocError>
+    where
+        Self: Sized,
+        ensures list { IfOk result (λ dim. Self.list dim ≡ replicate (default_count Self.NDIM) 0) }
+        ensures memory { IsOk result }
+    {
+        Self::zeros(alloc, Self::NDIM.unwrap_or(1))
+    }
+
+    /// Whether both lists of strides have one for each axis, and agree wherever an axis has more
+    /// than one entry. Upstream's `strides_equivalent`.
+    final fn strides_equivalent<D: Lengths>(&self, strides: &Self, others: &D) -> bool
+        ensures { IsTrue result ↔ AreEquivalent
+            (Self.list self.now)
+            (Self.list strides.now)
+            (D.list others.now) }
+    {
+        are_equivalent(self.slice(), strides.slice(), others.slice())
+    }
+
+    /// How many elements lie between the first index and this one, with its sign, whatever the
+    /// shape: the sum of each entry times its stride. There is a stride for each entry, and no
+    /// part of the sum passes the greatest `isize`. Upstream's `stride_offset`.
+    #[inline]
+    final fn stride_offset(index: &Self, strides: &Self) -> isize
+        requires same_count { length (Self.list index.now) ≡ length (Self.list strides.now) }
+        requires small { All (λ entry. entry ≤ limit) (Self.list index.now) }
+        requires fits { farthest_offset (all_signed (Self.list strides.now)) (Self.list index.now)
+            ≤ limit }
+        ensures { result ≡ offset_of_index (all_signed (Self.list strides.now)) (Self.list index.now) }
+    {
+        offset_of(strides.slice(), index.slice())
+    }
+
+    /// How many elements lie between the first index of this shape and another one, with its sign;
+    /// `None` where that is no index of the shape. The layout is valid. Upstream's
+    /// `stride_offset_checked`.
+    #[inline]
+    final fn stride_offset_checked(&self, strides: &Self, index: &Self) -> Option<isize>
+        requires { IsValidLayout (Self.list self.now) (all_signed (Self.list strides.now)) }
+        ensures { result ≡ checked_offset
+            (Self.list self.now)
+            (all_signed (Self.list strides.now))
+            (Self.list index.now) }
+    {
+        stride_offset_checked(self.slice(), strides.slice(), index.slice())
+    }
+
+    /// The length of the last axis, or 0 without axes. Upstream's `last_elem`.
+    #[inline]
+    final fn last_elem(&self) -> usize
+        ensures { result ≡ last_of_lengths (Self.list self.now) }
+    {
+        last_len(self.slice())
+    }
+
+    /// Gives the last axis, which there is, another length. Upstream's `set_last_elem`.
+    #[inline]
+    final fn set_last_elem(&mut self, len: usize)
+        requires { 0 < length (Self.list self.old) }
+        ensures { Self.list self.new ≡
+            slice_set (Self.list self.old) (length (Self.list self.old) - 1) len }
+    {
+        set_last_len(self.slice_mut(), len);
+    }
+
+    /// Whether the indices of a shape fill a stretch of memory without a gap, by a rule on lengths
+    /// and strides. True where the strides are the default ones. Of a lone axis else: where it has
+    /// at most one entry or the stride -1. Of other layouts else: where the magnitude of the stride
+    /// of each axis of other than one entry is the product of the lengths of all axes before it, in
+    /// the order of those magnitudes. There is a stride for each axis, and the product of the
+    /// lengths, zeros aside, is at most the greatest `isize`.
+    ///
+    /// Takes no memory. Upstream's `is_contiguous`.
+    final fn is_contiguous(dim: &Self, strides: &Self) -> bool
+        requires same_count { length (Self.list dim.now) ≡ length (Self.list strides.now) }
+        requires size_fits { nonzero_size (Self.list dim.now) ≤ limit }
+        ensures { result ≡
+            is_contiguous_layout (Self.list dim.now) (all_signed (Self.list strides.now)) }
+    {
+        is_contiguous(dim.slice(), strides.slice())
+    }
+
+    /// The numbers of the axes whose strides these are, that of the least stride first, whatever
+    /// the signs; axes of equal strides stand in their own order. Upstream's
+    /// `_fastest_varying_stride_order`.
+    ///
+    /// Errors: want of memory, and none where the type fixes the count or there are at most 4 axes.
+    final fn _fastest_varying_stride_order(&self, alloc: Global) -> Result<Self, AllocError>
+    where
+        Self: Sized,
+        ensures list { IfOk result (λ order.
+            IsStrideOrder (all_signed (Self.list self.now)) (Self.list order)) }
+        ensures memory { NeedsNoMemory Self.NDIM (length (Self.list self.now)) → IsOk result }
+    {
+        let mut order = Self::zeros(alloc, self.ndim())?;
+        fill_stride_order(self.slice(), order.slice_mut());
+        Ok(order)
+    }
+
+    /// The axis whose stride is of least magnitude among those of more than one entry, and the last
+    /// of these where several are; the last axis where none has more than one entry. There is an
+    /// axis, and a stride for each. Upstream's `min_stride_axis`.
+    final fn min_stride_axis(&self, strides: &Self) -> Axis
+        requires some_axis { 0 < length (Self.list self.now) }
+        requires same_count { length (Self.list self.now) ≡ length (Self.list strides.now) }
+        ensures { IsLeastStrideAxis
+            (Self.list self.now)
+            (all_signed (Self.list strides.now))
+            result.0 }
+    {
+        Axis(min_stride_axis(self.slice(), strides.slice()))
+    }
+
+    /// The axis whose stride is of greatest magnitude among those of more than one entry, and the
+    /// last of these where several are; the first axis where none has more than one entry. There is
+    /// an axis, and a stride for each. Upstream's `max_stride_axis`.
+    final fn max_stride_axis(&self, strides: &Self) -> Axis
+        requires some_axis { 0 < length (Self.list self.now) }
+        requires same_count { length (Self.list self.now) ≡ length (Self.list strides.now) }
+        ensures { IsGreatestStrideAxis
+            (Self.list self.now)
+            (all_signed (Self.list strides.now))
+            result.0 }
+    {
+        Axis(max_stride_axis(self.slice(), strides.slice()))
+    }
+
+    /// The same list as a dimension of this type, or `None` where the type fixes another count.
+    /// Upstream's `from_dimension`.
+    ///
+    /// Errors: want of memory, and none where the type fixes the count or there are at most 4 axes.
+    final fn from_dimension<D: Lengths>(alloc: Global, dim: &D) -> Result<Option<Self>, AllocError>
+    where
+        Self: Sized,
+        ensures list { IfOk result (λ same. IsCount Self.NDIM (length (D.list dim.now))
+            → option_map Self.list same ≡ Some (D.list dim.now)) }
+        ensures other_count { IfOk result (λ same.
+            (IsCount Self.NDIM (length (D.list dim.now)) → ⊥) → same ≡ None) }
+        ensures memory { NeedsNoMemory Self.NDIM (length (D.list dim.now)) → IsOk result }
+    {
+        if Self::NDIM.is_some_and(|count| count != dim.ndim()) {
+            return Ok(None);
+        }
+        let mut same = Self::zeros(alloc, dim.ndim())?;
+        same.slice_mut().copy_from_slice(dim.slice());
+        Ok(Some(same))
+    }
+
+    /// The lengths with a new axis of length 1 before the axis `axis`, or behind all of them.
+    /// Upstream's `insert_axis`.
+    ///
+    /// Errors: want of memory, and none where the result's type fixes the count or has at most 4
+    /// axes.
+    final fn insert_axis(&self, alloc: Global, axis: Axis) -> Result<Self::Larger, AllocError>
+        requires { axis.0 ≤ length (Self.list self.now) }
+        ensures list { IfOk result (λ larger.
+            Self.Larger.list larger ≡ insert (Self.list self.now) axis.0 1) }
+        ensures memory { NeedsNoMemory Self.Larger.NDIM (length (Self.list self.now) + 1)
+            → IsOk result }
+    {
+        let lens = self.slice();
+        let mut larger = Self::Larger::zeros(alloc, lens.len() + 1)?;
+        insert_axis_into(lens, axis.index(), larger.slice_mut());
+        Ok(larger)
+    }
+
+    /// The lengths without an axis; no axes stay none. Upstream's `try_remove_axis`.
+    ///
+    /// Errors: want of memory, and none where the result's type fixes the count or has at most 4
+    /// axes.
+    final fn try_remove_axis(&self, alloc: Global, axis: Axis) -> Result<Self::Smaller, AllocError>
+        requires { (axis.0 < length (Self.list self.now)) ⊎ (length (Self.list self.now) ≡ 0) }
+        ensures list { IfOk result (λ smaller.
+            Self.Smaller.list smaller ≡ remove (Self.list self.now) axis.0) }
+        ensures memory { NeedsNoMemory Self.Smaller.NDIM (length (Self.list self.now) - 1)
+            → IsOk result }
+    {
+        let lens = self.slice();
+        if lens.is_empty() {
+            return Self::Smaller::zeros(alloc, 0);
+        }
+        let mut smaller = Self::Smaller::zeros(alloc, lens.len() - 1)?;
+        remove_axis_into(lens, axis.index(), smaller.slice_mut());
+        Ok(smaller)
+    }
+}

@@ -1,11 +1,29 @@
 //! What all shapes and indices can do, by their lists of lengths, whatever their type.
 #![tactic(auto)]
 
+mod axis_edits;
+mod contiguous;
+mod conversion;
 mod dimension;
+mod dimensions;
+mod error;
+mod remove_axis;
+mod shape_arg;
 mod sizes;
+mod stride_axes;
+mod stride_order;
+mod strides;
+#[cfg(test)]
+mod tests;
 
+pub use conversion::{IntoDimension, new_dim};
 pub use dimension::Dimension;
+pub use error::incompatible_shapes;
 pub use nd_base::{
-    Axis, Dim, ErrorKind, FixedCount, Ix1, Ix2, LayoutError, Lengths, Order, ShapeError, from_kind,
-    new_ix1, new_ix2, signed, stride_offset, unsigned,
+    Arithmetic, Axis, Convert, Dim, ErrorKind, FixedCount, Ix0, Ix1, Ix2, Ix3, Ix4, Ix5, Ix6,
+    IxDyn, IxDynImpl, LayoutError, Lengths, Order, Scale, ShapeError, axis_of, from_kind, new_ix0,
+    new_ix1, new_ix2, new_ix3, new_ix4, new_ix5, new_ix6, new_ixdyn, offset_of, set_axis_of,
+    signed, stride_offset, stride_offset_checked, unsigned,
 };
+pub use remove_axis::RemoveAxis;
+pub use shape_arg::ShapeArg;

@@ -1,9 +1,9 @@
 //! Products of lengths.
-ghost use Rattle.std.specs.Prelude.{◌<◌, ◌^◌, SomeIff};
+ghost use Rattle.std.specs.Prelude.{◌≡◌, ◌<◌, ◌^◌, SomeIff};
 ghost use Rattle.nd_base.specs.Size.{size};
 
 /// The product of the lengths, where it fits; 0 wherever one of them is 0.
-pub fn checked_size(lens: &[usize]) -> Option<usize>
+pub(crate) fn checked_size(lens: &[usize]) -> Option<usize>
     ensures { SomeIff result (size lens.now < 2 ^ 64) (size lens.now) }
 {
     if lens.contains(&0) {
@@ -14,4 +14,19 @@ pub fn checked_size(lens: &[usize]) -> Option<usize>
         size = size.checked_mul(*len)?;
     }
     Some(size)
+}
+
+/// The product of the lengths, which fits; 0 wherever one of them is 0.
+pub(crate) fn product(lens: &[usize]) -> usize
+    requires { size lens.now < 2 ^ 64 }
+    ensures { result ≡ size lens.now }
+{
+    if lens.contains(&0) {
+        return 0;
+    }
+    let mut size = 1usize;
+    for len in lens {
+        size *= *len;
+    }
+    size
 }

@@ -6,9 +6,9 @@ use Rattle.std.proofs.lemmas.Bool.{and_parts, cond-false, leb-false, ltb-true, n
 use Rattle.std.proofs.lemmas.Grind.{common_steps}
 use Rattle.nd_base.specs.Indices.{is_index}
 use Rattle.nd_base.specs.Size.{is_empty}
+use Rattle.nd_base.specs.Span.{span, low_span}
 use Rattle.nd_shape.specs.Acceptance.{acceptance, leaves_data}
 use Rattle.nd_shape.specs.Inside.{LiesInside}
-use Rattle.nd_shape.specs.Span.{span, low_span}
 use Rattle.nd_shape.specs.declared.checks.CanIndexCheckMode.{CanIndexCheckMode}
 use Rattle.nd_shape.proofs.OffsetBounds.{index_inside}
 

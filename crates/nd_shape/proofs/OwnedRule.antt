@@ -1,15 +1,16 @@
 -- Facts about the rule for owned data.
-use Rattle.std.proofs.Common.{inl, inr, ◌≡◌, ℕ, zero, suc, ◌+◌, ◌-◌, ◌<◌, ◌≤◌, ℤ, pos, true, false, Bool, List, [], ◌∷◌, length, get_or, refl, ◌∙◌, arith, add-zero}
+use Rattle.std.proofs.Common.{inl, inr, ◌⊎◌, ◌↔◌, ◌≡◌, ℕ, zero, suc, ◌+◌, ◌-◌, ◌<◌, ◌≤◌, ℤ, pos, true, false, Bool, List, [], ◌∷◌, length, get_or, refl, ◌∙◌, arith, add-zero}
 use Rattle.std.specs.Prelude.{if◌then◌else◌, nat_le, nat_lt, not, ◌&&◌, remove}
 use Rattle.std.specs.List.{list_all, range_with_len}
-use Rattle.std.proofs.lemmas.Bool.{cond-true, cond_both, leb-true, le-leb, ltb-true, or_cases, or_left, both_ways, true_from_ne_false}
+use Rattle.std.proofs.lemmas.Bool.{and_left, and_right, cases_Bool, not_from_true, cond-true, cond_both, leb-true, le-leb, ltb-true, or_cases, or_left, both_ways, true_from_ne_false}
 use Rattle.std.proofs.lemmas.Bool.Decides.{nat_tests}
 use Rattle.std.proofs.lemmas.List.{get_or-map}
 use Rattle.std.proofs.lemmas.List.Folds.{list_all_at}
 use Rattle.std.proofs.lemmas.List.FromFn.{length-range_with_len, get_or-range_with_len}
 use Rattle.nd_base.specs.Signed.{signed, all_signed, magnitude}
+use Rattle.nd_base.specs.Size.{is_empty}
+use Rattle.nd_base.specs.Span.{reach, span, sum_over_axes}
 use Rattle.nd_shape.specs.OwnedRule.{span_up_to, magnitude_at, span_of_others, steps_over_others, meets_owned_rule, MeetsOwnedRule}
-use Rattle.nd_shape.specs.Span.{reach, span, sum_over_axes}
 
 -- how far an axis reaches, or 0 where its stride is of a magnitude past m
 abbrev pub reach_up_to : ℕ → ℕ → ℤ → ℕ
@@ -78,8 +79,30 @@ all_in_range p a (suc n) h =
 pub rule_met : (shape : List ℕ) (strides : List ℤ) → ((axis : ℕ) → axis < length shape → steps_over_others shape strides axis ≡ true) → meets_owned_rule shape strides ≡ true
 rule_met shape strides h = all_in_range (steps_over_others shape strides) 0 (length shape) (λ k l. let same : 0 + k ≡ k = omega arith in rw same (h k l))
 
+-- the fact by the test of each axis
+pub axis_tested : (shape : List ℕ) (strides : List ℤ) (axis : ℕ) → (1 < get_or shape axis 0 → span_of_others shape strides axis < magnitude_at strides axis) → steps_over_others shape strides axis ≡ true
+axis_tested shape strides axis h = grind (arith, nat_tests, h)
+
+pub rule_tested : (shape : List ℕ) (strides : List ℤ) → MeetsOwnedRule shape strides → meets_owned_rule shape strides ≡ true
+rule_tested shape strides h = rule_met shape strides (λ axis below. axis_tested shape strides axis (h axis below))
+
 -- the answer that no two indices may share an element, of a layout with an index, is that the rule is met
 pub rule_from_answer : (empty met : Bool) → (not empty && not met) ≡ false → empty ≡ false → met ≡ true
 rule_from_answer true met h some = absurd (cc)
 rule_from_answer false true h some = refl
 rule_from_answer false false h some = absurd (cc)
+
+-- no two indices share an element, by the answer, exactly where there is no index or the rule is met
+pub no_overlap : (shape : List ℕ) (strides : List ℤ) → (not (is_empty shape) && not (meets_owned_rule shape strides)) ≡ false ↔ (is_empty shape ≡ true) ⊎ MeetsOwnedRule shape strides
+no_overlap shape strides =
+    let empty = is_empty shape in
+    let met = meets_owned_rule shape strides in (
+      λ h. elim (cases_Bool empty) [
+        | inl none ↦ inl none
+        | inr some ↦ inr (rule_holds shape strides (rule_from_answer empty met h some))
+      ],
+      λ h. elim h [
+        | inl none ↦ and_left (not empty) (not met) (not_from_true empty none)
+        | inr rule ↦ and_right (not empty) (not met) (not_from_true met (rule_tested shape strides rule))
+      ],
+    )

@@ -4,9 +4,9 @@ use Rattle.std.specs.Option.{option_or}
 use Rattle.nd_base.specs.declared.error.ErrorKind.{ErrorKind}
 use Rattle.nd_base.specs.declared.error.ErrorKind.TheVariants.{IncompatibleLayout, OutOfBounds, Unsupported, Overflow}
 use Rattle.nd_base.specs.Size.{nonzero_size, is_empty, limit}
+use Rattle.nd_base.specs.Span.{span}
 use Rattle.nd_shape.specs.declared.checks.CanIndexCheckMode.{CanIndexCheckMode}
 use Rattle.nd_shape.specs.declared.checks.CanIndexCheckMode.TheVariants.{OwnedMutable, ReadOnly}
-use Rattle.nd_shape.specs.Span.{span}
 use Rattle.nd_shape.specs.OwnedRule.{meets_owned_rule}
 
 abbrev pub is_owned : CanIndexCheckMode → Bool

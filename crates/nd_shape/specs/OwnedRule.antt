@@ -2,7 +2,7 @@
 use Rattle.std.specs.Prelude.{◌≡◌, ℕ, ◌<◌, ℤ, pos, negsuc, Bool, true, false, ◌||◌, nat_le, nat_lt, if◌then◌else◌, List, [], ◌∷◌, length, remove, slice_index, slice_index_or, refl}
 use Rattle.std.specs.List.{list_all, range_with_len}
 use Rattle.nd_base.specs.Signed.{magnitude}
-use Rattle.nd_shape.specs.Span.{reach, sum_over_axes}
+use Rattle.nd_base.specs.Span.{reach, sum_over_axes}
 
 -- the summed spans of the axes whose strides are of magnitude at most m
 abbrev pub span_up_to : ℕ → List ℕ → List ℤ → ℕ

@@ -3,11 +3,11 @@ ghost use Rattle.std.specs.Prelude.{◌≡◌, ℕ, ◌*◌, ◌≤◌, IfOk, On
 ghost use Rattle.std.specs.Result.{result_err};
 ghost use Rattle.nd_base.specs.Signed.{all_signed};
 ghost use Rattle.nd_base.specs.Size.{size, nonzero_size, limit};
+ghost use Rattle.nd_base.specs.Span.{span, low_span};
+ghost use Rattle.nd_base.specs.ValidLayout.{IsValidLayout};
 ghost use Rattle.nd_base.specs.declared.error.ErrorKind.TheVariants.{Overflow};
 ghost use Rattle.nd_shape.specs.Acceptance.{size_fault, acceptance};
 ghost use Rattle.nd_shape.specs.Inside.{LiesInside};
-ghost use Rattle.nd_shape.specs.Span.{span, low_span};
-ghost use Rattle.nd_shape.specs.ValidLayout.{IsValidLayout};
 
 use crate::limits::{checked_nonzero_size, checked_span, multiply};
 use crate::overlap::has_overlap;

@@ -2,7 +2,7 @@
 ghost use Rattle.std.specs.Prelude.{◌≡◌, ◌+◌, ◌*◌, ◌≤◌, length, SomeIff};
 ghost use Rattle.nd_base.specs.Size.{nonzero_size, limit};
 ghost use Rattle.nd_base.specs.Signed.{signed as signed_reading, all_signed};
-ghost use Rattle.nd_shape.specs.Span.{reach as reach_of_axis, span};
+ghost use Rattle.nd_base.specs.Span.{reach as reach_of_axis, span};
 
 use nd_dim::signed;
 

@@ -1,15 +1,12 @@
 //! Where the indices of a layout lie from its first index.
 ghost use Rattle.std.specs.Prelude.{◌≡◌, ◌≤◌};
-ghost use Rattle.std.specs.List.{All};
 ghost use Rattle.nd_base.specs.Signed.{signed as signed_reading, all_signed};
 ghost use Rattle.nd_base.specs.Size.{limit};
-ghost use Rattle.nd_shape.specs.Place.{offset_of as offset_of_index};
-ghost use Rattle.nd_shape.specs.Reach.{farthest_offset};
-ghost use Rattle.nd_shape.specs.Span.{reach_down as reach_down_of_axis, span, low_span as low_span_of_layout};
-ghost use Rattle.nd_shape.specs.ValidLayout.{IsValidLayout};
+ghost use Rattle.nd_base.specs.Span.{reach_down as reach_down_of_axis, span, low_span as low_span_of_layout};
+ghost use Rattle.nd_base.specs.ValidLayout.{IsValidLayout};
 
 use crate::limits::reach;
-use nd_dim::{Dimension, signed, stride_offset};
+use nd_dim::{Dimension, signed};
 
 /// How many elements lie between the lowest entry of an axis and the first one.
 fn reach_down(len: usize, stride: usize) -> usize
@@ -40,17 +37,4 @@ pub fn offset_from_low_addr_ptr_to_logical_ptr<D: Dimension>(dim: &D, strides: &
     ensures { result ≡ low_span_of_layout (D.list dim.now) (all_signed (D.list strides.now)) }
 {
     low_span(dim.slice(), strides.slice())
-}
-
-/// The sum of each entry times its stride.
-pub fn offset_of(strides: &[usize], index: &[usize]) -> isize
-    requires small { All (λ entry. entry ≤ limit) index.now }
-    requires fits { farthest_offset (all_signed strides.now) index.now ≤ limit }
-    ensures { result ≡ offset_of_index (all_signed strides.now) index.now }
-{
-    let mut offset = 0isize;
-    for (entry, stride) in index.iter().zip(strides) {
-        offset += stride_offset(*entry, *stride);
-    }
-    offset
 }

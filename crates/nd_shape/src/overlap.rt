@@ -1,10 +1,10 @@
 //! Whether two indices of a layout may share an element.
-ghost use Rattle.std.specs.Prelude.{◌≡◌, ◌<◌, ◌≤◌, false, not, ◌&&◌, [], ◌∷◌, length};
+ghost use Rattle.std.specs.Prelude.{◌≡◌, ◌<◌, ◌≤◌, ◌↔◌, ◌⊎◌, IsTrue, IsFalse, not, ◌&&◌, [], ◌∷◌, length};
 ghost use Rattle.nd_base.specs.Signed.{signed as signed_reading, all_signed};
 ghost use Rattle.nd_base.specs.Size.{is_empty, limit};
+ghost use Rattle.nd_base.specs.Span.{span};
+ghost use Rattle.nd_base.specs.ValidLayout.{IsValidLayout};
 ghost use Rattle.nd_shape.specs.OwnedRule.{MeetsOwnedRule, meets_owned_rule, steps_over_others, span_up_to as span_up_to_magnitude};
-ghost use Rattle.nd_shape.specs.Span.{span};
-ghost use Rattle.nd_shape.specs.ValidLayout.{IsValidLayout};
 
 use crate::limits::reach;
 use nd_dim::{Dimension, signed};
@@ -78,8 +78,9 @@ pub fn dim_stride_overlap<D: Dimension>(dim: &D, strides: &D) -> bool
     ensures answer { result ≡
         (not (is_empty (D.list dim.now))
         && not (meets_owned_rule (D.list dim.now) (all_signed (D.list strides.now)))) }
-    ensures apart { result ≡ false → is_empty (D.list dim.now) ≡ false →
-        MeetsOwnedRule (D.list dim.now) (all_signed (D.list strides.now)) }
+    ensures apart { IsFalse result ↔
+        (IsTrue (is_empty (D.list dim.now))
+        ⊎ MeetsOwnedRule (D.list dim.now) (all_signed (D.list strides.now))) }
 {
     has_overlap(dim.slice(), strides.slice())
 }

@@ -1,5 +1,5 @@
 -- Items whose positions are multiples of a step, as a walk that passes over the items between them.
-use Rattle.std.proofs.Common.{◌≡◌, ℕ, zero, suc, ◌+◌, ◌-◌, ◌*◌, ◌/◌, ◌%◌, ◌<◌, ◌≤◌, Bool, true, false, cond, eqb, map, filter, List, [], ◌∷◌, refl, ap, sym, subst, ◌∙◌, arith, eq-eqb, ne_eqb, div-add-mod', inl, inr}
+use Rattle.std.proofs.Common.{◌≡◌, ℕ, zero, suc, ◌+◌, ◌-◌, ◌*◌, ◌/◌, ◌%◌, ◌<◌, true, false, eqb, map, filter, List, [], ◌∷◌, refl, ap, subst, arith, eq-eqb, ne_eqb, div-add-mod', inl, inr}
 use Rattle.std.proofs.Math.Nat.{mul-mod_left, mul-le-mul_right}
 use Rattle.std.proofs.lemmas.Bool.{cases_lt}
 use Rattle.std.specs.List.{enumerate_from}

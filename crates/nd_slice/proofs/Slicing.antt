@@ -9,8 +9,8 @@ use Rattle.std.specs.List.{range_with_len}
 use Rattle.std.specs.Int.{w64, div_ceil}
 use Rattle.nd_base.specs.Signed.{magnitude}
 use Rattle.nd_base.specs.Size.{limit}
+use Rattle.nd_base.specs.Span.{reach}
 use Rattle.nd_base.specs.declared.error.ErrorKind.TheVariants.{OutOfBounds, Unsupported}
-use Rattle.nd_shape.specs.Span.{reach}
 use Rattle.nd_slice.specs.declared.slice.Slice.{Slice}
 use Rattle.nd_slice.specs.Picks.{every, directed, is_bound, start_meaning, end_meaning, picks}
 use Rattle.nd_slice.specs.SliceFault.{slice_fault, is_within}

@@ -4,7 +4,7 @@ ghost use Rattle.std.specs.Int.{w64};
 ghost use Rattle.std.specs.Result.{result_err};
 ghost use Rattle.nd_base.specs.Signed.{magnitude, signed as signed_reading};
 ghost use Rattle.nd_base.specs.Size.{limit};
-ghost use Rattle.nd_shape.specs.Span.{reach};
+ghost use Rattle.nd_base.specs.Span.{reach};
 ghost use Rattle.nd_slice.specs.Picks.{meaning, is_bound, start_meaning, end_meaning, range, directed, every, picks};
 ghost use Rattle.nd_slice.specs.SliceFault.{slice_fault, SliceFits};
 ghost use Rattle.nd_slice.specs.Sliced.{picked_stride, first_offset};

@@ -81,7 +81,11 @@ pub fn check_slice<D: Dimension, S: SliceElems>(dim: &D, slices: &S) -> Result<(
 #[cfg(test)]
 mod tests {
     use super::*;
-    use nd_base::new_ix2;
+    use ErrorKind::{OutOfBounds, Unsupported};
+    use SliceInfoElem::NewAxis;
+    use nd_base::{new_ix1, new_ix2, new_ix3, new_ix6, new_ixdyn};
+    use std::alloc::Global;
+    use std::process::Abort;
     use std::test::Fail;
 
     const fn slice(start: isize, step: isize) -> SliceInfoElem {
@@ -127,5 +131,138 @@ mod tests {
             assert_eq!(rt; of_vec, *answer);
         }
         Ok(())
+    }
+
+    const fn index(index: isize) -> SliceInfoElem {
+        SliceInfoElem::Index(index)
+    }
+
+    /// The whole of an axis.
+    const ALL: SliceInfoElem = SliceInfoElem::Slice {
+        start: 0,
+        end: None,
+        step: 1,
+    };
+
+    /// The first fault of an argument on a shape, however the elements are kept.
+    fn has_fault<D: Dimension>(
+        rt: &impl Abort,
+        alloc: Global,
+        dim: &D,
+        elems: &[SliceInfoElem],
+        fault: Option<ErrorKind>,
+    ) -> Result<(), Fail> {
+        let of_slice = check_slice(dim, &elems);
+        assert_eq!(rt; of_slice.err().map(|error| error.kind()), fault);
+        let of_vec = check_slice(dim, &elems.to_vec(alloc)?);
+        assert_eq!(rt; of_vec.err().map(|error| error.kind()), fault);
+        Ok(())
+    }
+
+    /// An argument of whole axes fits a shape of as many axes, and no other.
+    fn counts_axes<D: Dimension>(rt: &impl Abort, dim: &D) {
+        for (count, elems) in COUNTS {
+            let fault = (dim.ndim() != count).then_some(ErrorKind::IncompatibleShape);
+            let answer = check_slice(dim, &elems);
+            assert_eq!(rt; answer.err().map(|error| error.kind()), fault);
+        }
+    }
+
+    /// Counts of axes, and arguments for as many.
+    const COUNTS: [(usize, &[SliceInfoElem]); 8] = [
+        (0, &[]),
+        (1, &[ALL]),
+        (2, &[ALL, ALL]),
+        (3, &[ALL, ALL, ALL]),
+        (4, &[ALL, ALL, ALL, ALL]),
+        (5, &[ALL, ALL, ALL, ALL, ALL]),
+        (6, &[ALL, ALL, ALL, ALL, ALL, ALL]),
+        (7, &[ALL, ALL, ALL, ALL, ALL, ALL, ALL]),
+    ];
+
+    #[test]
+    fn counts_at_every_dimension_type(rt: HostRuntime) -> Result<(), Fail> {
+        counts_axes(&rt, &new_ix1(4));
+        counts_axes(&rt, &new_ix2(4, 5));
+        counts_axes(&rt, &new_ix3(2, 0, 4));
+        counts_axes(&rt, &new_ix6(2, 1, 3, 2, 2, 4));
+        counts_axes(&rt, &new_ixdyn(rt.alloc(), &[])?);
+        counts_axes(&rt, &new_ixdyn(rt.alloc(), &[2, 3])?);
+        counts_axes(&rt, &new_ixdyn(rt.alloc(), &[2, 3, 1, 2, 4])?);
+        Ok(())
+    }
+
+    #[test]
+    fn fits_at_every_dimension_type(rt: HostRuntime) -> Result<(), Fail> {
+        let alloc = rt.alloc();
+        has_fault(&rt, alloc, &new_ix1(4), &[slice(-4, -2)], None)?;
+        has_fault(&rt, alloc, &new_ix2(4, 5), &[index(-4), slice(5, 1)], None)?;
+        let elems = [slice(2, 1), NewAxis, index(2), slice(-4, 3)];
+        has_fault(&rt, alloc, &new_ix3(2, 3, 4), &elems, None)?;
+        let elems = [
+            index(1),
+            ALL,
+            slice(3, 1),
+            index(-2),
+            slice(0, -1),
+            index(3),
+        ];
+        has_fault(&rt, alloc, &new_ix6(2, 1, 3, 2, 2, 4), &elems, None)?;
+        let dim = new_ixdyn(alloc, &[2, 3, 1, 2, 4])?;
+        let elems = [index(-1), ALL, index(0), NewAxis, slice(2, -1), index(-4)];
+        has_fault(&rt, alloc, &dim, &elems, None)
+    }
+
+    #[test]
+    fn faults_of_few_axes(rt: HostRuntime) -> Result<(), Fail> {
+        let (alloc, outside, step) = (rt.alloc(), Some(OutOfBounds), Some(Unsupported));
+        has_fault(&rt, alloc, &new_ix1(4), &[index(-5)], outside)?;
+        has_fault(&rt, alloc, &new_ix1(4), &[slice(4, 0)], step)?;
+        has_fault(&rt, alloc, &new_ix2(4, 5), &[slice(5, 0), ALL], outside)?;
+        has_fault(&rt, alloc, &new_ix2(4, 5), &[slice(4, 0), index(5)], step)?;
+        let dim = new_ix3(2, 3, 4);
+        has_fault(&rt, alloc, &dim, &[index(1), ALL, index(4)], outside)?;
+        has_fault(
+            &rt,
+            alloc,
+            &dim,
+            &[NewAxis, ALL, index(2), slice(0, 0)],
+            step,
+        )
+    }
+
+    #[test]
+    fn faults_of_many_axes(rt: HostRuntime) -> Result<(), Fail> {
+        let (alloc, outside, step) = (rt.alloc(), Some(OutOfBounds), Some(Unsupported));
+        let dim = new_ix6(2, 1, 3, 2, 2, 4);
+        has_fault(
+            &rt,
+            alloc,
+            &dim,
+            &[ALL, ALL, ALL, index(1), ALL, slice(-5, 1)],
+            outside,
+        )?;
+        has_fault(
+            &rt,
+            alloc,
+            &dim,
+            &[ALL, index(0), ALL, ALL, ALL, slice(0, 0)],
+            step,
+        )?;
+        let dim = new_ixdyn(alloc, &[2, 3, 1, 2, 4])?;
+        has_fault(
+            &rt,
+            alloc,
+            &dim,
+            &[ALL, ALL, index(1), ALL, slice(0, 0)],
+            outside,
+        )?;
+        has_fault(
+            &rt,
+            alloc,
+            &dim,
+            &[ALL, ALL, NewAxis, ALL, ALL, slice(0, 0)],
+            step,
+        )
     }
 }

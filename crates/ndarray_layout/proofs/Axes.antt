@@ -2,7 +2,7 @@
 use Rattle.std.proofs.Common.{◌≡◌, ℕ, suc, ◌+◌, ◌-◌, ◌*◌, ◌<◌, ◌≤◌, ℤ, pos, negsuc, ◌+ℤ◌, ◌*ℤ◌, ◌≤ℤ◌, arith}
 use Rattle.std.proofs.lemmas.Int.{ints}
 use Rattle.std.proofs.Math.Nat.{mul-le-mul_right}
-use Rattle.nd_shape.specs.Span.{reach, reach_down, reach_up}
+use Rattle.nd_base.specs.Span.{reach, reach_down, reach_up}
 
 -- from low below 0 to high above it
 pub record Within (low : ℕ) (high : ℕ) (z : ℤ) : Type 0 where

@@ -2,7 +2,7 @@
 use Rattle.std.proofs.Common.{◌≡◌, ℕ, suc, ◌-◌, ◌*◌, ◌<◌, ◌≤◌, ℤ, pos, negsuc, ◌+ℤ◌, ◌*ℤ◌, ◌≤ℤ◌, List, [], ◌∷◌, length, get_or, nat_le, inl, inr, arith, refl, ap}
 use Rattle.std.proofs.lemmas.Int.{ints}
 use Rattle.std.proofs.lemmas.Bool.{cases_lt, cond-true, cond-false, le-leb, lt-leb}
-use Rattle.nd_shape.specs.Span.{reach, reach_down, reach_up}
+use Rattle.nd_base.specs.Span.{reach, reach_down, reach_up}
 use Rattle.nd_slice.specs.Sliced.{picked_stride, first_offset}
 use Rattle.ndarray_layout.proofs.Axes.{Within, axis_within, reach_parts}
 

@@ -6,9 +6,9 @@ use Rattle.std.proofs.lemmas.List.{map-append, reverse-append, reverse-reverse, 
 use Rattle.nd_base.specs.declared.order.Order.{Order}
 use Rattle.nd_base.specs.declared.order.Order.TheVariants.{RowMajor, ColumnMajor}
 use Rattle.nd_base.specs.Indices.{indices, below}
+use Rattle.nd_base.specs.Place.{offset_of, place, places}
 use Rattle.nd_base.specs.Size.{nonzero_size, size}
-use Rattle.nd_shape.specs.Place.{offset_of, place, places}
-use Rattle.nd_shape.specs.Span.{sum_over_axes, reach, reach_down, reach_up}
+use Rattle.nd_base.specs.Span.{sum_over_axes, reach, reach_down, reach_up}
 use Rattle.ndarray_layout.specs.View.{IsView, view_places}
 use Rattle.ndarray_layout.specs.Walk.{nested, nested_view}
 

@@ -9,8 +9,8 @@ use Rattle.std.proofs.Math.Nat.{mul-le-mul_left, mul-le-mul_right}
 use Rattle.std.proofs.lemmas.List.{map-append, length-set, length-drop, drop_more, take_more_set}
 use Rattle.nd_base.specs.Signed.{magnitude, signed, all_signed}
 use Rattle.nd_base.specs.Size.{limit, nonzero_size}
-use Rattle.nd_shape.specs.Span.{reach, reach_down, reach_up, low_span, high_span, span}
-use Rattle.nd_shape.specs.ValidLayout.{IsValidLayout}
+use Rattle.nd_base.specs.Span.{reach, reach_down, reach_up, low_span, high_span, span}
+use Rattle.nd_base.specs.ValidLayout.{IsValidLayout}
 use Rattle.nd_slice.specs.declared.slice.Slice.{Slice}
 use Rattle.nd_slice.specs.declared.slice.SliceInfoElem.{SliceInfoElem}
 use Rattle.nd_slice.specs.declared.slice.SliceInfoElem.TheVariants as elem

@@ -7,10 +7,10 @@ use Rattle.std.specs.List.{flat_map}
 use Rattle.nd_base.specs.declared.order.Order.{Order}
 use Rattle.nd_base.specs.declared.order.Order.TheVariants.{RowMajor, ColumnMajor}
 use Rattle.nd_base.specs.Indices.{is_index, indices, below}
+use Rattle.nd_base.specs.Place.{offset_of, place, checked_offset}
 use Rattle.nd_base.specs.Size.{nonzero_size, size, limit}
-use Rattle.nd_shape.specs.Place.{offset_of, place, checked_offset}
-use Rattle.nd_shape.specs.Span.{low_span, high_span}
-use Rattle.nd_shape.specs.ValidLayout.{IsValidLayout}
+use Rattle.nd_base.specs.Span.{low_span, high_span}
+use Rattle.nd_base.specs.ValidLayout.{IsValidLayout}
 use Rattle.nd_slice.specs.declared.slice.SliceInfoElem.{SliceInfoElem}
 use Rattle.nd_base.specs.declared.error.ErrorKind.TheVariants.{IncompatibleShape}
 use Rattle.nd_slice.specs.SliceFault.{in_count, out_count, first_fault}

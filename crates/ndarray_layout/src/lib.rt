@@ -6,8 +6,11 @@ mod slicing;
 mod strided;
 
 pub use nd_dim::{
-    Axis, Dim, Dimension, ErrorKind, FixedCount, Ix1, Ix2, LayoutError, Lengths, Order, ShapeError,
-    from_kind, new_ix1, new_ix2, signed, stride_offset, unsigned,
+    Arithmetic, Axis, Convert, Dim, Dimension, ErrorKind, FixedCount, IntoDimension, Ix0, Ix1, Ix2,
+    Ix3, Ix4, Ix5, Ix6, IxDyn, IxDynImpl, LayoutError, Lengths, Order, RemoveAxis, Scale, ShapeArg,
+    ShapeError, axis_of, from_kind, incompatible_shapes, new_dim, new_ix0, new_ix1, new_ix2,
+    new_ix3, new_ix4, new_ix5, new_ix6, new_ixdyn, offset_of, set_axis_of, signed, stride_offset,
+    stride_offset_checked, unsigned,
 };
 pub use nd_shape::{
     CanIndexCheckMode, NdIndex, can_index_slice, dim_stride_overlap, max_abs_offset_check_overflow,
@@ -18,3 +21,6 @@ pub use nd_slice::{
     in_ndim_of, out_ndim_of, to_abs_slice,
 };
 pub use strided::Strided;
+
+#[cfg(test)]
+mod tests;

@@ -3,8 +3,8 @@ ghost use Rattle.std.specs.Prelude.{◌≡◌, ◌<◌, ◌≤◌, ◌^◌, None
 ghost use Rattle.std.specs.Result.{result_err};
 ghost use Rattle.nd_base.specs.Signed.{signed as signed_reading, all_signed};
 ghost use Rattle.nd_base.specs.Size.{limit};
-ghost use Rattle.nd_shape.specs.Span.{reach};
-ghost use Rattle.nd_shape.specs.ValidLayout.{IsValidLayout};
+ghost use Rattle.nd_base.specs.Span.{reach};
+ghost use Rattle.nd_base.specs.ValidLayout.{IsValidLayout};
 ghost use Rattle.nd_slice.specs.Picks.{picks};
 ghost use Rattle.nd_slice.specs.SliceFault.{slice_fault, argument_fault, out_count};
 ghost use Rattle.nd_slice.specs.Sliced.{picked_stride, first_offset};

@@ -5,8 +5,8 @@ ghost use Rattle.std.specs.Result.{result_err};
 ghost use Rattle.nd_base.specs.Signed.{all_signed};
 ghost use Rattle.nd_shape.specs.Acceptance.{acceptance};
 ghost use Rattle.nd_shape.specs.Inside.{LiesInside};
-ghost use Rattle.nd_shape.specs.Span.{low_span};
 ghost use Rattle.nd_base.specs.Lengths.{NeedsNoMemory};
+ghost use Rattle.nd_base.specs.Span.{low_span};
 ghost use Rattle.nd_slice.specs.SliceFault.{out_count};
 ghost use Rattle.ndarray_layout.specs.SlicedView.{IsSliceOf, KeepsPlaces};
 ghost use Rattle.ndarray_layout.specs.SlicedView.{shape_fault, slice_refusal};
@@ -41,7 +41,7 @@ impl<D: Dimension> Model for Strided<D> {
     ghost invariant = { λ a. IsView (view_of a.start (D.list a.dim) (D.list a.strides)) };
 }
 
-impl<D: Dimension + Drop> Strided<D> {
+impl<D: Dimension> Strided<D> {
     /// The view of a shape and strides over data of `len` elements of `elem_size` bytes, with the
     /// lowest element of the view first in the data. Refused as `can_index_slice` refuses it.
     pub fn new(
@@ -119,7 +119,7 @@ impl<D: Dimension + Drop> Strided<D> {
     /// fixes; then as the first element at fault is: with `OutOfBounds` for a bound or an index that
     /// is not on its axis, with `Unsupported` for a step of 0; and then for want of memory.
     /// Upstream's `slice` and `slice_collapse`.
-    pub fn slice<E: Dimension + Drop, S: SliceElems>(
+    pub fn slice<E: Dimension, S: SliceElems>(
         &self,
         alloc: Global,
         slices: &S,

@@ -5,7 +5,7 @@ use Rattle.nd_base.specs.declared.error.ErrorKind.{ErrorKind}
 use Rattle.nd_base.specs.declared.order.Order.TheVariants.{RowMajor}
 use Rattle.nd_slice.specs.declared.slice.SliceInfoElem.{SliceInfoElem}
 use Rattle.ndarray_layout.specs.View.{View, view_places}
-use Rattle.ndl.specs.Answer.{Reply, listing, unless, refused, slice_of_view, reply_to_slice, reply_to_script}
+use Rattle.ndl.specs.Answer.{Reply, listing, unless, slice_of_view, reply_to_slice, reply_to_script}
 use Rattle.ndl.specs.Script.{ScriptValue}
 use Rattle.ndl.specs.Text.{line, listed}
 

@@ -1,12 +1,12 @@
 -- What the program writes, and its exit status, for each input.
-use Rattle.std.specs.Prelude.{◌≡◌, ℕ, ℤ, Option, Some, None, Result, Ok, Err, List, [], ◌∷◌, ◌++◌, length, map, codes, decimal, string_bytes, refl}
+use Rattle.std.specs.Prelude.{◌≡◌, ℕ, Option, Some, None, Result, Ok, Err, List, ◌++◌, length, map, codes, decimal, string_bytes, refl}
 use Rattle.std.specs.Fmt.{signed_decimal, digits}
 use Rattle.nd_base.specs.declared.error.ErrorKind.{ErrorKind}
 use Rattle.nd_base.specs.declared.order.Order.TheVariants.{RowMajor}
 use Rattle.nd_base.specs.ErrorText.{shape_error_text}
 use Rattle.nd_base.specs.Signed.{magnitude}
+use Rattle.nd_base.specs.Span.{low_span}
 use Rattle.nd_shape.specs.Acceptance.{acceptance}
-use Rattle.nd_shape.specs.Span.{low_span}
 use Rattle.nd_slice.specs.Sliced.{sliced_shape, sliced_strides}
 use Rattle.nd_slice.specs.declared.slice.SliceInfoElem.{SliceInfoElem}
 use Rattle.ndarray_layout.specs.SlicedView.{sliced_start, slice_refusal}

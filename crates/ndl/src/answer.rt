@@ -75,7 +75,7 @@ fn answer_to_script(alloc: Global, script: &Script) -> Result<Answer, AllocError
 }
 
 /// The same over a dimension type: the layout first, and then its slice.
-fn answer_to_layout<D: Dimension + Drop>(
+fn answer_to_layout<D: Dimension>(
     alloc: Global,
     dim: D,
     strides: D,
@@ -109,7 +109,7 @@ fn signed_strides(alloc: Global, strides: &[usize]) -> Result<Vec<isize>, AllocE
 }
 
 /// The answer that lists a view.
-fn list<D: Dimension + Drop>(alloc: Global, view: &Strided<D>) -> Result<Answer, AllocError>
+fn list<D: Dimension>(alloc: Global, view: &Strided<D>) -> Result<Answer, AllocError>
     ensures { IfOk result (λ answer. IsReply answer (listing view.now)) }
 {
     let strides = signed_strides(alloc, view.strides().slice())?;

@@ -1,14 +1,14 @@
-use Rattle.std.proofs.Common.{◌≡◌, sym, ◌∙◌}
+use Rattle.std.proofs.Common.{◌≡◌}
+use Rattle.std.specs.Prelude.{not, ◌&&◌}
 use Rattle.nd_base.specs.Signed.{all_signed}
 use Rattle.nd_base.specs.Size.{is_empty}
 use Rattle.nd_shape.specs.OwnedRule.{meets_owned_rule}
-use Rattle.std.specs.Prelude.{not, ◌&&◌}
-use Rattle.nd_shape.proofs.OwnedRule.{rule_from_answer, rule_holds}
+use Rattle.nd_shape.proofs.OwnedRule.{no_overlap}
 use Rattle.nd_shape.proofs.overlap.dim_stride_overlap.Goals as goal
 
 pub returns-clause-apart : goal.returns-clause-apart
-returns-clause-apart g c answer some =
+returns-clause-apart g c =
     let shape = g.D.Lengths.list c.args.dim.now in
     let strides = all_signed (g.D.Lengths.list c.args.strides.now) in
     let is : c.has_overlap.result ≡ (not (is_empty shape) && not (meets_owned_rule shape strides)) = rw (← c.slice.ensures.list, ← c.slice-2.ensures.list) c.has_overlap.ensures in
-    rule_holds shape strides (rule_from_answer (is_empty shape) (meets_owned_rule shape strides) (sym is ∙ answer) some)
+    rw is (no_overlap shape strides)

@@ -3,8 +3,8 @@ use Rattle.std.specs.Prelude.{unsigned_abs, FitsSigned}
 use Rattle.std.proofs.lemmas.Int.{to_z-of_z}
 use Rattle.std.proofs.lemmas.List.{length-map}
 use Rattle.nd_base.specs.Signed.{signed, all_signed}
+use Rattle.nd_base.specs.Span.{reach}
 use Rattle.nd_shape.specs.OwnedRule.{magnitude_at, span_up_to, span_of_others}
-use Rattle.nd_shape.specs.Span.{reach}
 use Rattle.nd_shape.proofs.OwnedRule.{signed_at, own_le_span, own_le_span_up_to, span_less_own, long_axis}
 use Rattle.nd_shape.proofs.overlap.overlaps_others.Goals as goal
 use Rattle.nd_shape.proofs.overlap.overlaps_others.Goals.{After-unsigned_abs-magnitude}
@@ -15,7 +15,7 @@ stride_is c =
     let fits : FitsSigned w64 c.signed-stride.result = search rules in
     let count = c.requires.same_count in
     let at = signed_at c.args.strides.now c.args.axis (omega arith) in
-    to_z-of_z w64 c.signed-stride.result fits ∙ c.signed-stride.ensures ∙ sym at
+    to_z-of_z w64 c.signed-stride.result fits ∙ c.signed-stride.ensures.same_bits ∙ sym at
 
 pub reach-requires : goal.reach-requires
 reach-requires c =

@@ -1,8 +1,7 @@
 -- The layout that was read has one axis or two, and no reply's status is above 2.
-use Rattle.std.proofs.Common.{◌≡◌, ◌≤◌, subst, sym}
+use Rattle.std.proofs.Common.{◌≤◌, subst, sym}
 use Rattle.std.proofs.lemmas.Result.{IfOk-weaker}
 use Rattle.ndl.specs.Script.{script_value}
-use Rattle.ndl.specs.Answer.{reply_to_script}
 use Rattle.ndl.proofs.FewAxes.{few_in_script}
 use Rattle.ndl.proofs.Listing.{reply_to_script_small}
 use Rattle.ndl.proofs.answer.answer_to.Goals as goal

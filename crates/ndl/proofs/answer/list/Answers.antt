@@ -1,5 +1,5 @@
 -- The text is the three lines, one after another.
-use Rattle.std.proofs.Common.{◌≡◌, pos, map, ap, ◌∙◌, refl}
+use Rattle.std.proofs.Common.{pos, map, ap, ◌∙◌, refl}
 use Rattle.nd_base.specs.Signed.{all_signed}
 use Rattle.ndl.proofs.Listing.{listing_text}
 use Rattle.ndl.proofs.answer.list.Goals as goal

@@ -1,0 +1,90 @@
+-- Facts about two lists that a loop combines entry by entry, from the front on.
+use Rattle.std.proofs.Common.{◌≡◌, ℕ, zero, suc, ◌+◌, ◌-◌, ◌*◌, ◌^◌, ◌<◌, ◌≤◌, ◌++◌, take, drop, List, [], ◌∷◌, length, get_or, set, refl, ap, ◌∙◌, sym, subst, arith, add-one}
+use Rattle.std.specs.List.{AllZip, refill}
+use Rattle.std.proofs.Math.Seq.{take-append_seam}
+use Rattle.std.proofs.lemmas.List.{length-map}
+use Rattle.std.proofs.lemmas.List.Elements.{AllZip-get_or, length_all_zip}
+use Rattle.nd_base.specs.Entrywise.{entrywise, sums, differences, products, scaled, SumsFit, DifferencesFit, ProductsFit}
+
+-- the first n entries are combined, the others still those of xs
+abbrev pub combined : (ℕ → ℕ → ℕ) → ℕ → List ℕ → List ℕ → List ℕ
+combined f zero xs ys = xs
+combined f (suc n) [] ys = []
+combined f (suc n) (x ∷ xs) [] = x ∷ xs
+combined f (suc n) (x ∷ xs) (y ∷ ys) = f x y ∷ combined f n xs ys
+
+-- the next entry is still that of xs
+next_of_combined : (f : ℕ → ℕ → ℕ) (n : ℕ) (xs ys : List ℕ) (d : ℕ)
+    → get_or (combined f n xs ys) n d ≡ get_or xs n d
+next_of_combined f zero xs ys d = refl
+next_of_combined f (suc n) [] ys d = refl
+next_of_combined f (suc n) (x ∷ xs) [] d = refl
+next_of_combined f (suc n) (x ∷ xs) (y ∷ ys) d = next_of_combined f n xs ys d
+
+-- one more entry
+one_more : (f : ℕ → ℕ → ℕ) (n : ℕ) (xs ys : List ℕ) → n < length xs → n < length ys
+    → set (combined f n xs ys) n (f (get_or xs n 0) (get_or ys n 0)) ≡ combined f (suc n) xs ys
+one_more f n [] ys h k = absurd (omega arith)
+one_more f n (x ∷ xs) [] h k = absurd (omega arith)
+one_more f zero (x ∷ xs) (y ∷ ys) h k = refl
+one_more f (suc n) (x ∷ xs) (y ∷ ys) h k =
+    ap (λ zs. f x y ∷ zs) (one_more f n xs ys (omega arith) (omega arith))
+
+-- all entries
+all_of_them : (f : ℕ → ℕ → ℕ) (xs ys : List ℕ) → length xs ≡ length ys
+    → combined f (length ys) xs ys ≡ entrywise f xs ys
+all_of_them f [] [] h = refl
+all_of_them f [] (y ∷ ys) h = absurd (omega arith)
+all_of_them f (x ∷ xs) [] h = absurd (omega arith)
+all_of_them f (x ∷ xs) (y ∷ ys) h = ap (λ zs. f x y ∷ zs) (all_of_them f xs ys (omega arith))
+
+module _ (R : ℕ → ℕ → Type 0) (f : ℕ → ℕ → ℕ) (xs ys zs : List ℕ) (n : ℕ)
+    (r : AllZip R xs ys) (e : zs ≡ combined f n xs ys) where
+  -- what holds of the entries of xs and ys at one place holds of those that the loop reads
+  pub combined_read : n < length ys → R (get_or zs n 0) (get_or ys n 0)
+  combined_read h =
+      let long : length xs ≡ length ys = length_all_zip R xs ys r in
+      let same : get_or zs n 0 ≡ get_or xs n 0 =
+      ap (λ l. get_or l n 0) e ∙ next_of_combined f n xs ys 0 in
+      subst (λ x. R x (get_or ys n 0)) (sym same) (AllZip-get_or R xs ys n 0 0 r (omega arith))
+
+  -- a turn of the loop
+  pub combined_more : n < length ys
+      → set zs n (f (get_or zs n 0) (get_or ys n 0)) ≡ combined f (n + 1) xs ys
+  combined_more h =
+      let long : length xs ≡ length ys = length_all_zip R xs ys r in
+      rw (add-one, e, next_of_combined f n xs ys 0) (one_more f n xs ys (omega arith) h)
+
+  -- the end of the loop
+  pub combined_all : n ≡ length ys → zs ≡ entrywise f xs ys
+  combined_all h =
+      e ∙ ap (λ m. combined f m xs ys) h ∙ all_of_them f xs ys (length_all_zip R xs ys r)
+
+-- a result has as many entries, so a write over the list leaves the result alone
+pub length-entrywise : (R : ℕ → ℕ → Type 0) (f : ℕ → ℕ → ℕ) (xs ys : List ℕ) → AllZip R xs ys
+    → length (entrywise f xs ys) ≡ length xs
+length-entrywise R f [] [] r = refl
+length-entrywise R f [] (y ∷ ys) r = absurd r
+length-entrywise R f (x ∷ xs) [] r = absurd r
+length-entrywise R f (x ∷ xs) (y ∷ ys) r = ap suc (length-entrywise R f xs ys r.1)
+
+pub refill_of_length : (xs ws : List ℕ) → length ws ≡ length xs → refill (length xs) xs ws ≡ ws
+refill_of_length xs ws h =
+    ap (λ n. take n (ws ++ drop (length ws) xs)) (sym h) ∙ take-append_seam ws (drop (length ws) xs)
+
+pub refill_sums : (xs ys : List ℕ) → SumsFit xs ys → refill (length xs) xs (sums xs ys) ≡ sums xs ys
+refill_sums xs ys r =
+    refill_of_length xs (sums xs ys) (length-entrywise (λ x y. x + y < 2 ^ 64) (λ x y. x + y) xs ys r)
+
+pub refill_differences : (xs ys : List ℕ) → DifferencesFit xs ys
+    → refill (length xs) xs (differences xs ys) ≡ differences xs ys
+refill_differences xs ys r =
+    refill_of_length xs (differences xs ys) (length-entrywise (λ x y. y ≤ x) (λ x y. x - y) xs ys r)
+
+pub refill_products : (xs ys : List ℕ) → ProductsFit xs ys
+    → refill (length xs) xs (products xs ys) ≡ products xs ys
+refill_products xs ys r =
+    refill_of_length xs (products xs ys) (length-entrywise (λ x y. x * y < 2 ^ 64) (λ x y. x * y) xs ys r)
+
+pub refill_scaled : (xs : List ℕ) (n : ℕ) → refill (length xs) xs (scaled xs n) ≡ scaled xs n
+refill_scaled xs n = refill_of_length xs (scaled xs n) (length-map xs (λ x. x * n))

@@ -1,0 +1,105 @@
+-- Facts about the offsets of indices: which lists are indices, how far they lie, and a sum of offsets from an axis on.
+use Rattle.std.proofs.Common.{inl, inr, min, ◌≡◌, ℕ, suc, ◌+◌, ◌-◌, ◌*◌, ◌<◌, ◌≤◌, ℤ, pos, negsuc, neg_ℤ, ◌+ℤ◌, ◌*ℤ◌, ◌≤ℤ◌, true, false, Option, Some, None, List, [], ◌∷◌, length, drop, get_or, refl, ap, ◌∙◌, arith, add-one, drop-cons}
+use Rattle.std.specs.Prelude.{nat_lt, ◌&&◌}
+use Rattle.std.specs.List.{list_all, zip}
+use Rattle.std.proofs.Math.Nat.{mul-le-mul_right}
+use Rattle.std.proofs.lemmas.Bool.{and_parts, and_right, cases_lt, ltb-true}
+use Rattle.std.proofs.lemmas.Int.{ints}
+use Rattle.std.proofs.lemmas.List.{drop_all}
+use Rattle.std.proofs.iter.Yields.{fronts}
+use Rattle.std.proofs.lemmas.Iterator.{zips}
+use Rattle.std.proofs.lemmas.Slice.Zip.{zip_turn, zip_end}
+use Rattle.std.specs.Borrow.{Bor}
+use Rattle.std.specs.Iterator.{Yields}
+use Rattle.std.specs.Iterator.Adapters.{zip_first, zip_second}
+use Rattle.std.specs.Slice.Iter.{iter_rest}
+use Rattle.std.specs.declared.iter.Zip.{Zip}
+use Rattle.std.specs.declared.slice.Iter.{Iter}
+use Rattle.nd_base.specs.Indices.{is_index}
+use Rattle.nd_base.specs.Place.{offset_of}
+use Rattle.nd_base.specs.Reach.{farthest_offset}
+use Rattle.nd_base.specs.Signed.{signed, all_signed, magnitude}
+use Rattle.nd_base.specs.Span.{span}
+
+-- an index lies no farther than the span, whatever the signs of the strides
+pub farthest_offset_le : (shape : List ℕ) (strides : List ℤ) (index : List ℕ) → is_index shape index ≡ true → farthest_offset strides index ≤ span shape strides
+farthest_offset_le [] strides [] h = omega arith
+farthest_offset_le [] strides (i ∷ index) h = absurd (cc)
+farthest_offset_le (len ∷ shape) strides [] h = absurd (cc)
+farthest_offset_le (len ∷ shape) [] (i ∷ index) h = omega arith
+farthest_offset_le (len ∷ shape) (stride ∷ strides) (i ∷ index) h =
+    let parts = and_parts (nat_lt i len) (is_index shape index) h in
+    let below : i < len = ltb-true i len parts.0 in
+    let steps : i ≤ len - 1 = omega arith in
+    let most : i * magnitude stride ≤ (len - 1) * magnitude stride = mul-le-mul_right (magnitude stride) steps in
+    omega (arith, farthest_offset_le shape strides index parts.1)
+
+-- the test by counts and pairs is the one of indices
+pub is_index_by_pairs : (shape index : List ℕ) → length shape ≡ length index → list_all (λ pair. nat_lt pair.1 pair.0) (zip shape index) ≡ is_index shape index
+is_index_by_pairs [] [] e = refl
+is_index_by_pairs [] (i ∷ index) e = absurd (omega arith)
+is_index_by_pairs (len ∷ shape) [] e = absurd (omega arith)
+is_index_by_pairs (len ∷ shape) (i ∷ index) e = ap (λ b. nat_lt i len && b) (is_index_by_pairs shape index (omega arith))
+
+pub is_index_of_count : (shape index : List ℕ) → (length shape ≡ length index → ⊥) → is_index shape index ≡ false
+is_index_of_count [] [] ne = absurd (ne refl)
+is_index_of_count [] (i ∷ index) ne = refl
+is_index_of_count (len ∷ shape) [] ne = refl
+is_index_of_count (len ∷ shape) (i ∷ index) ne = and_right (nat_lt i len) (is_index shape index) (is_index_of_count shape index (λ e. ne (omega arith)))
+
+-- how far an entry lies from the first one
+abbrev pub entry_offset : ℕ → ℤ → ℕ
+entry_offset entry stride = entry * magnitude stride
+
+-- an entry's offset is that far on one side or the other
+pub entry_offset_bounds : (entry : ℕ) (stride : ℤ) → (neg_ℤ (pos (entry_offset entry stride)) ≤ℤ (pos entry *ℤ stride)) × ((pos entry *ℤ stride) ≤ℤ pos (entry_offset entry stride))
+entry_offset_bounds entry (pos s) = (omega (arith, ints), omega (arith, ints))
+entry_offset_bounds entry (negsuc s) = (omega (arith, ints), omega (arith, ints))
+
+-- the offset from axis k on
+abbrev pub offset_from : List ℕ → List ℕ → ℕ → ℤ
+offset_from strides index k = offset_of (all_signed (drop k strides)) (drop k index)
+
+pub offset_from_step : (strides index : List ℕ) (k : ℕ) → k < length index → k < length strides → offset_from strides index k ≡ (pos (get_or index k 0) *ℤ signed (get_or strides k 0)) +ℤ offset_from strides index (k + 1)
+offset_from_step strides index k h g =
+    rw add-one (
+    ap (λ s. offset_of (all_signed (drop k strides)) s) (drop-cons index k 0 h)
+    ∙ ap (λ s. offset_of (all_signed s) (get_or index k 0 ∷ drop (suc k) index)) (drop-cons strides k 0 g)
+    )
+
+offset_of_none : (index : List ℕ) → offset_of [] index ≡ pos 0
+offset_of_none [] = refl
+offset_of_none (i ∷ index) = refl
+
+-- past the last axis it is 0
+pub offset_from_end : (strides index : List ℕ) (k : ℕ) → min (length index) (length strides) ≤ k → offset_from strides index k ≡ pos 0
+offset_from_end strides index k h =
+    elim (cases_lt k (length index)) [
+      | inl l ↦
+          let none : drop k strides ≡ [] = drop_all k strides (omega arith) in
+          ap (λ s. offset_of (all_signed s) (drop k index)) none ∙ offset_of_none (drop k index)
+      | inr l ↦ ap (λ s. offset_of (all_signed (drop k strides)) s) (drop_all k index l)
+    ]
+
+-- a loop over the entries and strides, which has yielded xs
+module _
+    (index strides : List ℕ)
+    (xs : List (Bor ℕ × Bor ℕ))
+    (s t u : Zip (Iter ℕ) (Iter ℕ))
+    (r : Option (Bor ℕ × Bor ℕ))
+    (first : iter_rest (zip_first s) ≡ index)
+    (second : iter_rest (zip_second s) ≡ strides)
+    (y : Yields (zips fronts fronts) s xs t) where
+  -- at the pair p
+  pub offset_at_turn : (p : Bor ℕ × Bor ℕ) → r ≡ Some p → zips fronts fronts t r u
+      → offset_from strides index (length xs) ≡ (pos p.0.now *ℤ signed p.1.now) +ℤ offset_from strides index (length xs + 1)
+  offset_at_turn p e h =
+      let turn = zip_turn index strides xs s t u r first second y p e h in
+      let step = offset_from_step strides index (length xs) turn.0 turn.1 in
+      rw (turn.2 0, turn.3 0) step
+
+  -- at the end
+  pub offset_at_end : r ≡ None → zips fronts fronts t r u → offset_from strides index (length xs) ≡ pos 0
+  offset_at_end e h =
+      let end = zip_end index strides xs s t u r first second y e h in
+      offset_from_end strides index (length xs) (omega arith)

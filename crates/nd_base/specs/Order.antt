@@ -1,0 +1,8 @@
+-- Orders of indices.
+use Rattle.nd_base.specs.declared.order.Order.{Order}
+use Rattle.nd_base.specs.declared.order.Order.TheVariants.{RowMajor, ColumnMajor}
+
+-- the other order
+abbrev pub transposed : Order → Order
+transposed RowMajor = ColumnMajor
+transposed ColumnMajor = RowMajor

@@ -1,0 +1,190 @@
+//! What the operators of every dimension type do: arithmetic of lists, entry by entry.
+ghost use Rattle.std.specs.Prelude.{◌≡◌, ℕ, [], ◌∷◌};
+ghost use Rattle.nd_base.specs.Dim.{lengths};
+ghost use Rattle.nd_base.specs.Entrywise.{sums, differences, products, scaled, SumsFit, DifferencesFit, ProductsFit, ScaledFit};
+
+use crate::dim::Dim;
+use crate::dynindeximpl::IxDynImpl;
+use crate::lengths::Lengths;
+use std::ops::{Add, AddAssign, Mul, MulAssign, Sub, SubAssign};
+
+/// Lists of lengths that are added, subtracted and multiplied entry by entry. The operators that
+/// upstream's `Dimension` asks for.
+pub trait Arithmetic: Lengths
+    + Add<Output = Self>
+    + Sub<Output = Self>
+    + Mul<Output = Self>
+    + AddAssign
+    + SubAssign
+    + MulAssign {
+    // Lists of one count are added where the sums fit,
+    ghost can_add_fitting: { (d e : Self) → SumsFit (Self.list d) (Self.list e) → Self.can_add d e };
+
+    // and the result is the list of sums.
+    ghost add_gives_sums: { (d e r : Self) → Self.add_gives d e r
+        → Self.list r ≡ sums (Self.list d) (Self.list e) };
+
+    ghost can_add_assign_fitting: { (d e : Self) → SumsFit (Self.list d) (Self.list e)
+        → Self.can_add_assign d e };
+
+    ghost add_assign_gives_sums: { (d e r : Self) → Self.add_assign_gives d e r
+        → Self.list r ≡ sums (Self.list d) (Self.list e) };
+
+    // Differences go likewise,
+    ghost can_sub_fitting: { (d e : Self) → DifferencesFit (Self.list d) (Self.list e)
+        → Self.can_sub d e };
+
+    ghost sub_gives_differences: { (d e r : Self) → Self.sub_gives d e r
+        → Self.list r ≡ differences (Self.list d) (Self.list e) };
+
+    ghost can_sub_assign_fitting: { (d e : Self) → DifferencesFit (Self.list d) (Self.list e)
+        → Self.can_sub_assign d e };
+
+    ghost sub_assign_gives_differences: { (d e r : Self) → Self.sub_assign_gives d e r
+        → Self.list r ≡ differences (Self.list d) (Self.list e) };
+
+    // and products.
+    ghost can_mul_fitting: { (d e : Self) → ProductsFit (Self.list d) (Self.list e)
+        → Self.can_mul d e };
+
+    ghost mul_gives_products: { (d e r : Self) → Self.mul_gives d e r
+        → Self.list r ≡ products (Self.list d) (Self.list e) };
+
+    ghost can_mul_assign_fitting: { (d e : Self) → ProductsFit (Self.list d) (Self.list e)
+        → Self.can_mul_assign d e };
+
+    ghost mul_assign_gives_products: { (d e r : Self) → Self.mul_assign_gives d e r
+        → Self.list r ≡ products (Self.list d) (Self.list e) };
+}
+
+/// Lists of lengths that one factor scales. The operators with a number that upstream's
+/// `Dimension` asks for.
+pub trait Scale: Lengths + Mul<usize, Output = Self> + MulAssign<usize> {
+    ghost can_mul_scaling: { (d : Self) (factor : ℕ) → ScaledFit (Self.list d) factor
+        → Self.can_mul d factor };
+
+    ghost mul_gives_scaled: { (d : Self) (factor : ℕ) (r : Self) → Self.mul_gives d factor r
+        → Self.list r ≡ scaled (Self.list d) factor };
+
+    ghost can_mul_assign_scaling: { (d : Self) (factor : ℕ) → ScaledFit (Self.list d) factor
+        → Self.can_mul_assign d factor };
+
+    ghost mul_assign_gives_scaled: { (d : Self) (factor : ℕ) (r : Self)
+        → Self.mul_assign_gives d factor r → Self.list r ≡ scaled (Self.list d) factor };
+}
+
+impl<const N: usize> Arithmetic for Dim<[usize; N]> {
+    ghost can_add_fitting = { λ d e h. h };
+
+    ghost add_gives_sums = { λ d e r h. h };
+
+    ghost can_add_assign_fitting = { λ d e h. h };
+
+    ghost add_assign_gives_sums = { λ d e r h. h };
+
+    ghost can_sub_fitting = { λ d e h. h };
+
+    ghost sub_gives_differences = { λ d e r h. h };
+
+    ghost can_sub_assign_fitting = { λ d e h. h };
+
+    ghost sub_assign_gives_differences = { λ d e r h. h };
+
+    ghost can_mul_fitting = { λ d e h. h };
+
+    ghost mul_gives_products = { λ d e r h. h };
+
+    ghost can_mul_assign_fitting = { λ d e h. h };
+
+    ghost mul_assign_gives_products = { λ d e r h. h };
+}
+
+impl<const N: usize> Scale for Dim<[usize; N]> {
+    ghost can_mul_scaling = { λ d factor h. h };
+
+    ghost mul_gives_scaled = { λ d factor r h. h };
+
+    ghost can_mul_assign_scaling = { λ d factor h. h };
+
+    ghost mul_assign_gives_scaled = { λ d factor r h. h };
+}
+
+impl Arithmetic for Dim<IxDynImpl> {
+    ghost can_add_fitting = { λ d e h. h };
+
+    ghost add_gives_sums = { λ d e r h. h };
+
+    ghost can_add_assign_fitting = { λ d e h. h };
+
+    ghost add_assign_gives_sums = { λ d e r h. h };
+
+    ghost can_sub_fitting = { λ d e h. h };
+
+    ghost sub_gives_differences = { λ d e r h. h };
+
+    ghost can_sub_assign_fitting = { λ d e h. h };
+
+    ghost sub_assign_gives_differences = { λ d e r h. h };
+
+    ghost can_mul_fitting = { λ d e h. h };
+
+    ghost mul_gives_products = { λ d e r h. h };
+
+    ghost can_mul_assign_fitting = { λ d e h. h };
+
+    ghost mul_assign_gives_products = { λ d e r h. h };
+}
+
+impl Scale for Dim<IxDynImpl> {
+    ghost can_mul_scaling = { λ d factor h. h };
+
+    ghost mul_gives_scaled = { λ d factor r h. h };
+
+    ghost can_mul_assign_scaling = { λ d factor h. h };
+
+    ghost mul_assign_gives_scaled = { λ d factor r h. h };
+}
+
+#[cfg(test)]
+mod tests {
+    use super::*;
+    use crate::dim::new_ix2;
+    use crate::ixdyn::new_ixdyn;
+    use std::alloc::Global;
+    use std::process::Abort;
+    use std::test::Fail;
+
+    // Every operator, through the bound alone, on (3, 5) and (1, 2).
+    fn calculates<D: Arithmetic + Scale>(
+        rt: &impl Abort,
+        alloc: Global,
+        dim: &D,
+        other: &D,
+    ) -> Result<(), Fail>
+        requires dim_is { D.list dim.now ≡ 3 ∷ 5 ∷ [] }
+        requires other_is { D.list other.now ≡ 1 ∷ 2 ∷ [] }
+    {
+        let sum = dim.duplicate(alloc)? + other.duplicate(alloc)?;
+        assert_eq!(rt; sum.slice(), [4, 7].as_slice());
+        let difference = dim.duplicate(alloc)? - other.duplicate(alloc)?;
+        assert_eq!(rt; difference.slice(), [2, 3].as_slice());
+        let product = dim.duplicate(alloc)? * other.duplicate(alloc)?;
+        assert_eq!(rt; product.slice(), [3, 10].as_slice());
+        assert_eq!(rt; (product * 2).slice(), [6, 20].as_slice());
+        let mut dim = dim.duplicate(alloc)?;
+        dim += other.duplicate(alloc)?;
+        dim *= other.duplicate(alloc)?;
+        dim -= other.duplicate(alloc)?;
+        dim *= 3;
+        assert_eq!(rt; dim.slice(), [9, 36].as_slice());
+        Ok(())
+    }
+
+    #[test]
+    fn r2_rows(rt: HostRuntime) -> Result<(), Fail> {
+        calculates(&rt, rt.alloc(), &new_ix2(3, 5), &new_ix2(1, 2))?;
+        let dim = new_ixdyn(rt.alloc(), &[3, 5])?;
+        let other = new_ixdyn(rt.alloc(), &[1, 2])?;
+        calculates(&rt, rt.alloc(), &dim, &other)
+    }
+}

@@ -1,0 +1,135 @@
+//! The dimension of any number of axes.
+ghost use Rattle.std.specs.Prelude.{◌≡◌, ◌<◌, ◌≤◌, length, replicate, Some, None, IsOk, IfOk, slice_get, slice_set, refl};
+ghost use Rattle.std.specs.Borrow.{Lends, sem, u64 as word};
+ghost use Rattle.std.specs.Cmp.{unsigned_Decides};
+ghost use Rattle.std.proofs.lemmas.Slice.Eq.{slice_eq-Decides};
+ghost use Rattle.nd_base.specs.Dim.{lengths, with_lengths, rewritten, lengths_rewritten};
+
+use crate::dim::{Dim, IxDyn};
+use crate::dynindeximpl::IxDynImpl;
+use crate::lengths::{FixedCount, Lengths};
+use std::alloc::{AllocError, Global};
+use std::ops::{Index, IndexMut};
+
+/// A shape or an index of as many axes as the slice has entries. Upstream's `IxDyn(..)`.
+///
+/// Errors: want of memory, and none where there are at most four entries.
+pub fn new_ixdyn(alloc: Global, lens: &[usize]) -> Result<IxDyn, AllocError>
+    ensures list { IfOk result (λ dim. lengths dim ≡ lens.now) }
+    ensures memory { length lens.now ≤ 4 → IsOk result }
+{
+    Ok(IxDyn::new(IxDynImpl::copy_from(alloc, lens)?))
+}
+
+impl Dim<IxDynImpl> {
+    /// The dimension of these lengths. Upstream's `Dim::new`.
+    #[inline]
+    pub fn new(index: IxDynImpl) -> Self
+        ensures { lengths result ≡ index }
+    {
+        Dim { index }
+    }
+
+    /// `n` axes of length 0. Upstream's `IxDyn::zeros`.
+    ///
+    /// Errors: want of memory, and none where there are at most four axes.
+    pub fn zeros(alloc: Global, n: usize) -> Result<Self, AllocError>
+        ensures list { IfOk result (λ dim. lengths dim ≡ replicate n 0) }
+        ensures memory { n ≤ 4 → IsOk result }
+    {
+        Ok(IxDyn::new(IxDynImpl::zeros(alloc, n)?))
+    }
+}
+
+impl Index<usize> for Dim<IxDynImpl> {
+    type Output = usize;
+
+    ghost can_index = { λ dim axis. axis < length (lengths dim) };
+
+    ghost index_gives = { λ dim axis len. slice_get (lengths dim) axis ≡ Some len };
+
+    fn index(&self, axis: usize) -> &usize {
+        &self.index[axis]
+    }
+}
+
+impl IndexMut<usize> for Dim<IxDynImpl> {
+    ghost use Rattle.nd_base.specs.contracts.dim.Dim.{the_row};
+    ghost use Rattle.nd_base.specs.contracts.dynindeximpl.IxDynImpl.{the_row as lengths_row};
+
+    fn index_mut(&mut self, axis: usize) -> &mut usize
+        requires { axis < length (lengths self.old) }
+        ensures* writes_back { sem 𝓛 (Lends (the_row lengths_row) word self.entry result
+            (λ len. with_lengths self.old (slice_set (lengths self.old) axis len))) }
+        ensures value { slice_get (lengths self.old) axis ≡ Some result.now }
+    {
+        &mut self.index[axis]
+    }
+}
+
+impl FixedCount for Dim<IxDynImpl> {
+    ghost NDIM = { None };
+
+    const NDIM: Option<usize> = None;
+}
+
+impl Lengths for Dim<IxDynImpl> {
+    ghost list = { lengths };
+
+    ghost with_list = { rewritten };
+
+    fn ndim(&self) -> usize {
+        self.slice().len()
+    }
+
+    fn slice(&self) -> &[usize] {
+        self.index.as_slice()
+    }
+
+    fn slice_mut(&mut self) -> &mut [usize] {
+        self.index.as_mut_slice()
+    }
+
+    fn equal(&self, other: &Self) -> bool {
+        self.index == other.index
+    }
+
+    fn zeros(alloc: Global, n: usize) -> Result<Self, AllocError> {
+        IxDyn::zeros(alloc, n)
+    }
+
+    fn duplicate(&self, alloc: Global) -> Result<Self, AllocError> {
+        new_ixdyn(alloc, self.slice())
+    }
+
+    ghost eq_of_lists = { λ d e. slice_eq-Decides unsigned_Decides (lengths d) (lengths e) _ refl };
+
+    ghost list_of_with_list = { lengths_rewritten };
+
+    ghost can_index_below = { λ d i h. h };
+
+    ghost index_is = { λ d i v h. h };
+}
+
+#[cfg(test)]
+mod tests {
+    use super::*;
+    use std::test::Fail;
+
+    #[test]
+    fn r2_rows(rt: HostRuntime) -> Result<(), Fail> {
+        let mut dim = new_ixdyn(rt.alloc(), &[3, 4, 5])?;
+        assert_eq!(rt; dim.slice(), [3, 4, 5].as_slice());
+        assert_eq!(rt; dim.ndim(), 3);
+        dim[1] = 7;
+        assert_eq!(rt; dim[1], 7);
+        assert!(rt; dim.equal(&new_ixdyn(rt.alloc(), &[3, 7, 5])?));
+        assert!(rt; !dim.equal(&new_ixdyn(rt.alloc(), &[3, 7])?));
+        assert_eq!(rt;
+            IxDyn::zeros(rt.alloc(), 5)?.slice(),
+            [0, 0, 0, 0, 0].as_slice()
+        );
+        assert_eq!(rt; IxDyn::NDIM, None);
+        Ok(())
+    }
+}

@@ -1,0 +1,91 @@
+//! Where the indices of a shape lie from its first index.
+ghost use Rattle.std.specs.Prelude.{◌≡◌, ◌≤◌, nat_lt};
+ghost use Rattle.std.specs.List.{All, list_all, zip};
+ghost use Rattle.nd_base.specs.Indices.{is_index as is_index_of_shape};
+ghost use Rattle.nd_base.specs.Place.{offset_of as offset_of_index, checked_offset};
+ghost use Rattle.nd_base.specs.Reach.{farthest_offset};
+ghost use Rattle.nd_base.specs.Signed.{all_signed};
+ghost use Rattle.nd_base.specs.Size.{limit};
+ghost use Rattle.nd_base.specs.ValidLayout.{IsValidLayout};
+
+use crate::strides::stride_offset;
+
+/// The sum of each entry times its stride.
+pub fn offset_of(strides: &[usize], index: &[usize]) -> isize
+    requires small { All (λ entry. entry ≤ limit) index.now }
+    requires fits { farthest_offset (all_signed strides.now) index.now ≤ limit }
+    ensures { result ≡ offset_of_index (all_signed strides.now) index.now }
+{
+    let mut offset = 0isize;
+    for (entry, stride) in index.iter().zip(strides) {
+        offset += stride_offset(*entry, *stride);
+    }
+    offset
+}
+
+/// Whether each entry is below the length beside it.
+fn all_below(shape: &[usize], index: &[usize]) -> bool
+    ensures { result ≡ list_all (λ pair. nat_lt pair.1 pair.0) (zip shape.now index.now) }
+{
+    shape.iter().zip(index).all(|(len, entry)| entry < len)
+}
+
+/// Whether the entries are as many as the lengths, each below its length.
+fn is_index(shape: &[usize], index: &[usize]) -> bool
+    ensures { result ≡ is_index_of_shape shape.now index.now }
+{
+    shape.len() == index.len() && all_below(shape, index)
+}
+
+/// How many elements lie between the first index of the shape `dim` and this one, with its sign;
+/// `None` where this is no index of the shape. Upstream's `stride_offset_checked`.
+pub fn stride_offset_checked(dim: &[usize], strides: &[usize], index: &[usize]) -> Option<isize>
+    requires { IsValidLayout dim.now (all_signed strides.now) }
+    ensures { result ≡ checked_offset dim.now (all_signed strides.now) index.now }
+{
+    if is_index(dim, index) {
+        Some(offset_of(strides, index))
+    } else {
+        None
+    }
+}
+
+#[cfg(test)]
+mod tests {
+    use super::*;
+    use crate::strides::unsigned;
+
+    /// Entries beside the shape 2, 3 with the strides -3, 1, and their offsets.
+    const TWO_AXES: [(&[usize], Option<isize>); 8] = [
+        (&[0, 0], Some(0)),
+        (&[1, 0], Some(-3)),
+        (&[1, 2], Some(-1)),
+        (&[1, 3], None),
+        (&[2, 0], None),
+        (&[1], None),
+        (&[1, 2, 0], None),
+        (&[], None),
+    ];
+
+    /// Entries beside a shape without axes.
+    const NO_AXES: [(&[usize], Option<isize>); 2] = [(&[], Some(0)), (&[0], None)];
+
+    /// Entries beside the shape 2, 0 with the strides 1, 1.
+    const ZERO_AXIS: [(&[usize], Option<isize>); 2] = [(&[0, 0], None), (&[1], None)];
+
+    #[test]
+    fn r2_rows(rt: HostRuntime) {
+        for (index, offset) in TWO_AXES {
+            assert_eq!(rt;
+                stride_offset_checked(&[2, 3], &[unsigned(-3), 1], index),
+                offset
+            );
+        }
+        for (index, offset) in NO_AXES {
+            assert_eq!(rt; stride_offset_checked(&[], &[], index), offset);
+        }
+        for (index, offset) in ZERO_AXIS {
+            assert_eq!(rt; stride_offset_checked(&[2, 0], &[1, 1], index), offset);
+        }
+    }
+}

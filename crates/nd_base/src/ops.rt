@@ -1,0 +1,266 @@
+//! The operators of dimensions. Their conditions rule out other counts and results that do not fit.
+ghost use Rattle.std.specs.Prelude.{◌≡◌, ◌↔◌, [], ◌∷◌, replicate, IsTrue};
+ghost use Rattle.nd_base.specs.Dim.{lengths};
+ghost use Rattle.nd_base.specs.Entrywise.{sums, differences, products, scaled, SumsFit, DifferencesFit, ProductsFit, ScaledFit};
+
+mod dynamic;
+
+use crate::dim::{Dim, Ix1};
+use crate::entries::{add_to, multiply_by, scale, subtract_from};
+use std::ops::{Add, AddAssign, Mul, MulAssign, Sub, SubAssign};
+
+impl<const N: usize> Dim<[usize; N]> {
+    /// All lengths 0. Upstream's `zero`.
+    pub fn zero() -> Self
+        ensures { lengths result ≡ replicate N 0 }
+    {
+        Dim { index: [0; N] }
+    }
+
+    /// Whether all lengths are 0. Upstream's `is_zero`.
+    pub fn is_zero(&self) -> bool
+        ensures { IsTrue result ↔ (lengths self.now ≡ replicate N 0) }
+    {
+        self.index == [0; N]
+    }
+}
+
+impl<const N: usize> AddAssign<&Dim<[usize; N]>> for Dim<[usize; N]> {
+    ghost can_add_assign = { λ dim others. SumsFit (lengths dim) (lengths others.now) };
+
+    ghost add_assign_gives = { λ dim others result.
+        lengths result ≡ sums (lengths dim) (lengths others.now) };
+
+    fn add_assign(&mut self, others: &Self) {
+        add_to(&mut self.index, &others.index);
+    }
+}
+
+impl<const N: usize> AddAssign for Dim<[usize; N]> {
+    ghost can_add_assign = { λ dim others. SumsFit (lengths dim) (lengths others) };
+
+    ghost add_assign_gives = { λ dim others result.
+        lengths result ≡ sums (lengths dim) (lengths others) };
+
+    fn add_assign(&mut self, others: Self) {
+        *self += &others;
+    }
+}
+
+impl<const N: usize> Add for Dim<[usize; N]> {
+    type Output = Self;
+
+    ghost can_add = { λ dim others. SumsFit (lengths dim) (lengths others) };
+
+    ghost add_gives = { λ dim others result. lengths result ≡ sums (lengths dim) (lengths others) };
+
+    fn add(mut self, others: Self) -> Self {
+        self += &others;
+        self
+    }
+}
+
+impl<const N: usize> SubAssign<&Dim<[usize; N]>> for Dim<[usize; N]> {
+    ghost can_sub_assign = { λ dim others. DifferencesFit (lengths dim) (lengths others.now) };
+
+    ghost sub_assign_gives = { λ dim others result.
+        lengths result ≡ differences (lengths dim) (lengths others.now) };
+
+    fn sub_assign(&mut self, others: &Self) {
+        subtract_from(&mut self.index, &others.index);
+    }
+}
+
+impl<const N: usize> SubAssign for Dim<[usize; N]> {
+    ghost can_sub_assign = { λ dim others. DifferencesFit (lengths dim) (lengths others) };
+
+    ghost sub_assign_gives = { λ dim others result.
+        lengths result ≡ differences (lengths dim) (lengths others) };
+
+    fn sub_assign(&mut self, others: Self) {
+        *self -= &others;
+    }
+}
+
+impl<const N: usize> Sub for Dim<[usize; N]> {
+    type Output = Self;
+
+    ghost can_sub = { λ dim others. DifferencesFit (lengths dim) (lengths others) };
+
+    ghost sub_gives = { λ dim others result.
+        lengths result ≡ differences (lengths dim) (lengths others) };
+
+    fn sub(mut self, others: Self) -> Self {
+        self -= &others;
+        self
+    }
+}
+
+impl<const N: usize> MulAssign<&Dim<[usize; N]>> for Dim<[usize; N]> {
+    ghost can_mul_assign = { λ dim others. ProductsFit (lengths dim) (lengths others.now) };
+
+    ghost mul_assign_gives = { λ dim others result.
+        lengths result ≡ products (lengths dim) (lengths others.now) };
+
+    fn mul_assign(&mut self, others: &Self) {
+        multiply_by(&mut self.index, &others.index);
+    }
+}
+
+impl<const N: usize> MulAssign for Dim<[usize; N]> {
+    ghost can_mul_assign = { λ dim others. ProductsFit (lengths dim) (lengths others) };
+
+    ghost mul_assign_gives = { λ dim others result.
+        lengths result ≡ products (lengths dim) (lengths others) };
+
+    fn mul_assign(&mut self, others: Self) {
+        *self *= &others;
+    }
+}
+
+impl<const N: usize> Mul for Dim<[usize; N]> {
+    type Output = Self;
+
+    ghost can_mul = { λ dim others. ProductsFit (lengths dim) (lengths others) };
+
+    ghost mul_gives = { λ dim others result.
+        lengths result ≡ products (lengths dim) (lengths others) };
+
+    fn mul(mut self, others: Self) -> Self {
+        self *= &others;
+        self
+    }
+}
+
+impl<const N: usize> MulAssign<usize> for Dim<[usize; N]> {
+    ghost can_mul_assign = { λ dim factor. ScaledFit (lengths dim) factor };
+
+    ghost mul_assign_gives = { λ dim factor result. lengths result ≡ scaled (lengths dim) factor };
+
+    fn mul_assign(&mut self, factor: usize) {
+        scale(&mut self.index, factor);
+    }
+}
+
+impl<const N: usize> Mul<usize> for Dim<[usize; N]> {
+    type Output = Self;
+
+    ghost can_mul = { λ dim factor. ScaledFit (lengths dim) factor };
+
+    ghost mul_gives = { λ dim factor result. lengths result ≡ scaled (lengths dim) factor };
+
+    fn mul(mut self, factor: usize) -> Self {
+        self *= factor;
+        self
+    }
+}
+
+impl AddAssign<usize> for Ix1 {
+    ghost can_add_assign = { λ dim len. SumsFit (lengths dim) (len ∷ []) };
+
+    ghost add_assign_gives = { λ dim len result. lengths result ≡ sums (lengths dim) (len ∷ []) };
+
+    fn add_assign(&mut self, len: usize) {
+        add_to(&mut self.index, &[len]);
+    }
+}
+
+impl Add<usize> for Ix1 {
+    type Output = Self;
+
+    ghost can_add = { λ dim len. SumsFit (lengths dim) (len ∷ []) };
+
+    ghost add_gives = { λ dim len result. lengths result ≡ sums (lengths dim) (len ∷ []) };
+
+    fn add(mut self, len: usize) -> Self {
+        self += len;
+        self
+    }
+}
+
+impl SubAssign<usize> for Ix1 {
+    ghost can_sub_assign = { λ dim len. DifferencesFit (lengths dim) (len ∷ []) };
+
+    ghost sub_assign_gives = { λ dim len result.
+        lengths result ≡ differences (lengths dim) (len ∷ []) };
+
+    fn sub_assign(&mut self, len: usize) {
+        subtract_from(&mut self.index, &[len]);
+    }
+}
+
+impl Sub<usize> for Ix1 {
+    type Output = Self;
+
+    ghost can_sub = { λ dim len. DifferencesFit (lengths dim) (len ∷ []) };
+
+    ghost sub_gives = { λ dim len result. lengths result ≡ differences (lengths dim) (len ∷ []) };
+
+    fn sub(mut self, len: usize) -> Self {
+        self -= len;
+        self
+    }
+}
+
+#[cfg(test)]
+mod tests {
+    use super::*;
+    use crate::dim::{new_ix1, new_ix2};
+    use crate::ixdyn::new_ixdyn;
+    use crate::lengths::Lengths;
+    use std::test::Fail;
+
+    #[test]
+    fn r2_rows(rt: HostRuntime) {
+        let sum = new_ix2(3, 5) + new_ix2(1, 1);
+        assert_eq!(rt; sum.slice(), [4, 6].as_slice());
+        assert_eq!(rt; (sum * 2).slice(), [8, 12].as_slice());
+        assert_eq!(rt; (sum * new_ix2(2, 3)).slice(), [8, 18].as_slice());
+        assert_eq!(rt; (sum - new_ix2(1, 1)).slice(), [3, 5].as_slice());
+        let mut dim = new_ix2(3, 5);
+        dim += new_ix2(1, 1);
+        dim += &new_ix2(1, 2);
+        assert_eq!(rt; dim.slice(), [5, 8].as_slice());
+        dim -= new_ix2(1, 1);
+        dim -= &new_ix2(1, 2);
+        dim *= new_ix2(2, 1);
+        dim *= &new_ix2(1, 3);
+        dim *= 2;
+        assert_eq!(rt; dim.slice(), [12, 30].as_slice());
+    }
+
+    #[test]
+    fn r2_rows_of_one_axis(rt: HostRuntime) {
+        let mut dim = new_ix1(4) + 3 - 2;
+        assert_eq!(rt; dim.slice(), [5].as_slice());
+        dim += 4;
+        dim -= 8;
+        assert_eq!(rt; dim.slice(), [1].as_slice());
+    }
+
+    #[test]
+    fn r2_rows_of_any_count(rt: HostRuntime) -> Result<(), Fail> {
+        let ones = new_ixdyn(rt.alloc(), &[1, 1])?;
+        let mut dim = new_ixdyn(rt.alloc(), &[3, 5])? + ones;
+        assert_eq!(rt; dim.slice(), [4, 6].as_slice());
+        dim = dim * 2;
+        assert_eq!(rt; dim.slice(), [8, 12].as_slice());
+        dim *= new_ixdyn(rt.alloc(), &[2, 1])?;
+        dim -= &new_ixdyn(rt.alloc(), &[6, 2])?;
+        assert_eq!(rt; dim.slice(), [10, 10].as_slice());
+        Ok(())
+    }
+
+    #[test]
+    fn r2_rows_of_zero(rt: HostRuntime) {
+        assert_eq!(rt; Dim::<[usize; 3]>::zero().slice(), [0, 0, 0].as_slice());
+        let rows = [
+            (new_ix2(0, 0), true),
+            (new_ix2(0, 1), false),
+            (new_ix2(1, 0), false),
+        ];
+        for (dim, is_zero) in rows {
+            assert_eq!(rt; dim.is_zero(), is_zero);
+        }
+    }
+}

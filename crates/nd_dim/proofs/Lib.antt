@@ -1,0 +1,4 @@
+pub mod Packed
+pub mod Products
+pub mod StrideAxes
+pub mod StrideOrder

@@ -1,0 +1,105 @@
+//! Which layouts fill their stretch of memory without a gap.
+ghost use Rattle.std.specs.Prelude.{◌≡◌, ◌≤◌, ◌↔◌, IsTrue, length};
+ghost use Rattle.nd_base.specs.Signed.{all_signed};
+ghost use Rattle.nd_base.specs.Size.{size, nonzero_size, limit};
+ghost use Rattle.nd_dim.specs.AxisOrder.{comes_before as comes_before_axis};
+ghost use Rattle.nd_dim.specs.Contiguous.{lens_before, is_packed as is_packed_layout, is_contiguous as is_contiguous_layout};
+ghost use Rattle.nd_dim.specs.Strides.{default_strides};
+
+use crate::stride_axes::magnitude_at;
+use nd_base::signed;
+
+/// Whether the strides are those that the shape has by itself.
+fn has_default_strides(lens: &[usize], strides: &[usize]) -> bool
+    requires same_count { length lens.now ≡ length strides.now }
+    requires size_fits { nonzero_size lens.now ≤ limit }
+    ensures { IsTrue result ↔ (strides.now ≡ default_strides lens.now) }
+{
+    if lens.contains(&0) {
+        return strides.iter().all(|stride| *stride == 0);
+    }
+    let mut size = 1usize;
+    for axis in (0..lens.len()).rev() {
+        if strides[axis] != size {
+            return false;
+        }
+        size *= lens[axis];
+    }
+    true
+}
+
+/// Whether an axis has the lesser stride, whatever the signs, or an equal one and the lesser
+/// number.
+fn comes_before(strides: &[usize], axis: usize, other: usize) -> bool
+    ensures { result ≡ comes_before_axis (all_signed strides.now) axis other }
+{
+    (magnitude_at(strides, axis), axis) < (magnitude_at(strides, other), other)
+}
+
+/// The product of the lengths of the axes that come before an axis.
+fn size_before(lens: &[usize], strides: &[usize], axis: usize) -> usize
+    requires { nonzero_size lens.now ≤ limit }
+    ensures { result ≡ size (lens_before lens.now (all_signed strides.now) axis) }
+{
+    let mut size = 1usize;
+    for (other, len) in lens.iter().enumerate() {
+        if comes_before(strides, other, axis) {
+            size *= *len;
+        }
+    }
+    size
+}
+
+/// Whether each axis of other than one entry steps over just what the axes before it span.
+fn is_packed(lens: &[usize], strides: &[usize]) -> bool
+    requires { nonzero_size lens.now ≤ limit }
+    ensures { result ≡ is_packed_layout lens.now (all_signed strides.now) }
+{
+    for (axis, len) in lens.iter().enumerate() {
+        if *len != 1 && magnitude_at(strides, axis) != size_before(lens, strides, axis) {
+            return false;
+        }
+    }
+    true
+}
+
+/// Whether the indices fill a stretch of memory without a gap, by a rule on lengths and strides.
+/// True where the strides are the default ones. Of a lone axis else: where it has at most one
+/// entry or the stride -1. Of other layouts else: where the magnitude of the stride of each axis
+/// of other than one entry is the product of the lengths of all axes before it, in the order of
+/// those magnitudes.
+///
+/// Takes no memory. Upstream's `is_contiguous`.
+pub(crate) fn is_contiguous(lens: &[usize], strides: &[usize]) -> bool
+    requires same_count { length lens.now ≡ length strides.now }
+    requires size_fits { nonzero_size lens.now ≤ limit }
+    ensures { result ≡ is_contiguous_layout lens.now (all_signed strides.now) }
+{
+    if has_default_strides(lens, strides) {
+        true
+    } else if lens.len() == 1 {
+        lens[0] <= 1 || signed(strides[0]) == -1
+    } else {
+        is_packed(lens, strides)
+    }
+}
+
+#[cfg(test)]
+mod tests {
+    use super::*;
+    use nd_base::unsigned;
+
+    #[test]
+    fn r2_rows(rt: HostRuntime) {
+        let back = unsigned(-1);
+        assert!(rt; is_contiguous(&[2, 3], &[unsigned(-3), back]));
+        assert!(rt; !is_contiguous(&[3, 2], &[2, 3]));
+        assert!(rt; is_contiguous(&[2, 3], &[1, 2]));
+        assert!(rt; is_contiguous(&[5], &[back]));
+        assert!(rt; !is_contiguous(&[5], &[2]));
+        assert!(rt; is_contiguous(&[1, 2], &[unsigned(isize::MIN), 1]));
+        assert!(rt; is_contiguous(&[], &[]));
+        assert!(rt; is_contiguous(&[0], &[9]));
+        assert!(rt; is_contiguous(&[2, 3], &[3, 1]));
+    }
+}

@@ -1,0 +1,137 @@
+//! The dimension types one by one: their patterns, and the types of one axis less and more.
+ghost use Rattle.std.specs.Prelude.{◌+◌, ◌-◌};
+ghost use Rattle.std.proofs.Common.{ap};
+
+use crate::dimension::Dimension;
+use nd_base::{Dim, Ix0, Ix1, Ix2, Ix3, Ix4, Ix5, Ix6, IxDyn, IxDynImpl};
+use std::alloc::{AllocError, Global};
+
+impl Dimension for Dim<[usize; 0]> {
+    type Pattern = ();
+
+    type Smaller = Ix0;
+
+    type Larger = Ix1;
+
+    ghost smaller_count = { λ n h. ap (λ m. m - 1) h };
+
+    ghost larger_count = { λ n h. ap (λ m. m + 1) h };
+
+    fn into_pattern(self) -> () {}
+}
+
+impl Dimension for Dim<[usize; 1]> {
+    type Pattern = usize;
+
+    type Smaller = Ix0;
+
+    type Larger = Ix2;
+
+    ghost smaller_count = { λ n h. ap (λ m. m - 1) h };
+
+    ghost larger_count = { λ n h. ap (λ m. m + 1) h };
+
+    fn into_pattern(self) -> usize {
+        self[0]
+    }
+}
+
+impl Dimension for Dim<[usize; 2]> {
+    type Pattern = (usize, usize);
+
+    type Smaller = Ix1;
+
+    type Larger = Ix3;
+
+    ghost smaller_count = { λ n h. ap (λ m. m - 1) h };
+
+    ghost larger_count = { λ n h. ap (λ m. m + 1) h };
+
+    fn into_pattern(self) -> (usize, usize) {
+        (self[0], self[1])
+    }
+}
+
+impl Dimension for Dim<[usize; 3]> {
+    type Pattern = (usize, usize, usize);
+
+    type Smaller = Ix2;
+
+    type Larger = Ix4;
+
+    ghost smaller_count = { λ n h. ap (λ m. m - 1) h };
+
+    ghost larger_count = { λ n h. ap (λ m. m + 1) h };
+
+    fn into_pattern(self) -> (usize, usize, usize) {
+        (self[0], self[1], self[2])
+    }
+}
+
+impl Dimension for Dim<[usize; 4]> {
+    type Pattern = (usize, usize, usize, usize);
+
+    type Smaller = Ix3;
+
+    type Larger = Ix5;
+
+    ghost smaller_count = { λ n h. ap (λ m. m - 1) h };
+
+    ghost larger_count = { λ n h. ap (λ m. m + 1) h };
+
+    fn into_pattern(self) -> (usize, usize, usize, usize) {
+        (self[0], self[1], self[2], self[3])
+    }
+}
+
+impl Dimension for Dim<[usize; 5]> {
+    type Pattern = (usize, usize, usize, usize, usize);
+
+    type Smaller = Ix4;
+
+    type Larger = Ix6;
+
+    ghost smaller_count = { λ n h. ap (λ m. m - 1) h };
+
+    ghost larger_count = { λ n h. ap (λ m. m + 1) h };
+
+    fn into_pattern(self) -> (usize, usize, usize, usize, usize) {
+        (self[0], self[1], self[2], self[3], self[4])
+    }
+}
+
+impl Dimension for Dim<[usize; 6]> {
+    type Pattern = (usize, usize, usize, usize, usize, usize);
+
+    type Smaller = Ix5;
+
+    type Larger = IxDyn;
+
+    ghost smaller_count = { λ n h. ap (λ m. m - 1) h };
+
+    ghost larger_count = { λ n h. tt };
+
+    fn into_pattern(self) -> (usize, usize, usize, usize, usize, usize) {
+        (self[0], self[1], self[2], self[3], self[4], self[5])
+    }
+}
+
+impl Dimension for Dim<IxDynImpl> {
+    type Pattern = IxDyn;
+
+    type Smaller = IxDyn;
+
+    type Larger = IxDyn;
+
+    ghost smaller_count = { λ n h. tt };
+
+    ghost larger_count = { λ n h. tt };
+
+    fn into_pattern(self) -> IxDyn {
+        self
+    }
+
+    fn into_dyn(self, _alloc: Global) -> Result<IxDyn, AllocError> {
+        Ok(self)
+    }
+}

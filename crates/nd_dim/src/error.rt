@@ -1,0 +1,14 @@
+//! A refusal for shapes that do not go together.
+ghost use Rattle.std.specs.Prelude.{◌≡◌};
+ghost use Rattle.nd_base.specs.declared.error.ErrorKind.TheVariants.{IncompatibleShape};
+
+use crate::dimension::Dimension;
+use nd_base::{ErrorKind, ShapeError, from_kind};
+
+/// The refusal of two shapes that do not go together, whatever they are. Upstream's
+/// `incompatible_shapes`.
+pub fn incompatible_shapes<D: Dimension, E: Dimension>(_dim: &D, _other: &E) -> ShapeError
+    ensures { result ≡ IncompatibleShape }
+{
+    from_kind(ErrorKind::IncompatibleShape)
+}

@@ -1,0 +1,39 @@
+//! Dimensions that have an axis to remove.
+ghost use Rattle.std.specs.Prelude.{◌≡◌, ◌-◌, ◌<◌, length, remove, IsOk, IfOk};
+ghost use Rattle.nd_base.specs.Lengths.{NeedsNoMemory};
+
+use crate::dimension::Dimension;
+use nd_base::{Axis, Ix1, Ix2, Ix3, Ix4, Ix5, Ix6, IxDyn};
+use std::alloc::{AllocError, Global};
+
+/// A dimension type that can have an axis to remove: all but that of no axes. Upstream's
+/// `RemoveAxis`.
+pub trait RemoveAxis: Dimension {
+    /// The lengths without that of an axis that there is. Upstream's `remove_axis`.
+    ///
+    /// Errors: want of memory, and none where the result's type fixes the count or has at most 4
+    /// axes.
+    final fn remove_axis(&self, alloc: Global, axis: Axis) -> Result<Self::Smaller, AllocError>
+        requires { axis.0 < length (Self.list self.now) }
+        ensures list { IfOk result (λ smaller.
+            Self.Smaller.list smaller ≡ remove (Self.list self.now) axis.0) }
+        ensures memory { NeedsNoMemory Self.Smaller.NDIM (length (Self.list self.now) - 1)
+            → IsOk result }
+    {
+        self.try_remove_axis(alloc, axis)
+    }
+}
+
+impl RemoveAxis for Ix1 {}
+
+impl RemoveAxis for Ix2 {}
+
+impl RemoveAxis for Ix3 {}
+
+impl RemoveAxis for Ix4 {}
+
+impl RemoveAxis for Ix5 {}
+
+impl RemoveAxis for Ix6 {}
+
+impl RemoveAxis for IxDyn {}

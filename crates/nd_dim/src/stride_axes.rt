@@ -1,0 +1,73 @@
+//! The axes of least and of greatest stride.
+ghost use Rattle.std.specs.Prelude.{◌≡◌, ◌<◌, length};
+ghost use Rattle.nd_base.specs.Signed.{all_signed};
+ghost use Rattle.nd_dim.specs.AxisOrder.{magnitude_at as magnitude_at_axis, IsLeastStrideAxis, IsGreatestStrideAxis};
+
+use nd_base::signed;
+
+/// How many elements the stride of an axis steps over, in either direction; 0 past the last axis.
+pub(crate) fn magnitude_at(strides: &[usize], axis: usize) -> usize
+    ensures { result ≡ magnitude_at_axis (all_signed strides.now) axis }
+{
+    strides
+        .get(axis)
+        .map_or(0, |stride| signed(*stride).unsigned_abs())
+}
+
+/// The axis whose stride is of least magnitude among those of more than one entry, and the last
+/// of these where several are; the last axis where none has more than one entry. Upstream's
+/// `min_stride_axis`.
+pub(crate) fn min_stride_axis(lens: &[usize], strides: &[usize]) -> usize
+    requires some_axis { 0 < length lens.now }
+    requires same_count { length lens.now ≡ length strides.now }
+    ensures { IsLeastStrideAxis lens.now (all_signed strides.now) result }
+{
+    let mut least = lens.len() - 1;
+    for (axis, len) in lens.iter().enumerate() {
+        if *len > 1
+            && (lens[least] <= 1 || magnitude_at(strides, axis) <= magnitude_at(strides, least))
+        {
+            least = axis;
+        }
+    }
+    least
+}
+
+/// The axis whose stride is of greatest magnitude among those of more than one entry, and the
+/// last of these where several are; the first axis where none has more than one entry. Upstream's
+/// `max_stride_axis`.
+pub(crate) fn max_stride_axis(lens: &[usize], strides: &[usize]) -> usize
+    requires some_axis { 0 < length lens.now }
+    requires same_count { length lens.now ≡ length strides.now }
+    ensures { IsGreatestStrideAxis lens.now (all_signed strides.now) result }
+{
+    let mut greatest = 0;
+    for (axis, len) in lens.iter().enumerate() {
+        if *len > 1
+            && (lens[greatest] <= 1
+                || magnitude_at(strides, greatest) <= magnitude_at(strides, axis))
+        {
+            greatest = axis;
+        }
+    }
+    greatest
+}
+
+#[cfg(test)]
+mod tests {
+    use super::*;
+    use nd_base::unsigned;
+
+    #[test]
+    fn r2_rows(rt: HostRuntime) {
+        assert_eq!(rt; min_stride_axis(&[1, 3, 2], &[0, 2, 6]), 1);
+        assert_eq!(rt; max_stride_axis(&[1, 3, 2], &[0, 2, 6]), 2);
+        let extremes = [unsigned(isize::MIN), unsigned(isize::MAX), 0];
+        assert_eq!(rt; min_stride_axis(&[2, 2, 1], &extremes), 1);
+        assert_eq!(rt; max_stride_axis(&[2, 2, 1], &extremes), 0);
+        assert_eq!(rt; min_stride_axis(&[5], &[7]), 0);
+        assert_eq!(rt; max_stride_axis(&[5], &[7]), 0);
+        assert_eq!(rt; min_stride_axis(&[1, 1], &[7, 9]), 1);
+        assert_eq!(rt; max_stride_axis(&[1, 1], &[7, 9]), 0);
+    }
+}

@@ -1,0 +1,33 @@
+//! The axes in the order of their strides.
+ghost use Rattle.std.specs.Prelude.{◌≡◌, length};
+ghost use Rattle.nd_base.specs.Signed.{all_signed};
+ghost use Rattle.nd_dim.specs.AxisOrder.{IsStrideOrder};
+
+use crate::stride_axes::magnitude_at;
+
+/// Writes the numbers of the axes, that of the least stride first, whatever the signs; axes of
+/// equal strides stand in their own order. Upstream's `_fastest_varying_stride_order`.
+pub(crate) fn fill_stride_order(strides: &[usize], order: &mut [usize])
+    requires { length strides.now ≡ length order.old }
+    ensures { IsStrideOrder (all_signed strides.now) order.new }
+{
+    for (axis, place) in order.iter_mut().enumerate() {
+        *place = axis;
+    }
+    order.sort_unstable_by_key(|axis| (magnitude_at(strides, *axis), *axis));
+}
+
+#[cfg(test)]
+mod tests {
+    use super::*;
+    use nd_base::unsigned;
+
+    #[test]
+    fn r2_rows(rt: HostRuntime) {
+        let mut order = [9; 3];
+        fill_stride_order(&[unsigned(isize::MIN), 1, unsigned(-1)], &mut order);
+        assert_eq!(rt; order, [1, 2, 0]);
+        fill_stride_order(&[12, unsigned(-4), 1], &mut order);
+        assert_eq!(rt; order, [2, 1, 0]);
+    }
+}
