@@ -1,0 +1,2 @@
+//! Tests of `nd_base`, by its public calls.
+#![tactic(auto)]

@@ -1,0 +1,2 @@
+//! Tests of `nd_dim`, by its public calls.
+#![tactic(auto)]

@@ -1,0 +1,2 @@
+//! Tests of `nd_shape`, by its public calls.
+#![tactic(auto)]

@@ -1,0 +1,2 @@
+//! Tests of `nd_slice`, by its public calls.
+#![tactic(auto)]

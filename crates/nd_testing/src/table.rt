@@ -1,0 +1,85 @@
+//! Tables as text: a row is a line of words, a list is a word of numbers parted by commas, `-` is the
+//! empty list.
+use std::alloc::{AllocError, Global};
+use std::str::{Lines, SplitWhitespace};
+
+/// Why a table can't be read.
+#[derive(Debug, Drop)]
+pub enum TableError {
+    /// A row has fewer words than are asked of it.
+    MissingWord,
+    /// A word is no number, or no list of numbers.
+    NotANumber,
+    /// No memory for a list.
+    Memory(AllocError),
+}
+
+impl From<AllocError> for TableError {
+    fn from(error: AllocError) -> Self {
+        TableError::Memory(error)
+    }
+}
+
+/// The rows of a table.
+pub fn rows(table: &str) -> Lines<'_> {
+    table.lines()
+}
+
+/// The words of a row that are still to be read.
+pub struct Row<'a> {
+    words: SplitWhitespace<'a>,
+}
+
+impl<'a> Row<'a> {
+    /// A row of a table.
+    pub fn new(line: &'a str) -> Self {
+        Row {
+            words: line.split_whitespace(),
+        }
+    }
+
+    /// The next word.
+    pub fn word(&mut self) -> Result<&'a str, TableError> {
+        self.words.next().ok_or(TableError::MissingWord)
+    }
+
+    /// The next word as a length.
+    pub fn length(&mut self) -> Result<usize, TableError> {
+        self.word()?.parse().ok().ok_or(TableError::NotANumber)
+    }
+
+    /// The next word as a signed number.
+    pub fn number(&mut self) -> Result<isize, TableError> {
+        self.word()?.parse().ok().ok_or(TableError::NotANumber)
+    }
+
+    /// The next word as a list of lengths.
+    pub fn lengths(&mut self, alloc: Global) -> Result<Vec<usize>, TableError> {
+        let mut lengths = Vec::new(alloc);
+        for part in self.word()?.split(',') {
+            if part != "-" {
+                push(&mut lengths, part.parse().ok())?;
+            }
+        }
+        Ok(lengths)
+    }
+
+    /// The next word as a list of signed numbers.
+    pub fn numbers(&mut self, alloc: Global) -> Result<Vec<isize>, TableError> {
+        let mut numbers = Vec::new(alloc);
+        for part in self.word()?.split(',') {
+            if part != "-" {
+                push(&mut numbers, part.parse().ok())?;
+            }
+        }
+        Ok(numbers)
+    }
+}
+
+/// Adds what a word was read as, if it was.
+fn push<T: Drop>(list: &mut Vec<T>, item: Option<T>) -> Result<(), TableError> {
+    match list.push(item.ok_or(TableError::NotANumber)?) {
+        Ok(()) => Ok(()),
+        Err(error) => Err(AllocError::from(error).into()),
+    }
+}

@@ -1,0 +1,2 @@
+//! Tests of `ndarray_layout`, by its public calls.
+#![tactic(auto)]
