@@ -26,6 +26,7 @@ pub fn rows(table: &str) -> Lines<'_> {
 }
 
 /// The words of a row that are still to be read.
+#[derive(Drop)]
 pub struct Row<'a> {
     words: SplitWhitespace<'a>,
 }
