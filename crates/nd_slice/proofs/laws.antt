@@ -1,3 +1,4 @@
 pub mod Picks
 pub mod Selected
 pub mod SliceFault
+pub mod Sliced

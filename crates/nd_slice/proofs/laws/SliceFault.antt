@@ -1,8 +1,8 @@
 -- What no fault means: a slice that fits, an index that is an entry, and the same of each element of an argument.
-use Rattle.std.proofs.Common.{true, false, refl}
-use Rattle.std.proofs.lemmas.Bool.{and_parts, eqb-true}
+use Rattle.std.proofs.Common.{◌<◌, ◌≤◌, pos, negsuc, true, false, refl, pos_of_ne-zero}
+use Rattle.std.proofs.lemmas.Bool.{and_parts, eqb-true, eqb-false, leb-true, ltb-true}
 use Rattle.std.specs.Option.{option_or}
-use Rattle.std.specs.Prelude.{◌≡◌, ℕ, ℤ, Bool, ◌==◌, not, if◌then◌else◌, Option, Some, None, List, ◌∷◌, length}
+use Rattle.std.specs.Prelude.{◌≡◌, ℕ, ℤ, IsTrue, Bool, ◌==◌, not, if◌then◌else◌, Option, Some, None, List, ◌∷◌, length}
 use Rattle.nd_base.specs.declared.error.ErrorKind.{ErrorKind}
 use Rattle.nd_base.specs.declared.error.ErrorKind.TheVariants.{IncompatibleShape, OutOfBounds, Unsupported}
 use Rattle.nd_base.specs.Signed.{magnitude}
@@ -28,6 +28,18 @@ fits_of_no_fault len slice none =
 pub no_fault_of_fits : (len : ℕ) (slice : Slice) → SliceFits len slice → slice_fault len slice ≡ None
 no_fault_of_fits len slice fits = rw (fits.start_within, fits.end_within, fits.step_moves) refl
 
+-- the step of a slice that fits moves
+pub step_moves : (len : ℕ) (slice : Slice) → SliceFits len slice → 0 < magnitude slice.step
+step_moves len slice fits = pos_of_ne-zero (eqb-false (magnitude slice.step) 0 fits.step_moves)
+
+bound_below : (len : ℕ) (bound : ℤ) → IsTrue (is_bound len bound) → magnitude bound ≤ len
+bound_below len (pos bound) within = leb-true bound len within
+bound_below len (negsuc bound) within = absurd (cc)
+
+-- it stops at the end of the axis or before
+pub end_below : (len : ℕ) (slice : Slice) → SliceFits len slice → magnitude (end_meaning len slice) ≤ len
+end_below len slice fits = bound_below len (end_meaning len slice) fits.end_within
+
 entry_is : (entry : Bool) → (if entry then None else Some OutOfBounds) ≡ None → entry ≡ true
 entry_is true none = refl
 entry_is false none = absurd (cc)
@@ -51,6 +63,14 @@ pub index_of_no_fault : (len : ℕ) (shape : List ℕ) (index : ℤ) (elems : Li
 index_of_no_fault len shape index elems none =
     let parts = both_none (index_fault len index) (first_fault shape elems) none in
     (index_fits_of_no_fault len index parts.0, parts.1)
+
+entry_at : (len : ℕ) (entry : ℤ) → IsTrue (is_entry len entry) → (entry ≡ pos (magnitude entry)) × (magnitude entry < len)
+entry_at len (pos entry) is = (refl, ltb-true entry len is)
+entry_at len (negsuc entry) is = absurd (cc)
+
+-- the entry that an index means is on the axis
+pub entry_below : (len : ℕ) (index : ℤ) → IndexFits len index → (meaning len index ≡ pos (magnitude (meaning len index))) × (magnitude (meaning len index) < len)
+entry_below len index fits = entry_at len (meaning len index) fits
 
 counted : (same : Bool) (first : Option ErrorKind) → (if same then first else Some IncompatibleShape) ≡ None → (same ≡ true) × (first ≡ None)
 counted true first none = (refl, none)
