@@ -1,6 +1,6 @@
 -- Items whose positions are multiples of a step, as a walk that passes over the items between them.
-use Rattle.std.proofs.Common.{◌≡◌, ℕ, zero, suc, ◌+◌, ◌-◌, ◌*◌, ◌/◌, ◌%◌, ◌<◌, true, false, eqb, map, filter, List, [], ◌∷◌, refl, ap, subst, arith, eq-eqb, ne_eqb, div-add-mod', inl, inr}
-use Rattle.std.proofs.Math.Nat.{mul-mod_left, mul-le-mul_right}
+use Rattle.std.proofs.Common.{◌≡◌, ℕ, zero, suc, ◌+◌, ◌-◌, ◌*◌, ◌/◌, ◌%◌, ◌<◌, ◌≤◌, true, false, eqb, map, filter, List, [], ◌∷◌, length, refl, ap, subst, arith, eq-eqb, ne_eqb, div-add-mod', inl, inr}
+use Rattle.std.proofs.Math.Nat.{mod-zero, mul-mod_left, mul-le-mul_right}
 use Rattle.std.proofs.lemmas.Bool.{cases_lt}
 use Rattle.std.specs.List.{enumerate_from}
 use Rattle.nd_slice.specs.Picks.{every}
@@ -31,3 +31,12 @@ every_from k a (suc s) q (x ∷ xs) p e =
 
 pub every_is : (k : ℕ) (xs : List ℕ) → 0 < k → every k xs ≡ every_after k 0 xs
 every_is k xs p = every_from k 0 0 0 xs p (omega arith)
+
+-- a step of 0 keeps no more than the first item
+none_from : (a : ℕ) (xs : List ℕ) → 0 < a → filter (λ item. eqb (item.0 % 0) 0) (enumerate_from a xs) ≡ []
+none_from a [] p = refl
+none_from a (x ∷ xs) p = rw (ne_eqb (a % 0) 0 (λ z. omega (arith, mod-zero a, z))) (none_from (a + 1) xs (omega arith))
+
+pub one_of_zero : (xs : List ℕ) → length (every 0 xs) ≤ 1
+one_of_zero [] = omega arith
+one_of_zero (x ∷ xs) = omega (arith, ap (λ items. length (map (λ item. item.1) items)) (none_from 1 xs (omega arith)))

@@ -4,3 +4,4 @@ pub mod Counts
 pub mod Picks
 pub mod Slicing
 pub mod Times
+pub mod laws

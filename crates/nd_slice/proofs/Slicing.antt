@@ -1,20 +1,20 @@
 -- Facts for one axis that is sliced between two bounds.
-use Rattle.std.proofs.Common.{◌≡◌, ℕ, zero, suc, ◌+◌, ◌-◌, ◌*◌, ◌<◌, ◌≤◌, max, List, [], ◌∷◌, length, get_or, arith, refl, sym, ap, ◌∙◌, inl, inr, Some, None, Bool, true, false, not, pos_of_ne-zero, subst}
-use Rattle.std.proofs.lemmas.Bool.{cases_lt, eqb-false, le-leb, lt-leb, leb-true, and_parts}
+use Rattle.std.proofs.Common.{◌≡◌, ℕ, zero, suc, ◌+◌, ◌-◌, ◌*◌, ◌<◌, ◌≤◌, max, List, [], ◌∷◌, length, get_or, arith, refl, sym, ap, ◌∙◌, inl, inr, None, subst}
+use Rattle.std.proofs.lemmas.Bool.{cases_lt, le-leb, lt-leb}
 use Rattle.std.proofs.lemmas.Int.{ints, fits_signed_mul}
 use Rattle.std.proofs.lemmas.Grind.{div_ceil_times}
 use Rattle.std.proofs.Math.IntN.{ℤ, pos, negsuc, ◌+ℤ◌, ◌*ℤ◌, *ℤ-zero}
-use Rattle.std.specs.Prelude.{FitsSigned, ◌<ℤ◌, if◌then◌else◌, ◌==◌}
+use Rattle.std.specs.Prelude.{FitsSigned, ◌<ℤ◌, if◌then◌else◌}
 use Rattle.std.specs.List.{range_with_len}
 use Rattle.std.specs.Int.{w64, div_ceil}
 use Rattle.nd_base.specs.Signed.{magnitude}
 use Rattle.nd_base.specs.Size.{limit}
 use Rattle.nd_base.specs.Span.{reach}
-use Rattle.nd_base.specs.declared.error.ErrorKind.TheVariants.{OutOfBounds, Unsupported}
 use Rattle.nd_slice.specs.declared.slice.Slice.{Slice}
-use Rattle.nd_slice.specs.Picks.{every, directed, is_bound, start_meaning, end_meaning, picks}
-use Rattle.nd_slice.specs.SliceFault.{slice_fault, is_within}
+use Rattle.nd_slice.specs.Picks.{every, directed, start_meaning, end_meaning, picks}
+use Rattle.nd_slice.specs.SliceFault.{slice_fault}
 use Rattle.nd_slice.specs.Sliced.{first_offset, picked_stride}
+use Rattle.nd_slice.proofs.laws.SliceFault.{fits_of_no_fault, step_moves}
 use Rattle.nd_slice.proofs.Axis.{between, between_steps, between_below, between_within, length-between, pick_down}
 
 -- the picks of a slice, by the bounds that it means
@@ -26,18 +26,9 @@ picks_between len slice start end s e =
     let count : to - from ≡ end - start = omega arith in
     ap (λ (xs : List ℕ). every (magnitude slice.step) (directed slice.step xs)) (ap (λ n. range_with_len n (to - from)) first ∙ ap (λ n. range_with_len start n) count)
 
--- no fault is neither of the two
-no_zero : (within zero_step : Bool) → (if not within then Some OutOfBounds else if zero_step then Some Unsupported else None) ≡ None → zero_step ≡ false
-no_zero true true e = absurd (cc)
-no_zero true false e = refl
-no_zero false zero_step e = absurd (cc)
-
 -- a slice that fits has a step
-pub step_of_fit : (len : ℕ) (slice : Slice) → slice_fault len slice ≡ None → 0 < magnitude slice.step
-step_of_fit len slice e = pos_of_ne-zero (eqb-false (magnitude slice.step) 0 (no_zero (is_within len slice) (magnitude slice.step == 0) e))
-
 pub moves : (len : ℕ) (slice : Slice) (step : ℤ) → None ≡ slice_fault len slice → step ≡ slice.step → 0 < magnitude step
-moves len slice step e same = subst (λ z. 0 < magnitude z) (sym same) (step_of_fit len slice (sym e))
+moves len slice step e same = subst (λ z. 0 < magnitude z) (sym same) (step_moves len slice (fits_of_no_fault len slice (sym e)))
 
 -- a count rounded up
 count_of_some : (n k c : ℕ) → n ≤ c * k → 0 < n → 0 < c
@@ -84,12 +75,12 @@ picked_few : (count : ℕ) (s step : ℤ) → count ≤ 1 → picked_stride coun
 picked_few count s step h = ap (λ b. if b then pos 0 else (s *ℤ step)) (le-leb count 1 h)
 
 -- each pick lies as many new strides on
-pub picked_steps : (step : ℤ) (start end j : ℕ) (s : ℤ) → 0 < magnitude step → j < length (between step start end) → pos (get_or (between step start end) j 0) *ℤ s ≡ first_offset (between step start end) s +ℤ (pos j *ℤ picked_stride (length (between step start end)) s step)
-picked_steps step start end j s p below =
+pub picked_steps : (step : ℤ) (start end j : ℕ) (s : ℤ) → j < length (between step start end) → pos (get_or (between step start end) j 0) *ℤ s ≡ first_offset (between step start end) s +ℤ (pos j *ℤ picked_stride (length (between step start end)) s step)
+picked_steps step start end j s below =
     let xs : List ℕ = between step start end in
     let first : first_offset xs s ≡ pos (get_or xs 0 0) *ℤ s = offset_of_some xs s (omega arith) in
     elim (cases_lt 1 (length xs)) [
-      | inl many ↦ between_steps step start end j s p below ∙ sym (ap (λ x. x +ℤ (pos j *ℤ picked_stride (length xs) s step)) first ∙ ap (λ x. (pos (get_or xs 0 0) *ℤ s) +ℤ (pos j *ℤ x)) (picked_many (length xs) s step many))
+      | inl many ↦ between_steps step start end j s below ∙ sym (ap (λ x. x +ℤ (pos j *ℤ picked_stride (length xs) s step)) first ∙ ap (λ x. (pos (get_or xs 0 0) *ℤ s) +ℤ (pos j *ℤ x)) (picked_many (length xs) s step many))
       | inr few ↦
           let here : pos (get_or xs j 0) *ℤ s ≡ pos (get_or xs 0 0) *ℤ s = ap (λ n. pos (get_or xs n 0) *ℤ s) (omega arith) in
           let still : pos j *ℤ picked_stride (length xs) s step ≡ pos 0 = ap (λ x. pos j *ℤ x) (picked_few (length xs) s step few) ∙ *ℤ-zero (pos j) in
@@ -111,28 +102,3 @@ offset_at_some step start end first s offset p some e f = f ∙ ap (λ n. pos n 
 
 pub offset_at_none : (step : ℤ) (start end : ℕ) (s offset : ℤ) → 0 < magnitude step → end ≤ start → offset ≡ pos 0 → offset ≡ first_offset (between step start end) s
 offset_at_none step start end s offset p none f = f ∙ sym (offset_of_none (between step start end) s (none_between step start end p none))
-
--- a bound that fits is at most the length
-bound_below : (len : ℕ) (bound : ℤ) → is_bound len bound ≡ true → magnitude bound ≤ len
-bound_below len (pos bound) h = leb-true bound len h
-bound_below len (negsuc bound) h = absurd (cc)
-
--- no fault is a range within
-no_range : (within zero_step : Bool) → (if not within then Some OutOfBounds else if zero_step then Some Unsupported else None) ≡ None → within ≡ true
-no_range true zero_step e = refl
-no_range false zero_step e = absurd (cc)
-
--- how many entries a slice that fits picks
-pub length-picks : (len : ℕ) (slice : Slice) → slice_fault len slice ≡ None → length (picks len slice) ≡ div_ceil (magnitude (end_meaning len slice) - magnitude (start_meaning len slice)) (magnitude slice.step)
-length-picks len slice e = length-between slice.step (magnitude (start_meaning len slice)) (magnitude (end_meaning len slice)) (step_of_fit len slice e)
-
--- each is on the axis
-pub pick_below : (len : ℕ) (slice : Slice) (j : ℕ) → slice_fault len slice ≡ None → j < length (picks len slice) → get_or (picks len slice) j 0 < len
-pick_below len slice j e below =
-    let within : is_within len slice ≡ true = no_range (is_within len slice) (magnitude slice.step == 0) e in
-    let end : magnitude (end_meaning len slice) ≤ len = bound_below len (end_meaning len slice) (and_parts (is_bound len (start_meaning len slice)) (is_bound len (end_meaning len slice)) within).1 in
-    omega (arith, between_below slice.step (magnitude (start_meaning len slice)) (magnitude (end_meaning len slice)) j (step_of_fit len slice e) below)
-
--- and lies as many new strides behind the first
-pub pick_offset : (len : ℕ) (slice : Slice) (j : ℕ) (s : ℤ) → slice_fault len slice ≡ None → j < length (picks len slice) → pos (get_or (picks len slice) j 0) *ℤ s ≡ first_offset (picks len slice) s +ℤ (pos j *ℤ picked_stride (length (picks len slice)) s slice.step)
-pick_offset len slice j s e below = picked_steps slice.step (magnitude (start_meaning len slice)) (magnitude (end_meaning len slice)) j s (step_of_fit len slice e) below

@@ -52,7 +52,7 @@ returns-clause-steps c j below =
     ] in
     let count : c.pick_count.result ≡ length (between step x.start x.end) = c.pick_count.ensures in
     let stride : picked_stride (length (between step x.start x.end)) s step ≡ signed c.stepped_stride.result = sym (c.stepped_stride.ensures ∙ ap (λ n. picked_stride n s step) count) in
-    let steps = picked_steps step x.start x.end j s p (omega (arith, count)) in
+    let steps = picked_steps step x.start x.end j s (omega (arith, count)) in
     ap (λ xs. pos (get_or xs j 0) *ℤ s) are ∙ steps ∙ ap (λ z. z +ℤ (pos j *ℤ picked_stride (length (between step x.start x.end)) s step)) (sym offset) ∙ ap (λ z. at +ℤ (pos j *ℤ z)) stride
 
 pub returns-clause-within : goal.returns-clause-within

@@ -1,0 +1,4 @@
+pub mod Picks
+pub mod Selected
+pub mod SliceFault
+pub mod Sliced
