@@ -1,0 +1,4 @@
+pub mod Indices
+pub mod IsIndex
+pub mod Rank
+pub mod Size
