@@ -1,9 +1,10 @@
 -- Laws of the test for an index of a shape.
-use Rattle.std.proofs.Common.{◌≡◌, ℕ, zero, suc, ◌<◌, Bool, true, false, List, [], ◌∷◌, ◌++◌, length, get_or, reverse, refl, sym, ap, ◌∙◌, arith}
+use Rattle.std.proofs.Common.{◌≡◌, ℕ, zero, suc, ◌<◌, Bool, true, false, eqb, List, [], ◌∷◌, ◌++◌, length, get_or, reverse, refl, sym, ap, ◌∙◌, arith}
 use Rattle.std.specs.Prelude.{nat_lt, ◌&&◌}
-use Rattle.std.proofs.lemmas.Bool.{and_parts, and_right, ltb-true}
+use Rattle.std.proofs.lemmas.Bool.{and_parts, and_right, ltb-true, ne_eqb, or_from}
 use Rattle.std.proofs.lemmas.List.{reverse-append}
 use Rattle.nd_base.specs.Indices.{is_index}
+use Rattle.nd_base.specs.Size.{is_empty}
 
 -- an index has one entry for each axis
 pub length_of_index : (shape index : List ℕ) → is_index shape index ≡ true → length index ≡ length shape
@@ -21,6 +22,15 @@ entry_of_index (len ∷ lens) (i ∷ index) zero h l =
     ltb-true i len (and_parts (nat_lt i len) (is_index lens index) h).0
 entry_of_index (len ∷ lens) (i ∷ index) (suc axis) h l =
     entry_of_index lens index axis (and_parts (nat_lt i len) (is_index lens index) h).1 (omega arith)
+
+-- a shape with an index has no zero length
+pub nonempty_from_index : (shape index : List ℕ) → is_index shape index ≡ true → is_empty shape ≡ false
+nonempty_from_index [] index h = refl
+nonempty_from_index (len ∷ lens) [] h = absurd (cc)
+nonempty_from_index (len ∷ lens) (i ∷ index) h =
+    let parts = and_parts (nat_lt i len) (is_index lens index) h in
+    let below : i < len = ltb-true i len parts.0 in
+    or_from (eqb len 0) (is_empty lens) (ne_eqb len 0 (λ e. omega arith)) (nonempty_from_index lens index parts.1)
 
 and_turned : (b : Bool) → (b && true) ≡ b
 and_turned true = refl
