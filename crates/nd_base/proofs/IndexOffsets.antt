@@ -1,9 +1,8 @@
 -- Facts about the offsets of indices: which lists are indices, how far they lie, and a sum of offsets from an axis on.
-use Rattle.std.proofs.Common.{inl, inr, min, ◌≡◌, ℕ, suc, ◌+◌, ◌-◌, ◌*◌, ◌<◌, ◌≤◌, ℤ, pos, negsuc, neg_ℤ, ◌+ℤ◌, ◌*ℤ◌, ◌≤ℤ◌, true, false, Option, Some, None, List, [], ◌∷◌, length, drop, get_or, refl, ap, ◌∙◌, arith, add-one, drop-cons}
+use Rattle.std.proofs.Common.{inl, inr, min, ◌≡◌, ℕ, suc, ◌+◌, ◌*◌, ◌<◌, ◌≤◌, ℤ, pos, negsuc, neg_ℤ, ◌+ℤ◌, ◌*ℤ◌, ◌≤ℤ◌, false, Option, Some, None, List, [], ◌∷◌, length, drop, get_or, refl, ap, ◌∙◌, arith, add-one, drop-cons}
 use Rattle.std.specs.Prelude.{nat_lt, ◌&&◌}
 use Rattle.std.specs.List.{list_all, zip}
-use Rattle.std.proofs.Math.Nat.{mul-le-mul_right}
-use Rattle.std.proofs.lemmas.Bool.{and_parts, and_right, cases_lt, ltb-true}
+use Rattle.std.proofs.lemmas.Bool.{and_right, cases_lt}
 use Rattle.std.proofs.lemmas.Int.{ints}
 use Rattle.std.proofs.lemmas.List.{drop_all}
 use Rattle.std.proofs.iter.Yields.{fronts}
@@ -17,22 +16,8 @@ use Rattle.std.specs.declared.iter.Zip.{Zip}
 use Rattle.std.specs.declared.slice.Iter.{Iter}
 use Rattle.nd_base.specs.Indices.{is_index}
 use Rattle.nd_base.specs.Place.{offset_of}
-use Rattle.nd_base.specs.Reach.{farthest_offset}
 use Rattle.nd_base.specs.Signed.{signed, all_signed, magnitude}
-use Rattle.nd_base.specs.Span.{span}
-
--- an index lies no farther than the span, whatever the signs of the strides
-pub farthest_offset_le : (shape : List ℕ) (strides : List ℤ) (index : List ℕ) → is_index shape index ≡ true → farthest_offset strides index ≤ span shape strides
-farthest_offset_le [] strides [] h = omega arith
-farthest_offset_le [] strides (i ∷ index) h = absurd (cc)
-farthest_offset_le (len ∷ shape) strides [] h = absurd (cc)
-farthest_offset_le (len ∷ shape) [] (i ∷ index) h = omega arith
-farthest_offset_le (len ∷ shape) (stride ∷ strides) (i ∷ index) h =
-    let parts = and_parts (nat_lt i len) (is_index shape index) h in
-    let below : i < len = ltb-true i len parts.0 in
-    let steps : i ≤ len - 1 = omega arith in
-    let most : i * magnitude stride ≤ (len - 1) * magnitude stride = mul-le-mul_right (magnitude stride) steps in
-    omega (arith, farthest_offset_le shape strides index parts.1)
+use Rattle.nd_base.proofs.laws.Span.{sum_from, sum_from_step}
 
 -- the test by counts and pairs is the one of indices
 pub is_index_by_pairs : (shape index : List ℕ) → length shape ≡ length index → list_all (λ pair. nat_lt pair.1 pair.0) (zip shape index) ≡ is_index shape index
@@ -96,6 +81,14 @@ module _
   offset_at_turn p e h =
       let turn = zip_turn index strides xs s t u r first second y p e h in
       let step = offset_from_step strides index (length xs) turn.0 turn.1 in
+      rw (turn.2 0, turn.3 0) step
+
+  -- how far that entry lies, and how far those behind it can
+  pub far_at_turn : (p : Bor ℕ × Bor ℕ) → r ≡ Some p → zips fronts fronts t r u
+      → sum_from entry_offset index strides (length xs) ≡ entry_offset p.0.now (signed p.1.now) + sum_from entry_offset index strides (length xs + 1)
+  far_at_turn p e h =
+      let turn = zip_turn index strides xs s t u r first second y p e h in
+      let step = sum_from_step entry_offset index strides (length xs) turn.0 turn.1 in
       rw (turn.2 0, turn.3 0) step
 
   -- at the end

@@ -5,6 +5,7 @@ pub mod Indices
 pub mod Lengths
 pub mod Order
 pub mod Place
+pub mod Rank
 pub mod Reach
 pub mod Signed
 pub mod Size

@@ -15,7 +15,8 @@ use Rattle.nd_base.specs.Signed.{signed, unsigned, all_signed}
 use Rattle.nd_base.specs.Size.{size, nonzero_size, is_empty, limit}
 use Rattle.nd_dim.specs.Contiguous.{has_default_strides}
 use Rattle.nd_dim.specs.Strides.{size_after, default_strides}
-use Rattle.nd_dim.proofs.Products.{size-append, size_drop_le, size_le_nonzero}
+use Rattle.nd_base.proofs.laws.NonzeroSize.{size_le_nonzero_size}
+use Rattle.nd_base.proofs.laws.Size.{size-append, size_drop_le}
 
 -- a test that passes at each number below n, or fails at one
 pub all_below : (p : ℕ → Bool) (n : ℕ) → ((k : ℕ) → k < n → p k ≡ true) → list_all p (below n) ≡ true
@@ -75,7 +76,7 @@ default_small lens k top h =
       | inr some ↦
           let is : get_or (default_strides lens) k 0 ≡ size_after lens k = default_at lens k some h in
           let less : size_after lens k ≤ size lens = size_drop_le lens (k + 1) some in
-          omega (arith, size_le_nonzero lens)
+          omega (arith, size_le_nonzero_size lens)
     ]
 
 signed_of_small : (n : ℕ) → n ≤ limit → signed n ≡ pos n

@@ -1,3 +1,3 @@
-pub mod Accepted
-pub mod OffsetBounds
 pub mod OwnedRule
+pub mod SumLoop
+pub mod laws

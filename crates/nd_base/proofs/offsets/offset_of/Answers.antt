@@ -5,8 +5,8 @@ use Rattle.std.proofs.lemmas.List.{length_push}
 use Rattle.std.proofs.lemmas.Slice.Zip.{zip_turn}
 use Rattle.nd_base.specs.Signed.{signed}
 use Rattle.nd_base.specs.Size.{limit}
-use Rattle.nd_base.proofs.IndexOffsets.{entry_offset, entry_offset_bounds, offset_from, offset_at_turn, offset_at_end}
-use Rattle.nd_base.proofs.Sums.{sum_from, sum_at_turn}
+use Rattle.nd_base.proofs.IndexOffsets.{entry_offset, entry_offset_bounds, offset_from, offset_at_turn, far_at_turn, offset_at_end}
+use Rattle.nd_base.proofs.laws.Span.{sum_from}
 use Rattle.nd_base.proofs.offsets.offset_of.Goals as goal
 use Rattle.nd_base.proofs.offsets.offset_of.Goals.{In-Some}
 
@@ -26,7 +26,7 @@ step c =
 -- how far it lies, and how far those behind it can
 far : (c : In-Some) → sum_from entry_offset c.args.index.now c.args.strides.now (length c.loop-entry.yielded) ≡ entry_offset c.in-Some.entry.now (signed c.in-Some.stride.now) + sum_from entry_offset c.args.index.now c.args.strides.now (length c.loop-entry.yielded + 1)
 far c =
-    sum_at_turn entry_offset c.args.index.now c.args.strides.now c.loop-entry.yielded c.into_iter-entry-iterator.result c.loop-entry.entry-iterator c.next.new.self c.next.result
+    far_at_turn c.args.index.now c.args.strides.now c.loop-entry.yielded c.into_iter-entry-iterator.result c.loop-entry.entry-iterator c.next.new.self c.next.result
     (search rules) (search rules) c.loop-entry.yielded_by (c.in-Some.entry, c.in-Some.stride) c.in-Some.is c.next.ensures.steps
 
 entry_fits : (c : In-Some) → c.in-Some.entry.now ≤ limit

@@ -4,7 +4,7 @@ use Rattle.nd_base.specs.Place.{offset_of}
 use Rattle.nd_base.specs.Signed.{all_signed}
 use Rattle.nd_base.specs.Size.{limit}
 use Rattle.nd_base.proofs.IndexOffsets.{entry_offset, offset_from}
-use Rattle.nd_base.proofs.Sums.{sum_from}
+use Rattle.nd_base.proofs.laws.Span.{sum_from}
 use Rattle.nd_base.proofs.offsets.offset_of.Given as goal
 
 abbrev pub invariant-loop-entry : goal.invariant-loop-entry

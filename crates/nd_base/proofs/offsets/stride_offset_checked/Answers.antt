@@ -1,8 +1,8 @@
 use Rattle.std.proofs.Common.{◌≡◌, true, arith, sym, ◌∙◌}
 use Rattle.nd_base.specs.Indices.{is_index}
 use Rattle.nd_base.specs.Signed.{all_signed}
-use Rattle.nd_base.proofs.IndexOffsets.{farthest_offset_le}
-use Rattle.nd_base.proofs.NonzeroSizes.{entry_le_nonzero_size}
+use Rattle.nd_base.proofs.laws.Reach.{farthest_offset_le}
+use Rattle.nd_base.proofs.laws.NonzeroSize.{entry_le_nonzero_size}
 use Rattle.nd_base.proofs.offsets.stride_offset_checked.Goals as goal
 
 pub offset_of-requires : goal.offset_of-requires

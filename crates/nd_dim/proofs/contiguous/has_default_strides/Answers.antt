@@ -4,7 +4,8 @@ use Rattle.std.proofs.lemmas.List.FromFn.{fill_by_all}
 use Rattle.nd_base.specs.Size.{size, is_empty}
 use Rattle.nd_dim.specs.Strides.{size_after, default_strides}
 use Rattle.nd_dim.proofs.Packed.{default_at}
-use Rattle.nd_dim.proofs.Products.{size_drop_le, size_drop_more, size_le_nonzero}
+use Rattle.nd_base.proofs.laws.NonzeroSize.{size_le_nonzero_size}
+use Rattle.nd_base.proofs.laws.Size.{size_drop_le, size_drop_more}
 use Rattle.nd_dim.proofs.contiguous.has_default_strides.Goals as goal
 
 pub overflow_mul-size : goal.overflow_mul-size
@@ -14,7 +15,7 @@ overflow_mul-size c =
     let some : is_empty lens ≡ false = sym c.contains.ensures.value ∙ c.if-contains.false in
     let whole : c.loop-axis.size * get_or lens k 0 ≡ size (drop k lens) = size_drop_more lens c.loop-axis.axis c.loop-axis.size (omega arith) (omega arith) c.loop-axis.invariant.product in
     let less = size_drop_le lens k some in
-    let fits : Fits w64 (size (drop k lens)) = omega (arith, size_le_nonzero lens) in
+    let fits : Fits w64 (size (drop k lens)) = omega (arith, size_le_nonzero_size lens) in
     rw whole fits
 
 pub returns-then-strides-axis : goal.returns-then-strides-axis

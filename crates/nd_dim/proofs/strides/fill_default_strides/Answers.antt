@@ -3,7 +3,7 @@ use Rattle.std.proofs.lemmas.Bool.{cond-false}
 use Rattle.std.proofs.lemmas.List.FromFn.{fill_by_all}
 use Rattle.nd_base.specs.Size.{size, is_empty}
 use Rattle.nd_dim.specs.Strides.{size_after}
-use Rattle.nd_dim.proofs.Products.{size_drop_le, size_drop_more}
+use Rattle.nd_base.proofs.laws.Size.{size_drop_le, size_drop_more}
 use Rattle.nd_dim.proofs.strides.fill_default_strides.Goals as goal
 
 pub overflow_mul-size : goal.overflow_mul-size

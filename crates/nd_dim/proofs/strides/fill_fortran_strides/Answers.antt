@@ -4,7 +4,7 @@ use Rattle.std.proofs.lemmas.List.FromFn.{fill_by_all}
 use Rattle.std.proofs.lemmas.List.Edits.{fill_by_more}
 use Rattle.nd_base.specs.Size.{size, is_empty}
 use Rattle.nd_dim.specs.Strides.{size_until}
-use Rattle.nd_dim.proofs.Products.{size_take_le, size_take_more}
+use Rattle.nd_base.proofs.laws.Size.{size_take_le, size_take_more}
 use Rattle.nd_dim.proofs.strides.fill_fortran_strides.Goals as goal
 
 pub overflow_mul-size : goal.overflow_mul-size

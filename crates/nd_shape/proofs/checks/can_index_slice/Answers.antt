@@ -1,9 +1,14 @@
-use Rattle.std.proofs.Common.{◌≡◌, sym, ◌∙◌}
+use Rattle.std.proofs.Common.{◌≡◌, None, Result, Ok, Err, OnOk, refl, sym, ◌∙◌}
 use Rattle.std.specs.Result.{result_err}
 use Rattle.nd_base.specs.Signed.{all_signed}
 use Rattle.nd_shape.specs.Acceptance.{acceptance}
-use Rattle.nd_shape.proofs.Accepted.{on_ok_from, accepted_lies_inside}
+use Rattle.nd_shape.proofs.laws.Acceptance.{accepted_lies_inside}
 use Rattle.nd_shape.proofs.checks.can_index_slice.Goals as goal
+
+-- a call that gave no error gave a value
+on_ok_from : {T E P : Type 0} (r : Result T E) → (result_err r ≡ None → P) → OnOk r P
+on_ok_from (Ok x) h = h refl
+on_ok_from (Err e) h = tt
 
 pub returns-clause-inside : goal.returns-clause-inside
 returns-clause-inside g c =

@@ -1,8 +1,8 @@
 use Rattle.std.proofs.Common.{◌≡◌, true, false, sym, ◌∙◌, arith}
 use Rattle.std.proofs.lemmas.Grind.{common_steps}
-use Rattle.nd_base.proofs.Sizes.{size_of_empty}
+use Rattle.nd_base.proofs.laws.Size.{size_of_empty}
 use Rattle.nd_base.specs.Size.{is_empty, nonzero_size}
-use Rattle.nd_base.proofs.NonzeroSizes.{nonzero_size_of_nonempty}
+use Rattle.nd_base.proofs.laws.NonzeroSize.{nonzero_size_of_nonempty}
 use Rattle.nd_shape.proofs.checks.size_of_lengths.Goals as goal
 use Rattle.nd_shape.proofs.checks.size_of_lengths.Goals.{then-contains, else-contains}
 

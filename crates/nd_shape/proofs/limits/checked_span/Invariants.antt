@@ -3,7 +3,7 @@ use Rattle.std.proofs.Common.{◌≡◌, ◌+◌, ◌≤◌, length}
 use Rattle.nd_base.specs.Size.{limit}
 use Rattle.nd_base.specs.Signed.{all_signed}
 use Rattle.nd_base.specs.Span.{reach, span}
-use Rattle.nd_base.proofs.Sums.{sum_from}
+use Rattle.nd_base.proofs.laws.Span.{sum_from}
 use Rattle.nd_shape.proofs.limits.checked_span.Given as goal
 
 abbrev pub invariant-loop-len : goal.invariant-loop-len

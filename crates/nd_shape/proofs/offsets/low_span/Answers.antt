@@ -2,8 +2,8 @@ use Rattle.std.proofs.Common.{rules, ◌≡◌, ◌+◌, length, arith}
 use Rattle.std.proofs.lemmas.List.{length_push}
 use Rattle.nd_base.specs.Signed.{signed, all_signed}
 use Rattle.nd_base.specs.Span.{reach_down}
-use Rattle.nd_shape.proofs.OffsetBounds.{low_high_span}
-use Rattle.nd_base.proofs.Sums.{sum_from, sum_at_turn, sum_at_end}
+use Rattle.nd_base.proofs.laws.Span.{sum_from, low_high_span}
+use Rattle.nd_shape.proofs.SumLoop.{sum_at_turn, sum_at_end}
 use Rattle.nd_shape.proofs.offsets.low_span.Goals as goal
 use Rattle.nd_shape.proofs.offsets.low_span.Goals.{In-Some}
 

@@ -2,7 +2,7 @@
 use Rattle.std.proofs.Common.{◌≡◌, ◌+◌, length}
 use Rattle.nd_base.specs.Signed.{all_signed}
 use Rattle.nd_base.specs.Span.{reach_down, low_span}
-use Rattle.nd_base.proofs.Sums.{sum_from}
+use Rattle.nd_base.proofs.laws.Span.{sum_from}
 use Rattle.nd_shape.proofs.offsets.low_span.Given as goal
 
 abbrev pub invariant-loop-len : goal.invariant-loop-len

@@ -4,7 +4,7 @@ use Rattle.std.proofs.lemmas.Bool.{and_from, and_right, not_from_true, not_from_
 use Rattle.nd_base.specs.Signed.{all_signed}
 use Rattle.nd_base.specs.Size.{is_empty}
 use Rattle.nd_shape.specs.OwnedRule.{meets_owned_rule, steps_over_others}
-use Rattle.nd_shape.proofs.OwnedRule.{rule_met, rule_broken}
+use Rattle.nd_shape.proofs.laws.OwnedRule.{rule_met, rule_broken}
 use Rattle.nd_shape.proofs.overlap.has_overlap.Goals as goal
 
 pub returns : goal.returns

@@ -4,7 +4,8 @@ use Rattle.nd_base.specs.Signed.{signed, all_signed}
 use Rattle.nd_base.specs.Span.{reach, span}
 use Rattle.nd_shape.specs.OwnedRule.{span_up_to}
 use Rattle.nd_shape.proofs.OwnedRule.{reach_up_to, reach_up_to_le}
-use Rattle.nd_base.proofs.Sums.{sum_from, sum_at_turn, sum_at_end, sum_le}
+use Rattle.nd_base.proofs.laws.Span.{sum_from, sum_le}
+use Rattle.nd_shape.proofs.SumLoop.{sum_at_turn, sum_at_end}
 use Rattle.nd_shape.proofs.overlap.span_up_to.Goals as goal
 use Rattle.nd_shape.proofs.overlap.span_up_to.Goals.{In-Some}
 

@@ -1,6 +1,7 @@
--- Facts about products of the lengths that are not 0.
-use Rattle.std.proofs.Common.{◌≡◌, ◌≢◌, ℕ, zero, suc, ◌+◌, ◌*◌, ◌<◌, ◌≤◌, true, false, eqb, List, [], ◌∷◌, length, drop, get_or, inl, inr, refl, ap, ◌∙◌, arith, add-one, drop-cons, mul-pos, le-mul_of_pos_right, pos_of_ne-zero}
+-- Laws of the products of the lengths that are not 0.
+use Rattle.std.proofs.Common.{◌≡◌, ◌≢◌, ℕ, zero, suc, ◌+◌, ◌*◌, ◌<◌, ◌≤◌, Bool, true, false, cond, eqb, List, [], ◌∷◌, ◌++◌, length, reverse, drop, get_or, inl, inr, refl, ap, ◌∙◌, arith, add-one, drop-cons, mul-pos, le-mul_of_pos_right, mul-le-mul_left, pos_of_ne-zero, zero-mul}
 use Rattle.std.proofs.lemmas.Bool.{and_parts, cases_eq, cond-true, cond-false, eq-eqb, ltb-true, ne_eqb, or_parts, eqb-false}
+use Rattle.std.proofs.lemmas.List.{reverse-append}
 use Rattle.std.specs.Prelude.{nat_lt}
 use Rattle.nd_base.specs.Indices.{is_index}
 use Rattle.nd_base.specs.Size.{is_empty, nonzero_size, size}
@@ -29,10 +30,18 @@ nonzero_size_of_nonempty (len ∷ lens) h =
     let parts = or_parts (eqb len 0) (is_empty lens) h in
     nonzero_size_of_other len lens (eqb-false len 0 parts.0) ∙ ap (λ n. len * n) (nonzero_size_of_nonempty lens parts.1)
 
--- the product from axis k on, where its length is 0, and where it is not
+-- and never less than the size
+pub size_le_nonzero_size : (shape : List ℕ) → size shape ≤ nonzero_size shape
+size_le_nonzero_size [] = omega arith
+size_le_nonzero_size (zero ∷ lens) = rw zero-mul (omega arith)
+size_le_nonzero_size (suc n ∷ lens) =
+    rw (nonzero_size_of_other (suc n) lens (λ e. omega arith)) (mul-le-mul_left (suc n) (size_le_nonzero_size lens))
+
+-- the product from axis k on, where its length is 0
 pub nonzero_size_from_zero : (shape : List ℕ) (k : ℕ) → k < length shape → get_or shape k 0 ≡ 0 → nonzero_size (drop k shape) ≡ nonzero_size (drop (k + 1) shape)
 nonzero_size_from_zero shape k h e = rw add-one (ap nonzero_size (drop-cons shape k 0 h) ∙ nonzero_size_of_zero (get_or shape k 0) (drop (suc k) shape) e)
 
+-- and where it is not
 pub nonzero_size_from_other : (shape : List ℕ) (k : ℕ) → k < length shape → get_or shape k 0 ≢ 0 → nonzero_size (drop k shape) ≡ get_or shape k 0 * nonzero_size (drop (k + 1) shape)
 nonzero_size_from_other shape k h e = rw add-one (ap nonzero_size (drop-cons shape k 0 h) ∙ nonzero_size_of_other (get_or shape k 0) (drop (suc k) shape) e)
 
@@ -54,3 +63,19 @@ entry_le_nonzero_size (len ∷ lens) (i ∷ index) h (suc k) d l =
     let whole : nonzero_size lens ≤ nonzero_size lens * len = le-mul_of_pos_right (nonzero_size lens) (omega arith) in
     let is : nonzero_size (len ∷ lens) ≡ len * nonzero_size lens = nonzero_size_of_other len lens (λ e. omega arith) in
     omega arith
+
+factors_swap : (t u : Bool) (a b n : ℕ) → cond t (cond u n (b * n)) (a * cond u n (b * n)) ≡ cond u (cond t n (a * n)) (b * cond t n (a * n))
+factors_swap true true a b n = refl
+factors_swap true false a b n = refl
+factors_swap false true a b n = refl
+factors_swap false false a b n = omega arith
+
+-- one axis more at the back is one at the front
+pub nonzero_size-push : (shape : List ℕ) (len : ℕ) → nonzero_size (shape ++ len ∷ []) ≡ nonzero_size (len ∷ shape)
+nonzero_size-push [] len = refl
+nonzero_size-push (n ∷ shape) len = ap (λ m. cond (eqb n 0) m (n * m)) (nonzero_size-push shape len) ∙ factors_swap (eqb n 0) (eqb len 0) n len (nonzero_size shape)
+
+-- the axes read from the back have the same product
+pub nonzero_size-reverse : (shape : List ℕ) → nonzero_size (reverse shape) ≡ nonzero_size shape
+nonzero_size-reverse [] = refl
+nonzero_size-reverse (n ∷ shape) = ap nonzero_size (reverse-append (n ∷ []) shape) ∙ nonzero_size-push (reverse shape) n ∙ ap (λ m. cond (eqb n 0) m (n * m)) (nonzero_size-reverse shape)

@@ -1,0 +1,8 @@
+pub mod Indices
+pub mod IsIndex
+pub mod NonzeroSize
+pub mod Place
+pub mod Rank
+pub mod Reach
+pub mod Size
+pub mod Span

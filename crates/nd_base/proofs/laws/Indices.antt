@@ -1,0 +1,101 @@
+-- Laws of the list of indices of a shape: which they are, how many, and each of them once.
+use Rattle.std.proofs.Common.{◌≡◌, ◌≢◌, ℕ, ◌<◌, true, List, [], length, get_or, map, reverse, sym, ap, ◌∙◌, arith}
+use Rattle.std.specs.Bool.{Decides}
+use Rattle.std.specs.List.{All, AllPairs, Contains}
+use Rattle.std.proofs.lemmas.List.{length-map}
+use Rattle.std.proofs.lemmas.List.Elements.{All-contains}
+use Rattle.std.proofs.lemmas.List.FromFn.{fill_by_all}
+use Rattle.std.proofs.lemmas.Option.{get_or_from_slice_get}
+use Rattle.nd_base.specs.declared.order.Order.{Order}
+use Rattle.nd_base.specs.declared.order.Order.TheVariants.{RowMajor, ColumnMajor}
+use Rattle.nd_base.specs.Indices.{below, indices, indices_column_major, indices_in, is_index}
+use Rattle.nd_base.specs.Rank.{rank_in, index_of_rank_in}
+use Rattle.nd_base.specs.Size.{size}
+use Rattle.nd_base.proofs.Rows.{length_indices}
+use Rattle.nd_base.proofs.laws.Rank.{slice_get-indices_in, is_index-index_of_rank_in, rank_in-index_of_rank_in, rank_in-lt-size, index_of_rank_in-rank_in}
+use Rattle.nd_base.proofs.laws.Size.{size-reverse}
+
+-- ---- how many
+-- as many as the size of the shape
+pub length-indices : (shape : List ℕ) → length (indices shape) ≡ size shape
+length-indices shape = length_indices shape
+
+-- by columns as many
+pub length-indices_column_major : (shape : List ℕ) → length (indices_column_major shape) ≡ size shape
+length-indices_column_major shape =
+    length-map (indices (reverse shape)) reverse ∙ length_indices (reverse shape) ∙ size-reverse shape
+
+-- and so in each order
+pub length-indices_in : (order : Order) (shape : List ℕ) → length (indices_in order shape) ≡ size shape
+length-indices_in RowMajor shape = length-indices shape
+length-indices_in ColumnMajor shape = length-indices_column_major shape
+
+-- ---- which
+-- the item at place r is the one of rank r
+pub get_or-indices_in : (order : Order) (shape : List ℕ) (r : ℕ) (d : List ℕ) → r < size shape → get_or (indices_in order shape) r d ≡ index_of_rank_in order shape r
+get_or-indices_in order shape r d h =
+    get_or_from_slice_get (indices_in order shape) r (index_of_rank_in order shape r) d (slice_get-indices_in order shape r h)
+
+-- they are the indices of rank 0, 1 and so on, below the size
+pub indices_in-by_rank : (order : Order) (shape : List ℕ) → indices_in order shape ≡ map (index_of_rank_in order shape) (below (size shape))
+indices_in-by_rank order shape =
+    fill_by_all (index_of_rank_in order shape) (indices_in order shape) (size shape) [] (length-indices_in order shape) (λ k h. get_or-indices_in order shape k [] h)
+
+-- each item is an index of the shape
+pub All-indices_in : (order : Order) (shape : List ℕ) → All (λ index. is_index shape index ≡ true) (indices_in order shape)
+All-indices_in order shape k d h =
+    let below_size : k < size shape = omega (arith, length-indices_in order shape) in
+    ap (is_index shape) (get_or-indices_in order shape k d below_size) ∙ is_index-index_of_rank_in order shape k below_size
+
+-- what is in the list is an index of the shape
+pub is_index-from_Contains : (order : Order) (shape index : List ℕ) → Contains (indices_in order shape) index → is_index shape index ≡ true
+is_index-from_Contains order shape index h =
+    All-contains (λ x. is_index shape x ≡ true) (indices_in order shape) index (All-indices_in order shape) h
+
+-- and each index of the shape is in the list
+pub Contains-indices_in : (order : Order) (shape index : List ℕ) → is_index shape index ≡ true → Contains (indices_in order shape) index
+Contains-indices_in order shape index h =
+    let r = rank_in order shape index in
+    let within = rank_in-lt-size order shape index h in
+    (r, omega (arith, within, length-indices_in order shape), get_or-indices_in order shape r index within ∙ index_of_rank_in-rank_in order shape index h)
+
+-- so the test says exactly what the list contains
+pub Decides-is_index : (order : Order) (shape index : List ℕ) → Decides (is_index shape index) (Contains (indices_in order shape) index)
+Decides-is_index order shape index = (Contains-indices_in order shape index, is_index-from_Contains order shape index)
+
+-- ---- each once
+-- no two items are equal
+pub AllPairs-indices_in : (order : Order) (shape : List ℕ) → AllPairs (λ index other. index ≢ other) (indices_in order shape)
+AllPairs-indices_in order shape i j d h g e =
+    let late : j < size shape = omega (arith, length-indices_in order shape) in
+    let early : i < size shape = omega arith in
+    let ranks : i ≡ j =
+    sym (rank_in-index_of_rank_in order shape i early)
+    ∙ ap (rank_in order shape) (sym (get_or-indices_in order shape i d early) ∙ e ∙ get_or-indices_in order shape j d late)
+    ∙ rank_in-index_of_rank_in order shape j late in
+    omega arith
+
+-- ---- the same of each order by itself
+-- each index of the shape is listed by rows
+pub Contains-indices : (shape index : List ℕ) → is_index shape index ≡ true → Contains (indices shape) index
+Contains-indices shape index h = Contains-indices_in RowMajor shape index h
+
+-- and nothing else
+pub is_index-from_Contains_indices : (shape index : List ℕ) → Contains (indices shape) index → is_index shape index ≡ true
+is_index-from_Contains_indices shape index h = is_index-from_Contains RowMajor shape index h
+
+-- no two items by rows are equal
+pub AllPairs-indices : (shape : List ℕ) → AllPairs (λ index other. index ≢ other) (indices shape)
+AllPairs-indices shape = AllPairs-indices_in RowMajor shape
+
+-- each index of the shape is listed by columns
+pub Contains-indices_column_major : (shape index : List ℕ) → is_index shape index ≡ true → Contains (indices_column_major shape) index
+Contains-indices_column_major shape index h = Contains-indices_in ColumnMajor shape index h
+
+-- and nothing else
+pub is_index-from_Contains_indices_column_major : (shape index : List ℕ) → Contains (indices_column_major shape) index → is_index shape index ≡ true
+is_index-from_Contains_indices_column_major shape index h = is_index-from_Contains ColumnMajor shape index h
+
+-- no two items by columns are equal
+pub AllPairs-indices_column_major : (shape : List ℕ) → AllPairs (λ index other. index ≢ other) (indices_column_major shape)
+AllPairs-indices_column_major shape = AllPairs-indices_in ColumnMajor shape

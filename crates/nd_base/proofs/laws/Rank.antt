@@ -1,0 +1,136 @@
+-- Laws of ranks: the indices of a shape and the numbers below its size stand for one another.
+use Rattle.std.proofs.Common.{◌≡◌, ℕ, zero, suc, ◌+◌, ◌*◌, ◌/◌, ◌%◌, ◌<◌, Some, true, List, [], ◌∷◌, reverse, refl, sym, ap, ◌∙◌, arith}
+use Rattle.std.specs.List.{slice_get}
+use Rattle.std.specs.Option.{option_map}
+use Rattle.std.specs.Prelude.{nat_lt}
+use Rattle.std.proofs.lemmas.Bool.{and_from, and_parts, lt-ltb, ltb-true}
+use Rattle.std.proofs.lemmas.List.{reverse-reverse}
+use Rattle.std.proofs.lemmas.Nat.{div_below, mod_below, div-add-mod', div-mul-add, mod-mul-add, mul-add-lt}
+use Rattle.std.proofs.lemmas.Option.{slice_get-map}
+use Rattle.nd_base.specs.declared.order.Order.{Order}
+use Rattle.nd_base.specs.declared.order.Order.TheVariants.{RowMajor, ColumnMajor}
+use Rattle.nd_base.specs.Indices.{indices, indices_in, is_index}
+use Rattle.nd_base.specs.Rank.{rank, rank_in, index_of_rank, index_of_rank_in}
+use Rattle.nd_base.specs.Size.{size}
+use Rattle.nd_base.proofs.Rows.{row, length_indices, slice_get_rows}
+use Rattle.nd_base.proofs.laws.IsIndex.{is_index-reverse}
+use Rattle.nd_base.proofs.laws.Size.{size-reverse}
+
+-- a number below a product, by its quotient and its remainder
+record IsSplit (len rest r : ℕ) : Type 0 where
+  first : r / rest < len
+  later : r % rest < rest
+  whole : r / rest * rest + r % rest ≡ r
+
+split : (len rest r : ℕ) → r < len * rest → IsSplit len rest r
+split len zero r h = absurd (omega arith)
+split len (suc rest) r h = record {
+  first = div_below r (suc rest) len (omega arith) h;
+  later = mod_below r (suc rest) (omega arith);
+  whole = div-add-mod' r (suc rest);
+}
+
+-- ---- in row-major order
+-- the item of rank r
+pub slice_get-indices : (shape : List ℕ) (r : ℕ) → r < size shape → slice_get (indices shape) r ≡ Some (index_of_rank shape r)
+slice_get-indices [] zero h = refl
+slice_get-indices [] (suc r) h = absurd (omega arith)
+slice_get-indices (len ∷ lens) r h =
+    let parts = split len (size lens) r h in
+    let counts = length_indices lens in
+    let k = r / size lens in
+    let j = r % size lens in
+    let entry : 0 + k ≡ k = omega arith in
+    slice_get_rows (indices lens) 0 len k j r parts.first (omega (arith, parts.later)) (sym (ap (λ m. k * m + j) counts ∙ parts.whole))
+    ∙ ap (λ i. slice_get (row (indices lens) i) j) entry
+    ∙ slice_get-map (λ index. k ∷ index) (indices lens) j
+    ∙ ap (option_map (λ index. k ∷ index)) (slice_get-indices lens j parts.later)
+
+-- it is an index of the shape
+pub is_index-index_of_rank : (shape : List ℕ) (r : ℕ) → r < size shape → is_index shape (index_of_rank shape r) ≡ true
+is_index-index_of_rank [] r h = refl
+is_index-index_of_rank (len ∷ lens) r h =
+    let parts = split len (size lens) r h in
+    and_from (nat_lt (r / size lens) len) (is_index lens (index_of_rank lens (r % size lens))) (lt-ltb (r / size lens) len parts.first) (is_index-index_of_rank lens (r % size lens) parts.later)
+
+-- and its rank is r
+pub rank-index_of_rank : (shape : List ℕ) (r : ℕ) → r < size shape → rank shape (index_of_rank shape r) ≡ r
+rank-index_of_rank [] r h = omega arith
+rank-index_of_rank (len ∷ lens) r h =
+    let parts = split len (size lens) r h in
+    ap (λ n. r / size lens * size lens + n) (rank-index_of_rank lens (r % size lens) parts.later) ∙ parts.whole
+
+-- an index ranks below the size
+pub rank-lt-size : (shape index : List ℕ) → is_index shape index ≡ true → rank shape index < size shape
+rank-lt-size [] index h = omega arith
+rank-lt-size (len ∷ lens) [] h = absurd (cc)
+rank-lt-size (len ∷ lens) (i ∷ index) h =
+    let parts = and_parts (nat_lt i len) (is_index lens index) h in
+    omega (arith, mul-add-lt i (size lens) (rank lens index) len (ltb-true i len parts.0) (rank-lt-size lens index parts.1))
+
+-- and is the one at its rank
+pub index_of_rank-rank : (shape index : List ℕ) → is_index shape index ≡ true → index_of_rank shape (rank shape index) ≡ index
+index_of_rank-rank [] [] h = refl
+index_of_rank-rank [] (i ∷ index) h = absurd (cc)
+index_of_rank-rank (len ∷ lens) [] h = absurd (cc)
+index_of_rank-rank (len ∷ lens) (i ∷ index) h =
+    let parts = and_parts (nat_lt i len) (is_index lens index) h in
+    let below = rank-lt-size lens index parts.1 in
+    ap (λ k. k ∷ index_of_rank lens (rank (len ∷ lens) (i ∷ index) % size lens)) (div-mul-add i (size lens) (rank lens index) below)
+    ∙ ap (λ r. i ∷ index_of_rank lens r) (mod-mul-add i (size lens) (rank lens index) below)
+    ∙ ap (λ xs. i ∷ xs) (index_of_rank-rank lens index parts.1)
+
+-- ---- in an order
+turned : (shape : List ℕ) (r : ℕ) → r < size shape → r < size (reverse shape)
+turned shape r h = omega (arith, size-reverse shape)
+
+turned_index : (shape index : List ℕ) → is_index shape index ≡ true → is_index (reverse shape) (reverse index) ≡ true
+turned_index shape index h = is_index-reverse shape index ∙ h
+
+-- the item of rank r
+pub slice_get-indices_in : (order : Order) (shape : List ℕ) (r : ℕ) → r < size shape → slice_get (indices_in order shape) r ≡ Some (index_of_rank_in order shape r)
+slice_get-indices_in RowMajor shape r h = slice_get-indices shape r h
+slice_get-indices_in ColumnMajor shape r h =
+    slice_get-map reverse (indices (reverse shape)) r
+    ∙ ap (option_map reverse) (slice_get-indices (reverse shape) r (turned shape r h))
+
+-- it is an index of the shape
+pub is_index-index_of_rank_in : (order : Order) (shape : List ℕ) (r : ℕ) → r < size shape → is_index shape (index_of_rank_in order shape r) ≡ true
+is_index-index_of_rank_in RowMajor shape r h = is_index-index_of_rank shape r h
+is_index-index_of_rank_in ColumnMajor shape r h =
+    let index = index_of_rank (reverse shape) r in
+    sym (is_index-reverse shape (reverse index))
+    ∙ ap (is_index (reverse shape)) (reverse-reverse index)
+    ∙ is_index-index_of_rank (reverse shape) r (turned shape r h)
+
+-- and its rank is r
+pub rank_in-index_of_rank_in : (order : Order) (shape : List ℕ) (r : ℕ) → r < size shape → rank_in order shape (index_of_rank_in order shape r) ≡ r
+rank_in-index_of_rank_in RowMajor shape r h = rank-index_of_rank shape r h
+rank_in-index_of_rank_in ColumnMajor shape r h =
+    ap (rank (reverse shape)) (reverse-reverse (index_of_rank (reverse shape) r))
+    ∙ rank-index_of_rank (reverse shape) r (turned shape r h)
+
+-- an index ranks below the size
+pub rank_in-lt-size : (order : Order) (shape index : List ℕ) → is_index shape index ≡ true → rank_in order shape index < size shape
+rank_in-lt-size RowMajor shape index h = rank-lt-size shape index h
+rank_in-lt-size ColumnMajor shape index h =
+    omega (arith, size-reverse shape, rank-lt-size (reverse shape) (reverse index) (turned_index shape index h))
+
+-- and is the one at its rank
+pub index_of_rank_in-rank_in : (order : Order) (shape index : List ℕ) → is_index shape index ≡ true → index_of_rank_in order shape (rank_in order shape index) ≡ index
+index_of_rank_in-rank_in RowMajor shape index h = index_of_rank-rank shape index h
+index_of_rank_in-rank_in ColumnMajor shape index h =
+    ap reverse (index_of_rank-rank (reverse shape) (reverse index) (turned_index shape index h)) ∙ reverse-reverse index
+
+-- so an index is the item at its rank
+pub slice_get-rank_in : (order : Order) (shape index : List ℕ) → is_index shape index ≡ true → slice_get (indices_in order shape) (rank_in order shape index) ≡ Some index
+slice_get-rank_in order shape index h =
+    slice_get-indices_in order shape (rank_in order shape index) (rank_in-lt-size order shape index h)
+    ∙ ap Some (index_of_rank_in-rank_in order shape index h)
+
+-- and two indices of equal rank are one
+pub same_from_rank_in : (order : Order) (shape index other : List ℕ) → is_index shape index ≡ true → is_index shape other ≡ true → rank_in order shape index ≡ rank_in order shape other → index ≡ other
+same_from_rank_in order shape index other h g e =
+    sym (index_of_rank_in-rank_in order shape index h)
+    ∙ ap (index_of_rank_in order shape) e
+    ∙ index_of_rank_in-rank_in order shape other g

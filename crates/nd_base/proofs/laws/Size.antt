@@ -1,0 +1,80 @@
+-- Laws of sizes, the products of lengths.
+use Rattle.std.proofs.Common.{◌≡◌, ℕ, zero, suc, ◌+◌, ◌-◌, ◌*◌, ◌<◌, ◌≤◌, true, false, eqb, List, [], ◌∷◌, ◌++◌, length, get_or, take, drop, reverse, refl, sym, ap, ◌∙◌, inl, inr, arith, add-one, drop-cons, eqb-true, mul-le-mul_left, mul-one, mul-pos, mul-zero, mul_assoc, mul_comm, one-mul, pos_of_ne-zero, zero-mul}
+use Rattle.std.proofs.lemmas.Bool.{or_cases, or_parts, eqb-false}
+use Rattle.std.proofs.lemmas.List.{reverse-append, take_more}
+use Rattle.std.proofs.lemmas.Nat.{mul-le}
+use Rattle.nd_base.specs.Size.{size, is_empty}
+
+-- ---- shapes with a zero length, and without
+-- a zero length makes the size 0
+pub size_of_empty : (shape : List ℕ) → is_empty shape ≡ true → size shape ≡ 0
+size_of_empty [] h = absurd (cc)
+size_of_empty (n ∷ lens) h = elim (or_cases (eqb n 0) (is_empty lens) h) [
+  | inl z ↦ ap (λ m. m * size lens) (eqb-true n 0 z) ∙ zero-mul (size lens)
+  | inr e ↦ ap (λ s. n * s) (size_of_empty lens e) ∙ mul-zero n
+]
+
+-- with no zero length the size is at least 1
+pub size_of_nonempty : (shape : List ℕ) → is_empty shape ≡ false → 0 < size shape
+size_of_nonempty [] h = omega arith
+size_of_nonempty (n ∷ lens) h =
+    let parts = or_parts (eqb n 0) (is_empty lens) h in
+    mul-pos (pos_of_ne-zero (eqb-false n 0 parts.0)) (size_of_nonempty lens parts.1)
+
+-- the part of a shape without a zero length has none
+pub drop_nonempty : (shape : List ℕ) (k : ℕ) → is_empty shape ≡ false → is_empty (drop k shape) ≡ false
+drop_nonempty shape zero h = h
+drop_nonempty [] (suc k) h = h
+drop_nonempty (n ∷ lens) (suc k) h = drop_nonempty lens k (or_parts (eqb n 0) (is_empty lens) h).1
+
+-- ---- shapes one behind the other
+-- the axes of two shapes have both sizes as factors
+pub size-append : (xs ys : List ℕ) → size (xs ++ ys) ≡ size xs * size ys
+size-append [] ys = sym (one-mul (size ys))
+size-append (x ∷ xs) ys = ap (λ s. x * s) (size-append xs ys) ∙ sym (mul_assoc x (size xs) (size ys))
+
+-- one axis more is one factor more
+pub size-push : (shape : List ℕ) (len : ℕ) → size (shape ++ len ∷ []) ≡ len * size shape
+size-push shape len =
+    size-append shape (len ∷ []) ∙ mul_comm (size shape) (size (len ∷ [])) ∙ ap (λ m. m * size shape) (mul-one len)
+
+-- the axes read from the back have the same size
+pub size-reverse : (shape : List ℕ) → size (reverse shape) ≡ size shape
+size-reverse [] = refl
+size-reverse (n ∷ shape) =
+    ap size (reverse-append (n ∷ []) shape) ∙ size-push (reverse shape) n ∙ ap (λ m. n * m) (size-reverse shape)
+
+-- ---- parts of a shape
+-- the size from an axis on is its length times the size behind it
+pub size_from : (shape : List ℕ) (k : ℕ) → k < length shape → size (drop k shape) ≡ get_or shape k 0 * size (drop (k + 1) shape)
+size_from shape k h = rw add-one (ap size (drop-cons shape k 0 h))
+
+-- the size up to an axis and with it is the size before it times its length
+pub size_take_more : (lens : List ℕ) (k : ℕ) → k < length lens → size (take (k + 1) lens) ≡ size (take k lens) * get_or lens k 0
+size_take_more lens k h = ap size (take_more lens k 0 h) ∙ size-append (take k lens) (get_or lens k 0 ∷ []) ∙ ap (λ m. size (take k lens) * m) (mul-one (get_or lens k 0))
+
+-- one length before those whose product is known
+pub size_drop_more : (lens : List ℕ) (axis whole : ℕ) → 0 < axis → axis ≤ length lens → whole ≡ size (drop axis lens) → whole * get_or lens (axis - 1) 0 ≡ size (drop (axis - 1) lens)
+size_drop_more lens axis whole h g e =
+    let k = axis - 1 in
+    let here : axis ≡ k + 1 = omega arith in
+    let behind : whole ≡ size (drop (k + 1) lens) = e ∙ ap (λ a. size (drop a lens)) here in
+    mul_comm whole (get_or lens k 0) ∙ ap (λ s. get_or lens k 0 * s) behind ∙ sym (size_from lens k (omega arith))
+
+-- no front of a shape without a zero length is of greater size
+pub size_take_le : (lens : List ℕ) (k : ℕ) → is_empty lens ≡ false → size (take k lens) ≤ size lens
+size_take_le lens zero h = size_of_nonempty lens h
+size_take_le [] (suc k) h = omega arith
+size_take_le (n ∷ lens) (suc k) h = mul-le-mul_left n (size_take_le lens k (or_parts (eqb n 0) (is_empty lens) h).1)
+
+head_positive : (n : ℕ) (lens : List ℕ) → is_empty (n ∷ lens) ≡ false → 0 < n
+head_positive n lens h = pos_of_ne-zero (eqb-false n 0 (or_parts (eqb n 0) (is_empty lens) h).0)
+
+-- nor is what stands behind the front
+pub size_drop_le : (lens : List ℕ) (k : ℕ) → is_empty lens ≡ false → size (drop k lens) ≤ size lens
+size_drop_le lens zero h = omega arith
+size_drop_le [] (suc k) h = omega arith
+size_drop_le (n ∷ lens) (suc k) h =
+    let rest = size_drop_le lens k (or_parts (eqb n 0) (is_empty lens) h).1 in
+    let more : 1 * size lens ≤ n * size lens = mul-le 1 (size lens) n (size lens) (head_positive n lens h) (omega arith) in
+    omega (arith, one-mul (size lens))

@@ -1,0 +1,3 @@
+pub mod Acceptance
+pub mod Inside
+pub mod OwnedRule
