@@ -3,7 +3,7 @@ use Rattle.std.proofs.Common.{◌≡◌, ℕ, ◌+◌, ℤ, pos, ◌+ℤ◌, ◌
 use Rattle.std.proofs.lemmas.Int.{ints}
 use Rattle.std.proofs.lemmas.Bool.{and_parts, ltb-true}
 use Rattle.nd_base.specs.Indices.{is_index}
-use Rattle.nd_base.specs.Place.{offset_of}
+use Rattle.nd_base.specs.Offset.{offset_of}
 use Rattle.nd_base.specs.Span.{reach_down, reach_up, span, low_span, high_span}
 use Rattle.ndarray_layout.proofs.Axes.{Within, axis_within, reach_parts}
 

@@ -5,8 +5,9 @@ use Rattle.std.proofs.lemmas.Int.{ints}
 use Rattle.std.proofs.lemmas.List.{map-append, reverse-append, reverse-reverse, length-reverse}
 use Rattle.nd_base.specs.declared.order.Order.{Order}
 use Rattle.nd_base.specs.declared.order.Order.TheVariants.{RowMajor, ColumnMajor}
-use Rattle.nd_base.specs.Indices.{indices, below}
-use Rattle.nd_base.specs.Place.{offset_of, place, places}
+use Rattle.nd_base.specs.Indices.{indices, indices_in, below}
+use Rattle.nd_base.specs.Offset.{offset_of}
+use Rattle.nd_shape.specs.Place.{place}
 use Rattle.nd_base.specs.Size.{nonzero_size, size}
 use Rattle.nd_base.specs.Span.{sum_over_axes, reach, reach_down, reach_up}
 use Rattle.ndarray_layout.specs.View.{IsView, view_places}
@@ -87,7 +88,7 @@ indices_agree f g [] h = ap (λ z. z ∷ []) (h [] refl)
 indices_agree f g (len ∷ shape) h = rows_agree f g (indices shape) (λ i. indices_agree (λ x. f (i ∷ x)) (λ x. g (i ∷ x)) shape (λ x e. h (i ∷ x) (ap suc e))) (below len)
 
 -- the places in an order, with the axes turned where the first moves fastest
-pub places_nested : (order : Order) (start : ℕ) (shape : List ℕ) (strides : List ℤ) → length shape ≡ length strides → view_places RowMajor (nested_view order start shape strides) ≡ places order start shape strides
+pub places_nested : (order : Order) (start : ℕ) (shape : List ℕ) (strides : List ℤ) → length shape ≡ length strides → view_places RowMajor (nested_view order start shape strides) ≡ map (place start strides) (indices_in order shape)
 places_nested RowMajor start shape strides e = refl
 places_nested ColumnMajor start shape strides e =
     let turned = reverse strides in

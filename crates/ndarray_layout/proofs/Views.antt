@@ -7,7 +7,8 @@ use Rattle.std.specs.List.{flat_map}
 use Rattle.nd_base.specs.declared.order.Order.{Order}
 use Rattle.nd_base.specs.declared.order.Order.TheVariants.{RowMajor, ColumnMajor}
 use Rattle.nd_base.specs.Indices.{is_index, indices, below}
-use Rattle.nd_base.specs.Place.{offset_of, place, checked_offset}
+use Rattle.nd_base.specs.Offset.{offset_of, checked_offset}
+use Rattle.nd_shape.specs.Place.{place}
 use Rattle.nd_base.specs.Size.{nonzero_size, size, limit}
 use Rattle.nd_base.specs.Span.{low_span, high_span}
 use Rattle.nd_base.specs.ValidLayout.{IsValidLayout}

@@ -9,7 +9,7 @@ use Rattle.std.proofs.Math.Nat.{mul-le-mul, mul-le-mul_right, mul-le-mul_left}
 use Rattle.nd_base.specs.declared.order.Order.{Order}
 use Rattle.nd_base.specs.declared.order.Order.TheVariants.{RowMajor, ColumnMajor}
 use Rattle.nd_base.specs.Indices.{indices, below}
-use Rattle.nd_base.specs.Place.{place}
+use Rattle.nd_shape.specs.Place.{place}
 use Rattle.nd_base.specs.Signed.{signed, all_signed}
 use Rattle.nd_base.specs.Size.{nonzero_size, limit}
 use Rattle.ndarray_layout.specs.View.{IsView, view_places}

@@ -6,7 +6,7 @@ use Rattle.std.proofs.lemmas.Bool.{and_parts, ltb-true}
 use Rattle.std.proofs.lemmas.Int.{ints}
 use Rattle.std.proofs.lemmas.List.{length-reverse, reverse-append}
 use Rattle.nd_base.specs.Indices.{is_index}
-use Rattle.nd_base.specs.Place.{offset_of}
+use Rattle.nd_base.specs.Offset.{offset_of}
 use Rattle.nd_base.specs.Span.{reach_down, reach_up, low_span, high_span}
 
 -- one entry lies within the reach of its axis
