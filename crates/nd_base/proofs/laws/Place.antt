@@ -1,13 +1,19 @@
 -- Laws of where the indices of a layout lie.
-use Rattle.std.proofs.Common.{◌≡◌, ℕ, suc, ◌-◌, ◌*◌, ◌<◌, ◌≤◌, ℤ, pos, negsuc, neg_ℤ, ◌+ℤ◌, ◌*ℤ◌, ◌≤ℤ◌, true, List, [], ◌∷◌, ◌++◌, length, reverse, refl, ap, ◌∙◌, arith}
+use Rattle.std.proofs.Common.{◌≡◌, ℕ, suc, ◌+◌, ◌-◌, ◌*◌, ◌<◌, ◌≤◌, ℤ, pos, negsuc, neg_ℤ, ◌+ℤ◌, ◌*ℤ◌, ◌≤ℤ◌, true, List, [], ◌∷◌, ◌++◌, length, map, reverse, refl, ap, ◌∙◌, arith}
 use Rattle.std.specs.Prelude.{nat_lt}
 use Rattle.std.proofs.Math.Nat.{mul-le-mul_right}
 use Rattle.std.proofs.lemmas.Bool.{and_parts, ltb-true}
 use Rattle.std.proofs.lemmas.Int.{ints}
-use Rattle.std.proofs.lemmas.List.{length-reverse, reverse-append}
-use Rattle.nd_base.specs.Indices.{is_index}
-use Rattle.nd_base.specs.Place.{offset_of}
+use Rattle.std.proofs.lemmas.List.{get_or-map, length-map, length-reverse, reverse-append}
+use Rattle.std.proofs.lemmas.List.FromFn.{fill_by_all}
+use Rattle.nd_base.specs.declared.order.Order.{Order}
+use Rattle.nd_base.specs.Indices.{below, indices_in, is_index}
+use Rattle.nd_base.specs.Place.{offset_of, place, places}
+use Rattle.nd_base.specs.Rank.{rank_in, index_of_rank_in}
+use Rattle.nd_base.specs.Size.{size}
 use Rattle.nd_base.specs.Span.{reach_down, reach_up, low_span, high_span}
+use Rattle.nd_base.proofs.laws.Indices.{get_or-indices_in, length-indices_in}
+use Rattle.nd_base.proofs.laws.Rank.{is_index-index_of_rank_in, rank_in-index_of_rank_in}
 
 -- one entry lies within the reach of its axis
 pub entry_bounds : (len : ℕ) (stride : ℤ) (i : ℕ) → i < len → (neg_ℤ (pos (reach_down len stride)) ≤ℤ (pos i *ℤ stride)) × ((pos i *ℤ stride) ≤ℤ pos (reach_up len stride))
@@ -48,3 +54,17 @@ offset_of-reverse (s ∷ strides) [] e = absurd (omega arith)
 offset_of-reverse (s ∷ strides) (j ∷ index) e =
     let counts : length (reverse strides) ≡ length (reverse index) = omega (arith, length-reverse strides, length-reverse index) in
     rw (reverse-append (s ∷ []) strides, reverse-append (j ∷ []) index) (offset_of-push (reverse strides) (reverse index) s j counts ∙ ap (λ z. (pos j *ℤ s) +ℤ z) (offset_of-reverse strides index (omega arith)))
+
+-- ---- at their ranks
+-- where each index lies as far from the first as its rank, the places follow one another
+pub places_at_ranks : (order : Order) (start : ℕ) (shape : List ℕ) (strides : List ℤ) → ((index : List ℕ) → is_index shape index ≡ true → offset_of strides index ≡ pos (rank_in order shape index)) → places order start shape strides ≡ map (λ r. pos (start + r)) (below (size shape))
+places_at_ranks order start shape strides h =
+    let xs = indices_in order shape in
+    let long = length-indices_in order shape in
+    fill_by_all (λ r. pos (start + r)) (places order start shape strides) (size shape) (pos 0) (length-map xs (place start strides) ∙ long) (λ k l.
+    let index = index_of_rank_in order shape k in
+    let here : offset_of strides index ≡ pos k = h index (is_index-index_of_rank_in order shape k l) ∙ ap pos (rank_in-index_of_rank_in order shape k l) in
+    get_or-map (place start strides) xs k [] (pos 0) (omega (arith, long))
+    ∙ ap (place start strides) (get_or-indices_in order shape k [] l)
+    ∙ ap (λ z. pos start +ℤ z) here
+    ∙ omega (arith, ints))
