@@ -3,9 +3,9 @@ use Rattle.std.proofs.Common.{◌≡◌, ℕ, ℤ, pos, ◌+ℤ◌, List, [], �
 use Rattle.std.proofs.lemmas.List.{reverse-reverse, length-reverse}
 use Rattle.nd_base.specs.declared.order.Order.{Order}
 use Rattle.nd_base.specs.declared.order.Order.TheVariants.{RowMajor, ColumnMajor}
-use Rattle.nd_base.specs.Indices.{indices, indices_in}
+use Rattle.nd_base.specs.Indices.{indices}
 use Rattle.nd_base.specs.Offset.{offset_of}
-use Rattle.nd_shape.specs.Place.{place}
+use Rattle.nd_shape.specs.Place.{place, places}
 use Rattle.nd_base.specs.Size.{size}
 use Rattle.nd_base.specs.Span.{reach, reach_down, reach_up}
 use Rattle.nd_base.proofs.laws.Indices.{map-indices_in}
@@ -22,7 +22,7 @@ map_after f g [] = refl
 map_after f g (x ∷ xs) = ap (λ ys. f (g x) ∷ ys) (map_after f g xs)
 
 -- the places in an order, with the axes turned where the first moves fastest
-pub places_nested : (order : Order) (start : ℕ) (shape : List ℕ) (strides : List ℤ) → length shape ≡ length strides → view_places RowMajor (nested_view order start shape strides) ≡ map (place start strides) (indices_in order shape)
+pub places_nested : (order : Order) (start : ℕ) (shape : List ℕ) (strides : List ℤ) → length shape ≡ length strides → view_places RowMajor (nested_view order start shape strides) ≡ places order start shape strides
 places_nested RowMajor start shape strides e = refl
 places_nested ColumnMajor start shape strides e =
     let turned = reverse strides in

@@ -1,13 +1,13 @@
 -- A view: a shape with strides and a start, as a function from indices to places in the data.
-use Rattle.std.specs.Prelude.{◌≡◌, ℕ, ◌+◌, ◌≤◌, ℤ, pos, negsuc, Option, Some, None, if◌then◌else◌, List, [], ◌∷◌, map, refl}
+use Rattle.std.specs.Prelude.{◌≡◌, ℕ, ◌+◌, ◌≤◌, ℤ, pos, negsuc, Option, Some, None, if◌then◌else◌, List, [], ◌∷◌, refl}
 use Rattle.nd_base.specs.declared.order.Order.{Order}
 use Rattle.nd_base.specs.declared.order.Order.TheVariants.{RowMajor, ColumnMajor}
-use Rattle.nd_base.specs.Indices.{indices_in, is_index}
+use Rattle.nd_base.specs.Indices.{is_index}
 use Rattle.nd_base.specs.Signed.{all_signed}
 use Rattle.nd_base.specs.Size.{limit}
 use Rattle.nd_base.specs.Span.{low_span, high_span}
 use Rattle.nd_base.specs.ValidLayout.{IsValidLayout}
-use Rattle.nd_shape.specs.Place.{place}
+use Rattle.nd_shape.specs.Place.{place, places}
 
 -- start is the place of the first index
 pub record View : Type 0 where
@@ -35,7 +35,7 @@ checked_place view index = (if is_index view.shape index then Some (place_at vie
 
 -- the places of all indices, in an order
 abbrev pub view_places : Order → View → List ℤ
-view_places order view = map (place_at view) (indices_in order view.shape)
+view_places order view = places order view.start view.shape view.strides
 
 -- examples
 crossed : view_places RowMajor (record { start = 0; shape = 3 ∷ 2 ∷ []; strides = pos 2 ∷ pos 3 ∷ [] }) ≡ pos 0 ∷ pos 3 ∷ pos 2 ∷ pos 5 ∷ pos 4 ∷ pos 7 ∷ []
