@@ -1,3 +1,4 @@
 pub mod Acceptance
+pub mod DistinctOffsets
 pub mod Inside
 pub mod OwnedRule
