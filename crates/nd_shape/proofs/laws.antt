@@ -3,3 +3,4 @@ pub mod DefaultStrides
 pub mod DistinctOffsets
 pub mod Inside
 pub mod OwnedRule
+pub mod OwnedWalk

@@ -2,3 +2,4 @@ pub mod Acceptance
 pub mod DistinctOffsets
 pub mod Inside
 pub mod OwnedRule
+pub mod OwnedWalk
