@@ -1,7 +1,7 @@
 pub mod Indices
 pub mod IsIndex
 pub mod NonzeroSize
-pub mod Place
+pub mod Offset
 pub mod Rank
 pub mod Reach
 pub mod Size

@@ -3,8 +3,8 @@ pub mod Entrywise
 pub mod ErrorText
 pub mod Indices
 pub mod Lengths
+pub mod Offset
 pub mod Order
-pub mod Place
 pub mod Rank
 pub mod Reach
 pub mod Signed

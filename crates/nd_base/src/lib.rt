@@ -27,6 +27,6 @@ pub use dynindeximpl::IxDynImpl;
 pub use error::{ErrorKind, LayoutError, ShapeError, from_kind};
 pub use ixdyn::new_ixdyn;
 pub use lengths::{FixedCount, Lengths};
-pub use offsets::{offset_of, stride_offset_checked};
+pub use offsets::{index_offset, stride_offset_checked};
 pub use order::Order;
 pub use strides::{signed, stride_offset, unsigned};

@@ -2,7 +2,7 @@
 ghost use Rattle.std.specs.Prelude.{◌≡◌, ◌≤◌, nat_lt};
 ghost use Rattle.std.specs.List.{All, list_all, zip};
 ghost use Rattle.nd_base.specs.Indices.{is_index as is_index_of_shape};
-ghost use Rattle.nd_base.specs.Place.{offset_of as offset_of_index, checked_offset};
+ghost use Rattle.nd_base.specs.Offset.{offset_of, checked_offset};
 ghost use Rattle.nd_base.specs.Reach.{farthest_offset};
 ghost use Rattle.nd_base.specs.Signed.{all_signed};
 ghost use Rattle.nd_base.specs.Size.{limit};
@@ -11,10 +11,10 @@ ghost use Rattle.nd_base.specs.ValidLayout.{IsValidLayout};
 use crate::strides::stride_offset;
 
 /// The sum of each entry times its stride.
-pub fn offset_of(strides: &[usize], index: &[usize]) -> isize
+pub fn index_offset(index: &[usize], strides: &[usize]) -> isize
     requires small { All (λ entry. entry ≤ limit) index.now }
     requires fits { farthest_offset (all_signed strides.now) index.now ≤ limit }
-    ensures { result ≡ offset_of_index (all_signed strides.now) index.now }
+    ensures { result ≡ offset_of (all_signed strides.now) index.now }
 {
     let mut offset = 0isize;
     for (entry, stride) in index.iter().zip(strides) {
@@ -44,7 +44,7 @@ pub fn stride_offset_checked(dim: &[usize], strides: &[usize], index: &[usize]) 
     ensures { result ≡ checked_offset dim.now (all_signed strides.now) index.now }
 {
     if is_index(dim, index) {
-        Some(offset_of(strides, index))
+        Some(index_offset(index, strides))
     } else {
         None
     }

@@ -2,3 +2,4 @@ pub mod Packed
 pub mod Products
 pub mod StrideAxes
 pub mod StrideOrder
+pub mod laws

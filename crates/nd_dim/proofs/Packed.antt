@@ -1,22 +1,22 @@
 -- Tests of layouts, axis by axis.
-use Rattle.std.proofs.Common.{inl, inr, Fits, w64, replicate, ◌≡◌, ◌<◌, ◌≤◌, ◌^◌, ◌+◌, ◌*◌, ◌↔◌, ℕ, pos, Bool, true, false, List, [], ◌∷◌, ◌++◌, length, get_or, map, cond, refl, ap, sym, ◌∙◌, arith, mul-one}
+use Rattle.std.proofs.Common.{Fits, w64, ◌≡◌, ◌<◌, ◌≤◌, ◌^◌, ◌+◌, ◌*◌, ◌↔◌, ℕ, pos, Bool, true, false, List, [], ◌∷◌, ◌++◌, length, get_or, map, cond, refl, ap, sym, ◌∙◌, arith, mul-one}
 use Rattle.std.specs.List.{list_all, filter, slice_index}
 use Rattle.std.specs.Cmp.Rules.{signed_items}
 use Rattle.std.specs.Prelude.{IsTrue}
-use Rattle.std.proofs.lemmas.Bool.{cond-true, cond-false, cond_both, cases_Bool, both_ways, false_from_ne_true}
+use Rattle.std.proofs.lemmas.Bool.{cond-true, cond-false, both_ways, false_from_ne_true}
 use Rattle.std.proofs.lemmas.Bool.Decides.{same_from_decides}
 use Rattle.std.proofs.lemmas.Int.{of_z-to_z, to_z_pos}
-use Rattle.std.proofs.lemmas.List.{map-id, map-append, length-map, length-replicate, ext_get_or, get_or-map, get_or-replicate}
+use Rattle.std.proofs.lemmas.List.{map-id, map-append, length-map, ext_get_or, get_or-map}
 use Rattle.std.proofs.lemmas.List.Sums.{list_all-from_AllPass, AllPass-from_list_all}
 use Rattle.std.proofs.lemmas.List.Elements.{filter-append}
-use Rattle.std.proofs.lemmas.List.FromFn.{length-range_with_len, get_or-range_with_len, length-map-range_with_len, map-range_with_len_more, get_or-map-range_with_len}
+use Rattle.std.proofs.lemmas.List.FromFn.{length-range_with_len, get_or-range_with_len, map-range_with_len_more}
 use Rattle.nd_base.specs.Indices.{below}
 use Rattle.nd_base.specs.Signed.{signed, unsigned, all_signed}
-use Rattle.nd_base.specs.Size.{size, nonzero_size, is_empty, limit}
+use Rattle.nd_base.specs.Size.{size, nonzero_size, limit}
 use Rattle.nd_dim.specs.Contiguous.{has_default_strides}
-use Rattle.nd_dim.specs.Strides.{size_after, default_strides}
-use Rattle.nd_base.proofs.laws.NonzeroSize.{size_le_nonzero_size}
-use Rattle.nd_base.proofs.laws.Size.{size-append, size_drop_le}
+use Rattle.nd_dim.specs.Strides.{default_strides}
+use Rattle.nd_dim.proofs.laws.Strides.{default_count, default_small}
+use Rattle.nd_base.proofs.laws.Size.{size-append}
 
 -- a test that passes at each number below n, or fails at one
 pub all_below : (p : ℕ → Bool) (n : ℕ) → ((k : ℕ) → k < n → p k ≡ true) → list_all p (below n) ≡ true
@@ -33,11 +33,6 @@ not_all_below p n k h fails =
     let same : get_or (below n) k 0 ≡ k = get_or-range_with_len 0 n k 0 h ∙ omega arith in
     let passes : p k ≡ true = rw same at (AllPass-from_list_all p (below n) all k 0 within) in
     both_ways (p k) fails passes)
-
--- the default stride of an axis of a shape with an index
-pub default_at : (lens : List ℕ) (axis : ℕ) → is_empty lens ≡ false → axis < length lens → get_or (default_strides lens) axis 0 ≡ size_after lens axis
-default_at lens axis some h =
-    ap (λ xs. get_or xs axis 0) (cond-false (is_empty lens) _ (map (size_after lens) (below (length lens))) some) ∙ get_or-map-range_with_len (size_after lens) 0 (length lens) axis axis 0 h (omega arith)
 
 numbers_more : (n : ℕ) → below (n + 1) ≡ below n ++ n ∷ []
 numbers_more n = sym (map-id (below (n + 1))) ∙ map-range_with_len_more (λ k. k) 0 n n (omega arith) ∙ ap (λ xs. xs ++ n ∷ []) (map-id (below n))
@@ -62,22 +57,6 @@ chosen_taken p lens n whole chosen e =
 pub chosen_left : (p : ℕ → Bool) (lens : List ℕ) (n whole : ℕ) → p n ≡ false → whole ≡ size (map (slice_index lens) (filter p (below n))) → whole ≡ size (map (slice_index lens) (filter p (below (n + 1))))
 chosen_left p lens n whole passed e =
     e ∙ sym (mul-one (size (map (slice_index lens) (filter p (below n))))) ∙ ap (λ m. size (map (slice_index lens) (filter p (below n))) * m) (sym (cond-false (p n) (get_or lens n 0) 1 passed)) ∙ sym (chosen_more p lens n)
-
-default_count : (lens : List ℕ) → length (default_strides lens) ≡ length lens
-default_count lens = cond_both (is_empty lens) (replicate (length lens) 0) (map (size_after lens) (below (length lens))) (λ xs. length xs ≡ length lens) (λ e. length-replicate (length lens) 0) (λ e. length-map-range_with_len (size_after lens) 0 (length lens))
-
--- a default stride is no greater than the limit that the size is held to
-default_small : (lens : List ℕ) (k : ℕ) → nonzero_size lens ≤ limit → k < length lens → get_or (default_strides lens) k 0 ≤ limit
-default_small lens k top h =
-    elim (cases_Bool (is_empty lens)) [
-      | inl none ↦
-          let zero' : get_or (default_strides lens) k 0 ≡ 0 = ap (λ xs. get_or xs k 0) (cond-true (is_empty lens) (replicate (length lens) 0) (map (size_after lens) (below (length lens))) none) ∙ get_or-replicate (length lens) k 0 0 h in
-          omega arith
-      | inr some ↦
-          let is : get_or (default_strides lens) k 0 ≡ size_after lens k = default_at lens k some h in
-          let less : size_after lens k ≤ size lens = size_drop_le lens (k + 1) some in
-          omega (arith, size_le_nonzero_size lens)
-    ]
 
 signed_of_small : (n : ℕ) → n ≤ limit → signed n ≡ pos n
 signed_of_small n h = to_z_pos w64 n (omega arith)

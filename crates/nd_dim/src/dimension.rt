@@ -4,7 +4,7 @@ ghost use Rattle.std.specs.Option.{option_map};
 ghost use Rattle.std.specs.Prelude.{◌≡◌, ℕ, ◌+◌, ◌-◌, ◌<◌, ◌≤◌, ◌^◌, ◌↔◌, ◌⊎◌, length, insert, remove, replicate, slice_set, Some, None, SomeIff, IsTrue, IsOk, IfOk};
 ghost use Rattle.nd_base.specs.Dim.{lengths};
 ghost use Rattle.nd_base.specs.Lengths.{IsCount, NeedsNoMemory, default_count};
-ghost use Rattle.nd_base.specs.Place.{offset_of as offset_of_index, checked_offset};
+ghost use Rattle.nd_base.specs.Offset.{offset_of, checked_offset};
 ghost use Rattle.nd_base.specs.Reach.{farthest_offset};
 ghost use Rattle.nd_base.specs.Signed.{all_signed};
 ghost use Rattle.nd_base.specs.Size.{size, nonzero_size, limit};
@@ -22,7 +22,7 @@ use crate::stride_axes::{max_stride_axis, min_stride_axis};
 use crate::stride_order::fill_stride_order;
 use crate::strides::{are_equivalent, fill_default_strides, fill_fortran_strides};
 use nd_base::{
-    Arithmetic, Axis, IxDyn, Lengths, Scale, new_ixdyn, offset_of, stride_offset_checked,
+    Arithmetic, Axis, IxDyn, Lengths, Scale, index_offset, new_ixdyn, stride_offset_checked,
 };
 use std::alloc::{AllocError, Global};
 
@@ -145,9 +145,9 @@ pub trait Dimension: Lengths + Arithmetic + Scale {
         requires small { All (λ entry. entry ≤ limit) (Self.list index.now) }
         requires fits { farthest_offset (all_signed (Self.list strides.now)) (Self.list index.now)
             ≤ limit }
-        ensures { result ≡ offset_of_index (all_signed (Self.list strides.now)) (Self.list index.now) }
+        ensures { result ≡ offset_of (all_signed (Self.list strides.now)) (Self.list index.now) }
     {
-        offset_of(strides.slice(), index.slice())
+        index_offset(index.slice(), strides.slice())
     }
 
     /// How many elements lie between the first index of this shape and another one, with its sign;

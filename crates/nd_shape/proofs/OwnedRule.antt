@@ -6,7 +6,8 @@ use Rattle.std.proofs.lemmas.Bool.Decides.{nat_tests}
 use Rattle.std.proofs.lemmas.List.{get_or-map}
 use Rattle.nd_base.specs.Signed.{signed, all_signed, magnitude}
 use Rattle.nd_base.specs.Span.{reach, span}
-use Rattle.nd_shape.specs.OwnedRule.{span_up_to, magnitude_at, span_of_others, steps_over_others}
+use Rattle.nd_dim.specs.AxisOrder.{magnitude_at}
+use Rattle.nd_shape.specs.OwnedRule.{span_up_to, span_of_others, steps_over_others}
 use Rattle.nd_base.proofs.laws.Span.{sum_and_others}
 
 -- how far an axis reaches, or 0 where its stride is of a magnitude past m

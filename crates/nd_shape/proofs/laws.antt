@@ -1,3 +1,7 @@
 pub mod Acceptance
+pub mod DefaultStrides
+pub mod DistinctOffsets
 pub mod Inside
 pub mod OwnedRule
+pub mod OwnedWalk
+pub mod Place

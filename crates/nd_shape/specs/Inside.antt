@@ -1,7 +1,7 @@
 -- Every index of a layout lies within the data.
 use Rattle.std.specs.Prelude.{◌≡◌, ℕ, ◌<◌, ℤ, pos, negsuc, true, List}
 use Rattle.nd_base.specs.Indices.{is_index}
-use Rattle.nd_base.specs.Place.{place}
+use Rattle.nd_shape.specs.Place.{place}
 
 -- the place of one of len elements
 abbrev pub IsInside : ℕ → ℤ → Type 0

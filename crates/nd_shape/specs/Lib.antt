@@ -1,3 +1,6 @@
 pub mod Acceptance
+pub mod DistinctOffsets
 pub mod Inside
 pub mod OwnedRule
+pub mod OwnedWalk
+pub mod Place

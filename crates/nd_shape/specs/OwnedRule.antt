@@ -1,16 +1,13 @@
 -- The written rule under which no two indices of a layout share a place. It is stricter than that.
-use Rattle.std.specs.Prelude.{◌≡◌, ℕ, ◌<◌, ℤ, pos, negsuc, Bool, true, false, ◌||◌, nat_le, nat_lt, if◌then◌else◌, List, [], ◌∷◌, length, remove, slice_index, slice_index_or, refl}
+use Rattle.std.specs.Prelude.{◌≡◌, ℕ, ◌<◌, ℤ, pos, negsuc, Bool, true, false, ◌||◌, nat_le, nat_lt, if◌then◌else◌, List, [], ◌∷◌, length, remove, slice_index, refl}
 use Rattle.std.specs.List.{list_all, range_with_len}
 use Rattle.nd_base.specs.Signed.{magnitude}
 use Rattle.nd_base.specs.Span.{reach, sum_over_axes}
+use Rattle.nd_dim.specs.AxisOrder.{magnitude_at}
 
 -- the summed spans of the axes whose strides are of magnitude at most m
 abbrev pub span_up_to : ℕ → List ℕ → List ℤ → ℕ
 span_up_to m shape strides = sum_over_axes (λ len stride. if nat_le (magnitude stride) m then reach len stride else 0) shape strides
-
--- the magnitude of the stride of an axis
-abbrev pub magnitude_at : List ℤ → ℕ → ℕ
-magnitude_at strides axis = magnitude (slice_index_or strides axis (pos 0))
 
 -- how far the others reach together, of those whose strides are at most as long
 abbrev pub span_of_others : List ℕ → List ℤ → ℕ → ℕ

@@ -1,13 +1,13 @@
 //! What can index an array.
 ghost use Rattle.std.specs.Prelude.{◌≡◌, ℕ, ◌≤◌, List, length};
 ghost use Rattle.std.specs.List.{All};
-ghost use Rattle.nd_base.specs.Place.{offset_of as offset_of_index, checked_offset};
+ghost use Rattle.nd_base.specs.Offset.{offset_of, checked_offset};
 ghost use Rattle.nd_base.specs.Reach.{farthest_offset};
 ghost use Rattle.nd_base.specs.Signed.{all_signed};
 ghost use Rattle.nd_base.specs.Size.{limit};
 ghost use Rattle.nd_base.specs.ValidLayout.{IsValidLayout};
 
-use nd_dim::{Dimension, offset_of, stride_offset_checked};
+use nd_dim::{Dimension, index_offset, stride_offset_checked};
 use std::fmt::Debug;
 
 /// An index of arrays of the dimension type `E`: one list of entries. Upstream's `NdIndex`.
@@ -30,7 +30,7 @@ pub trait NdIndex<E: Dimension>: Debug {
         requires small { All (λ entry. entry ≤ limit) (index_list self.now) }
         requires fits { farthest_offset (all_signed (E.list strides.now)) (index_list self.now) ≤ limit }
         ensures { result ≡
-            offset_of_index (all_signed (E.list strides.now)) (index_list self.now) };
+            offset_of (all_signed (E.list strides.now)) (index_list self.now) };
 }
 
 impl<D: Dimension> NdIndex<D> for D {
@@ -41,6 +41,6 @@ impl<D: Dimension> NdIndex<D> for D {
     }
 
     fn index_unchecked(&self, strides: &D) -> isize {
-        offset_of(strides.slice(), self.slice())
+        index_offset(self.slice(), strides.slice())
     }
 }

@@ -1,8 +1,8 @@
 -- One axis: where its entries lie between its reaches, and what a slice leaves of them.
-use Rattle.std.proofs.Common.{◌≡◌, ℕ, suc, ◌+◌, ◌-◌, ◌*◌, ◌<◌, ◌≤◌, ℤ, pos, negsuc, ◌+ℤ◌, ◌*ℤ◌, ◌≤ℤ◌, arith}
+use Rattle.std.proofs.Common.{ℕ, suc, ◌-◌, ◌*◌, ◌<◌, ◌≤◌, ℤ, pos, negsuc, ◌+ℤ◌, ◌*ℤ◌, ◌≤ℤ◌, arith}
 use Rattle.std.proofs.lemmas.Int.{ints}
 use Rattle.std.proofs.Math.Nat.{mul-le-mul_right}
-use Rattle.nd_base.specs.Span.{reach, reach_down, reach_up}
+use Rattle.nd_base.specs.Span.{reach_down, reach_up}
 
 -- from low below 0 to high above it
 pub record Within (low : ℕ) (high : ℕ) (z : ℤ) : Type 0 where
@@ -18,8 +18,3 @@ axis_within len i (negsuc s) h =
     let le : i ≤ len - 1 = omega arith in
     let far : i * suc s ≤ (len - 1) * suc s = mul-le-mul_right (suc s) le in
     record { above = omega (arith, ints); below = omega (arith, ints) }
-
--- an axis reaches down or up
-pub reach_parts : (len : ℕ) (stride : ℤ) → reach_down len stride + reach_up len stride ≡ reach len stride
-reach_parts len (pos s) = omega arith
-reach_parts len (negsuc s) = omega arith

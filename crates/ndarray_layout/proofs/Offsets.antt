@@ -1,11 +1,11 @@
 -- Where the indices of a layout lie.
-use Rattle.std.proofs.Common.{◌≡◌, ℕ, ◌+◌, ℤ, pos, ◌+ℤ◌, ◌*ℤ◌, List, [], ◌∷◌, length, true, arith, refl, nat_lt}
+use Rattle.std.proofs.Common.{◌≡◌, ℕ, ◌+◌, ℤ, pos, ◌+ℤ◌, ◌*ℤ◌, List, [], ◌∷◌, length, true, arith, nat_lt}
 use Rattle.std.proofs.lemmas.Int.{ints}
 use Rattle.std.proofs.lemmas.Bool.{and_parts, ltb-true}
 use Rattle.nd_base.specs.Indices.{is_index}
-use Rattle.nd_base.specs.Place.{offset_of}
-use Rattle.nd_base.specs.Span.{reach_down, reach_up, span, low_span, high_span}
-use Rattle.ndarray_layout.proofs.Axes.{Within, axis_within, reach_parts}
+use Rattle.nd_base.specs.Offset.{offset_of}
+use Rattle.nd_base.specs.Span.{reach_down, reach_up, low_span, high_span}
+use Rattle.ndarray_layout.proofs.Axes.{Within, axis_within}
 
 -- the sum of numbers within bounds
 pub sum_within : (l h m k : ℕ) (y z : ℤ) → Within l h y → Within m k z → Within (l + m) (h + k) (y +ℤ z)
@@ -23,9 +23,3 @@ offset_within (len ∷ shape) (stride ∷ strides) (i ∷ index) e h =
     sum_within (reach_down len stride) (reach_up len stride) (low_span shape strides) (high_span shape strides) (pos i *ℤ stride) (offset_of strides index)
     (axis_within len i stride (ltb-true i len parts.0))
     (offset_within shape strides index (omega arith) parts.1)
-
--- the span is what lies below and above the first index
-pub span_parts : (shape : List ℕ) (strides : List ℤ) → low_span shape strides + high_span shape strides ≡ span shape strides
-span_parts [] strides = refl
-span_parts (len ∷ shape) [] = refl
-span_parts (len ∷ shape) (stride ∷ strides) = omega (arith, reach_parts len stride, span_parts shape strides)

@@ -4,7 +4,8 @@ use Rattle.std.proofs.lemmas.Int.{ints}
 use Rattle.std.proofs.lemmas.Bool.{cases_lt, cond-true, cond-false, le-leb, lt-leb}
 use Rattle.nd_base.specs.Span.{reach, reach_down, reach_up}
 use Rattle.nd_slice.specs.Sliced.{picked_stride, first_offset}
-use Rattle.ndarray_layout.proofs.Axes.{Within, axis_within, reach_parts}
+use Rattle.nd_base.proofs.laws.Span.{reach_parts}
+use Rattle.ndarray_layout.proofs.Axes.{Within, axis_within}
 
 -- the picks of a slice that fits an axis of length len
 pub record PicksFit (len : ℕ) (step : ℤ) (picks : List ℕ) : Type 0 where

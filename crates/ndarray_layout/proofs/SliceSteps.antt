@@ -17,12 +17,12 @@ use Rattle.nd_slice.specs.declared.slice.SliceInfoElem.TheVariants as elem
 use Rattle.nd_slice.specs.Picks.{meaning, picks}
 use Rattle.nd_slice.specs.SliceFault.{slice_fault, index_fault, in_count, out_count, first_fault}
 use Rattle.nd_slice.specs.Sliced.{sliced_shape, sliced_strides, sliced_offset, picked_stride, first_offset}
-use Rattle.ndarray_layout.proofs.Axes.{Within, axis_within, reach_parts}
-use Rattle.ndarray_layout.proofs.Offsets.{span_parts}
+use Rattle.ndarray_layout.proofs.Axes.{Within, axis_within}
 use Rattle.ndarray_layout.proofs.Picked.{slice_kept}
 use Rattle.ndarray_layout.proofs.PicksFit.{picks_fit}
 use Rattle.ndarray_layout.proofs.Slices.{or_none, index_entry}
-use Rattle.ndarray_layout.proofs.Walks.{nonzero_pos}
+use Rattle.nd_base.proofs.laws.NonzeroSize.{nonzero_size_pos}
+use Rattle.nd_base.proofs.laws.Span.{low_high_span, reach_parts}
 
 -- rest, lens and steps are the elements, the lengths and the strides still to come
 pub record SlicedSoFar (elems : List SliceInfoElem) (shape : List ℕ) (strides : List ℤ) (rest : List SliceInfoElem) (lens : List ℕ) (steps : List ℤ) (new : ℕ) (new_shape new_strides : List ℕ) (offset : ℤ) : Type 0 where
@@ -118,7 +118,7 @@ new_axis_step elems shape strides rest lens steps new ns nt offset s = record {
 
 -- ---- what fits
 pub offset_fits : (elems : List SliceInfoElem) (shape : List ℕ) (strides : List ℤ) (rest : List SliceInfoElem) (lens : List ℕ) (steps : List ℤ) (new : ℕ) (ns nt : List ℕ) (offset : ℤ) → IsValidLayout shape strides → SlicedSoFar elems shape strides rest lens steps new ns nt offset → FitsSigned w64 offset
-offset_fits elems shape strides rest lens steps new ns nt offset valid s = omega (arith, ints, s.low, s.high, span_parts shape strides, valid.span_fits)
+offset_fits elems shape strides rest lens steps new ns nt offset valid s = omega (arith, ints, s.low, s.high, low_high_span shape strides, valid.span_fits)
 
 -- a length is at most the product of those that are not 0
 len_of_product : (len rest : ℕ) → 1 ≤ rest → len ≤ cond (eqb len 0) rest (len * rest)
@@ -139,7 +139,7 @@ rest_of_product len rest = by (eqb len 0) refl
 
 pub len_small : (shape : List ℕ) (k : ℕ) → get_or shape k 0 ≤ nonzero_size shape
 len_small [] k = omega arith
-len_small (len ∷ lens) zero = len_of_product len (nonzero_size lens) (nonzero_pos lens)
+len_small (len ∷ lens) zero = len_of_product len (nonzero_size lens) (nonzero_size_pos lens)
 len_small (len ∷ lens) (suc k) = omega (arith, len_small lens k, rest_of_product len (nonzero_size lens))
 
 -- a reach is at most the span

@@ -7,7 +7,7 @@ use Rattle.std.proofs.Math.Nat.{mul-le-mul, mul-le-mul_right}
 use Rattle.nd_base.specs.declared.error.ErrorKind.{ErrorKind}
 use Rattle.nd_base.specs.declared.error.ErrorKind.TheVariants.{OutOfBounds}
 use Rattle.nd_base.specs.Indices.{is_index}
-use Rattle.nd_base.specs.Place.{offset_of}
+use Rattle.nd_base.specs.Offset.{offset_of}
 use Rattle.nd_base.specs.Signed.{magnitude}
 use Rattle.nd_base.specs.Size.{nonzero_size}
 use Rattle.nd_base.specs.Span.{reach_down, reach_up, low_span, high_span}

@@ -1,14 +1,12 @@
 -- What a view gives: each index of its shape has a place.
-use Rattle.std.proofs.Common.{◌≡◌, ℕ, zero, suc, ◌*◌, ◌<◌, ◌≤◌, ◌^◌, ℤ, pos, ◌+ℤ◌, ◌≤ℤ◌, List, [], ◌∷◌, length, cond, eqb, Bool, true, false, Option, Some, None, arith, refl, sym, ap, ◌∙◌, subst, not, ◌||◌, map, reverse}
+use Rattle.std.proofs.Common.{◌≡◌, ℕ, ◌<◌, ◌^◌, ℤ, pos, ◌+ℤ◌, ◌≤ℤ◌, List, [], length, cond, eqb, Bool, true, false, Option, Some, None, arith, refl, sym, ap, ◌∙◌, subst, not, ◌||◌, map}
 use Rattle.std.proofs.lemmas.Int.{ints}
 use Rattle.std.proofs.lemmas.Bool.{eqb-true}
-use Rattle.std.proofs.Math.Nat.{mul-le-mul_left, mul-le-mul_right}
-use Rattle.std.specs.List.{flat_map}
 use Rattle.nd_base.specs.declared.order.Order.{Order}
-use Rattle.nd_base.specs.declared.order.Order.TheVariants.{RowMajor, ColumnMajor}
-use Rattle.nd_base.specs.Indices.{is_index, indices, below}
-use Rattle.nd_base.specs.Place.{offset_of, place, checked_offset}
-use Rattle.nd_base.specs.Size.{nonzero_size, size, limit}
+use Rattle.nd_base.specs.Indices.{is_index}
+use Rattle.nd_base.specs.Offset.{offset_of, checked_offset}
+use Rattle.nd_shape.specs.Place.{place}
+use Rattle.nd_base.specs.Size.{size, limit}
 use Rattle.nd_base.specs.Span.{low_span, high_span}
 use Rattle.nd_base.specs.ValidLayout.{IsValidLayout}
 use Rattle.nd_slice.specs.declared.slice.SliceInfoElem.{SliceInfoElem}
@@ -18,8 +16,10 @@ use Rattle.nd_slice.specs.Sliced.{sliced_shape, sliced_strides}
 use Rattle.nd_slice.specs.Selected.{selected}
 use Rattle.ndarray_layout.specs.View.{View, IsView, place_at, view_places}
 use Rattle.ndarray_layout.specs.SlicedView.{IsSliceOf, sliced_start, slice_refusal, is_count}
-use Rattle.ndarray_layout.proofs.Offsets.{offset_within, span_parts}
-use Rattle.ndarray_layout.proofs.Reversed.{size_reverse}
+use Rattle.nd_base.proofs.laws.Indices.{indices_in_of_empty}
+use Rattle.nd_base.proofs.laws.NonzeroSize.{size_le_nonzero_size}
+use Rattle.nd_base.proofs.laws.Span.{low_high_span}
+use Rattle.ndarray_layout.proofs.Offsets.{offset_within}
 use Rattle.ndarray_layout.proofs.Slices.{slices_kept, places_kept}
 
 -- a layout from its lowest element on
@@ -27,7 +27,7 @@ pub lowest_view : (shape : List ℕ) (strides : List ℤ) → IsValidLayout shap
 lowest_view shape strides valid = record {
   valid = valid;
   low = omega arith;
-  high = omega (arith, span_parts shape strides, valid.span_fits);
+  high = omega (arith, low_high_span shape strides, valid.span_fits);
 }
 
 -- the place of an index
@@ -58,17 +58,6 @@ no_offset shape strides index e = by (is_index shape index) refl e
     by true h g = absurd (cc)
     by false h g = h
 
--- the size fits where the product of the lengths that are not 0 does
-pub size_small : (shape : List ℕ) → size shape ≤ nonzero_size shape
-size_small [] = omega arith
-size_small (len ∷ lens) = by (size_small lens) (eqb len 0) refl
-  where
-    by : size lens ≤ nonzero_size lens → (t : Bool) → eqb len 0 ≡ t → len * size lens ≤ cond t (nonzero_size lens) (len * nonzero_size lens)
-    by rest true e =
-        let zeroth : len ≡ 0 = eqb-true len 0 e in
-        rw zeroth (omega arith)
-    by rest false e = mul-le-mul_left len rest
-
 -- ---- slices
 -- the slice of a view from its start
 pub sliced_view : (elems : List SliceInfoElem) (view : View) (start : ℕ) → IsView view → in_count elems ≡ length view.shape → first_fault view.shape elems ≡ None → pos start ≡ sliced_start elems view → IsView (record { start = start; shape = sliced_shape elems view.shape; strides = sliced_strides elems view.shape view.strides })
@@ -76,8 +65,8 @@ sliced_view elems view start v counts fits e =
     let kept = slices_kept elems view.shape view.strides v.valid.same_count counts fits in
     let low = low_span (sliced_shape elems view.shape) (sliced_strides elems view.shape view.strides) in
     let high = high_span (sliced_shape elems view.shape) (sliced_strides elems view.shape view.strides) in
-    let parts = span_parts (sliced_shape elems view.shape) (sliced_strides elems view.shape view.strides) in
-    let whole = span_parts view.shape view.strides in
+    let parts = low_high_span (sliced_shape elems view.shape) (sliced_strides elems view.shape view.strides) in
+    let whole = low_high_span view.shape view.strides in
     record {
       valid = record {
         same_count = kept.counts;
@@ -111,7 +100,7 @@ offset_place_within view index offset v e =
 
 -- the size of a view fits a word
 pub size_fits : (view : View) → IsView view → size view.shape < 2 ^ 64
-size_fits view v = omega (arith, size_small view.shape, v.valid.size_fits)
+size_fits view v = omega (arith, size_le_nonzero_size view.shape, v.valid.size_fits)
 
 -- an argument that is not refused has the right counts and no element at fault
 pub refusal_none : (fixed : Option ℕ) (shape : List ℕ) (elems : List SliceInfoElem) → slice_refusal fixed shape elems ≡ None → (in_count elems ≡ length shape) × (first_fault shape elems ≡ None)
@@ -130,20 +119,6 @@ slice_is_view elems view result v counts fits s =
     let e : record { start = result.start; shape = sliced_shape elems view.shape; strides = sliced_strides elems view.shape view.strides } ≡ result = rw (← s.shape, ← s.strides) refl in
     subst IsView e whole
 
--- ---- a shape without an index
-no_rows : (entries : List ℕ) → flat_map (λ i. map (λ x. i ∷ x) []) entries ≡ []
-no_rows [] = refl
-no_rows (i ∷ entries) = no_rows entries
-
-no_indices : (shape : List ℕ) → size shape ≡ 0 → indices shape ≡ []
-no_indices [] h = absurd (omega arith)
-no_indices (zero ∷ lens) h = refl
-no_indices (suc n ∷ lens) h =
-    let some : 1 ≤ suc n = omega arith in
-    let none : indices lens ≡ [] = no_indices lens (omega (arith, mul-le-mul_right (size lens) some)) in
-    ap (λ rows. flat_map (λ i. map (λ x. i ∷ x) rows) (below (suc n))) none ∙ no_rows (below (suc n))
-
 -- a view of a size of 0 has no place
 pub no_places : (order : Order) (view : View) → size view.shape ≡ 0 → view_places order view ≡ []
-no_places RowMajor view h = ap (map (place view.start view.strides)) (no_indices view.shape h)
-no_places ColumnMajor view h = ap (λ rows. map (place view.start view.strides) (map reverse rows)) (no_indices (reverse view.shape) (size_reverse view.shape ∙ h))
+no_places order view h = ap (map (place view.start view.strides)) (indices_in_of_empty order view.shape h)

@@ -1,34 +1,20 @@
 -- The walk over the indices of a view, entry by entry of its slowest axis.
-use Rattle.std.proofs.Common.{◌≡◌, ℕ, zero, suc, ◌+◌, ◌*◌, ◌<◌, ◌≤◌, ℤ, pos, ◌+ℤ◌, ◌*ℤ◌, ◌≤ℤ◌, List, [], ◌∷◌, ◌++◌, map, reverse, cond, eqb, Bool, true, false, arith, refl, sym, ap, ◌∙◌, add-one, append_assoc, pos_of_ne-zero, subst}
-use Rattle.std.specs.List.{flat_map, range_with_len}
+use Rattle.std.proofs.Common.{◌≡◌, ℕ, ◌+◌, ◌*◌, ◌<◌, ◌≤◌, ℤ, pos, ◌+ℤ◌, ◌*ℤ◌, ◌≤ℤ◌, List, [], ◌∷◌, ◌++◌, map, reverse, eqb, arith, refl, sym, ap, ◌∙◌, add-one, append_assoc, subst}
 use Rattle.std.proofs.lemmas.Int.{ints}
-use Rattle.std.proofs.lemmas.Bool.{eqb-false, cond-false, ne_eqb}
-use Rattle.std.proofs.lemmas.List.{map-append, append-nil, reverse-append}
-use Rattle.std.proofs.lemmas.List.Concat.{flat_map-append}
-use Rattle.std.proofs.Math.Nat.{mul-le-mul, mul-le-mul_right, mul-le-mul_left}
+use Rattle.std.proofs.lemmas.Bool.{cond-false, ne_eqb}
+use Rattle.std.proofs.lemmas.List.{map-append, reverse-append}
+use Rattle.std.proofs.Math.Nat.{mul-le-mul_right, mul-le-mul_left}
 use Rattle.nd_base.specs.declared.order.Order.{Order}
 use Rattle.nd_base.specs.declared.order.Order.TheVariants.{RowMajor, ColumnMajor}
-use Rattle.nd_base.specs.Indices.{indices, below}
-use Rattle.nd_base.specs.Place.{place}
+use Rattle.nd_base.specs.Indices.{indices}
+use Rattle.nd_shape.specs.Place.{place}
 use Rattle.nd_base.specs.Signed.{signed, all_signed}
 use Rattle.nd_base.specs.Size.{nonzero_size, limit}
 use Rattle.ndarray_layout.specs.View.{IsView, view_places}
 use Rattle.ndarray_layout.specs.Walk.{nested, nested_view}
+use Rattle.nd_base.proofs.laws.Indices.{indices_more}
+use Rattle.nd_base.proofs.laws.NonzeroSize.{nonzero_size_pos}
 use Rattle.ndarray_layout.proofs.Axes.{axis_within}
-
--- one number more
-range_more : (a n : ℕ) → range_with_len a (suc n) ≡ range_with_len a n ++ (a + n) ∷ []
-range_more a zero = let e : a ≡ a + 0 = omega arith in ap (λ x. x ∷ []) e
-range_more a (suc n) =
-    let e : a + 1 + n ≡ a + suc n = omega arith in
-    ap (λ xs. a ∷ xs) (rw (← e) (range_more (a + 1) n))
-
--- the indices with one entry more of the first axis
-indices_more : (i : ℕ) (lens : List ℕ) → indices (suc i ∷ lens) ≡ indices (i ∷ lens) ++ map (λ index. i ∷ index) (indices lens)
-indices_more i lens =
-    let row = λ (k : ℕ). map (λ index. k ∷ index) (indices lens) in
-    let e : 0 + i ≡ i = omega arith in
-    ap (flat_map row) (range_more 0 i) ∙ flat_map-append row (below i) ((0 + i) ∷ []) ∙ rw (e, append-nil) refl
 
 -- an entry of the first axis moves the start
 row_at : (start i inner : ℕ) (stride : ℤ) (strides : List ℤ) (xs : List (List ℕ)) → pos inner ≡ pos start +ℤ (pos i *ℤ stride) → map (place start (stride ∷ strides)) (map (λ index. i ∷ index) xs) ≡ map (place inner strides) xs
@@ -43,16 +29,6 @@ places_more start i inner lens stride strides e =
     let row = map (λ index. i ∷ index) (indices lens) in
     rw (add-one i) (ap (map (place start (stride ∷ strides))) (indices_more i lens) ∙ map-append (place start (stride ∷ strides)) (indices (i ∷ lens)) row ∙ ap (λ xs. map (place start (stride ∷ strides)) (indices (i ∷ lens)) ++ xs) (row_at start i inner stride strides (indices lens) e))
 
-pub nonzero_pos : (shape : List ℕ) → 1 ≤ nonzero_size shape
-nonzero_pos [] = omega arith
-nonzero_pos (len ∷ lens) = by (nonzero_pos lens) (eqb len 0) refl
-  where
-    by : 1 ≤ nonzero_size lens → (t : Bool) → eqb len 0 ≡ t → 1 ≤ cond t (nonzero_size lens) (len * nonzero_size lens)
-    by rest true e = rest
-    by rest false e =
-        let some : 1 ≤ len = pos_of_ne-zero (eqb-false len 0 e) in
-        mul-le-mul some rest
-
 -- what is known of one entry of the first axis
 pub record IsEntry (start len : ℕ) (lens : List ℕ) (stride : ℤ) (strides : List ℤ) (i : ℕ) : Type 0 where
   pub small : len ≤ limit
@@ -64,7 +40,7 @@ pub record IsEntry (start len : ℕ) (lens : List ℕ) (stride : ℤ) (strides :
 some_size : (len : ℕ) (lens : List ℕ) → 0 < len → nonzero_size (len ∷ lens) ≤ limit → (len ≤ limit) × (nonzero_size lens ≤ limit)
 some_size len lens some h =
     let whole : nonzero_size (len ∷ lens) ≡ len * nonzero_size lens = cond-false (eqb len 0) (nonzero_size lens) (len * nonzero_size lens) (ne_eqb len 0 (λ z. omega arith)) in
-    let rest = nonzero_pos lens in
+    let rest = nonzero_size_pos lens in
     (omega (arith, mul-le-mul_left len rest), omega (arith, mul-le-mul_right (nonzero_size lens) some))
 
 pub entry_within : (start len : ℕ) (lens : List ℕ) (stride : ℤ) (strides : List ℤ) (i : ℕ) → IsView (record { start = start; shape = len ∷ lens; strides = stride ∷ strides }) → i < len → IsEntry start len lens stride strides i

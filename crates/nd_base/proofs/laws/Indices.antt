@@ -1,9 +1,10 @@
 -- Laws of the list of indices of a shape: which they are, how many, and each of them once.
-use Rattle.std.proofs.Common.{◌≡◌, ◌≢◌, ℕ, ◌<◌, true, List, [], length, get_or, map, reverse, sym, ap, ◌∙◌, arith}
+use Rattle.std.proofs.Common.{◌≡◌, ◌≢◌, ℕ, zero, suc, ◌+◌, ◌<◌, true, List, [], ◌∷◌, ◌++◌, length, get_or, map, reverse, refl, sym, ap, ◌∙◌, arith}
 use Rattle.std.specs.Bool.{Decides}
-use Rattle.std.specs.List.{All, AllPairs, Contains}
-use Rattle.std.proofs.lemmas.List.{length-map}
-use Rattle.std.proofs.lemmas.List.Elements.{All-contains}
+use Rattle.std.specs.List.{All, AllPairs, Contains, flat_map, range_with_len}
+use Rattle.std.proofs.lemmas.List.{append-nil, length-map, nil_from_length}
+use Rattle.std.proofs.lemmas.List.Concat.{flat_map-append}
+use Rattle.std.proofs.lemmas.List.Elements.{All-contains, All-head, All-tail}
 use Rattle.std.proofs.lemmas.List.FromFn.{fill_by_all}
 use Rattle.std.proofs.lemmas.Option.{get_or_from_slice_get}
 use Rattle.nd_base.specs.declared.order.Order.{Order}
@@ -63,6 +64,20 @@ Contains-indices_in order shape index h =
 pub Decides-is_index : (order : Order) (shape index : List ℕ) → Decides (is_index shape index) (Contains (indices_in order shape) index)
 Decides-is_index order shape index = (Contains-indices_in order shape index, is_index-from_Contains order shape index)
 
+map_agree : {A B : Type 0} (f g : A → B) (xs : List A) → All (λ x. f x ≡ g x) xs → map f xs ≡ map g xs
+map_agree f g [] h = refl
+map_agree f g (x ∷ xs) h =
+    ap (λ y. y ∷ map f xs) (All-head (λ y. f y ≡ g y) x xs h) ∙ ap (λ ys. g x ∷ ys) (map_agree f g xs (All-tail (λ y. f y ≡ g y) x xs h))
+
+-- two functions that agree at each index of the shape agree on the list
+pub map-indices_in : {B : Type 0} (order : Order) (f g : List ℕ → B) (shape : List ℕ) → ((index : List ℕ) → is_index shape index ≡ true → f index ≡ g index) → map f (indices_in order shape) ≡ map g (indices_in order shape)
+map-indices_in order f g shape h =
+    map_agree f g (indices_in order shape) (λ k d l. h (get_or (indices_in order shape) k d) (All-indices_in order shape k d l))
+
+-- a shape of size 0 has no index
+pub indices_in_of_empty : (order : Order) (shape : List ℕ) → size shape ≡ 0 → indices_in order shape ≡ []
+indices_in_of_empty order shape h = nil_from_length (indices_in order shape) (length-indices_in order shape ∙ h)
+
 -- ---- each once
 -- no two items are equal
 pub AllPairs-indices_in : (order : Order) (shape : List ℕ) → AllPairs (λ index other. index ≢ other) (indices_in order shape)
@@ -74,6 +89,20 @@ AllPairs-indices_in order shape i j d h g e =
     ∙ ap (rank_in order shape) (sym (get_or-indices_in order shape i d early) ∙ e ∙ get_or-indices_in order shape j d late)
     ∙ rank_in-index_of_rank_in order shape j late in
     omega arith
+
+-- ---- one entry more of the first axis
+range_more : (a n : ℕ) → range_with_len a (suc n) ≡ range_with_len a n ++ (a + n) ∷ []
+range_more a zero = let e : a ≡ a + 0 = omega arith in ap (λ x. x ∷ []) e
+range_more a (suc n) =
+    let e : a + 1 + n ≡ a + suc n = omega arith in
+    ap (λ xs. a ∷ xs) (rw (← e) (range_more (a + 1) n))
+
+-- it adds the indices that begin with that entry
+pub indices_more : (i : ℕ) (lens : List ℕ) → indices (suc i ∷ lens) ≡ indices (i ∷ lens) ++ map (λ index. i ∷ index) (indices lens)
+indices_more i lens =
+    let row = λ (k : ℕ). map (λ index. k ∷ index) (indices lens) in
+    let e : 0 + i ≡ i = omega arith in
+    ap (flat_map row) (range_more 0 i) ∙ flat_map-append row (below i) ((0 + i) ∷ []) ∙ rw (e, append-nil) refl
 
 -- ---- the same of each order by itself
 -- each index of the shape is listed by rows

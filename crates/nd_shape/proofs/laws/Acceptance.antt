@@ -1,15 +1,20 @@
 -- Laws of accepted layouts.
-use Rattle.std.proofs.Common.{◌≡◌, ℕ, ℤ, false, List, length, None, arith, sym, ◌∙◌}
-use Rattle.std.specs.Prelude.{nat_le, nat_lt}
-use Rattle.std.proofs.lemmas.Bool.{cond-false, leb-false}
+use Rattle.std.proofs.Common.{◌≡◌, ℕ, ℤ, false, List, length, None, inl, inr, arith, sym, ◌∙◌}
+use Rattle.std.specs.Prelude.{nat_le, nat_lt, not, ◌&&◌}
+use Rattle.std.proofs.lemmas.Bool.{both_ways, cond-false, leb-false}
 use Rattle.std.proofs.lemmas.Grind.{common_steps}
 use Rattle.nd_base.specs.Size.{is_empty}
 use Rattle.nd_base.specs.Span.{span, low_span}
 use Rattle.nd_shape.specs.Acceptance.{acceptance, leaves_data}
+use Rattle.nd_shape.specs.DistinctOffsets.{HasDistinctOffsets}
 use Rattle.nd_shape.specs.Inside.{LiesInside}
+use Rattle.nd_shape.specs.OwnedRule.{meets_owned_rule}
 use Rattle.nd_shape.specs.declared.checks.CanIndexCheckMode.{CanIndexCheckMode}
+use Rattle.nd_shape.specs.declared.checks.CanIndexCheckMode.TheVariants.{OwnedMutable}
 use Rattle.nd_base.proofs.laws.IsIndex.{nonempty_from_index}
+use Rattle.nd_shape.proofs.laws.DistinctOffsets.{distinct_from_rule}
 use Rattle.nd_shape.proofs.laws.Inside.{lies_inside_from_span}
+use Rattle.nd_shape.proofs.laws.OwnedRule.{no_overlap}
 
 -- an accepted layout does not leave the data
 pub accepted_stays : (elem_size len : ℕ) (mode : CanIndexCheckMode) (shape : List ℕ) (strides : List ℤ) → acceptance elem_size len mode shape strides ≡ None → leaves_data len shape strides ≡ false
@@ -26,3 +31,16 @@ accepted_lies_inside elem_size len mode shape strides h index here =
     let some = nonempty_from_index shape index here in
     let test : leaves_data len shape strides ≡ nat_le len (span shape strides) = cond-false (is_empty shape) (nat_lt len (span shape strides)) (nat_le len (span shape strides)) some in
     lies_inside_from_span len shape strides (leb-false len (span shape strides) (sym test ∙ stays)) (accepted_count elem_size len mode shape strides h) index here
+
+-- a layout accepted to be written does not fail the test for a shared element
+accepted_apart : (elem_size len : ℕ) (shape : List ℕ) (strides : List ℤ) → acceptance elem_size len OwnedMutable shape strides ≡ None → (not (is_empty shape) && not (meets_owned_rule shape strides)) ≡ false
+accepted_apart elem_size len shape strides h = grind (arith, common_steps)
+
+-- of a layout accepted to be written, every two indices have offsets of their own
+pub accepted_distinct : (elem_size len : ℕ) (shape : List ℕ) (strides : List ℤ) → acceptance elem_size len OwnedMutable shape strides ≡ None → HasDistinctOffsets shape strides
+accepted_distinct elem_size len shape strides h index other here there same =
+    let some : is_empty shape ≡ false = nonempty_from_index shape index here in
+    elim ((no_overlap shape strides).0 (accepted_apart elem_size len shape strides h)) [
+      | inl none ↦ absurd (both_ways (is_empty shape) some none)
+      | inr rule ↦ distinct_from_rule shape strides (accepted_count elem_size len OwnedMutable shape strides h) rule index other here there same
+    ]

@@ -1,10 +1,10 @@
 -- Laws of layouts whose indices all lie within the data.
 use Rattle.std.proofs.Common.{◌≡◌, ℕ, ◌<◌, ℤ, pos, negsuc, ◌≤ℤ◌, ◌<ℤ◌, List, length, arith}
 use Rattle.std.proofs.lemmas.Int.{ints}
-use Rattle.nd_base.specs.Place.{place}
+use Rattle.nd_shape.specs.Place.{place}
 use Rattle.nd_base.specs.Span.{span, low_span}
 use Rattle.nd_shape.specs.Inside.{IsInside, LiesInside}
-use Rattle.nd_base.proofs.laws.Place.{offset_bounds}
+use Rattle.nd_base.proofs.laws.Offset.{offset_bounds}
 use Rattle.nd_base.proofs.laws.Span.{low_high_span}
 
 -- a place from 0 on, below the count of elements

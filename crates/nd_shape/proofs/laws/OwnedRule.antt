@@ -7,7 +7,8 @@ use Rattle.std.proofs.lemmas.Bool.Decides.{nat_tests}
 use Rattle.std.proofs.lemmas.List.Folds.{list_all_at}
 use Rattle.std.proofs.lemmas.List.FromFn.{length-range_with_len, get_or-range_with_len}
 use Rattle.nd_base.specs.Size.{is_empty}
-use Rattle.nd_shape.specs.OwnedRule.{magnitude_at, span_of_others, steps_over_others, meets_owned_rule, MeetsOwnedRule}
+use Rattle.nd_dim.specs.AxisOrder.{magnitude_at}
+use Rattle.nd_shape.specs.OwnedRule.{span_of_others, steps_over_others, meets_owned_rule, MeetsOwnedRule}
 
 -- an axis of at most one entry steps over the others
 pub short_axis : (shape : List ℕ) (strides : List ℤ) (axis : ℕ) → get_or shape axis 0 ≤ 1 → steps_over_others shape strides axis ≡ true

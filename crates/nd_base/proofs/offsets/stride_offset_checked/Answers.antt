@@ -5,8 +5,8 @@ use Rattle.nd_base.proofs.laws.Reach.{farthest_offset_le}
 use Rattle.nd_base.proofs.laws.NonzeroSize.{entry_le_nonzero_size}
 use Rattle.nd_base.proofs.offsets.stride_offset_checked.Goals as goal
 
-pub offset_of-requires : goal.offset_of-requires
-offset_of-requires c =
+pub index_offset-requires : goal.index_offset-requires
+index_offset-requires c =
     let here : is_index c.args.dim.now c.args.index.now ≡ true = sym c.is_index.ensures ∙ c.if-is_index.true in
     let size = c.requires.size_fits in
     let span = c.requires.span_fits in

@@ -4,7 +4,8 @@ use Rattle.std.proofs.lemmas.Int.{to_z-of_z}
 use Rattle.std.proofs.lemmas.List.{length-map}
 use Rattle.nd_base.specs.Signed.{signed, all_signed}
 use Rattle.nd_base.specs.Span.{reach}
-use Rattle.nd_shape.specs.OwnedRule.{magnitude_at, span_up_to, span_of_others}
+use Rattle.nd_dim.specs.AxisOrder.{magnitude_at}
+use Rattle.nd_shape.specs.OwnedRule.{span_up_to, span_of_others}
 use Rattle.nd_shape.proofs.OwnedRule.{signed_at, own_le_span, own_le_span_up_to, span_less_own, long_axis}
 use Rattle.nd_shape.proofs.overlap.overlaps_others.Goals as goal
 use Rattle.nd_shape.proofs.overlap.overlaps_others.Goals.{After-unsigned_abs-magnitude}

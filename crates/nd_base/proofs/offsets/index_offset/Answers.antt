@@ -7,8 +7,8 @@ use Rattle.nd_base.specs.Signed.{signed}
 use Rattle.nd_base.specs.Size.{limit}
 use Rattle.nd_base.proofs.IndexOffsets.{entry_offset, entry_offset_bounds, offset_from, offset_at_turn, far_at_turn, offset_at_end}
 use Rattle.nd_base.proofs.laws.Span.{sum_from}
-use Rattle.nd_base.proofs.offsets.offset_of.Goals as goal
-use Rattle.nd_base.proofs.offsets.offset_of.Goals.{In-Some}
+use Rattle.nd_base.proofs.offsets.index_offset.Goals as goal
+use Rattle.nd_base.proofs.offsets.index_offset.Goals.{In-Some}
 
 pub returns : goal.returns
 returns c =

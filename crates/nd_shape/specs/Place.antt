@@ -1,14 +1,9 @@
 -- Where the indices of a layout lie in the data.
-use Rattle.std.specs.Prelude.{◌≡◌, ℕ, ℤ, pos, negsuc, ◌+ℤ◌, ◌*ℤ◌, Option, Some, None, if◌then◌else◌, List, [], ◌∷◌, map, refl}
+use Rattle.std.specs.Prelude.{◌≡◌, ℕ, ℤ, pos, negsuc, ◌+ℤ◌, List, [], ◌∷◌, map, refl}
 use Rattle.nd_base.specs.declared.order.Order.{Order}
 use Rattle.nd_base.specs.declared.order.Order.TheVariants.{RowMajor, ColumnMajor}
-use Rattle.nd_base.specs.Indices.{indices_in, is_index}
-
--- the sum of each entry times its stride
-abbrev pub offset_of : List ℤ → List ℕ → ℤ
-offset_of strides [] = pos 0
-offset_of [] (i ∷ index) = pos 0
-offset_of (stride ∷ strides) (i ∷ index) = (pos i *ℤ stride) +ℤ offset_of strides index
+use Rattle.nd_base.specs.Indices.{indices_in}
+use Rattle.nd_base.specs.Offset.{offset_of}
 
 -- the place of an index, where the first index lies at start
 abbrev pub place : ℕ → List ℤ → List ℕ → ℤ
@@ -17,10 +12,6 @@ place start strides index = pos start +ℤ offset_of strides index
 -- the places of all indices of a shape, in an order
 abbrev pub places : Order → ℕ → List ℕ → List ℤ → List ℤ
 places order start shape strides = map (place start strides) (indices_in order shape)
-
--- the offset of a list where it is an index of the shape
-abbrev pub checked_offset : List ℕ → List ℤ → List ℕ → Option ℤ
-checked_offset shape strides index = (if is_index shape index then Some (offset_of strides index) else None)
 
 -- examples
 place_of_an_index : place 3 (negsuc 1 ∷ []) (1 ∷ []) ≡ pos 1
