@@ -1,0 +1,86 @@
+//! A slice of one axis.
+ghost use Rattle.std.specs.Prelude.{◌<◌, ◌≤◌, ◌^◌};
+ghost use Rattle.nd_base.specs.Size.{limit};
+ghost use Rattle.nd_base.specs.Span.{reach};
+
+use nd_base::{ErrorKind, ShapeError, signed, unsigned};
+use nd_slice::{Slice, abs_index, do_slice, to_abs_slice};
+
+/// What a call answers, or the kind of its refusal.
+fn or_kind<T>(answer: Result<T, ShapeError>) -> Result<T, ErrorKind> {
+    match answer {
+        Ok(answer) => Ok(answer),
+        Err(fault) => Err(fault.kind()),
+    }
+}
+
+/// One axis, a slice of it, and what it gives: the answer, the length and the stride afterwards.
+#[derive(Drop)]
+struct Row {
+    len: usize,
+    stride: isize,
+    slice: Slice,
+    answer: Result<isize, ErrorKind>,
+    after: (usize, isize),
+    ghost len_fits: { len < 2 ^ 63 },
+    ghost span_fits: { reach len stride ≤ limit },
+}
+
+impl Row {
+    fn new(
+        axis: (usize, isize),
+        slice: (isize, Option<isize>, isize),
+        answer: Result<isize, ErrorKind>,
+        after: (usize, isize),
+    ) -> Row
+        requires len_fits { axis.0 < 2 ^ 63 }
+        requires span_fits { reach axis.0 axis.1 ≤ limit }
+    {
+        let (start, end, step) = slice;
+        Row {
+            len: axis.0,
+            stride: axis.1,
+            slice: Slice { start, end, step },
+            answer,
+            after,
+        }
+    }
+
+    /// The answer of the call, and the length and the stride that it leaves.
+    fn sliced(&self) -> (Result<isize, ErrorKind>, (usize, isize)) {
+        let (mut len, mut stride) = (self.len, unsigned(self.stride));
+        let answer = or_kind(do_slice(&mut len, &mut stride, self.slice));
+        (answer, (len, signed(stride)))
+    }
+}
+
+#[test]
+fn counts_from_the_end(rt: HostRuntime) {
+    let bounds = or_kind(to_abs_slice(10, Slice::new(-9, Some(-2), -3)));
+    assert_eq!(rt;
+        (abs_index(10, 7), abs_index(10, -3), bounds),
+        (7, 7, Ok((1, 8, -3)))
+    );
+}
+
+#[test]
+fn r1_rows(rt: HostRuntime) {
+    const MAX: usize = 9223372036854775807;
+    const LAST: isize = 9223372036854775806;
+    const MIN: isize = isize::MIN;
+    let outside = Err(ErrorKind::OutOfBounds);
+    let rows = [
+        Row::new((4, 1), (3, Some(1), 1), Ok(0), (0, 0)),
+        Row::new((4, 1), (5, Some(2), 1), outside, (4, 1)),
+        Row::new((4, 1), (0, Some(0), 0), Err(ErrorKind::Unsupported), (4, 1)),
+        Row::new((4, 1), (9, Some(0), 0), outside, (4, 1)),
+        Row::new((4, 1), (1, None, -2), Ok(3), (2, -2)),
+        Row::new((MAX, 1), (0, None, MIN), Ok(LAST), (1, 0)),
+        Row::new((MAX, 1), (0, None, LAST), Ok(0), (2, LAST)),
+        Row::new((MAX, 1), (MIN, None, 1), outside, (MAX, 1)),
+        Row::new((1, MIN), (0, None, -1), Ok(0), (1, 0)),
+    ];
+    for row in &rows {
+        assert_eq!(rt; row.sliced(), (row.answer, row.after));
+    }
+}
