@@ -1,6 +1,7 @@
 //! A reader and a writer for tests, over bytes in memory, with one call that goes wrong.
 ghost use Rattle.std.specs.Prelude.{◌≡◌, IfOk};
 
+use std::alloc::Global;
 use std::io;
 use std::io::{ErrorKind, Read, Write};
 
@@ -24,13 +25,28 @@ impl Fault {
     }
 }
 
-/// Gives `most` bytes a call at the most, but for the call that goes wrong, counted from 0.
+/// The call that goes wrong, counted from 0, and how it does.
+pub type FaultyCall = Option<(usize, Fault)>;
+
+/// Gives `most` bytes a call at the most, but for the call that goes wrong.
 #[derive(Drop)]
 pub struct FakeReader<'a> {
     pub left: &'a [u8],
     pub most: usize,
     pub calls: usize,
-    pub fault: Option<(usize, Fault)>,
+    pub fault: FaultyCall,
+}
+
+impl<'a> FakeReader<'a> {
+    /// Gives these bytes.
+    pub fn new(left: &'a [u8], most: usize, fault: FaultyCall) -> Self {
+        FakeReader {
+            left,
+            most,
+            calls: 0,
+            fault,
+        }
+    }
 }
 
 impl<'a> Read for FakeReader<'a> {
@@ -46,14 +62,26 @@ impl<'a> Read for FakeReader<'a> {
     }
 }
 
-/// Takes `most` bytes a call at the most, but for the call that goes wrong, counted from 0. Its
-/// `flush` always answers an error.
+/// Takes `most` bytes a call at the most, but for the call that goes wrong. Its `flush` always answers
+/// an error.
 #[derive(Drop)]
 pub struct FakeWriter {
     pub taken: Vec<u8>,
     pub most: usize,
     pub calls: usize,
-    pub fault: Option<(usize, Fault)>,
+    pub fault: FaultyCall,
+}
+
+impl FakeWriter {
+    /// Has taken nothing so far.
+    pub fn new(alloc: Global, most: usize, fault: FaultyCall) -> Self {
+        FakeWriter {
+            taken: Vec::new(alloc),
+            most,
+            calls: 0,
+            fault,
+        }
+    }
 }
 
 impl Write for FakeWriter {
