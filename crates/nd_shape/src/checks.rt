@@ -140,6 +140,3 @@ pub fn can_index_slice<D: Dimension>(
 {
     accept(elem_size, len, dim.slice(), strides.slice(), mode)
 }
-
-#[cfg(test)]
-mod tests;

@@ -13,6 +13,3 @@ pub use checks::{
 pub use ndindex::NdIndex;
 pub use offsets::offset_from_low_addr_ptr_to_logical_ptr;
 pub use overlap::dim_stride_overlap;
-
-#[cfg(test)]
-mod tests;
