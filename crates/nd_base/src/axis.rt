@@ -30,24 +30,3 @@ pub fn set_axis_of(lens: &mut [usize], axis: Axis, len: usize)
 {
     lens[axis.index()] = len;
 }
-
-#[cfg(test)]
-mod tests {
-    use super::*;
-
-    #[test]
-    fn r2_rows(rt: HostRuntime) {
-        let rows = [
-            (Axis(0), 2, [7, 3, 4]),
-            (Axis(1), 3, [2, 7, 4]),
-            (Axis(2), 4, [2, 3, 7]),
-        ];
-        for (axis, len, rewritten) in rows {
-            let mut lens = [2, 3, 4];
-            assert!(rt; axis.index() < lens.len());
-            assert_eq!(rt; axis_of(&lens, axis), len);
-            set_axis_of(&mut lens, axis, 7);
-            assert_eq!(rt; lens, rewritten);
-        }
-    }
-}

@@ -89,19 +89,3 @@ impl Convert for [usize; 6] {
         (i0, i1, i2, i3, i4, i5)
     }
 }
-
-#[cfg(test)]
-mod tests {
-    use super::*;
-
-    #[test]
-    fn r2_rows(rt: HostRuntime) {
-        assert_eq!(rt; [].convert(), ());
-        assert_eq!(rt; [4].convert(), (4,));
-        assert_eq!(rt; [4, 5].convert(), (4, 5));
-        assert_eq!(rt; [4, 5, 6].convert(), (4, 5, 6));
-        assert_eq!(rt; [4, 5, 6, 7].convert(), (4, 5, 6, 7));
-        assert_eq!(rt; [4, 5, 6, 7, 8].convert(), (4, 5, 6, 7, 8));
-        assert_eq!(rt; [4, 5, 6, 7, 8, 9].convert(), (4, 5, 6, 7, 8, 9));
-    }
-}

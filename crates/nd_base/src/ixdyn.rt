@@ -110,26 +110,3 @@ impl Lengths for Dim<IxDynImpl> {
 
     ghost index_is = { λ d i v h. h };
 }
-
-#[cfg(test)]
-mod tests {
-    use super::*;
-    use std::test::Fail;
-
-    #[test]
-    fn r2_rows(rt: HostRuntime) -> Result<(), Fail> {
-        let mut dim = new_ixdyn(rt.alloc(), &[3, 4, 5])?;
-        assert_eq!(rt; dim.slice(), [3, 4, 5].as_slice());
-        assert_eq!(rt; dim.ndim(), 3);
-        dim[1] = 7;
-        assert_eq!(rt; dim[1], 7);
-        assert!(rt; dim.equal(&new_ixdyn(rt.alloc(), &[3, 7, 5])?));
-        assert!(rt; !dim.equal(&new_ixdyn(rt.alloc(), &[3, 7])?));
-        assert_eq!(rt;
-            IxDyn::zeros(rt.alloc(), 5)?.slice(),
-            [0, 0, 0, 0, 0].as_slice()
-        );
-        assert_eq!(rt; IxDyn::NDIM, None);
-        Ok(())
-    }
-}

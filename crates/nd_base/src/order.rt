@@ -70,26 +70,3 @@ impl Order {
         }
     }
 }
-
-#[cfg(test)]
-mod tests {
-    use super::*;
-
-    #[test]
-    fn r2_rows(rt: HostRuntime) {
-        let rows = [
-            (Order::RowMajor, true, Order::ColumnMajor),
-            (Order::ColumnMajor, false, Order::RowMajor),
-        ];
-        for (order, is_row_major, other) in rows {
-            assert_eq!(rt; order.is_row_major(), is_row_major);
-            assert_eq!(rt; order.is_column_major(), !is_row_major);
-            assert_eq!(rt; Order::row_major(is_row_major), order);
-            assert_eq!(rt; Order::column_major(is_row_major), other);
-            assert_eq!(rt; order.transpose(), other);
-            assert_eq!(rt; order.transpose().transpose(), order);
-        }
-        assert_eq!(rt; Order::C, Order::RowMajor);
-        assert_eq!(rt; Order::F, Order::ColumnMajor);
-    }
-}

@@ -32,27 +32,3 @@ pub fn stride_offset(n: usize, stride: usize) -> isize
 {
     n as isize * signed(stride)
 }
-
-#[cfg(test)]
-mod tests {
-    use super::*;
-
-    #[test]
-    fn r1_rows(rt: HostRuntime) {
-        let rows = [
-            (18446744073709551612, -4),
-            (4, 4),
-            (0, 0),
-            (9223372036854775807, isize::MAX),
-            (9223372036854775808, isize::MIN),
-            (18446744073709551615, -1),
-        ];
-        for (kept, meant) in rows {
-            assert_eq!(rt; signed(kept), meant);
-            assert_eq!(rt; unsigned(meant), kept);
-        }
-        assert_eq!(rt; stride_offset(3, unsigned(-4)), -12);
-        assert_eq!(rt; stride_offset(1, unsigned(isize::MIN)), isize::MIN);
-        assert_eq!(rt; stride_offset(0, unsigned(isize::MIN)), 0);
-    }
-}

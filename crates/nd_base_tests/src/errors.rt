@@ -1,0 +1,62 @@
+//! Refusals, their kinds and what they print.
+use nd_base::{ErrorKind, LayoutError, ShapeError, from_kind};
+use std::alloc::{AllocError, Global};
+
+fn is(printed: &Result<String, AllocError>, text: &str) -> bool {
+    match printed {
+        Ok(printed) => printed.as_str() == text,
+        Err(_) => false,
+    }
+}
+
+/// A refusal of a kind prints the text, and is its own copy.
+fn tells(alloc: Global, kind: ErrorKind, text: &str) -> bool {
+    let error = ShapeError::from_kind(kind);
+    error.kind() == kind
+        && is(&error.to_string(alloc), text)
+        && is(&format!(in alloc; "{error:?}"), text)
+        && error.clone().unwrap() == error
+}
+
+#[test]
+fn r1_rows(rt: HostRuntime) {
+    let rows = [
+        (
+            ErrorKind::IncompatibleShape,
+            "ShapeError/IncompatibleShape: incompatible shapes",
+        ),
+        (
+            ErrorKind::IncompatibleLayout,
+            "ShapeError/IncompatibleLayout: incompatible memory layout",
+        ),
+        (
+            ErrorKind::RangeLimited,
+            "ShapeError/RangeLimited: the shape does not fit in type limits",
+        ),
+        (
+            ErrorKind::OutOfBounds,
+            "ShapeError/OutOfBounds: out of bounds indexing",
+        ),
+        (
+            ErrorKind::Unsupported,
+            "ShapeError/Unsupported: unsupported operation",
+        ),
+        (
+            ErrorKind::Overflow,
+            "ShapeError/Overflow: arithmetic overflow",
+        ),
+    ];
+    for (kind, text) in rows {
+        assert!(rt; tells(rt.alloc(), kind, text));
+    }
+}
+
+#[test]
+fn converts(rt: HostRuntime) {
+    let shape: LayoutError = from_kind(ErrorKind::Overflow).into();
+    let memory: LayoutError = AllocError.into();
+    assert!(rt;
+        matches!(&shape, LayoutError::Shape(fault) if fault.kind() == ErrorKind::Overflow)
+            && matches!(&memory, LayoutError::Memory(_))
+    );
+}
