@@ -26,10 +26,15 @@ abbrev pub strides_in : {D : Type 0} → Order → Strides D
 strides_in RowMajor = C
 strides_in ColumnMajor = F
 
+-- the strides that a shape has by itself
+abbrev pub standard_strides : Order → List ℕ → List ℕ
+standard_strides RowMajor shape = default_strides shape
+standard_strides ColumnMajor shape = fortran_strides shape
+
 -- the list of strides of a shape, where given strides stand for a list
 abbrev pub strides_list : {D : Type 0} → (D → List ℕ) → List ℕ → Strides D → List ℕ
-strides_list list shape C = default_strides shape
-strides_list list shape F = fortran_strides shape
+strides_list list shape C = standard_strides RowMajor shape
+strides_list list shape F = standard_strides ColumnMajor shape
 strides_list list shape (Custom strides) = list strides
 
 -- examples
