@@ -21,6 +21,3 @@ pub use nd_slice::{
     in_ndim_of, out_ndim_of, to_abs_slice,
 };
 pub use strided::Strided;
-
-#[cfg(test)]
-mod tests;

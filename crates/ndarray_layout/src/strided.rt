@@ -152,6 +152,3 @@ impl<D: Dimension> Strided<D> {
         })
     }
 }
-
-#[cfg(test)]
-mod tests;

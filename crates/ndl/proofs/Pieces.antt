@@ -1,5 +1,5 @@
 -- Pieces of a text that go out one after the other.
-use Rattle.std.proofs.Common.{◌≡◌, ℕ, ◌+◌, ◌-◌, ◌<◌, ◌==◌, ◌&&◌, ◌||◌, Bool, false, List, Option, ◌++◌, length, take, drop, arith, sym, ap, ◌∙◌, subst}
+use Rattle.std.proofs.Common.{◌≡◌, ℕ, ◌+◌, ◌-◌, ◌<◌, ◌==◌, ◌&&◌, Bool, false, List, Option, ◌++◌, length, take, drop, arith, sym, ap, ◌∙◌, subst}
 use Rattle.std.proofs.Math.Seq.{take-add}
 use Rattle.std.proofs.lemmas.List.{take_rest}
 use Rattle.std.proofs.lemmas.Bool.Decides.{nat_tests}
@@ -15,5 +15,5 @@ Appends-more a b c text n m first second =
     subst (Appends a c) whole (Appends-trans a b c _ _ first second)
 
 -- a write that took some bytes has not failed
-pub some_taken : (old new : Bool) (n : ℕ) (rest : Bool) → old ≡ false → 0 < n → new ≡ (old || ((n == 0) && rest)) → new ≡ false
-some_taken old new n rest intact some e = grind (arith, nat_tests)
+pub some_taken : (failed : Bool) (n : ℕ) (rest : Bool) → 0 < n → failed ≡ ((n == 0) && rest) → failed ≡ false
+some_taken failed n rest some e = grind (arith, nat_tests)

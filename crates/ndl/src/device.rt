@@ -1,4 +1,7 @@
 //! Reads a device to its end, and writes a whole text to one.
+//!
+//! `Read` and `Write` are not in scope here: each read and each write goes through `read_on` and
+//! `write_on`, which require that no call before it failed.
 ghost use Rattle.std.specs.Prelude.{◌≡◌, ◌↔◌, true, false, Err, IfOk, IfSome, IsTrue, OnOk};
 ghost use Rattle.std.specs.Io.KnownBytes.{Appends, IsAtEnd};
 ghost use Rattle.ndl.specs.Device.{AppendsBeginning};
@@ -8,7 +11,6 @@ ghost use Rattle.ndl.specs.declared.device.InputError.TheVariants.{ReadFailed, O
 use crate::watched::Watched;
 use std::alloc::{AllocError, Global};
 use std::io;
-use std::io::{Read, Write};
 
 /// Why an input was not read whole.
 #[derive(Clone, Copy, Debug, PartialEq, Eq)]
@@ -42,7 +44,10 @@ const PIECE_LEN: usize = 8192;
 ///
 /// It stops at the first read that gives 0 bytes, which is the end of the input, at the first read
 /// that fails, an interrupted one too, and where the bytes read so far do not fit into memory.
-pub fn read_whole<R: Read>(alloc: Global, reader: &mut Watched<R>) -> Result<Vec<u8>, InputError>
+pub fn read_whole<R: io::Read>(
+    alloc: Global,
+    reader: &mut Watched<R>,
+) -> Result<Vec<u8>, InputError>
     requires { has_failed reader.old ≡ false }
     ensures bytes { IfOk result (λ bytes. IfSome (R.remaining (device reader.old))
         (λ all. bytes.items ≡ all)) }
@@ -52,7 +57,7 @@ pub fn read_whole<R: Read>(alloc: Global, reader: &mut Watched<R>) -> Result<Vec
     let mut bytes = Vec::new(alloc);
     let mut piece = [0u8; PIECE_LEN];
     loop {
-        let count = reader.read(&mut piece)?;
+        let count = reader.read_on(&mut piece)?;
         if count == 0 {
             return Ok(bytes);
         }
@@ -64,7 +69,7 @@ pub fn read_whole<R: Read>(alloc: Global, reader: &mut Watched<R>) -> Result<Vec
 ///
 /// After a write that answers an error, an interrupted one too, or that takes no byte, nothing more
 /// is written.
-pub fn write_whole<W: Write>(writer: &mut Watched<W>, text: &[u8])
+pub fn write_whole<W: io::Write>(writer: &mut Watched<W>, text: &[u8])
     requires { has_failed writer.old ≡ false }
     ensures whole { has_failed writer.new ≡ false → Appends (W.contents (device writer.old))
         (W.contents (device writer.new)) text.now }
@@ -73,7 +78,7 @@ pub fn write_whole<W: Write>(writer: &mut Watched<W>, text: &[u8])
 {
     let mut written = 0;
     while written < text.len() {
-        match writer.write(&text[written..]) {
+        match writer.write_on(&text[written..]) {
             Ok(taken) if taken > 0 => written += taken,
             _ => return,
         }

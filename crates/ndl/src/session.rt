@@ -19,10 +19,10 @@ const INPUT_FAILED_TEXT: &[u8] = b"input failed\n";
 const OUT_OF_MEMORY_TEXT: &[u8] = b"out of memory\n";
 
 /// The status where memory was refused.
-pub const OUT_OF_MEMORY: u8 = 3;
+const OUT_OF_MEMORY: u8 = 3;
 
 /// The status where a read or a write failed.
-pub const DEVICE_FAILED: u8 = 4;
+const DEVICE_FAILED: u8 = 4;
 
 /// Reads the whole input, writes the whole text of the answer to it, and gives the answer's status,
 /// which is 0, 1 or 2.
@@ -40,20 +40,20 @@ pub fn session<R: Read, W: Write>(
     requires writer { has_failed writer.old ≡ false }
 
     // The status.
-    ensures status { result ≤ DEVICE_FAILED }
-    ensures failed { (result ≡ DEVICE_FAILED)
+    ensures status { result ≤ 4 }
+    ensures failed { (result ≡ 4)
         ↔ (IsTrue (has_failed reader.new) ⊎ IsTrue (has_failed writer.new)) }
 
     // Where nothing fails.
-    ensures answered { result ≢ OUT_OF_MEMORY → result ≢ DEVICE_FAILED
+    ensures answered { result ≢ 3 → result ≢ 4
         → IfSome (R.remaining (device reader.old)) (λ input.
         Appends (W.contents (device writer.old)) (W.contents (device writer.new))
         (answer_of input).text × (result ≡ (answer_of input).status)) }
-    ensures read { result ≢ OUT_OF_MEMORY → result ≢ DEVICE_FAILED
+    ensures read { result ≢ 3 → result ≢ 4
         → IsAtEnd (R.remaining (device reader.new)) }
 
     // Where memory is refused or a read fails, and no write fails.
-    ensures memory { result ≡ OUT_OF_MEMORY → Appends (W.contents (device writer.old))
+    ensures memory { result ≡ 3 → Appends (W.contents (device writer.old))
         (W.contents (device writer.new)) out_of_memory_text }
     ensures input { has_failed reader.new ≡ true → has_failed writer.new ≡ false
         → Appends (W.contents (device writer.old)) (W.contents (device writer.new))

@@ -46,6 +46,36 @@ impl<T> Watched<T> {
     }
 }
 
+impl<R: Read> Watched<R> {
+    ghost use Rattle.ndl.specs.Watched.{device, has_failed};
+
+    /// Reads on, where no call has failed yet.
+    pub fn read_on(&mut self, buf: &mut [u8]) -> io::Result<usize>
+        requires { has_failed self.old ≡ false }
+        ensures bound { ReadsAtMost result buf.new }
+        ensures bytes { ReadConsumes (R.remaining (device self.old))
+            (R.remaining (device self.new)) result buf.new }
+        ensures failed { has_failed self.new ≡ is_err result }
+    {
+        self.read(buf)
+    }
+}
+
+impl<W: Write> Watched<W> {
+    ghost use Rattle.ndl.specs.Watched.{device, has_failed, is_failed_write};
+
+    /// Writes on, where no call has failed yet.
+    pub fn write_on(&mut self, buf: &[u8]) -> io::Result<usize>
+        requires { has_failed self.old ≡ false }
+        ensures bound { WritesAtMost result buf.now }
+        ensures bytes { WriteAppends (W.contents (device self.old))
+            (W.contents (device self.new)) result buf.now }
+        ensures failed { has_failed self.new ≡ is_failed_write result buf.now }
+    {
+        self.write(buf)
+    }
+}
+
 impl<R: Read> Read for Watched<R> {
     ghost use Rattle.ndl.specs.Watched.{device, has_failed};
 

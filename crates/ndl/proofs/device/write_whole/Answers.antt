@@ -8,7 +8,7 @@ loop-written-preserved g c =
     let before = c.loop-written.invariant in
     let written = c.in-Ok.ensures in
     record {
-      intact = some_taken _ _ c.in-Ok.taken _ before.intact c.if-taken-gt0.true written.failed;
+      intact = some_taken _ c.in-Ok.taken _ c.if-taken-gt0.true written.failed;
       within = omega (arith, simp (take_rest, length-drop) at written.bound);
       went_out = Appends-more _ _ _ _ _ _ before.went_out written.bytes;
     }

@@ -1,0 +1,56 @@
+//! Slice arguments as words.
+use SliceInfoElem::{Index, NewAxis, Slice};
+use nd_testing::Row;
+use ndarray_layout::{SliceInfoElem, in_ndim_of, out_ndim_of};
+use std::alloc::Global;
+use std::process::Abort;
+
+/// A bound or an index that a word spells.
+fn bound(rt: &impl Abort, word: &str) -> isize {
+    word.parse().ok().expect(rt, "a number")
+}
+
+/// A range whose end and step stand behind its dots.
+fn range(rt: &impl Abort, start: &str, rest: &str) -> SliceInfoElem {
+    let (end, step) = rest.split_once(";").unwrap_or((rest, "1"));
+    Slice {
+        start: if start == "" { 0 } else { bound(rt, start) },
+        end: if end == "" {
+            None
+        } else {
+            Some(bound(rt, end))
+        },
+        step: bound(rt, step),
+    }
+}
+
+/// The element that a word spells: `3`, `1..`, `..4`, `1..;-2` or `NewAxis`.
+fn elem(rt: &impl Abort, word: &str) -> SliceInfoElem {
+    if word == "NewAxis" {
+        return NewAxis;
+    }
+    match word.split_once("..") {
+        Some((start, rest)) => range(rt, start, rest),
+        None => Index(bound(rt, word)),
+    }
+}
+
+/// The next word of a row as elements, parted by commas.
+pub fn elems(rt: &impl Abort, alloc: Global, row: &mut Row<'_>) -> Vec<SliceInfoElem> {
+    let mut elems = Vec::new(alloc);
+    for part in row.word().expect(rt, "a slice").split(',') {
+        elems.push(elem(rt, part)).expect(rt, "memory");
+    }
+    elems
+}
+
+#[test]
+fn counts_of_axes(rt: HostRuntime) {
+    let all = Slice {
+        start: 0,
+        end: None,
+        step: 1,
+    };
+    let elems = [Index(1), all];
+    assert_eq!(rt; (in_ndim_of(&elems), out_ndim_of(&elems)), (2, 1));
+}

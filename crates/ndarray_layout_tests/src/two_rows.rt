@@ -1,0 +1,58 @@
+//! Two rows of three elements: slices as values of their type, and refused memory.
+//!
+//! Each test passes plain, and with the first or the second request of its run refused.
+use CanIndexCheckMode::OwnedMutable;
+use Order::RowMajor;
+use SliceInfoElem::{Index, NewAxis, Slice};
+use nd_testing::grants;
+use ndarray_layout::{CanIndexCheckMode, Ix2, Order, SliceInfoElem, Strided, new_ix2};
+use std::alloc::{AllocError, Global};
+use std::process::Abort;
+
+/// Two rows of three elements.
+fn two_rows(rt: &impl Abort) -> Strided<Ix2> {
+    Strided::new(new_ix2(2, 3), new_ix2(3, 1), 1, 6, OwnedMutable).expect(rt, "refused")
+}
+
+/// A range up to the end of an axis.
+const fn from(start: isize) -> SliceInfoElem {
+    Slice {
+        start,
+        end: None,
+        step: 1,
+    }
+}
+
+/// A slice has this shape, strides and start.
+fn leaves(rt: &impl Abort, alloc: Global, elems: &[SliceInfoElem], left: (Ix2, Ix2, usize)) {
+    let slice = two_rows(rt)
+        .slice::<Ix2, _>(alloc, &elems)
+        .expect(rt, "refused");
+    assert_eq!(rt; (*slice.dim(), *slice.strides(), slice.start()), left);
+}
+
+#[test]
+fn row_with_a_new_axis(rt: HostRuntime) {
+    let left = (new_ix2(1, 3), new_ix2(0, 1), 3);
+    leaves(&rt, rt.alloc(), &[Index(-1), NewAxis, from(0)], left);
+}
+
+#[test]
+fn memory_of_slice(rt: HostRuntime) {
+    let left = (new_ix2(2, 2), new_ix2(3, 1), 1);
+    leaves(&rt, rt.alloc(), &[from(0), from(1)], left);
+}
+
+/// The places of six elements, or that the request of a small one behind them was granted.
+fn lists_six_places(rt: &impl Abort, places: Result<Vec<usize>, AllocError>, granted: bool) {
+    match places {
+        Ok(places) => assert_eq!(rt; places.as_slice(), [0, 1, 2, 3, 4, 5].as_slice()),
+        Err(_) => assert!(rt; granted, "refused though no request was"),
+    }
+}
+
+#[test]
+fn memory_of_places(rt: HostRuntime) {
+    let places = two_rows(&rt).places(rt.alloc(), RowMajor);
+    lists_six_places(&rt, places, grants(rt.alloc()));
+}
