@@ -270,14 +270,17 @@ impl<D: Lengths> ShapeBuilder for Shape<D> {
     }
 
     fn f(self, alloc: Global) -> Result<Self, AllocError>
-        ensures { result ≡ Ok (record self { order = Order.ColumnMajor }) }
+        ensures shape { IfOk result (λ shape.
+            (dim_of shape ≡ dim_of self) × (order_of shape ≡ Order.ColumnMajor)) }
+        ensures memory { IsOk result }
     {
         self.set_f(alloc, true)
     }
 
     fn set_f(mut self, _alloc: Global, is_f: bool) -> Result<Self, AllocError>
-        ensures { result ≡
-            Ok (record self { order = (if is_f then Order.ColumnMajor else Order.RowMajor) }) }
+        ensures shape { IfOk result (λ shape. (dim_of shape ≡ dim_of self)
+            × (order_of shape ≡ (if is_f then Order.ColumnMajor else Order.RowMajor))) }
+        ensures memory { IsOk result }
     {
         self.order = Order::column_major(is_f);
         Ok(self)
