@@ -5,3 +5,5 @@ pub mod Inside
 pub mod OwnedRule
 pub mod OwnedWalk
 pub mod Place
+pub mod ShapeBuilder
+pub mod StandardStrides

@@ -1,12 +1,17 @@
 -- Which layouts are accepted over data, and with which fault any other is refused.
-use Rattle.std.specs.Prelude.{◌≡◌, ℕ, ◌*◌, ℤ, pos, Bool, true, false, not, ◌&&◌, ◌==◌, nat_le, nat_lt, Option, Some, None, if◌then◌else◌, List, [], ◌∷◌, length, refl}
+use Rattle.std.specs.Int.{is_negative}
+use Rattle.std.specs.List.{list_any}
+use Rattle.std.specs.Prelude.{◌≡◌, ℕ, ◌*◌, ℤ, pos, negsuc, Bool, true, false, not, ◌&&◌, ◌==◌, nat_le, nat_lt, Option, Some, None, if◌then◌else◌, List, [], ◌∷◌, length, refl}
 use Rattle.std.specs.Option.{option_or}
 use Rattle.nd_base.specs.declared.error.ErrorKind.{ErrorKind}
 use Rattle.nd_base.specs.declared.error.ErrorKind.TheVariants.{IncompatibleLayout, OutOfBounds, Unsupported, Overflow}
-use Rattle.nd_base.specs.Size.{nonzero_size, is_empty, limit}
+use Rattle.nd_base.specs.Signed.{all_signed}
+use Rattle.nd_base.specs.Size.{size, nonzero_size, is_empty, limit}
 use Rattle.nd_base.specs.Span.{span}
 use Rattle.nd_shape.specs.declared.checks.CanIndexCheckMode.{CanIndexCheckMode}
 use Rattle.nd_shape.specs.declared.checks.CanIndexCheckMode.TheVariants.{OwnedMutable, ReadOnly}
+use Rattle.nd_shape.specs.declared.shape_builder.Strides.{Strides}
+use Rattle.nd_shape.specs.declared.shape_builder.Strides.TheVariants.{C, F, Custom}
 use Rattle.nd_shape.specs.OwnedRule.{meets_owned_rule}
 
 abbrev pub is_owned : CanIndexCheckMode → Bool
@@ -38,6 +43,23 @@ acceptance elem_size len mode shape strides =
     else if may_share mode shape strides then Some Unsupported
     else None)
 
+-- the same of a shape by its own strides, row-major or column-major
+abbrev pub acceptance_of_standard : ℕ → List ℕ → Option ErrorKind
+acceptance_of_standard len shape =
+    if nat_lt limit (nonzero_size shape) then Some Overflow
+    else if nat_lt len (size shape) then Some OutOfBounds
+    else None
+
+-- the same of a shape by its own strides or by given ones, where these stand for a list
+abbrev pub acceptance_by_strides : {D : Type 0} → (D → List ℕ) → ℕ → ℕ → CanIndexCheckMode → List ℕ → Strides D → Option ErrorKind
+acceptance_by_strides list elem_size len mode shape C = acceptance_of_standard len shape
+acceptance_by_strides list elem_size len mode shape F = acceptance_of_standard len shape
+acceptance_by_strides list elem_size len mode shape (Custom strides) = acceptance elem_size len mode shape (all_signed (list strides))
+
+-- the fault of strides of which some lead back
+abbrev pub sign_fault : List ℤ → Option ErrorKind
+sign_fault strides = (if list_any is_negative strides then Some Unsupported else None)
+
 -- examples
 two_rows_in_four : acceptance 4 4 OwnedMutable (2 ∷ 2 ∷ []) (pos 3 ∷ pos 1 ∷ []) ≡ Some OutOfBounds
 two_rows_in_four = refl
@@ -62,3 +84,21 @@ counts_differ = refl
 
 bytes_overflow : acceptance 2 9223372036854775807 OwnedMutable (9223372036854775807 ∷ []) (pos 1 ∷ []) ≡ Some Overflow
 bytes_overflow = refl
+
+all_in_six : acceptance_of_standard 6 (2 ∷ 3 ∷ []) ≡ None
+all_in_six = refl
+
+all_in_five : acceptance_of_standard 5 (2 ∷ 3 ∷ []) ≡ Some OutOfBounds
+all_in_five = refl
+
+none_in_nothing : acceptance_of_standard 0 (2 ∷ 0 ∷ []) ≡ None
+none_in_nothing = refl
+
+none_but_too_long : acceptance_of_standard 0 (0 ∷ 9223372036854775808 ∷ []) ≡ Some Overflow
+none_but_too_long = refl
+
+one_back : sign_fault (pos 3 ∷ negsuc 0 ∷ []) ≡ Some Unsupported
+one_back = refl
+
+none_back : sign_fault (pos 3 ∷ pos 0 ∷ []) ≡ None
+none_back = refl

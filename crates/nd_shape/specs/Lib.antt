@@ -4,3 +4,4 @@ pub mod Inside
 pub mod OwnedRule
 pub mod OwnedWalk
 pub mod Place
+pub mod ShapeBuilder

@@ -1,17 +1,23 @@
 //! Tests of a shape and its strides against the type limits and the data.
 ghost use Rattle.std.specs.Prelude.{◌≡◌, ℕ, ◌*◌, ◌≤◌, IfOk, OnOk, SomeIff, Some, None, nat_lt, if◌then◌else◌};
+ghost use Rattle.std.specs.Int.{is_negative};
+ghost use Rattle.std.specs.List.{list_any};
 ghost use Rattle.std.specs.Result.{result_err};
-ghost use Rattle.nd_base.specs.Signed.{all_signed};
+ghost use Rattle.nd_base.specs.Signed.{signed as signed_reading, all_signed};
 ghost use Rattle.nd_base.specs.Size.{size, nonzero_size, limit};
 ghost use Rattle.nd_base.specs.Span.{span, low_span};
 ghost use Rattle.nd_base.specs.ValidLayout.{IsValidLayout};
 ghost use Rattle.nd_base.specs.declared.error.ErrorKind.TheVariants.{Overflow};
-ghost use Rattle.nd_shape.specs.Acceptance.{size_fault, acceptance};
+ghost use Rattle.nd_base.specs.declared.order.Order.{Order};
+ghost use Rattle.nd_shape.specs.Acceptance.{size_fault, acceptance, acceptance_of_standard, acceptance_by_strides, sign_fault};
+ghost use Rattle.nd_shape.specs.DistinctOffsets.{HasDistinctOffsets};
 ghost use Rattle.nd_shape.specs.Inside.{LiesInside};
+ghost use Rattle.nd_shape.specs.ShapeBuilder.{standard_strides, strides_list};
 
 use crate::limits::{checked_nonzero_size, checked_span, multiply};
 use crate::overlap::has_overlap;
-use nd_dim::{Dimension, ErrorKind, ShapeError, from_kind};
+use crate::shape_builder::Strides;
+use nd_dim::{Dimension, ErrorKind, ShapeError, from_kind, signed};
 
 /// How a layout is going to be used. Upstream's `CanIndexCheckMode`.
 #[derive(Clone, Copy, PartialEq)]
@@ -120,7 +126,8 @@ fn accept(
 /// Refused as `max_abs_offset_check_overflow` does; then with `OutOfBounds` where an index would
 /// leave the data, or where a layout without an index spans more than the data; then with
 /// `Unsupported` where elements are owned or written and two indices may share one, by the rule of
-/// `dim_stride_overlap`. Upstream's `can_index_slice`.
+/// `dim_stride_overlap`. So in owned mode no two indices of what is accepted share an element.
+/// Upstream's `can_index_slice`.
 pub fn can_index_slice<D: Dimension>(
     elem_size: usize,
     len: usize,
@@ -137,6 +144,85 @@ pub fn can_index_slice<D: Dimension>(
         (low_span (D.list dim.now) (all_signed (D.list strides.now)))
         (D.list dim.now)
         (all_signed (D.list strides.now))) }
+    ensures distinct { mode ≡ CanIndexCheckMode.OwnedMutable → OnOk result
+        (HasDistinctOffsets (D.list dim.now) (all_signed (D.list strides.now))) }
 {
     accept(elem_size, len, dim.slice(), strides.slice(), mode)
+}
+
+/// Whether a shape by its own strides, row-major or column-major, may be used over data of `len`
+/// elements.
+///
+/// Refused as `size_of_shape_checked` does, and then with `OutOfBounds` where there are more indices
+/// than elements. Upstream's `can_index_slice_not_custom`.
+pub fn can_index_slice_not_custom<D: Dimension>(len: usize, dim: &D) -> Result<(), ShapeError>
+    ensures fault { result_err result ≡ acceptance_of_standard len (D.list dim.now) }
+    ensures inside { OnOk result ((order : Order) →
+        LiesInside len 0 (D.list dim.now) (all_signed (standard_strides order (D.list dim.now)))) }
+{
+    if len < size_of_shape_checked(dim)? {
+        return Err(from_kind(ErrorKind::OutOfBounds));
+    }
+    Ok(())
+}
+
+/// Whether a shape by its own strides or by given ones may be used over data of `len` elements of
+/// `elem_size` bytes.
+///
+/// Refused as `can_index_slice` does where strides are given, and else as
+/// `can_index_slice_not_custom` does, whatever the use. In owned mode no two indices of what is
+/// accepted share an element. Upstream's `can_index_slice_with_strides`.
+pub fn can_index_slice_with_strides<D: Dimension>(
+    elem_size: usize,
+    len: usize,
+    dim: &D,
+    strides: &Strides<D>,
+    mode: CanIndexCheckMode,
+) -> Result<(), ShapeError>
+    ensures fault { result_err result ≡
+        acceptance_by_strides D.list elem_size len mode (D.list dim.now) strides.now }
+    ensures valid { OnOk result
+        (IsValidLayout
+        (D.list dim.now)
+        (all_signed (strides_list D.list (D.list dim.now) strides.now))) }
+    ensures inside { OnOk result
+        (LiesInside len
+        (low_span (D.list dim.now) (all_signed (strides_list D.list (D.list dim.now) strides.now)))
+        (D.list dim.now)
+        (all_signed (strides_list D.list (D.list dim.now) strides.now))) }
+    ensures distinct { mode ≡ CanIndexCheckMode.OwnedMutable → OnOk result
+        (HasDistinctOffsets
+        (D.list dim.now)
+        (all_signed (strides_list D.list (D.list dim.now) strides.now))) }
+{
+    match strides {
+        Strides::C | Strides::F => can_index_slice_not_custom(len, dim),
+        Strides::Custom(strides) => can_index_slice(elem_size, len, dim, strides, mode),
+    }
+}
+
+/// Whether a stride leads back.
+fn leads_back(stride: usize) -> bool
+    ensures { result ≡ is_negative (signed_reading stride) }
+{
+    signed(stride) < 0
+}
+
+/// Whether some stride leads back.
+fn some_lead_back(strides: &[usize]) -> bool
+    ensures { result ≡ list_any (λ stride. is_negative (signed_reading stride)) strides.now }
+{
+    strides.iter().any(|stride| leads_back(*stride))
+}
+
+/// Whether each stride leads on, or nowhere, and none leads back.
+///
+/// Refused with `Unsupported`. Upstream's `strides_non_negative`.
+pub fn strides_non_negative<D: Dimension>(strides: &D) -> Result<(), ShapeError>
+    ensures { result_err result ≡ sign_fault (all_signed (D.list strides.now)) }
+{
+    if some_lead_back(strides.slice()) {
+        return Err(from_kind(ErrorKind::Unsupported));
+    }
+    Ok(())
 }

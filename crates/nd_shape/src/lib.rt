@@ -6,10 +6,13 @@ mod limits;
 mod ndindex;
 mod offsets;
 mod overlap;
+mod shape_builder;
 
 pub use checks::{
-    CanIndexCheckMode, can_index_slice, max_abs_offset_check_overflow, size_of_shape_checked,
+    CanIndexCheckMode, can_index_slice, can_index_slice_not_custom, can_index_slice_with_strides,
+    max_abs_offset_check_overflow, size_of_shape_checked, strides_non_negative,
 };
 pub use ndindex::NdIndex;
 pub use offsets::offset_from_low_addr_ptr_to_logical_ptr;
 pub use overlap::dim_stride_overlap;
+pub use shape_builder::{Shape, ShapeBuilder, StrideShape, Strides};

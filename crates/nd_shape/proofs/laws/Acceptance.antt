@@ -1,20 +1,28 @@
 -- Laws of accepted layouts.
-use Rattle.std.proofs.Common.{◌≡◌, ℕ, ℤ, false, List, length, None, inl, inr, arith, sym, ◌∙◌}
+use Rattle.std.proofs.Common.{◌≡◌, ℕ, ℤ, ◌≤◌, false, List, length, None, inl, inr, arith, sym, ◌∙◌}
 use Rattle.std.specs.Prelude.{nat_le, nat_lt, not, ◌&&◌}
 use Rattle.std.proofs.lemmas.Bool.{both_ways, cond-false, leb-false}
 use Rattle.std.proofs.lemmas.Grind.{common_steps}
-use Rattle.nd_base.specs.Size.{is_empty}
+use Rattle.nd_base.specs.Signed.{all_signed}
+use Rattle.nd_base.specs.Size.{size, nonzero_size, is_empty, limit}
 use Rattle.nd_base.specs.Span.{span, low_span}
-use Rattle.nd_shape.specs.Acceptance.{acceptance, leaves_data}
+use Rattle.nd_base.specs.ValidLayout.{IsValidLayout}
+use Rattle.nd_base.specs.declared.order.Order.{Order}
+use Rattle.nd_base.specs.declared.order.Order.TheVariants.{RowMajor, ColumnMajor}
+use Rattle.nd_shape.specs.Acceptance.{acceptance, acceptance_of_standard, acceptance_by_strides, leaves_data}
 use Rattle.nd_shape.specs.DistinctOffsets.{HasDistinctOffsets}
 use Rattle.nd_shape.specs.Inside.{LiesInside}
 use Rattle.nd_shape.specs.OwnedRule.{meets_owned_rule}
 use Rattle.nd_shape.specs.declared.checks.CanIndexCheckMode.{CanIndexCheckMode}
 use Rattle.nd_shape.specs.declared.checks.CanIndexCheckMode.TheVariants.{OwnedMutable}
+use Rattle.nd_shape.specs.declared.shape_builder.Strides.{Strides}
+use Rattle.nd_shape.specs.declared.shape_builder.Strides.TheVariants.{C, F, Custom}
+use Rattle.nd_shape.specs.ShapeBuilder.{standard_strides, strides_list}
 use Rattle.nd_base.proofs.laws.IsIndex.{nonempty_from_index}
 use Rattle.nd_shape.proofs.laws.DistinctOffsets.{distinct_from_rule}
 use Rattle.nd_shape.proofs.laws.Inside.{lies_inside_from_span}
 use Rattle.nd_shape.proofs.laws.OwnedRule.{no_overlap}
+use Rattle.nd_shape.proofs.laws.StandardStrides.{standard_valid, standard_low_span, standard_inside, standard_distinct}
 
 -- an accepted layout does not leave the data
 pub accepted_stays : (elem_size len : ℕ) (mode : CanIndexCheckMode) (shape : List ℕ) (strides : List ℤ) → acceptance elem_size len mode shape strides ≡ None → leaves_data len shape strides ≡ false
@@ -23,6 +31,14 @@ accepted_stays elem_size len mode shape strides h = grind (arith, common_steps)
 -- it has a stride for each length
 pub accepted_count : (elem_size len : ℕ) (mode : CanIndexCheckMode) (shape : List ℕ) (strides : List ℤ) → acceptance elem_size len mode shape strides ≡ None → length shape ≡ length strides
 accepted_count elem_size len mode shape strides h = grind (arith, common_steps)
+
+-- and every sum on it fits
+pub accepted_valid : (elem_size len : ℕ) (mode : CanIndexCheckMode) (shape : List ℕ) (strides : List ℤ) → acceptance elem_size len mode shape strides ≡ None → IsValidLayout shape strides
+accepted_valid elem_size len mode shape strides h = record {
+  same_count = accepted_count elem_size len mode shape strides h;
+  size_fits = grind (arith, common_steps);
+  span_fits = grind (arith, common_steps);
+}
 
 -- and each of its indices lies within the data
 pub accepted_lies_inside : (elem_size len : ℕ) (mode : CanIndexCheckMode) (shape : List ℕ) (strides : List ℤ) → acceptance elem_size len mode shape strides ≡ None → LiesInside len (low_span shape strides) shape strides
@@ -44,3 +60,37 @@ accepted_distinct elem_size len shape strides h index other here there same =
       | inl none ↦ absurd (both_ways (is_empty shape) some none)
       | inr rule ↦ distinct_from_rule shape strides (accepted_count elem_size len OwnedMutable shape strides h) rule index other here there same
     ]
+
+-- ---- shapes by their own strides
+-- what is accepted has sizes within the limit, and no more indices than there are elements
+pub standard_size : (len : ℕ) (shape : List ℕ) → acceptance_of_standard len shape ≡ None → nonzero_size shape ≤ limit
+standard_size len shape h = grind (arith, common_steps)
+
+pub standard_room : (len : ℕ) (shape : List ℕ) → acceptance_of_standard len shape ≡ None → size shape ≤ len
+standard_room len shape h = grind (arith, common_steps)
+
+-- so each index lies within the data
+pub standard_accepted_inside : (order : Order) (len : ℕ) (shape : List ℕ) → acceptance_of_standard len shape ≡ None → LiesInside len 0 shape (all_signed (standard_strides order shape))
+standard_accepted_inside order len shape h = standard_inside order len shape (standard_size len shape h) (standard_room len shape h)
+
+-- ---- by their own strides or by given ones
+from_low_span : (order : Order) (len : ℕ) (shape : List ℕ) → acceptance_of_standard len shape ≡ None → LiesInside len (low_span shape (all_signed (standard_strides order shape))) shape (all_signed (standard_strides order shape))
+from_low_span order len shape h = rw (standard_low_span order shape (standard_size len shape h)) (standard_accepted_inside order len shape h)
+
+-- every sum on an accepted layout fits
+pub by_strides_valid : {D : Type 0} (list : D → List ℕ) (elem_size len : ℕ) (mode : CanIndexCheckMode) (shape : List ℕ) (strides : Strides D) → acceptance_by_strides list elem_size len mode shape strides ≡ None → IsValidLayout shape (all_signed (strides_list list shape strides))
+by_strides_valid list elem_size len mode shape C h = standard_valid RowMajor shape (standard_size len shape h)
+by_strides_valid list elem_size len mode shape F h = standard_valid ColumnMajor shape (standard_size len shape h)
+by_strides_valid list elem_size len mode shape (Custom strides) h = accepted_valid elem_size len mode shape (all_signed (list strides)) h
+
+-- each of its indices lies within the data
+pub by_strides_inside : {D : Type 0} (list : D → List ℕ) (elem_size len : ℕ) (mode : CanIndexCheckMode) (shape : List ℕ) (strides : Strides D) → acceptance_by_strides list elem_size len mode shape strides ≡ None → LiesInside len (low_span shape (all_signed (strides_list list shape strides))) shape (all_signed (strides_list list shape strides))
+by_strides_inside list elem_size len mode shape C h = from_low_span RowMajor len shape h
+by_strides_inside list elem_size len mode shape F h = from_low_span ColumnMajor len shape h
+by_strides_inside list elem_size len mode shape (Custom strides) h = accepted_lies_inside elem_size len mode shape (all_signed (list strides)) h
+
+-- and of one accepted to be written, every two have offsets of their own
+pub by_strides_distinct : {D : Type 0} (list : D → List ℕ) (elem_size len : ℕ) (shape : List ℕ) (strides : Strides D) → acceptance_by_strides list elem_size len OwnedMutable shape strides ≡ None → HasDistinctOffsets shape (all_signed (strides_list list shape strides))
+by_strides_distinct list elem_size len shape C h = standard_distinct RowMajor shape (standard_size len shape h)
+by_strides_distinct list elem_size len shape F h = standard_distinct ColumnMajor shape (standard_size len shape h)
+by_strides_distinct list elem_size len shape (Custom strides) h = accepted_distinct elem_size len shape (all_signed (list strides)) h

@@ -81,6 +81,10 @@ span_by_rows (len ∷ lens) some =
     let parts = lengths len lens some in
     omega (arith, whole_axis len (size lens) parts.0, span_by_rows lens parts.1)
 
+-- so do they along the default strides of a shape without a zero length
+pub default_strides_span : (lens : List ℕ) → is_empty lens ≡ false → span lens (map pos (default_strides lens)) + 1 ≡ size lens
+default_strides_span lens some = rw (default_by_rows lens some) (span_by_rows lens some)
+
 -- an axis of more than one entry has a stride below the size
 stride_below : (lens : List ℕ) (axis : ℕ) → is_empty lens ≡ false → axis < length lens → 1 < get_or lens axis 0 → magnitude_at (map pos (by_rows lens)) axis < size lens
 stride_below [] axis some h long = absurd (omega arith)
@@ -116,6 +120,17 @@ default_strides_distinct lens index other h g same =
     distinct_from_rule lens (map pos (default_strides lens)) count (default_strides_meet_rule lens some) index other h g same
 
 -- ---- by columns
+-- the axes together reach all places but the first, a step each
+span_by_columns : (step : ℕ) (lens : List ℕ) → is_empty lens ≡ false → span lens (map pos (by_columns step lens)) + step ≡ step * size lens
+span_by_columns step [] some = omega (arith, mul-one step)
+span_by_columns step (len ∷ lens) some =
+    let parts = lengths len lens some in
+    omega (arith, whole_axis len step parts.0, mul_comm step len, span_by_columns (step * len) lens parts.1, mul_assoc step len (size lens))
+
+-- so do they along the strides by columns of a shape without a zero length
+pub fortran_strides_span : (lens : List ℕ) → is_empty lens ≡ false → span lens (map pos (fortran_strides lens)) + 1 ≡ size lens
+fortran_strides_span lens some = rw (fortran_by_columns lens some) (span_by_columns 1 lens some ∙ one-mul (size lens))
+
 -- the axes with a step past m do not count up to m
 all_past : (m step : ℕ) (lens : List ℕ) → is_empty lens ≡ false → m < step → span_up_to m lens (map pos (by_columns step lens)) ≡ 0
 all_past m step [] some h = refl

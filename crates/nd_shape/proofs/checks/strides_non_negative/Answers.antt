@@ -1,0 +1,25 @@
+use Rattle.std.proofs.Common.{◌≡◌, ℕ, true, false, List, [], ◌∷◌, Some, None, refl, sym, ap, ◌∙◌}
+use Rattle.std.specs.Int.{is_negative}
+use Rattle.std.specs.List.{list_any}
+use Rattle.std.specs.Prelude.{◌||◌}
+use Rattle.std.proofs.lemmas.Bool.{cond-true, cond-false}
+use Rattle.nd_base.specs.declared.error.ErrorKind.TheVariants.{Unsupported}
+use Rattle.nd_base.specs.Signed.{signed, all_signed}
+use Rattle.nd_shape.proofs.checks.strides_non_negative.Goals as goal
+
+-- a test of the strides as they are read is one of them as they are kept
+any_signed : (strides : List ℕ) → list_any is_negative (all_signed strides) ≡ list_any (λ stride. is_negative (signed stride)) strides
+any_signed [] = refl
+any_signed (stride ∷ strides) = ap (λ later. is_negative (signed stride) || later) (any_signed strides)
+
+pub returns-then-some_lead_back : goal.returns-then-some_lead_back
+returns-then-some_lead_back g c =
+    let strides = g.D.Lengths.list c.args.strides.now in
+    let back : list_any is_negative (all_signed strides) ≡ true = any_signed strides ∙ rw c.slice.ensures.list at (sym c.some_lead_back.ensures ∙ c.if-some_lead_back.true) in
+    ap Some c.from_kind.ensures ∙ sym (cond-true (list_any is_negative (all_signed strides)) (Some Unsupported) None back)
+
+pub returns : goal.returns
+returns g c =
+    let strides = g.D.Lengths.list c.args.strides.now in
+    let none : list_any is_negative (all_signed strides) ≡ false = any_signed strides ∙ rw c.slice.ensures.list at (sym c.some_lead_back.ensures ∙ c.if-some_lead_back.false) in
+    sym (cond-false (list_any is_negative (all_signed strides)) (Some Unsupported) None none)
