@@ -13,9 +13,6 @@ mod sizes;
 mod stride_axes;
 mod stride_order;
 mod strides;
-#[cfg(test)]
-mod tests;
-
 pub use conversion::{IntoDimension, new_dim};
 pub use dimension::Dimension;
 pub use error::incompatible_shapes;
