@@ -7,3 +7,4 @@ pub mod SliceSteps
 pub mod Slices
 pub mod Views
 pub mod Walks
+pub mod laws

@@ -58,39 +58,6 @@ no_offset shape strides index e = by (is_index shape index) refl e
     by true h g = absurd (cc)
     by false h g = h
 
--- ---- slices
--- the slice of a view from its start
-pub sliced_view : (elems : List SliceInfoElem) (view : View) (start : ℕ) → IsView view → in_count elems ≡ length view.shape → first_fault view.shape elems ≡ None → pos start ≡ sliced_start elems view → IsView (record { start = start; shape = sliced_shape elems view.shape; strides = sliced_strides elems view.shape view.strides })
-sliced_view elems view start v counts fits e =
-    let kept = slices_kept elems view.shape view.strides v.valid.same_count counts fits in
-    let low = low_span (sliced_shape elems view.shape) (sliced_strides elems view.shape view.strides) in
-    let high = high_span (sliced_shape elems view.shape) (sliced_strides elems view.shape view.strides) in
-    let parts = low_high_span (sliced_shape elems view.shape) (sliced_strides elems view.shape view.strides) in
-    let whole = low_high_span view.shape view.strides in
-    record {
-      valid = record {
-        same_count = kept.counts;
-        size_fits = omega (arith, kept.size, v.valid.size_fits);
-        span_fits = omega (arith, ints, kept.low, kept.high, parts, whole, v.valid.span_fits);
-      };
-      low = omega (arith, ints, kept.low, v.low, e);
-      high = omega (arith, ints, kept.high, v.high, e);
-    }
-
--- the slice begins at a place
-pub sliced_start_within : (elems : List SliceInfoElem) (view : View) → IsView view → in_count elems ≡ length view.shape → first_fault view.shape elems ≡ None → (pos 0 ≤ℤ sliced_start elems view) × (sliced_start elems view ≤ℤ pos limit)
-sliced_start_within elems view v counts fits =
-    let kept = slices_kept elems view.shape view.strides v.valid.same_count counts fits in
-    (omega (arith, ints, kept.low, v.low), omega (arith, ints, kept.high, v.high))
-
--- the indices of a slice lie where the indices that they stand for do
-pub slice_places : (elems : List SliceInfoElem) (view result : View) (index : List ℕ) → IsView view → in_count elems ≡ length view.shape → first_fault view.shape elems ≡ None → IsSliceOf elems view result → is_index result.shape index ≡ true → (is_index view.shape (selected elems view.shape index) ≡ true) × (place_at result index ≡ place_at view (selected elems view.shape index))
-slice_places elems view result index v counts fits s h =
-    let h' : is_index (sliced_shape elems view.shape) index ≡ true = ap (λ shape. is_index shape index) (sym s.shape) ∙ h in
-    let kept = places_kept elems view.shape view.strides index v.valid.same_count counts fits h' in
-    let here : offset_of result.strides index ≡ offset_of (sliced_strides elems view.shape view.strides) index = ap (λ strides. offset_of strides index) s.strides in
-    (kept.within, omega (arith, ints, s.start, here, kept.offset))
-
 -- the place at an offset that is given
 pub offset_place_within : (view : View) (index : List ℕ) (offset : ℤ) → IsView view → Some offset ≡ checked_offset view.shape view.strides index → (pos 0 ≤ℤ (pos view.start +ℤ offset)) × ((pos view.start +ℤ offset) ≤ℤ pos limit)
 offset_place_within view index offset v e =
@@ -101,23 +68,6 @@ offset_place_within view index offset v e =
 -- the size of a view fits a word
 pub size_fits : (view : View) → IsView view → size view.shape < 2 ^ 64
 size_fits view v = omega (arith, size_le_nonzero_size view.shape, v.valid.size_fits)
-
--- an argument that is not refused has the right counts and no element at fault
-pub refusal_none : (fixed : Option ℕ) (shape : List ℕ) (elems : List SliceInfoElem) → slice_refusal fixed shape elems ≡ None → (in_count elems ≡ length shape) × (first_fault shape elems ≡ None)
-refusal_none fixed shape elems e = by (eqb (in_count elems) (length shape)) (is_count fixed (out_count elems)) refl e
-  where
-    by : (t u : Bool) → eqb (in_count elems) (length shape) ≡ t → cond (not t || not u) (Some IncompatibleShape) (first_fault shape elems) ≡ None → (in_count elems ≡ length shape) × (first_fault shape elems ≡ None)
-    by true true h g = (eqb-true (in_count elems) (length shape) h, g)
-    by true false h g = absurd (cc)
-    by false true h g = absurd (cc)
-    by false false h g = absurd (cc)
-
--- a slice that is not refused is a view, whose indices lie where those that they stand for do
-pub slice_is_view : (elems : List SliceInfoElem) (view result : View) → IsView view → in_count elems ≡ length view.shape → first_fault view.shape elems ≡ None → IsSliceOf elems view result → IsView result
-slice_is_view elems view result v counts fits s =
-    let whole = sliced_view elems view result.start v counts fits s.start in
-    let e : record { start = result.start; shape = sliced_shape elems view.shape; strides = sliced_strides elems view.shape view.strides } ≡ result = rw (← s.shape, ← s.strides) refl in
-    subst IsView e whole
 
 -- a view of a size of 0 has no place
 pub no_places : (order : Order) (view : View) → size view.shape ≡ 0 → view_places order view ≡ []

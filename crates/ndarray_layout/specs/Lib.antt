@@ -1,3 +1,4 @@
+pub mod DistinctPlaces
 pub mod SlicedView
 pub mod View
 pub mod Walk

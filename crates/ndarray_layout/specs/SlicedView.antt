@@ -1,10 +1,11 @@
 -- What slicing makes of a view, and which slices are refused.
-use Rattle.std.specs.Prelude.{◌≡◌, ℕ, ℤ, pos, ◌+ℤ◌, Bool, true, not, ◌||◌, ◌==◌, Option, Some, None, Result, Ok, Err, if◌then◌else◌, List, [], ◌∷◌, length, refl}
+use Rattle.std.specs.Prelude.{◌≡◌, ℕ, ℤ, pos, negsuc, ◌+ℤ◌, Bool, true, not, ◌||◌, ◌==◌, Option, Some, None, Result, Ok, Err, if◌then◌else◌, List, [], ◌∷◌, length, refl}
 use Rattle.nd_base.specs.declared.error.ErrorKind.{ErrorKind}
 use Rattle.nd_base.specs.declared.error.ErrorKind.TheVariants.{IncompatibleShape, OutOfBounds}
 use Rattle.nd_base.specs.declared.error.LayoutError.{LayoutError}
 use Rattle.nd_base.specs.declared.error.LayoutError.TheVariants.{Shape, Memory}
 use Rattle.nd_base.specs.Indices.{is_index}
+use Rattle.nd_base.specs.Signed.{magnitude}
 use Rattle.nd_slice.specs.declared.slice.SliceInfoElem.{SliceInfoElem}
 use Rattle.nd_slice.specs.declared.slice.SliceInfoElem.TheVariants as elem
 use Rattle.nd_slice.specs.SliceFault.{in_count, out_count, first_fault}
@@ -16,11 +17,17 @@ use Rattle.ndarray_layout.specs.View.{View, place_at}
 abbrev pub sliced_start : List SliceInfoElem → View → ℤ
 sliced_start elems view = pos view.start +ℤ sliced_offset elems view.shape view.strides
 
+-- the slice of a view by an argument without fault
+abbrev pub slice_of : List SliceInfoElem → View → View
+slice_of elems view = record {
+  start = magnitude (sliced_start elems view);
+  shape = sliced_shape elems view.shape;
+  strides = sliced_strides elems view.shape view.strides;
+}
+
 -- a view is the slice of another by an argument
-pub record IsSliceOf (elems : List SliceInfoElem) (view : View) (result : View) : Type 0 where
-  pub shape : result.shape ≡ sliced_shape elems view.shape
-  pub strides : result.strides ≡ sliced_strides elems view.shape view.strides
-  pub start : pos result.start ≡ sliced_start elems view
+abbrev pub IsSliceOf : List SliceInfoElem → View → View → Type 0
+IsSliceOf elems view result = result ≡ slice_of elems view
 
 -- each index that is left lies where the index that it stands for does
 abbrev pub KeepsPlaces : List SliceInfoElem → View → View → Type 0
@@ -44,6 +51,12 @@ shape_fault (Err (Shape kind)) = Some kind
 shape_fault (Err (Memory e)) = None
 
 -- examples
+every_other_backwards : slice_of (elem.Slice (pos 1) None (negsuc 1) ∷ []) (record { start = 5; shape = 4 ∷ []; strides = pos 3 ∷ [] }) ≡ record { start = 14; shape = 2 ∷ []; strides = negsuc 5 ∷ [] }
+every_other_backwards = refl
+
+last_row_with_new_axis : slice_of (elem.Index (negsuc 0) ∷ elem.NewAxis ∷ elem.Slice (pos 0) None (pos 1) ∷ []) (record { start = 0; shape = 2 ∷ 3 ∷ []; strides = pos 3 ∷ pos 1 ∷ [] }) ≡ record { start = 3; shape = 1 ∷ 3 ∷ []; strides = pos 0 ∷ pos 1 ∷ [] }
+last_row_with_new_axis = refl
+
 one_for_two_axes : slice_refusal (Some 1) (2 ∷ 3 ∷ []) (elem.Slice (pos 1) None (pos 1) ∷ []) ≡ Some IncompatibleShape
 one_for_two_axes = refl
 

@@ -7,6 +7,7 @@ use Rattle.nd_base.specs.Signed.{all_signed}
 use Rattle.nd_base.specs.Size.{limit}
 use Rattle.nd_base.specs.Span.{low_span, high_span}
 use Rattle.nd_base.specs.ValidLayout.{IsValidLayout}
+use Rattle.nd_shape.specs.Inside.{LiesInside}
 use Rattle.nd_shape.specs.Place.{place, places}
 
 -- start is the place of the first index
@@ -36,6 +37,10 @@ checked_place view index = (if is_index view.shape index then Some (place_at vie
 -- the places of all indices, in an order
 abbrev pub view_places : Order → View → List ℤ
 view_places order view = places order view.start view.shape view.strides
+
+-- each index has its place in data of len elements
+abbrev pub LiesWithin : ℕ → View → Type 0
+LiesWithin len view = LiesInside len view.start view.shape view.strides
 
 -- examples
 crossed : view_places RowMajor (record { start = 0; shape = 3 ∷ 2 ∷ []; strides = pos 2 ∷ pos 3 ∷ [] }) ≡ pos 0 ∷ pos 3 ∷ pos 2 ∷ pos 5 ∷ pos 4 ∷ pos 7 ∷ []

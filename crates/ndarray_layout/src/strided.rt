@@ -1,15 +1,19 @@
 //! Views of data: a shape and strides that were accepted, with the place of the first index.
-ghost use Rattle.std.specs.Prelude.{◌≡◌, pos, None, map, IfOk, IsOk};
+ghost use Rattle.std.specs.List.{All};
+ghost use Rattle.std.specs.Prelude.{◌≡◌, ℕ, ◌<◌, pos, None, map, vec_len, vec_capacity, IfOk, IsOk};
 ghost use Rattle.std.specs.Option.{option_map};
 ghost use Rattle.std.specs.Result.{result_err};
 ghost use Rattle.nd_base.specs.Signed.{all_signed};
 ghost use Rattle.nd_shape.specs.Acceptance.{acceptance};
-ghost use Rattle.nd_shape.specs.Inside.{LiesInside};
+ghost use Rattle.nd_shape.specs.declared.checks.CanIndexCheckMode.TheVariants.{OwnedMutable};
 ghost use Rattle.nd_base.specs.Lengths.{NeedsNoMemory};
+ghost use Rattle.nd_base.specs.Size.{size};
 ghost use Rattle.nd_base.specs.Span.{low_span};
 ghost use Rattle.nd_slice.specs.SliceFault.{out_count};
+ghost use Rattle.ndarray_layout.specs.DistinctPlaces.{HasDistinctPlaces};
 ghost use Rattle.ndarray_layout.specs.SlicedView.{IsSliceOf, KeepsPlaces};
 ghost use Rattle.ndarray_layout.specs.SlicedView.{shape_fault, slice_refusal};
+ghost use Rattle.ndarray_layout.specs.View.{IsView, LiesWithin};
 ghost use Rattle.ndarray_layout.specs.View.{view_of, checked_place, view_places};
 
 use crate::places::{offset_place, push_places};
@@ -18,7 +22,7 @@ use nd_dim::{Dimension, LayoutError, Order, ShapeError};
 use nd_shape::{
     CanIndexCheckMode, NdIndex, can_index_slice, offset_from_low_addr_ptr_to_logical_ptr,
 };
-use nd_slice::{SliceElems, out_ndim_of};
+use nd_slice::{SliceElems, SliceInfoElem, out_ndim_of};
 use std::alloc::{AllocError, Global};
 use std::marker::Model;
 
@@ -58,7 +62,9 @@ impl<D: Dimension> Strided<D> {
             (low_span (D.list dim) (all_signed (D.list strides)))
             (D.list dim)
             (D.list strides)) }
-        ensures inside { IfOk result (λ v. LiesInside len v.start v.shape v.strides) }
+        ensures is_view { IfOk result (λ v. IsView v) }
+        ensures inside { IfOk result (λ v. LiesWithin len v) }
+        ensures distinct { IfOk result (λ v. mode ≡ OwnedMutable → HasDistinctPlaces v) }
     {
         can_index_slice(elem_size, len, &dim, &strides, mode)?;
         let start = offset_from_low_addr_ptr_to_logical_ptr(&dim, &strides);
@@ -72,7 +78,8 @@ impl<D: Dimension> Strided<D> {
     /// The place of the first index, in elements from the start of the data.
     #[inline]
     pub fn start(&self) -> usize
-        ensures { result ≡ self.now.start }
+        ensures place { result ≡ self.now.start }
+        ensures is_view { IsView self.now }
     {
         self.start
     }
@@ -129,17 +136,36 @@ impl<D: Dimension> Strided<D> {
         ensures memory { slice_refusal E.NDIM self.now.shape (S.list slices.now) ≡ None →
             NeedsNoMemory E.NDIM (out_count (S.list slices.now)) → IsOk result }
         ensures sliced { IfOk result (λ v. IsSliceOf (S.list slices.now) self.now v) }
+        ensures is_view { IfOk result (λ v. IsView v) }
         ensures places { IfOk result (λ v. KeepsPlaces (S.list slices.now) self.now v) }
+        ensures inside { IfOk result (λ v. (len : ℕ) → LiesWithin len self.now → LiesWithin len v) }
+        ensures distinct { IfOk result (λ v. HasDistinctPlaces self.now → HasDistinctPlaces v) }
     {
         let elems = slices.elems();
-        let shape = self.dim.slice();
-        check_counts_and_elems(E::NDIM, shape, elems)?;
+        check_counts_and_elems(E::NDIM, self.dim.slice(), elems)?;
+        Ok(self.fitting_slice(alloc, elems)?)
+    }
+
+    /// The slice by an argument that fits.
+    fn fitting_slice<E: Dimension>(
+        &self,
+        alloc: Global,
+        elems: &[SliceInfoElem],
+    ) -> Result<Strided<E>, AllocError>
+        requires { slice_refusal E.NDIM self.now.shape elems.now ≡ None }
+        ensures memory { NeedsNoMemory E.NDIM (out_count elems.now) → IsOk result }
+        ensures sliced { IfOk result (λ v. IsSliceOf elems.now self.now v) }
+        ensures is_view { IfOk result (λ v. IsView v) }
+        ensures places { IfOk result (λ v. KeepsPlaces elems.now self.now v) }
+        ensures inside { IfOk result (λ v. (len : ℕ) → LiesWithin len self.now → LiesWithin len v) }
+        ensures distinct { IfOk result (λ v. HasDistinctPlaces self.now → HasDistinctPlaces v) }
+    {
         let ndim = out_ndim_of(elems);
         let mut dim = E::zeros(alloc, ndim)?;
         let mut strides = E::zeros(alloc, ndim)?;
         let offset = slice_axes(
             elems,
-            shape,
+            self.dim.slice(),
             self.strides.slice(),
             dim.slice_mut(),
             strides.slice_mut(),

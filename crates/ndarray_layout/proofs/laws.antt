@@ -1,0 +1,3 @@
+pub mod DistinctPlaces
+pub mod SlicedView
+pub mod View

@@ -1,0 +1,29 @@
+-- Laws of views: how many places there are, and where they lie.
+use Rattle.std.proofs.Common.{◌≡◌, ℕ, ◌<◌, ℤ, pos, true, List, length, map, get_or, sym, subst, ◌∙◌, arith}
+use Rattle.std.specs.List.{All}
+use Rattle.std.proofs.lemmas.List.{get_or-map, length-map}
+use Rattle.std.proofs.lemmas.List.Elements.{All-map, All-weaker}
+use Rattle.nd_base.specs.declared.order.Order.{Order}
+use Rattle.nd_base.specs.Indices.{is_index, indices_in}
+use Rattle.nd_base.specs.Size.{size}
+use Rattle.nd_base.proofs.laws.Indices.{length-indices_in, All-indices_in}
+use Rattle.nd_shape.specs.Inside.{IsInside}
+use Rattle.nd_shape.specs.Place.{place}
+use Rattle.ndarray_layout.specs.View.{View, LiesWithin, view_places}
+
+-- as many places as indices
+pub length-view_places : (order : Order) (view : View) → length (view_places order view) ≡ size view.shape
+length-view_places order view = length-map (indices_in order view.shape) (place view.start view.strides) ∙ length-indices_in order view.shape
+
+-- where a view lies within data, each of its places does
+pub places_lie_within : (len : ℕ) (order : Order) (view : View) → LiesWithin len view → All (IsInside len) (view_places order view)
+places_lie_within len order view within =
+    let indices = indices_in order view.shape in
+    let inside = All-weaker (λ index. is_index view.shape index ≡ true) (λ index. IsInside len (place view.start view.strides index)) within indices (All-indices_in order view.shape) in
+    All-map (IsInside len) (place view.start view.strides) indices inside
+
+-- the same of the places as unsigned numbers
+pub items_lie_within : (len : ℕ) (order : Order) (view : View) (items : List ℕ) → map pos items ≡ view_places order view → LiesWithin len view → All (λ item. item < len) items
+items_lie_within len order view items same within = λ k d below.
+    let places = subst (All (IsInside len)) (sym same) (places_lie_within len order view within) in
+    subst (IsInside len) (get_or-map pos items k d (pos d) below) (places k (pos d) (omega (arith, length-map items pos)))
