@@ -2,7 +2,8 @@
 #![tactic(auto)]
 
 #[cfg(test)]
-#[cfg(test)]
 mod layouts;
 #[cfg(test)]
 mod lists;
+#[cfg(test)]
+mod shapes;
