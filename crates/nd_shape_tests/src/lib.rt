@@ -1,2 +1,5 @@
 //! Tests of `nd_shape`, by its public calls.
 #![tactic(auto)]
+
+#[cfg(test)]
+mod indexing;
