@@ -1,3 +1,4 @@
+pub mod AxesWalk
 pub mod OwnedRule
 pub mod SumLoop
 pub mod laws

@@ -1,12 +1,14 @@
 //! Which layouts are accepted over a piece of data, and where their indices lie.
 #![tactic(auto)]
 
+mod axes;
 mod checks;
 mod limits;
 mod ndindex;
 mod offsets;
 mod overlap;
 
+pub use axes::{Axes, AxisDescription, axes_of};
 pub use checks::{
     CanIndexCheckMode, can_index_slice, max_abs_offset_check_overflow, size_of_shape_checked,
 };
