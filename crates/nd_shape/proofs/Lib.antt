@@ -1,4 +1,5 @@
 pub mod Answered
+pub mod AxesWalk
 pub mod OwnedRule
 pub mod SumLoop
 pub mod laws

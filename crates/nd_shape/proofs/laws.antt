@@ -1,4 +1,5 @@
 pub mod Acceptance
+pub mod Axes
 pub mod DefaultStrides
 pub mod DistinctOffsets
 pub mod Inside

@@ -1,4 +1,5 @@
 pub mod Acceptance
+pub mod Axes
 pub mod DistinctOffsets
 pub mod Inside
 pub mod OwnedRule

@@ -1,6 +1,7 @@
 //! Which layouts are accepted over a piece of data, and where their indices lie.
 #![tactic(auto)]
 
+mod axes;
 mod checks;
 mod limits;
 mod ndindex;
@@ -8,6 +9,7 @@ mod offsets;
 mod overlap;
 mod shape_builder;
 
+pub use axes::{Axes, AxisDescription, axes_of};
 pub use checks::{
     CanIndexCheckMode, can_index_slice, can_index_slice_not_custom, can_index_slice_with_strides,
     max_abs_offset_check_overflow, size_of_shape_checked, strides_non_negative,

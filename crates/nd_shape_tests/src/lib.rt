@@ -2,6 +2,8 @@
 #![tactic(auto)]
 
 #[cfg(test)]
+mod indexing;
+#[cfg(test)]
 mod layouts;
 #[cfg(test)]
 mod lists;

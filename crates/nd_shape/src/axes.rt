@@ -1,0 +1,22 @@
+//! The axes of a layout one by one.
+ghost use Rattle.std.specs.Prelude.{◌≡◌, length};
+ghost use Rattle.std.specs.Iterator.{YieldsFirst, YieldsLast};
+ghost use Rattle.std.specs.Iterator.Runs.{YieldsInOrder, YieldsInReverse};
+ghost use Rattle.nd_base.specs.Signed.{all_signed};
+ghost use Rattle.nd_shape.specs.Axes.{axes, axes_left};
+
+mod iter;
+
+pub use iter::{Axes, AxisDescription};
+use nd_dim::Dimension;
+
+/// The axes of a layout with their lengths and strides, each once, from the first or from the last
+/// on. There is a stride for each axis. Upstream's `axes_of`.
+pub fn axes_of<'a, D: Dimension>(dim: &'a D, strides: &'a D) -> Axes<'a>
+    requires { length (D.list dim.now) ≡ length (D.list strides.now) }
+    ensures list { axes_left result ≡ axes (D.list dim.now) (all_signed (D.list strides.now)) }
+    ensures in_order { YieldsInOrder (YieldsFirst axes_left) axes_left }
+    ensures in_reverse { YieldsInReverse (YieldsLast axes_left) axes_left }
+{
+    Axes::new(dim.slice(), strides.slice())
+}
