@@ -87,7 +87,8 @@ impl<D: Dimension> Strided<D> {
     /// The shape.
     #[inline]
     pub fn dim(&self) -> &D
-        ensures { D.list result.now ≡ self.now.shape }
+        ensures list { D.list result.now ≡ self.now.shape }
+        ensures is_view { IsView self.now }
     {
         &self.dim
     }
@@ -95,7 +96,8 @@ impl<D: Dimension> Strided<D> {
     /// The strides, in elements, each kept as the `usize` of the same bits.
     #[inline]
     pub fn strides(&self) -> &D
-        ensures { all_signed (D.list result.now) ≡ self.now.strides }
+        ensures list { all_signed (D.list result.now) ≡ self.now.strides }
+        ensures is_view { IsView self.now }
     {
         &self.strides
     }
@@ -110,7 +112,12 @@ impl<D: Dimension> Strided<D> {
 
     /// The places of all indices of the shape, in an order.
     pub fn places(&self, alloc: Global, order: Order) -> Result<Vec<usize>, AllocError>
-        ensures { IfOk result (λ v. map pos v.items ≡ view_places order self.now) }
+        ensures items { IfOk result (λ v. map pos v.items ≡ view_places order self.now) }
+        ensures len { IfOk result (λ v. vec_len v ≡ size self.now.shape) }
+        ensures capacity { IfOk result (λ v. vec_capacity v ≡ size self.now.shape) }
+        ensures inside { IfOk result (λ v. (len : ℕ) → LiesWithin len self.now →
+            All (λ place. place < len) v.items) }
+        ensures memory { size self.now.shape ≡ 0 → IsOk result }
     {
         let size = self.dim.size_checked().unwrap();
         let mut places = Vec::with_capacity(alloc, size)?;

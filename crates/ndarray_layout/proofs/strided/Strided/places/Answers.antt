@@ -1,8 +1,10 @@
-use Rattle.std.proofs.Common.{◌≡◌, ◌<◌, ◌^◌, pos, map, sym, ap, ◌∙◌, arith}
+use Rattle.std.proofs.Common.{◌≡◌, ◌<◌, ◌^◌, pos, map, sym, ap, ◌∙◌, arith, refl}
 use Rattle.std.proofs.lemmas.Grind.{common_steps}
 use Rattle.nd_base.specs.Signed.{all_signed}
 use Rattle.nd_base.specs.Size.{size}
 use Rattle.ndarray_layout.specs.View.{View}
+use Rattle.ndarray_layout.specs.Walk.{nested}
+use Rattle.ndarray_layout.proofs.laws.View.{items_lie_within}
 use Rattle.ndarray_layout.proofs.Reversed.{places_nested, size_nested, view_nested}
 use Rattle.ndarray_layout.proofs.Views.{size_fits, no_places}
 use Rattle.ndarray_layout.proofs.strided.Strided.places.Goals as goal
@@ -25,15 +27,31 @@ push_places-requires-clause-room g c =
 
 pub returns : goal.returns
 returns g c =
+    let order = c.args.order in
     let shape = g.D.Lengths.list c.self.inside.dim in
     let strides = all_signed (g.D.Lengths.list c.self.inside.strides) in
     let view : View = record { start = c.self.inside.start; shape = shape; strides = strides } in
+    let known : c.unwrap-size.result ≡ size shape = grind (arith, common_steps, c.size_checked.ensures, c.unwrap-size.ensures) in
     elim c.if-size-gt0.branch [
       | then-size-gt0 w ↦
           let walked = rw (c.in_ok-places.ensures.items, w.slice-shape.ensures.list, w.slice-strides.ensures.list) at w.push_places.ensures.items in
-          rw (← c.self.view_is, w.places-is) (walked ∙ places_nested c.args.order c.self.inside.start shape strides c.self.invariant.valid.same_count)
+          let same = walked ∙ places_nested order c.self.inside.start shape strides c.self.invariant.valid.same_count in
+          let whole : size (nested order w.slice-shape.result.now) ≡ size shape = size_nested order w.slice-shape.result.now ∙ ap size w.slice-shape.ensures.list in
+          rw (← c.self.view_is, w.places-is) (record {
+            items = same;
+            len = omega (arith, w.push_places.ensures.len, c.in_ok-places.ensures.len, whole);
+            capacity = w.push_places.ensures.capacity ∙ c.in_ok-places.ensures.exact ∙ known;
+            inside = λ len within. items_lie_within len order view w.push_places.new.places.items same within;
+            memory = λ none. refl;
+          })
       | else-size-gt0 w ↦
-          let zeroth = w.if-size-gt0.false in
-          let none : size shape ≡ 0 = grind (arith, common_steps, c.size_checked.ensures, c.unwrap-size.ensures, zeroth) in
-          rw (← c.self.view_is, w.places-is) (ap (map pos) c.in_ok-places.ensures.items ∙ sym (no_places c.args.order view none))
+          let none : size shape ≡ 0 = omega (arith, known, w.if-size-gt0.false) in
+          let same = ap (map pos) c.in_ok-places.ensures.items ∙ sym (no_places order view none) in
+          rw (← c.self.view_is, w.places-is) (record {
+            items = same;
+            len = c.in_ok-places.ensures.len ∙ sym none;
+            capacity = c.in_ok-places.ensures.exact ∙ known;
+            inside = λ len within. items_lie_within len order view c.in_ok-places.places.items same within;
+            memory = λ none. refl;
+          })
     ]
