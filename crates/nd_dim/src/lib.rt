@@ -13,6 +13,7 @@ mod sizes;
 mod stride_axes;
 mod stride_order;
 mod strides;
+
 pub use conversion::{IntoDimension, new_dim};
 pub use dimension::Dimension;
 pub use error::incompatible_shapes;

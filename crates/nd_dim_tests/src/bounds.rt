@@ -1,6 +1,7 @@
 //! Each method of `Dimension` and `RemoveAxis` by the bound alone.
-ghost use Rattle.std.specs.Prelude.{◌≡◌, ◌<◌, ◌≤◌, [], length};
+ghost use Rattle.std.specs.Prelude.{◌≡◌, ◌<◌, ◌≤◌, [], length, IfOk};
 ghost use Rattle.std.specs.List.{All};
+ghost use Rattle.nd_base.specs.Dim.{lengths};
 ghost use Rattle.nd_base.specs.Entrywise.{SumsFit, DifferencesFit, ProductsFit, ScaledFit};
 ghost use Rattle.nd_base.specs.Reach.{farthest_offset};
 ghost use Rattle.nd_base.specs.Signed.{all_signed};
@@ -104,11 +105,18 @@ fn is_made_of<D: Dimension>(alloc: Global, dim: &D, dynamic: Result<IxDyn, Alloc
     }
 }
 
-/// Four axes make a value where no count is fixed.
+/// Four axes make a value where no other count is fixed.
 fn is_made_of_four<D: Dimension>(alloc: Global, four: Result<IxDyn, AllocError>) -> bool {
     match four {
-        Ok(four) => D::from_dimension(alloc, &four).is_ok_and(|made| made.is_some()
-            == D::NDIM.is_none()),
+        Ok(four) => converts_if::<D>(D::from_dimension(alloc, &four), D::NDIM.unwrap_or(4) == 4),
+        Err(_) => false,
+    }
+}
+
+/// A list is one of this type just if this is so.
+fn converts_if<D: Dimension>(made: Result<Option<D>, AllocError>, answer: bool) -> bool {
+    match made {
+        Ok(made) => made.is_some() == answer,
         Err(_) => false,
     }
 }
@@ -370,6 +378,74 @@ fn r2_rows_of_three_axes(rt: HostRuntime) -> Result<(), Fail> {
 }
 
 #[test]
+fn r2_rows_of_four_axes(rt: HostRuntime) -> Result<(), Fail> {
+    const TOLD: Told = Told {
+        lens: &[2, 3, 4, 5],
+        default: &[0; 4],
+        zeros: &[0; 4],
+        size: &[120],
+        default_strides: &[60, 20, 5, 1],
+        fortran_strides: &[1, 2, 6, 24],
+        offset: 119,
+        is_contiguous: true,
+        order: &[3, 2, 1, 0],
+        last_len: 5,
+        stride_axes: &[3, 0],
+        results: Results {
+            sums: &[3, 5, 7, 9],
+            differences: &[1, 1, 1, 1],
+            products: &[2, 6, 12, 20],
+            twice: &[4, 6, 8, 10],
+        },
+    };
+    let layout = Layout {
+        dim: new_ix4(2, 3, 4, 5),
+        strides: new_ix4(60, 20, 5, 1),
+        index: new_ix4(1, 2, 3, 4),
+    };
+    let neighbors = Neighbors {
+        larger: new_ix5(2, 3, 4, 1, 5),
+        without_last: new_ix3(2, 3, 4),
+        without_first: new_ix3(3, 4, 5),
+    };
+    behaves_whole(&rt, rt.alloc(), &layout, &TOLD, &neighbors)
+}
+
+#[test]
+fn r2_rows_of_five_axes(rt: HostRuntime) -> Result<(), Fail> {
+    const TOLD: Told = Told {
+        lens: &[2, 3, 4, 5, 6],
+        default: &[0; 5],
+        zeros: &[0; 5],
+        size: &[720],
+        default_strides: &[360, 120, 30, 6, 1],
+        fortran_strides: &[1, 2, 6, 24, 120],
+        offset: 719,
+        is_contiguous: true,
+        order: &[0, 1, 2, 3, 4],
+        last_len: 6,
+        stride_axes: &[0, 4],
+        results: Results {
+            sums: &[3, 5, 7, 9, 11],
+            differences: &[1; 5],
+            products: &[2, 6, 12, 20, 30],
+            twice: &[4, 6, 8, 10, 12],
+        },
+    };
+    let layout = Layout {
+        dim: new_ix5(2, 3, 4, 5, 6),
+        strides: new_ix5(1, 2, 6, 24, 120),
+        index: new_ix5(1, 2, 3, 4, 5),
+    };
+    let neighbors = Neighbors {
+        larger: new_ix6(2, 3, 4, 5, 1, 6),
+        without_last: new_ix4(2, 3, 4, 5),
+        without_first: new_ix4(3, 4, 5, 6),
+    };
+    behaves_whole(&rt, rt.alloc(), &layout, &TOLD, &neighbors)
+}
+
+#[test]
 fn r2_rows_of_six_axes(rt: HostRuntime) -> Result<(), Fail> {
     const TOLD: Told = Told {
         lens: &[1, 2, 3, 4, 5, 6],
@@ -404,6 +480,42 @@ fn r2_rows_of_six_axes(rt: HostRuntime) -> Result<(), Fail> {
     behaves_whole(&rt, alloc, &layout, &TOLD, &neighbors)
 }
 
+/// A layout of any number of axes.
+fn layout_of(
+    alloc: Global,
+    dim: &[usize],
+    strides: &[usize],
+    index: &[usize],
+) -> Result<Layout<IxDyn>, AllocError>
+    ensures dim { IfOk result (λ layout. lengths layout.dim ≡ dim.now) }
+    ensures strides { IfOk result (λ layout. lengths layout.strides ≡ strides.now) }
+    ensures index { IfOk result (λ layout. lengths layout.index ≡ index.now) }
+{
+    let dim = new_ixdyn(alloc, dim)?;
+    let strides = new_ixdyn(alloc, strides)?;
+    Ok(Layout {
+        dim,
+        strides,
+        index: new_ixdyn(alloc, index)?,
+    })
+}
+
+/// Shapes of any number of axes.
+fn neighbors_of(
+    alloc: Global,
+    larger: &[usize],
+    without_last: &[usize],
+    without_first: &[usize],
+) -> Result<Neighbors<IxDyn, IxDyn>, AllocError> {
+    let larger = new_ixdyn(alloc, larger)?;
+    let without_last = new_ixdyn(alloc, without_last)?;
+    Ok(Neighbors {
+        larger,
+        without_last,
+        without_first: new_ixdyn(alloc, without_first)?,
+    })
+}
+
 #[test]
 fn r2_rows_of_any_axes(rt: HostRuntime) -> Result<(), Fail> {
     const TOLD: Told = Told {
@@ -425,16 +537,7 @@ fn r2_rows_of_any_axes(rt: HostRuntime) -> Result<(), Fail> {
             twice: &[6, 4],
         },
     };
-    let alloc = rt.alloc();
-    let layout = Layout {
-        dim: new_ixdyn(alloc, &[3, 2])?,
-        strides: new_ixdyn(alloc, &[2, 3])?,
-        index: new_ixdyn(alloc, &[2, 1])?,
-    };
-    let neighbors = Neighbors {
-        larger: new_ixdyn(alloc, &[3, 1, 2])?,
-        without_last: new_ixdyn(alloc, &[3])?,
-        without_first: new_ixdyn(alloc, &[2])?,
-    };
-    behaves_whole(&rt, alloc, &layout, &TOLD, &neighbors)
+    let layout = layout_of(rt.alloc(), &[3, 2], &[2, 3], &[2, 1])?;
+    let neighbors = neighbors_of(rt.alloc(), &[3, 1, 2], &[3], &[2])?;
+    behaves_whole(&rt, rt.alloc(), &layout, &TOLD, &neighbors)
 }

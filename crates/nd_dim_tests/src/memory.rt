@@ -5,8 +5,8 @@
 //! twice, before one small request.
 use crate::checks::is_one;
 use nd_dim::{
-    Axis, Dimension, Ix3, Ix5, IxDyn, IxDynImpl, Lengths, RemoveAxis, ShapeArg, new_dim, new_ix0,
-    new_ix1, new_ix2, new_ix3, new_ix4, new_ix5, new_ix6, new_ixdyn,
+    Axis, Dimension, FixedCount, Ix3, Ix5, IxDyn, IxDynImpl, Lengths, RemoveAxis, ShapeArg,
+    new_dim, new_ix0, new_ix1, new_ix2, new_ix3, new_ix4, new_ix5, new_ix6, new_ixdyn,
 };
 use nd_testing::asked;
 use std::alloc::{AllocError, Global};
@@ -23,23 +23,25 @@ fn serves_shape<D: Dimension>(alloc: Global, dim: &D) -> bool {
 fn serves<D: Dimension>(rt: &impl Abort, alloc: Global, dim: &D) {
     assert!(rt; serves_shape(alloc, dim));
     assert!(rt; D::default_in(alloc).is_ok() && D::zeros(alloc, dim.ndim()).is_ok());
-    assert!(rt; dim.duplicate(alloc).is_ok() && D::from_dimension(alloc, dim).is_ok());
+    assert!(rt; dim.duplicate(alloc).is_ok() && becomes::<D, D>(alloc, dim));
     assert!(rt; dim._fastest_varying_stride_order(alloc).is_ok());
+    assert!(rt; dim.ndim() > 4 || is_dynamic(alloc, dim.duplicate(alloc)));
+    assert!(rt; D::Larger::NDIM.is_none() && dim.ndim() > 3 || is_wider(alloc, dim, 0));
 }
 
-/// An axis less.
-fn narrows<D: RemoveAxis>(alloc: Global, dim: &D, axis: usize) -> bool {
+/// An axis more needs no memory.
+fn is_wider<D: Dimension>(alloc: Global, dim: &D, axis: usize) -> bool {
+    axis <= dim.ndim() && dim.insert_axis(alloc, Axis(axis)).is_ok()
+}
+
+/// An axis less needs no memory.
+fn is_narrower<D: RemoveAxis>(alloc: Global, dim: &D, axis: usize) -> bool {
     axis < dim.ndim()
         && dim.try_remove_axis(alloc, Axis(axis)).is_ok()
         && dim.remove_axis(alloc, Axis(axis)).is_ok()
 }
 
-/// An axis more.
-fn widens<D: Dimension>(alloc: Global, dim: &D, axis: usize) -> bool {
-    axis <= dim.ndim() && dim.insert_axis(alloc, Axis(axis)).is_ok()
-}
-
-/// A value as one of any number of axes.
+/// A value of any number of axes needs no memory.
 fn is_dynamic<D: Dimension>(alloc: Global, dim: Result<D, AllocError>) -> bool {
     match dim {
         Ok(dim) => dim.into_dyn(alloc).is_ok(),
@@ -47,61 +49,54 @@ fn is_dynamic<D: Dimension>(alloc: Global, dim: Result<D, AllocError>) -> bool {
     }
 }
 
-/// A list as one of this type, or as none.
-fn converts<D: Dimension, E: Lengths>(alloc: Global, from: &E) -> bool {
+/// A list as one of this type, or as none, needs no memory.
+fn becomes<D: Dimension, E: Lengths>(alloc: Global, from: &E) -> bool {
     D::from_dimension(alloc, from).is_ok()
 }
 
-/// What needs no memory also where an axis is removed.
-fn serves_removal<D: RemoveAxis>(rt: &impl Abort, alloc: Global, dim: &D) {
+/// What needs no memory where there is an axis.
+fn serves_axes<D: RemoveAxis>(rt: &impl Abort, alloc: Global, dim: &D) {
     serves(rt, alloc, dim);
-    assert!(rt; narrows(alloc, dim, 0));
-}
-
-/// What needs no memory with up to three axes.
-fn serves_all<D: RemoveAxis>(rt: &impl Abort, alloc: Global, dim: &D) {
-    serves_removal(rt, alloc, dim);
-    assert!(rt; widens(alloc, dim, 0) && is_dynamic(alloc, dim.duplicate(alloc)));
+    assert!(rt; is_narrower(alloc, dim, 0));
 }
 
 #[test]
 fn r9_rows_at_fixed_types(rt: HostRuntime) {
     let alloc = rt.alloc();
     serves(&rt, alloc, &new_ix0());
-    assert!(rt; widens(alloc, &new_ix0(), 0) && is_dynamic(alloc, Ok(new_ix0())));
     assert!(rt; new_ix0().try_remove_axis(alloc, Axis(0)).is_ok());
-    serves_all(&rt, alloc, &new_ix1(2));
-    serves_all(&rt, alloc, &new_ix2(2, 3));
-    serves_all(&rt, alloc, &new_ix3(2, 3, 4));
-    serves_all(&rt, alloc, &new_ix4(2, 3, 4, 5));
-    serves_removal(&rt, alloc, &new_ix5(2, 3, 4, 5, 6));
-    assert!(rt; widens(alloc, &new_ix5(2, 3, 4, 5, 6), 5));
-    serves_removal(&rt, alloc, &new_ix6(2, 3, 4, 5, 6, 7));
+    serves_axes(&rt, alloc, &new_ix1(2));
+    serves_axes(&rt, alloc, &new_ix2(2, 3));
+    serves_axes(&rt, alloc, &new_ix3(2, 3, 4));
+    serves_axes(&rt, alloc, &new_ix4(2, 3, 4, 5));
+    serves_axes(&rt, alloc, &new_ix5(2, 3, 4, 5, 6));
+    assert!(rt; is_wider(alloc, &new_ix5(2, 3, 4, 5, 6), 5));
+    serves_axes(&rt, alloc, &new_ix6(2, 3, 4, 5, 6, 7));
 }
 
 /// So few lengths are made without memory, and serve.
-fn serves_up_to_four<D: Dimension>(rt: &impl Abort, alloc: Global, dim: Result<D, AllocError>) {
-    serves(rt, alloc, &dim.expect(rt, "memory"));
+fn serves_made<D: RemoveAxis>(rt: &impl Abort, alloc: Global, dim: Result<D, AllocError>) {
+    serves_axes(rt, alloc, &dim.expect(rt, "memory"));
 }
 
 #[test]
 fn r9_rows(rt: HostRuntime) {
     let alloc = rt.alloc();
-    serves_up_to_four(&rt, alloc, new_ixdyn(alloc, &[2]));
-    serves_up_to_four(&rt, alloc, new_ixdyn(alloc, &[2, 3]));
-    serves_up_to_four(&rt, alloc, new_ixdyn(alloc, &[2, 3, 4]));
-    serves_up_to_four(&rt, alloc, new_ixdyn(alloc, &[1, 2, 3, 4]));
+    serves_made(&rt, alloc, new_ixdyn(alloc, &[2]));
+    serves_made(&rt, alloc, new_ixdyn(alloc, &[2, 3]));
+    serves_made(&rt, alloc, new_ixdyn(alloc, &[2, 3, 4]));
+    serves_made(&rt, alloc, new_ixdyn(alloc, &[1, 2, 3, 4]));
     assert!(rt; new_dim(alloc, [1, 2, 3, 4].as_slice()).is_ok());
     assert!(rt; [1, 2, 3, 4].as_slice().into_shape_and_order(alloc).is_ok());
-    assert!(rt; converts::<IxDyn, _>(alloc, &new_ix4(1, 2, 3, 4)));
+    assert!(rt; becomes::<IxDyn, _>(alloc, &new_ix4(1, 2, 3, 4)));
     assert!(rt; is_dynamic(alloc, Ok(new_ix4(1, 2, 3, 4))));
 }
 
 #[test]
 fn r9_rows_insert_axis_into_three(rt: HostRuntime) {
     if let Ok(three) = new_ixdyn(rt.alloc(), &[1, 2, 3]) {
-        serves_all(&rt, rt.alloc(), &three);
-        assert!(rt; widens(rt.alloc(), &three, 3));
+        serves_axes(&rt, rt.alloc(), &three);
+        assert!(rt; is_wider(rt.alloc(), &three, 3));
     }
 }
 
@@ -127,9 +122,9 @@ fn r9_rows_of_equality(rt: HostRuntime) {
 fn r9_rows_remove_axis_from_five(rt: HostRuntime) {
     let alloc = rt.alloc();
     if let Ok(five) = new_ixdyn(alloc, &[1, 2, 3, 4, 5]) {
-        assert!(rt; narrows(alloc, &five, 2) && narrows(alloc, &five, 4));
+        assert!(rt; is_narrower(alloc, &five, 2) && is_narrower(alloc, &five, 4));
         assert!(rt; IxDyn::default_in(alloc).is_ok());
-        assert!(rt; converts::<Ix5, _>(alloc, &five) && converts::<Ix3, _>(alloc, &five));
+        assert!(rt; becomes::<Ix5, _>(alloc, &five) && becomes::<Ix3, _>(alloc, &five));
         assert!(rt; new_dim(alloc, five).is_ok());
     }
 }

@@ -62,7 +62,6 @@ offset_of-default_strides (len ∷ lens) (i ∷ index) h =
     ∙ ap (λ z. (pos i *ℤ pos (size lens)) +ℤ z) rest
     ∙ omega (arith, ints)
 
-
 -- ---- in column-major order
 -- the stride by columns of an axis of a shape with an index
 pub fortran_at : (lens : List ℕ) (axis : ℕ) → is_empty lens ≡ false → axis < length lens → get_or (fortran_strides lens) axis 0 ≡ size_until lens axis
