@@ -14,6 +14,7 @@ use Rattle.std.proofs.lemmas.Fmt.{IsAscii-from_digits}
 use Rattle.std.proofs.lemmas.Str.{IsUtf8-from_ascii}
 use Rattle.std.proofs.lemmas.Str.Ascii.{IsAscii-cons}
 use Rattle.std.proofs.lemmas.Str.Parse.{IsNumeralModel, numerals_by_value, tells_all_ascii_digits, not_in_digits, parse_plain, parse_signed_minus, parse_signed_plain}
+use Rattle.ndl.specs.Bytes.{plus_sign, minus_sign, digit_zero, digit_nine}
 use Rattle.ndl.specs.Numbers.{is_decimal, number_of, negative_of, signed_number_of}
 use Rattle.ndl.specs.Lines.{parts}
 
@@ -37,8 +38,8 @@ not_decimal ds fits x e = rw (and_left (is_decimal ds) fits e) refl
 digits_of_decimal : (ds : List ℕ) → is_decimal ds ≡ true → all_ascii_digits ds ≡ true
 digits_of_decimal ds e = (and_parts _ _ e).1
 
-plus_is_not : (text : List ℕ) → get_or text 0 0 ≡ 43 → is_decimal text ≡ false
-plus_is_not text e = false_from_ne_true _ (λ t. let p = and_parts _ _ t in not_in_digits own text 43 p.1 (λ r. omega arith) 0 (ltb-true _ _ p.0) e)
+plus_is_not : (text : List ℕ) → get_or text 0 0 ≡ plus_sign → is_decimal text ≡ false
+plus_is_not text e = false_from_ne_true _ (λ t. let p = and_parts _ _ t in not_in_digits own text plus_sign p.1 (λ r. omega arith) 0 (ltb-true _ _ p.0) e)
 
 digits_ascii : (ds : List ℕ) → all_ascii_digits ds ≡ true → IsAscii ds
 digits_ascii ds h = IsAscii-from_digits ds (own.to ds h)
@@ -47,70 +48,70 @@ not_utf8_is_not : (text : List ℕ) → ¬ (IsUtf8 text) → is_decimal text ≡
 not_utf8_is_not text bad = false_from_ne_true _ (λ t. bad (IsUtf8-from_ascii text (digits_ascii text (digits_of_decimal text t))))
 
 -- a sign and digits
-signed_ascii : (text : List ℕ) → get_or text 0 0 ≡ 45 → all_ascii_digits (drop 1 text) ≡ true → IsAscii text
+signed_ascii : (text : List ℕ) → get_or text 0 0 ≡ minus_sign → all_ascii_digits (drop 1 text) ≡ true → IsAscii text
 signed_ascii [] e h = absurd (omega arith)
 signed_ascii (b ∷ bs) e h = IsAscii-cons b bs (omega arith) (digits_ascii bs h)
 
 -- ---- numbers
-pub number_parsed : {E : Type 0} (text : List ℕ) (r : Result ℕ E) → ParsesUnsigned 64 10 text r → get_or text 0 0 ≢ 43 → result_ok r ≡ number_of text
+pub number_parsed : {E : Type 0} (text : List ℕ) (r : Result ℕ E) → ParsesUnsigned 64 10 text r → get_or text 0 0 ≢ plus_sign → result_ok r ≡ number_of text
 number_parsed text r h ne = chosen r _ _ _ (parse_plain own 64 text r h ne) (in_range text _ _ (Decides-ltb (digits_value 10 text) (2 ^ 64)))
 
-pub number_with_plus : (text : List ℕ) → get_or text 0 0 ≡ 43 → number_of text ≡ None
+pub number_with_plus : (text : List ℕ) → get_or text 0 0 ≡ plus_sign → number_of text ≡ None
 number_with_plus text e = not_decimal text _ _ (plus_is_not text e)
 
 pub number_not_utf8 : (text : List ℕ) → ¬ (IsUtf8 text) → number_of text ≡ None
 number_not_utf8 text bad = not_decimal text _ _ (not_utf8_is_not text bad)
 
 -- ---- signed numbers
-with_minus : (text : List ℕ) → get_or text 0 0 ≡ 45 → signed_number_of text ≡ negative_of (drop 1 text)
+with_minus : (text : List ℕ) → get_or text 0 0 ≡ minus_sign → signed_number_of text ≡ negative_of (drop 1 text)
 with_minus text e = rw (eq-eqb _ _ e) refl
 
-without_minus : (text : List ℕ) → get_or text 0 0 ≢ 45 → signed_number_of text ≡ cond (is_decimal text && ltb (digits_value 10 text) (2 ^ 63)) (Some (pos (digits_value 10 text))) None
+without_minus : (text : List ℕ) → get_or text 0 0 ≢ minus_sign → signed_number_of text ≡ cond (is_decimal text && ltb (digits_value 10 text) (2 ^ 63)) (Some (pos (digits_value 10 text))) None
 without_minus text ne = rw (ne_eqb _ _ ne) refl
 
-pub signed_number_parsed : {E : Type 0} (text : List ℕ) (r : Result ℤ E) → ParsesSigned w64 10 text r → get_or text 0 0 ≢ 43 → result_ok r ≡ signed_number_of text
-signed_number_parsed text r h unsigned = elim (cases_eq (get_or text 0 0) 45) [
+pub signed_number_parsed : {E : Type 0} (text : List ℕ) (r : Result ℤ E) → ParsesSigned w64 10 text r → get_or text 0 0 ≢ plus_sign → result_ok r ≡ signed_number_of text
+signed_number_parsed text r h unsigned = elim (cases_eq (get_or text 0 0) minus_sign) [
   | inl e ↦ chosen r _ _ _ (parse_signed_minus own w64 text r h e) (in_range (drop 1 text) _ _ (leb-true (digits_value 10 (drop 1 text)) (2 ^ 63), le-leb (digits_value 10 (drop 1 text)) (2 ^ 63))) ∙ sym (with_minus text e)
   | inr ne ↦ chosen r _ _ _ (parse_signed_plain own w64 text r h unsigned ne) (in_range text _ _ (Decides-ltb (digits_value 10 text) (2 ^ 63))) ∙ sym (without_minus text ne)
 ]
 
-pub signed_number_with_plus : (text : List ℕ) → get_or text 0 0 ≡ 43 → signed_number_of text ≡ None
+pub signed_number_with_plus : (text : List ℕ) → get_or text 0 0 ≡ plus_sign → signed_number_of text ≡ None
 signed_number_with_plus text e = without_minus text (λ m. omega arith) ∙ not_decimal text _ _ (plus_is_not text e)
 
 pub signed_number_not_utf8 : (text : List ℕ) → ¬ (IsUtf8 text) → signed_number_of text ≡ None
-signed_number_not_utf8 text bad = elim (cases_eq (get_or text 0 0) 45) [
+signed_number_not_utf8 text bad = elim (cases_eq (get_or text 0 0) minus_sign) [
   | inl e ↦ with_minus text e ∙ not_decimal (drop 1 text) _ _ (false_from_ne_true _ (λ t. bad (IsUtf8-from_ascii text (signed_ascii text e (digits_of_decimal (drop 1 text) t)))))
   | inr ne ↦ without_minus text ne ∙ not_decimal text _ _ (not_utf8_is_not text bad)
 ]
 
 -- ---- numbers have no separators
-digits_part : (separator : ℕ) → ¬ (IsInRange 48 57 separator) → (ds : List ℕ) → all_ascii_digits ds ≡ true → parts separator ds ≡ ds ∷ []
+digits_part : (separator : ℕ) → ¬ (IsInRange digit_zero digit_nine separator) → (ds : List ℕ) → all_ascii_digits ds ≡ true → parts separator ds ≡ ds ∷ []
 digits_part separator other [] h = refl
 digits_part separator other (c ∷ cs) h =
     let p = tells_all_ascii_digits.parts c cs h in
-    rw (ne_eqb c separator (λ e. other (subst (λ x. IsInRange 48 57 x) e p.0)), digits_part separator other cs p.1) refl
+    rw (ne_eqb c separator (λ e. other (subst (λ x. IsInRange digit_zero digit_nine x) e p.0)), digits_part separator other cs p.1) refl
 
-minus_part : (separator : ℕ) → ¬ (IsInRange 48 57 separator) → 45 ≢ separator → (text : List ℕ) → get_or text 0 0 ≡ 45 → all_ascii_digits (drop 1 text) ≡ true → parts separator text ≡ text ∷ []
+minus_part : (separator : ℕ) → ¬ (IsInRange digit_zero digit_nine separator) → minus_sign ≢ separator → (text : List ℕ) → get_or text 0 0 ≡ minus_sign → all_ascii_digits (drop 1 text) ≡ true → parts separator text ≡ text ∷ []
 minus_part separator other minus [] e h = refl
 minus_part separator other minus (b ∷ bs) e h = rw (ne_eqb b separator (λ s. minus (sym e ∙ s)), digits_part separator other bs h) refl
 
 decimal_of_some : (ds : List ℕ) (fits : Bool) {A : Type 0} (x y : A) → cond (is_decimal ds && fits) (Some x) None ≡ Some y → all_ascii_digits ds ≡ true
 decimal_of_some ds fits x y e = digits_of_decimal ds (and_parts _ fits (cond_some _ _ _ e).0).0
 
-pub number_part : (separator : ℕ) → ¬ (IsInRange 48 57 separator) → 45 ≢ separator → (text : List ℕ) (z : ℤ) → signed_number_of text ≡ Some z → parts separator text ≡ text ∷ []
-number_part separator other minus text z some = elim (cases_eq (get_or text 0 0) 45) [
+pub number_part : (separator : ℕ) → ¬ (IsInRange digit_zero digit_nine separator) → minus_sign ≢ separator → (text : List ℕ) (z : ℤ) → signed_number_of text ≡ Some z → parts separator text ≡ text ∷ []
+number_part separator other minus text z some = elim (cases_eq (get_or text 0 0) minus_sign) [
   | inl e ↦ minus_part separator other minus text e (decimal_of_some (drop 1 text) _ _ _ (sym (with_minus text e) ∙ some))
   | inr ne ↦ digits_part separator other text (decimal_of_some text _ _ _ (sym (without_minus text ne) ∙ some))
 ]
 
 -- ---- the calls' answers
-pub plus : (text : List ℕ) → starts_with nat_eq text (43 ∷ []) ≡ true → get_or text 0 0 ≡ 43
+pub plus : (text : List ℕ) → starts_with nat_eq text (plus_sign ∷ []) ≡ true → get_or text 0 0 ≡ plus_sign
 plus [] e = absurd (cc)
-plus (b ∷ bs) e = sym (eqb-true 43 b (and_parts _ _ e).0)
+plus (b ∷ bs) e = sym (eqb-true plus_sign b (and_parts _ _ e).0)
 
-pub no_plus : (text : List ℕ) → starts_with nat_eq text (43 ∷ []) ≡ false → get_or text 0 0 ≢ 43
+pub no_plus : (text : List ℕ) → starts_with nat_eq text (plus_sign ∷ []) ≡ false → get_or text 0 0 ≢ plus_sign
 no_plus [] e f = absurd (omega arith)
-no_plus (b ∷ bs) e f = eqb-false 43 b (sym (and-true (eqb 43 b)) ∙ e) (sym f)
+no_plus (b ∷ bs) e f = eqb-false plus_sign b (sym (and-true (eqb plus_sign b)) ∙ e) (sym f)
 
 pub not_a_text : {S E : Type 0} (r : Result S E) (P : S → Type 0) (Q : E → Type 0) (text : List ℕ) → MatchResult r P (λ e. ¬ (IsUtf8 text) × Q e) → result_ok r ≡ None → ¬ (IsUtf8 text)
 not_a_text (Ok s) P Q text h e = absurd (cc)

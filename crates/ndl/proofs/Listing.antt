@@ -1,12 +1,12 @@
 -- The text of a view from its three lines, and the statuses of replies.
-use Rattle.std.proofs.Common.{◌≡◌, ℕ, ℤ, pos, ◌≤◌, List, [], ◌∷◌, ◌++◌, map, codes, decimal, Option, Some, None, refl, ap, ◌∙◌, sym, arith}
+use Rattle.std.proofs.Common.{◌≡◌, ℕ, ◌+◌, ℤ, pos, ◌≤◌, List, [], ◌∷◌, ◌++◌, map, codes, decimal, Option, Some, None, refl, ap, ◌∙◌, sym, arith}
 use Rattle.std.specs.Fmt.{signed_decimal}
 use Rattle.nd_base.specs.declared.error.ErrorKind.{ErrorKind}
 use Rattle.nd_base.specs.declared.order.Order.TheVariants.{RowMajor}
-use Rattle.nd_slice.specs.declared.slice.SliceInfoElem.{SliceInfoElem}
 use Rattle.ndarray_layout.specs.View.{View, view_places}
-use Rattle.ndl.specs.Answer.{Reply, listing, unless, slice_of_view, reply_to_slice, reply_to_script}
+use Rattle.ndl.specs.Answer.{Reply, listing, unless, step_fault, view_after, reply_to_steps, reply_to_script}
 use Rattle.ndl.specs.Script.{ScriptValue}
+use Rattle.ndl.specs.StepLine.{StepValue}
 use Rattle.ndl.specs.Text.{line, listed}
 
 -- a place is not negative, so it prints without a sign
@@ -35,9 +35,9 @@ unless_small : (step : ℕ) (fault : Option ErrorKind) (reply : Reply) → reply
 unless_small step None reply small = small
 unless_small step (Some kind) reply small = omega arith
 
-reply_to_slice_small : (view : View) (slice : Option (List SliceInfoElem)) → (reply_to_slice view slice).status ≤ 2
-reply_to_slice_small view None = omega arith
-reply_to_slice_small view (Some elems) = unless_small 1 _ (listing (slice_of_view elems view)) (omega arith)
+reply_to_steps_small : (number : ℕ) (view : View) (steps : List StepValue) → (reply_to_steps number view steps).status ≤ 2
+reply_to_steps_small number view [] = omega arith
+reply_to_steps_small number view (step ∷ steps) = unless_small number (step_fault view step) _ (reply_to_steps_small (number + 1) (view_after view step) steps)
 
 pub reply_to_script_small : (script : ScriptValue) → (reply_to_script script).status ≤ 2
-reply_to_script_small script = unless_small 0 _ _ (reply_to_slice_small _ script.slice)
+reply_to_script_small script = unless_small 0 _ _ (reply_to_steps_small 1 _ script.steps)

@@ -1,18 +1,18 @@
 -- What the program writes, and its exit status, for each input.
-use Rattle.std.specs.Prelude.{◌≡◌, ℕ, Option, Some, None, Result, Ok, Err, List, ◌++◌, length, map, codes, decimal, string_bytes, refl}
+use Rattle.std.specs.Prelude.{◌≡◌, ℕ, ◌+◌, Option, Some, None, Result, Ok, Err, List, [], ◌∷◌, ◌++◌, map, codes, decimal, string_bytes, refl}
 use Rattle.std.specs.Fmt.{signed_decimal, digits}
 use Rattle.nd_base.specs.declared.error.ErrorKind.{ErrorKind}
 use Rattle.nd_base.specs.declared.order.Order.TheVariants.{RowMajor}
 use Rattle.nd_base.specs.ErrorText.{shape_error_text}
-use Rattle.nd_base.specs.Signed.{magnitude}
+use Rattle.nd_base.specs.Signed.{magnitude, unsigned}
 use Rattle.nd_base.specs.Span.{low_span}
 use Rattle.nd_shape.specs.Acceptance.{acceptance}
 use Rattle.nd_slice.specs.Sliced.{sliced_shape, sliced_strides}
-use Rattle.nd_slice.specs.declared.slice.SliceInfoElem.{SliceInfoElem}
 use Rattle.ndarray_layout.specs.SlicedView.{sliced_start, slice_refusal}
-use Rattle.ndarray_layout.specs.View.{View, view_places}
+use Rattle.ndarray_layout.specs.View.{View, view_of, view_places}
 use Rattle.ndl.specs.declared.answer.Answer.{Answer}
-use Rattle.ndl.specs.Layouts.{LayoutValue}
+use Rattle.ndl.specs.DataLine.{LayoutValue}
+use Rattle.ndl.specs.StepLine.{StepValue, SliceBy}
 use Rattle.ndl.specs.Script.{ScriptValue, script_of}
 use Rattle.ndl.specs.Text.{line, listed}
 
@@ -25,7 +25,7 @@ pub record Reply : Type 0 where
 abbrev pub unreadable : ℕ → Reply
 unreadable number = record { text = codes "line " ++ decimal number ++ codes ": unreadable\n"; status = 2 }
 
--- the reply where a step has a fault: step 0 is the layout, step 1 its slice
+-- the reply where a step has a fault: step 0 is the layout, and the steps after it count from 1
 abbrev pub refused : ℕ → ErrorKind → Reply
 refused step kind = record { text = codes "step " ++ decimal step ++ codes ": " ++ shape_error_text kind ++ codes "\n"; status = 1 }
 
@@ -44,27 +44,31 @@ unless step (Some kind) reply = refused step kind
 unless step None reply = reply
 
 -- the view of a layout over its data, whose first element is the lowest place
-abbrev pub view_of : LayoutValue → View
-view_of layout = record { start = low_span layout.shape layout.strides; shape = layout.shape; strides = layout.strides }
+abbrev pub view_of_layout : LayoutValue → View
+view_of_layout layout = view_of (low_span layout.shape layout.strides) layout.shape (map unsigned layout.strides)
 
--- the slice of a view
-abbrev pub slice_of_view : List SliceInfoElem → View → View
-slice_of_view elems view = record {
+-- the fault of a step from a view
+abbrev pub step_fault : View → StepValue → Option ErrorKind
+step_fault view (SliceBy elems) = slice_refusal None view.shape elems
+
+-- the view after a step
+abbrev pub view_after : View → StepValue → View
+view_after view (SliceBy elems) = record {
   start = magnitude (sliced_start elems view);
   shape = sliced_shape elems view.shape;
   strides = sliced_strides elems view.shape view.strides;
 }
 
--- the slice, if one is asked for, has as many axes as the layout
-abbrev pub reply_to_slice : View → Option (List SliceInfoElem) → Reply
-reply_to_slice view None = listing view
-reply_to_slice view (Some elems) = unless 1 (slice_refusal (Some (length view.shape)) view.shape elems) (listing (slice_of_view elems view))
+-- the reply to steps from a view, of which the first has this number
+abbrev pub reply_to_steps : ℕ → View → List StepValue → Reply
+reply_to_steps number view [] = listing view
+reply_to_steps number view (step ∷ steps) = unless number (step_fault view step) (reply_to_steps (number + 1) (view_after view step) steps)
 
 -- elements have size 1
 abbrev pub reply_to_script : ScriptValue → Reply
 reply_to_script script =
     let layout = script.layout in
-    unless 0 (acceptance 1 layout.len layout.mode layout.shape layout.strides) (reply_to_slice (view_of layout) script.slice)
+    unless 0 (acceptance 1 layout.len layout.mode layout.shape layout.strides) (reply_to_steps 1 (view_of_layout layout) script.steps)
 
 abbrev pub reply_to_reading : Result ScriptValue ℕ → Reply
 reply_to_reading (Ok script) = reply_to_script script

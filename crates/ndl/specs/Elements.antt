@@ -3,6 +3,7 @@ use Rattle.std.specs.Prelude.{◌≡◌, ℕ, ℤ, pos, negsuc, Option, Some, No
 use Rattle.std.specs.Option.{option_map}
 use Rattle.nd_slice.specs.declared.slice.SliceInfoElem.{SliceInfoElem}
 use Rattle.nd_slice.specs.declared.slice.SliceInfoElem.TheVariants as elem
+use Rattle.ndl.specs.Bytes.{dot, semicolon}
 use Rattle.ndl.specs.Reading.{◌>>=◌}
 use Rattle.ndl.specs.Lines.{parts}
 use Rattle.ndl.specs.Numbers.{signed_number_of, list_of}
@@ -27,15 +28,15 @@ slice_of_bounds step _ = None
 
 -- the step follows a semicolon, where missing means 1
 abbrev pub slice_of_parts : List (List ℕ) → Option SliceInfoElem
-slice_of_parts (range ∷ []) = slice_of_bounds (pos 1) (parts 46 range)
+slice_of_parts (range ∷ []) = slice_of_bounds (pos 1) (parts dot range)
 slice_of_parts (range ∷ step ∷ []) = do
   step ← signed_number_of step
-  slice_of_bounds step (parts 46 range)
+  slice_of_bounds step (parts dot range)
 slice_of_parts _ = None
 
 -- one element of a slice argument
 abbrev pub element_of : List ℕ → Option SliceInfoElem
-element_of text = slice_of_parts (parts 59 text)
+element_of text = slice_of_parts (parts semicolon text)
 
 abbrev pub elements_of : List ℕ → Option (List SliceInfoElem)
 elements_of word = list_of element_of word

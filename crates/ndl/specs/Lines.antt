@@ -1,7 +1,8 @@
 -- The lines of an input, the words of a line, and the parts of a text between separators.
-use Rattle.std.specs.Prelude.{◌≡◌, ℕ, ◌==◌, nat_lt, List, [], ◌∷◌, length, map, codes, refl}
+use Rattle.std.specs.Prelude.{◌≡◌, ℕ, ◌==◌, nat_lt, List, [], ◌∷◌, ◌++◌, length, map, codes, refl}
 use Rattle.std.specs.List.{slice_split, filter, enumerate_from}
 use Rattle.std.specs.Str.Lines.{lines}
+use Rattle.ndl.specs.Bytes.{line_feed, carriage_return, space}
 
 -- the lines, each ended by a line feed, which the last may lack; a carriage return just before a line feed is dropped
 abbrev pub lines_of : List ℕ → List (List ℕ)
@@ -13,7 +14,7 @@ parts separator text = slice_split (λ b. b == separator) text
 
 -- the words, parted by spaces
 abbrev pub words_of : List ℕ → List (List ℕ)
-words_of line = filter (λ word. nat_lt 0 (length word)) (parts 32 line)
+words_of line = filter (λ word. nat_lt 0 (length word)) (parts space line)
 
 -- a line's number and its words
 abbrev pub NumberedLine : Type 0
@@ -24,10 +25,10 @@ abbrev pub lines_from : ℕ → List ℕ → List NumberedLine
 lines_from number input = filter (λ line. nat_lt 0 (length line.1)) (enumerate_from number (map words_of (lines_of input)))
 
 -- examples
-two_lines : lines_of (97 ∷ 13 ∷ 10 ∷ 98 ∷ 13 ∷ []) ≡ (97 ∷ []) ∷ (98 ∷ 13 ∷ []) ∷ []
+two_lines : lines_of (codes "a" ++ carriage_return ∷ line_feed ∷ codes "b" ++ carriage_return ∷ []) ≡ codes "a" ∷ (codes "b" ++ carriage_return ∷ []) ∷ []
 two_lines = refl
 
-ended_lines : lines_of (97 ∷ 10 ∷ 10 ∷ 98 ∷ 10 ∷ []) ≡ (97 ∷ []) ∷ [] ∷ (98 ∷ []) ∷ []
+ended_lines : lines_of (codes "a\n\nb\n") ≡ codes "a" ∷ [] ∷ codes "b" ∷ []
 ended_lines = refl
 
 no_lines : lines_of [] ≡ []
@@ -36,8 +37,8 @@ no_lines = refl
 two_words : words_of (codes "  ab  c ") ≡ codes "ab" ∷ codes "c" ∷ []
 two_words = refl
 
-tab_in_a_word : words_of (97 ∷ 9 ∷ 98 ∷ 32 ∷ 13 ∷ []) ≡ (97 ∷ 9 ∷ 98 ∷ []) ∷ (13 ∷ []) ∷ []
-tab_in_a_word = refl
+return_is_a_word : words_of (codes "ab " ++ carriage_return ∷ []) ≡ codes "ab" ∷ (carriage_return ∷ []) ∷ []
+return_is_a_word = refl
 
 blank : words_of (codes "   ") ≡ []
 blank = refl

@@ -2,6 +2,7 @@
 use Rattle.std.specs.Prelude.{◌≡◌, ℕ, ◌^◌, ℤ, pos, negsuc, neg_ℤ, Bool, ◌&&◌, nat_lt, nat_le, Option, Some, None, if◌then◌else◌, List, [], ◌∷◌, length, drop, codes, refl}
 use Rattle.std.specs.Str.{all_ascii_digits, bytes_eq}
 use Rattle.std.specs.Str.Parse.{digits_value, starts_with_minus}
+use Rattle.ndl.specs.Bytes.{comma}
 use Rattle.ndl.specs.Reading.{read_each}
 use Rattle.ndl.specs.Lines.{parts}
 
@@ -26,7 +27,7 @@ signed_number_of word =
 
 -- the entries of a list, parted by commas; `-` is the empty list
 abbrev pub list_of : {A : Type 0} → (List ℕ → Option A) → List ℕ → Option (List A)
-list_of entry_of word = if bytes_eq word (codes "-") then Some [] else read_each entry_of (parts 44 word)
+list_of entry_of word = if bytes_eq word (codes "-") then Some [] else read_each entry_of (parts comma word)
 
 abbrev pub lengths_of : List ℕ → Option (List ℕ)
 lengths_of word = list_of number_of word

@@ -1,8 +1,6 @@
--- What readings have in common: one after another, entry by entry, and as the answer of a function.
-use Rattle.std.specs.Prelude.{◌≡◌, ℕ, Option, Some, None, Result, Ok, Err, List, [], ◌∷◌}
+-- What readings have in common: one after another, and entry by entry.
+use Rattle.std.specs.Prelude.{ℕ, Option, Some, Result, Ok, Err, List, [], ◌∷◌}
 use Rattle.std.specs.Option.{option_and_then}
-use Rattle.ndl.specs.declared.words.WordError.{WordError}
-use Rattle.ndl.specs.declared.words.WordError.TheVariants as word
 
 -- what is read next, where the first can be read
 infixl 10 ◌>>=◌
@@ -17,11 +15,8 @@ read_each entry_of (text ∷ texts) = do
   entries ← read_each entry_of texts
   Some (entry ∷ entries)
 
--- what a function answered, seen by view, is what the words spell; it is free to answer that memory ran out
-abbrev pub IsNoReading : {Y : Type 0} → WordError → Option Y → Type 0
-IsNoReading word.Unreadable reading = reading ≡ None
-IsNoReading word.Memory reading = Unit {0}
-
-abbrev pub GivesWords : {X Y : Type 0} → (X → Y) → Result X WordError → Option Y → Type 0
-GivesWords view (Ok x) reading = reading ≡ Some (view x)
-GivesWords view (Err e) reading = IsNoReading e reading
+-- two readings of which each tells its fault: what they make together, or the first fault
+abbrev pub both : {A B C E : Type 0} → (A → B → C) → Result A E → Result B E → Result C E
+both together (Ok first) (Ok second) = Ok (together first second)
+both together (Ok first) (Err fault) = Err fault
+both together (Err fault) second = Err fault

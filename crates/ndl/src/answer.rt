@@ -1,15 +1,18 @@
 //! The answer to a whole input: its text and its status.
-ghost use Rattle.std.specs.Prelude.{◌≡◌, ◌≤◌, Some, length, IfOk};
-ghost use Rattle.nd_base.specs.Signed.{all_signed};
-ghost use Rattle.ndl.specs.Answer.{answer_of, listing, refused as refusal, reply_to_script, unreadable as unreadable_reply, IsReply};
-ghost use Rattle.ndl.specs.Layouts.{HasFewAxes, layout_value};
+ghost use Rattle.std.specs.Prelude.{◌≡◌, ◌≤◌, map, IfOk};
+ghost use Rattle.nd_base.specs.Signed.{all_signed, unsigned as unsigned_bits};
+ghost use Rattle.ndarray_layout.specs.SlicedView.{shape_fault};
+ghost use Rattle.ndl.specs.Answer.{answer_of, listing, refused as refusal, IsReply};
+ghost use Rattle.ndl.specs.Answer.{reply_to_script, reply_to_steps, unreadable as unreadable_reply};
+ghost use Rattle.ndl.specs.Answer.{step_fault, view_after};
 ghost use Rattle.ndl.specs.Script.{script_value};
+ghost use Rattle.ndl.specs.StepLine.{step_value};
 
 use crate::script::{ReadError, Script, read_script};
+use crate::step_line::Step;
 use crate::text::push_line;
 use ndarray_layout::{
-    Dimension, ErrorKind, LayoutError, Order, ShapeError, Strided, from_kind, new_ix1, new_ix2,
-    signed, unsigned,
+    IxDyn, LayoutError, Lengths, Order, ShapeError, Strided, new_ixdyn, signed, unsigned,
 };
 use std::alloc::{AllocError, Global};
 
@@ -46,7 +49,7 @@ fn unreadable(alloc: Global, line: usize) -> Result<Answer, AllocError>
     })
 }
 
-/// The answer where a step has a fault: 0 is the layout, 1 its slice.
+/// The answer where a step has a fault: 0 is the layout, and the steps after it count from 1.
 fn refused(alloc: Global, step: usize, fault: &ShapeError) -> Result<Answer, AllocError>
     ensures { IfOk result (λ answer. IsReply answer (refusal step fault.now)) }
 {
@@ -56,48 +59,61 @@ fn refused(alloc: Global, step: usize, fault: &ShapeError) -> Result<Answer, All
     })
 }
 
-/// The answer to a script, whose layout has one or two axes.
-fn answer_to_script(alloc: Global, script: &Script) -> Result<Answer, AllocError>
-    requires { HasFewAxes (layout_value script.now.layout) }
-    ensures { IfOk result (λ answer. IsReply answer (reply_to_script (script_value script.now))) }
+/// The strides, each as it is kept.
+fn unsigned_strides(alloc: Global, strides: &[isize]) -> Result<Vec<usize>, AllocError>
+    ensures bits { IfOk result (λ kept. kept.items ≡ map unsigned_bits strides.now) }
+    ensures back { IfOk result (λ kept. all_signed kept.items ≡ strides.now) }
 {
-    let lens = script.layout.shape.as_slice();
-    let strides = script.layout.strides.as_slice();
-    if lens.len() != strides.len() {
-        return refused(alloc, 0, &from_kind(ErrorKind::IncompatibleLayout));
-    }
-    if lens.len() == 1 {
-        let strides = new_ix1(unsigned(strides[0]));
-        return answer_to_layout(alloc, new_ix1(lens[0]), strides, script);
-    }
-    let strides = new_ix2(unsigned(strides[0]), unsigned(strides[1]));
-    answer_to_layout(alloc, new_ix2(lens[0], lens[1]), strides, script)
+    strides
+        .iter()
+        .map(|stride| unsigned(*stride))
+        .collect(alloc)
 }
 
-/// The same over a dimension type: the layout first, and then its slice.
-fn answer_to_layout<D: Dimension>(
-    alloc: Global,
-    dim: D,
-    strides: D,
-    script: &Script,
-) -> Result<Answer, AllocError>
-    requires shape { D.list dim ≡ script.now.layout.shape.items }
-    requires strides { all_signed (D.list strides) ≡ script.now.layout.strides.items }
-    requires fixed { D.NDIM ≡ Some (length (D.list dim)) }
+/// The answer to a script: the layout first, and then the steps.
+fn answer_to_script(alloc: Global, script: &Script) -> Result<Answer, AllocError>
     ensures { IfOk result (λ answer. IsReply answer (reply_to_script (script_value script.now))) }
 {
     let layout = &script.layout;
-    let view = match Strided::new(dim, strides, 1, layout.len, layout.mode) {
-        Ok(view) => view,
-        Err(fault) => return refused(alloc, 0, &fault),
-    };
-    let Some(elems) = &script.slice else {
-        return list(alloc, &view);
-    };
-    match view.slice::<D, _>(alloc, elems) {
-        Ok(slice) => list(alloc, &slice),
-        Err(LayoutError::Shape(fault)) => refused(alloc, 1, &fault),
-        Err(LayoutError::Memory(error)) => Err(error),
+    let dim = new_ixdyn(alloc, &layout.shape)?;
+    let strides = new_ixdyn(alloc, &unsigned_strides(alloc, &layout.strides)?)?;
+    match Strided::new(dim, strides, 1, layout.len, layout.mode) {
+        Ok(view) => answer_to_steps(alloc, view, &script.steps),
+        Err(fault) => refused(alloc, 0, &fault),
+    }
+}
+
+/// The answer to steps from a view.
+fn answer_to_steps(
+    alloc: Global,
+    view: Strided<IxDyn>,
+    steps: &[Step],
+) -> Result<Answer, AllocError>
+    ensures { IfOk result (λ answer. IsReply answer
+        (reply_to_steps 1 view (map step_value steps.now))) }
+{
+    let mut view = view;
+    for (at, step) in steps.iter().enumerate() {
+        match take_step(alloc, &view, step) {
+            Ok(next) => view = next,
+            Err(LayoutError::Shape(fault)) => return refused(alloc, at + 1, &fault),
+            Err(LayoutError::Memory(error)) => return Err(error),
+        }
+    }
+    list(alloc, &view)
+}
+
+/// The view after a step.
+fn take_step(
+    alloc: Global,
+    view: &Strided<IxDyn>,
+    step: &Step,
+) -> Result<Strided<IxDyn>, LayoutError>
+    ensures fault { shape_fault result ≡ step_fault view.now (step_value step.now) }
+    ensures view { IfOk result (λ next. next ≡ view_after view.now (step_value step.now)) }
+{
+    match step {
+        Step::Slice(elems) => view.slice(alloc, elems),
     }
 }
 
@@ -109,7 +125,7 @@ fn signed_strides(alloc: Global, strides: &[usize]) -> Result<Vec<isize>, AllocE
 }
 
 /// The answer that lists a view.
-fn list<D: Dimension>(alloc: Global, view: &Strided<D>) -> Result<Answer, AllocError>
+fn list(alloc: Global, view: &Strided<IxDyn>) -> Result<Answer, AllocError>
     ensures { IfOk result (λ answer. IsReply answer (listing view.now)) }
 {
     let strides = signed_strides(alloc, view.strides().slice())?;

@@ -1,5 +1,6 @@
 //! Elements of a slice argument as words spell them.
 ghost use Rattle.std.specs.Prelude.{◌≡◌};
+ghost use Rattle.ndl.specs.Bytes.{dot};
 ghost use Rattle.ndl.specs.Lines.{parts};
 ghost use Rattle.ndl.specs.Elements.{element_of, slice_of_bounds, start_of, end_of};
 
@@ -28,7 +29,7 @@ fn end(text: &[u8]) -> Option<Option<isize>>
 
 /// A range with a step.
 fn slice(range: &[u8], step: isize) -> Option<SliceInfoElem>
-    ensures { result ≡ slice_of_bounds step (parts 46 range.now) }
+    ensures { result ≡ slice_of_bounds step (parts dot range.now) }
 {
     let (start_text, rest) = split_once(range, b'.')?;
     let end_text = rest.strip_prefix(b".")?;

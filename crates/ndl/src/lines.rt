@@ -37,6 +37,8 @@ pub fn next_line(alloc: Global, text: &[u8], number: usize) -> Result<Option<Lin
         (λ line. lines_from number text.now
         ≡ (line.number, map (λ word. word.now) line.words.items)
         ∷ lines_from (line.number + 1) line.rest.now)) }
+    ensures shorter { IfOk result (λ found. IfSome found
+        (λ line. length line.rest.now < length text.now)) }
     ensures counted { IfOk result (λ found. IfSome found
         (λ line. line.number + length line.rest.now < number + length text.now)) }
 {

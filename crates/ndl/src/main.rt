@@ -1,16 +1,18 @@
-//! Reads a layout and its slice, and prints where its elements lie.
+//! Reads a layout and the steps to take from it, and prints where the elements that are left lie.
 #![tactic(auto)]
 
 mod answer;
+mod data_line;
 mod device;
 mod elements;
 #[cfg(test)]
 mod fakes;
-mod layouts;
 mod lines;
 mod numbers;
+mod read_by_now;
 mod script;
 mod session;
+mod step_line;
 mod text;
 mod watched;
 mod words;

@@ -1,22 +1,23 @@
 //! Reads a whole script.
-ghost use Rattle.std.specs.Prelude.{◌≡◌, ◌+◌, ◌<◌, ◌^◌, length};
-ghost use Rattle.std.specs.Option.{option_map};
+ghost use Rattle.std.specs.Prelude.{◌≡◌, ◌+◌, ◌<◌, ◌^◌, length, map};
 ghost use Rattle.ndl.specs.Lines.{lines_from};
-ghost use Rattle.ndl.specs.Script.{Gives, error_on_line, slice_of_lines, script_of, script_value};
+ghost use Rattle.ndl.specs.ReadByNow.{step_lines_read_by_now};
+ghost use Rattle.ndl.specs.Script.{Gives, script_of, script_value, steps_of_lines};
+ghost use Rattle.ndl.specs.StepLine.{step_value};
 
-use crate::layouts::{Layout, read_elements, read_layout};
+use crate::data_line::{Layout, read_layout};
 use crate::lines::next_line;
-use crate::words::WordError;
-use nd_slice::SliceInfoElem;
-use std::alloc::{AllocError, Global};
+use crate::read_by_now::words_read_by_now;
+use crate::step_line::{Step, read_step};
+use std::alloc::{AllocError, AllocFailed, Global};
 
-/// A layout, and the slice of it if the script asks for one.
+/// A layout, and the steps to take from it, in order.
 #[derive(Drop)]
 pub struct Script {
     /// The layout that the first line makes.
     pub layout: Layout,
-    /// The elements of the slice that the second line asks for.
-    pub slice: Option<Vec<SliceInfoElem>>,
+    /// The steps that the lines after it ask for.
+    pub steps: Vec<Step>,
 }
 
 /// Why a script could not be read.
@@ -38,36 +39,35 @@ impl From<AllocError> for ReadError {
     }
 }
 
-impl WordError {
-    /// The error of the line whose words could not be read.
-    fn on_line(self, number: usize) -> ReadError
-        ensures { result ≡ error_on_line self number }
-    {
-        match self {
-            WordError::Unreadable => ReadError::Unreadable(number),
-            WordError::Memory => ReadError::Memory,
-        }
+impl<T: Drop> From<AllocFailed<T>> for ReadError {
+    ghost use Rattle.ndl.specs.declared.script.ReadError.TheVariants.{Memory};
+
+    ghost from_gives = { λ _ error. error ≡ Memory };
+
+    fn from(_error: AllocFailed<T>) -> Self {
+        ReadError::Memory
     }
 }
 
-/// The slice that follows a layout: one line at most.
-fn read_slice(
-    alloc: Global,
-    text: &[u8],
-    number: usize,
-) -> Result<Option<Vec<SliceInfoElem>>, ReadError>
+/// The steps that follow a layout, from the line with this number on.
+fn read_steps(alloc: Global, text: &[u8], number: usize) -> Result<Vec<Step>, ReadError>
     requires { number + length text.now < 2 ^ 64 }
-    ensures { Gives (option_map (λ v. v.items)) result
-        (slice_of_lines (lines_from number text.now)) }
+    ensures { Gives (λ v. map step_value v.items) result
+        (steps_of_lines (step_lines_read_by_now 0 (lines_from number text.now))) }
 {
-    let Some(line) = next_line(alloc, text, number)? else {
-        return Ok(None);
-    };
-    let elements = read_elements(alloc, &line.words).map_err(|error| error.on_line(line.number))?;
-    match next_line(alloc, line.rest, line.number + 1)? {
-        Some(further) => Err(ReadError::Unreadable(further.number)),
-        None => Ok(Some(elements)),
+    let mut steps = Vec::new(alloc);
+    let mut rest = text;
+    let mut number = number;
+    while let Some(line) = next_line(alloc, rest, number)? {
+        let words = words_read_by_now(steps.len(), &line.words);
+        let Some(step) = read_step(alloc, words)? else {
+            return Err(ReadError::Unreadable(line.number));
+        };
+        steps.push(step)?;
+        rest = line.rest;
+        number = line.number + 1;
     }
+    Ok(steps)
 }
 
 /// The script that an input spells. All of it is read before any of it is used: one line that can't
@@ -78,9 +78,12 @@ pub fn read_script(alloc: Global, input: &[u8]) -> Result<Script, ReadError>
     let Some(line) = next_line(alloc, input, 1)? else {
         return Err(ReadError::Unreadable(1));
     };
-    let layout = read_layout(alloc, &line.words).map_err(|error| error.on_line(line.number))?;
-    let slice = read_slice(alloc, line.rest, line.number + 1)?;
-    Ok(Script { layout, slice })
+    let words = words_read_by_now(0, &line.words);
+    let Some(layout) = read_layout(alloc, words)? else {
+        return Err(ReadError::Unreadable(line.number));
+    };
+    let steps = read_steps(alloc, line.rest, line.number + 1)?;
+    Ok(Script { layout, steps })
 }
 
 #[cfg(test)]

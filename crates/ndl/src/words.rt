@@ -1,40 +1,11 @@
 //! The words of a line, and the entries of a list.
 ghost use Rattle.std.specs.Prelude.{◌≡◌, ◌<◌, ℕ, List, [], ◌∷◌, Option, map, length};
 ghost use Rattle.std.specs.Prelude.{IfOk, IfSome, MatchOption};
+ghost use Rattle.std.specs.Option.{option_map};
 ghost use Rattle.ndl.specs.Lines.{parts, words_of};
 ghost use Rattle.ndl.specs.Numbers.{list_of};
-ghost use Rattle.ndl.specs.Reading.{GivesWords};
 
-use std::alloc::{AllocError, AllocFailed, Global};
-
-/// Why words could not be read.
-#[derive(Debug, Drop)]
-pub enum WordError {
-    /// They aren't of the grammar.
-    Unreadable,
-    /// A growth was refused.
-    Memory,
-}
-
-impl From<AllocError> for WordError {
-    ghost use Rattle.ndl.specs.declared.words.WordError.TheVariants.{Memory};
-
-    ghost from_gives = { λ _ error. error ≡ Memory };
-
-    fn from(_error: AllocError) -> Self {
-        WordError::Memory
-    }
-}
-
-impl<T: Drop> From<AllocFailed<T>> for WordError {
-    ghost use Rattle.ndl.specs.declared.words.WordError.TheVariants.{Memory};
-
-    ghost from_gives = { λ _ error. error ≡ Memory };
-
-    fn from(_error: AllocFailed<T>) -> Self {
-        WordError::Memory
-    }
-}
+use std::alloc::{AllocError, Global};
 
 /// What an entry of a list can be.
 pub trait Entry: Sized + Drop {
@@ -64,19 +35,28 @@ pub fn split_once(text: &[u8], separator: u8) -> Option<(&[u8], &[u8])>
     Some((&text[..at], &text[at + 1..]))
 }
 
-/// The entries of a list, parted by commas; `-` is the empty list.
-pub fn list<T: Entry>(alloc: Global, word: &[u8]) -> Result<Vec<T>, WordError>
-    ensures { GivesWords (λ v. v.items) result (list_of T.entry_of word.now) }
+/// The entries of a list, parted by commas; `-` is the empty list. None where one can't be read.
+///
+/// Errors: want of memory.
+pub fn list<T: Entry>(alloc: Global, word: &[u8]) -> Result<Option<Vec<T>>, AllocError>
+    ensures { IfOk result (λ found. option_map (λ v. v.items) found
+        ≡ list_of T.entry_of word.now) }
 {
     let mut entries = Vec::new(alloc);
     if word == b"-".as_slice() {
-        return Ok(entries);
+        return Ok(Some(entries));
     }
     let mut rest = word;
     while let Some((text, after)) = split_once(rest, b',') {
-        entries.push(T::read(text).ok_or(WordError::Unreadable)?)?;
+        let Some(entry) = T::read(text) else {
+            return Ok(None);
+        };
+        entries.push(entry)?;
         rest = after;
     }
-    entries.push(T::read(rest).ok_or(WordError::Unreadable)?)?;
-    Ok(entries)
+    let Some(entry) = T::read(rest) else {
+        return Ok(None);
+    };
+    entries.push(entry)?;
+    Ok(Some(entries))
 }

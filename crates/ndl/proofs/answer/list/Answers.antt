@@ -5,7 +5,7 @@ use Rattle.ndl.proofs.Listing.{listing_text}
 use Rattle.ndl.proofs.answer.list.Goals as goal
 
 pub returns : goal.returns
-returns g c =
+returns c =
     let shape = c.slice-2.ensures.list ∙ c.dim.ensures.list in
     let strides = c.as_slice.ensures.value ∙ (c.in_ok-strides.ensures ∙ (ap all_signed c.slice.ensures.list ∙ c.strides.ensures.list)) in
     let places = ap (map pos) c.as_slice-2.ensures.value ∙ c.in_ok-places.ensures.items in

@@ -1,5 +1,6 @@
 use Rattle.std.proofs.Common.{◌≡◌, sym, ◌∙◌, Some, refl, rules}
 use Rattle.nd_slice.specs.declared.slice.SliceInfoElem.TheVariants as elem
+use Rattle.ndl.specs.Bytes.{dot}
 use Rattle.ndl.specs.Lines.{parts}
 use Rattle.ndl.specs.Elements.{slice_of_bounds}
 use Rattle.ndl.proofs.Slices.{cut_bounds}
@@ -13,5 +14,5 @@ returns-in_err-end c =
 pub returns : goal.returns
 returns c =
     let cut = cut_bounds c.args.step c.args.range.now c.in_ok-start_text.start_text.now c.in_ok-start_text.rest.now c.in_ok-end_text.end_text.now c.in_ok-start_text.ensures.parts c.in_ok-end_text.ensures.cases.0 c.in_ok-end_text.ensures.cases.1 in
-    let read : slice_of_bounds c.args.step (parts 46 c.args.range.now) ≡ Some (elem.Slice c.in_ok-start.field-0 c.in_ok-end.field-0 c.args.step) = rw (cut, sym c.start.ensures ∙ c.in_ok-start.was, sym c.end.ensures ∙ c.in_ok-end.was) refl in
+    let read : slice_of_bounds c.args.step (parts dot c.args.range.now) ≡ Some (elem.Slice c.in_ok-start.field-0 c.in_ok-end.field-0 c.args.step) = rw (cut, sym c.start.ensures ∙ c.in_ok-start.was, sym c.end.ensures ∙ c.in_ok-end.was) refl in
     rw read (search rules)

@@ -6,6 +6,7 @@ use Rattle.ndl.proofs.lines.next_line.Given as goal
 abbrev pub invariant-loop-line : goal.invariant-loop-line
 invariant-loop-line l = record {
   lines : lines_from l.number l.rest ≡ lines_from l.fn.number l.text;
+  shorter : length l.rest ≤ length l.text;
   counted : l.number + length l.rest ≤ l.fn.number + length l.text;
 }
 

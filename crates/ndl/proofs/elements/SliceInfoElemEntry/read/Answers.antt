@@ -1,4 +1,5 @@
 use Rattle.std.proofs.Common.{◌≡◌, None, rules, sym, ◌∙◌, refl}
+use Rattle.ndl.specs.Bytes.{dot}
 use Rattle.ndl.specs.Lines.{parts}
 use Rattle.ndl.specs.Elements.{element_of, slice_of_bounds}
 use Rattle.ndl.proofs.Slices.{with_step}
@@ -11,5 +12,5 @@ returns-in_err-read-in-Some c =
 
 pub returns-in_ok-read-in-Some : goal.returns-in_ok-read-in-Some
 returns-in_ok-read-in-Some c =
-    let read : element_of c.args.text.now ≡ slice_of_bounds c.in_ok-read-in-Some.field-0 (parts 46 c.in-Some.range.now) = rw (c.in-Some.ensures.parts, with_step c.in-Some.range.now c.in-Some.step.now, sym c.read.ensures ∙ c.in_ok-read-in-Some.was) refl in
+    let read : element_of c.args.text.now ≡ slice_of_bounds c.in_ok-read-in-Some.field-0 (parts dot c.in-Some.range.now) = rw (c.in-Some.ensures.parts, with_step c.in-Some.range.now c.in-Some.step.now, sym c.read.ensures ∙ c.in_ok-read-in-Some.was) refl in
     rw read (search rules)
