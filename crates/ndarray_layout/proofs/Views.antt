@@ -15,7 +15,7 @@ use Rattle.nd_slice.specs.SliceFault.{in_count, out_count, first_fault}
 use Rattle.nd_slice.specs.Sliced.{sliced_shape, sliced_strides}
 use Rattle.nd_slice.specs.Selected.{selected}
 use Rattle.ndarray_layout.specs.View.{View, IsView, place_at, view_places}
-use Rattle.ndarray_layout.specs.SlicedView.{IsSliceOf, sliced_start, slice_refusal, is_count}
+use Rattle.ndarray_layout.specs.SlicedView.{IsSliceOf, sliced_start, slice_refusal}
 use Rattle.nd_base.proofs.laws.Indices.{indices_in_of_empty}
 use Rattle.nd_base.proofs.laws.NonzeroSize.{size_le_nonzero_size}
 use Rattle.nd_base.proofs.laws.Span.{low_high_span}

@@ -1,5 +1,6 @@
 -- What slicing makes of a view, and which slices are refused.
 use Rattle.std.specs.Prelude.{◌≡◌, ℕ, ℤ, pos, negsuc, ◌+ℤ◌, Bool, true, not, ◌||◌, ◌==◌, Option, Some, None, Result, Ok, Err, if◌then◌else◌, List, [], ◌∷◌, length, refl}
+use Rattle.std.specs.Option.{option_map_or}
 use Rattle.nd_base.specs.declared.error.ErrorKind.{ErrorKind}
 use Rattle.nd_base.specs.declared.error.ErrorKind.TheVariants.{IncompatibleShape, OutOfBounds}
 use Rattle.nd_base.specs.declared.error.LayoutError.{LayoutError}
@@ -33,15 +34,10 @@ IsSliceOf elems view result = result ≡ slice_of elems view
 abbrev pub KeepsPlaces : List SliceInfoElem → View → View → Type 0
 KeepsPlaces elems view result = (index : List ℕ) → is_index result.shape index ≡ true → (is_index view.shape (selected elems view.shape index) ≡ true) × (place_at result index ≡ place_at view (selected elems view.shape index))
 
--- n is a count of axes that the type allows
-abbrev pub is_count : Option ℕ → ℕ → Bool
-is_count None n = true
-is_count (Some count) n = n == count
-
--- the fault of an argument on a shape where the slice has a type: counts of axes before any element
+-- the fault of an argument on a shape where the type of the slice may fix its count of axes: counts before any element
 abbrev pub slice_refusal : Option ℕ → List ℕ → List SliceInfoElem → Option ErrorKind
 slice_refusal fixed shape elems =
-    if not (in_count elems == length shape) || not (is_count fixed (out_count elems)) then Some IncompatibleShape
+    if not (in_count elems == length shape) || not (option_map_or (λ count. out_count elems == count) fixed true) then Some IncompatibleShape
     else first_fault shape elems
 
 -- the rule that a call refused by, if it did

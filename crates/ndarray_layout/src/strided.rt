@@ -1,12 +1,13 @@
 //! Views of data: a shape and strides that were accepted, with the place of the first index.
 ghost use Rattle.std.specs.List.{All};
-ghost use Rattle.std.specs.Prelude.{◌≡◌, ℕ, ◌<◌, pos, None, map, vec_len, vec_capacity, IfOk, IsOk};
+ghost use Rattle.std.specs.Prelude.{◌≡◌, ℕ, ◌<◌, pos, None, map, vec_len, vec_capacity, IfOk, IsOk, Some, slice_get};
 ghost use Rattle.std.specs.Option.{option_map};
 ghost use Rattle.std.specs.Result.{result_err};
 ghost use Rattle.nd_base.specs.Signed.{all_signed};
 ghost use Rattle.nd_shape.specs.Acceptance.{acceptance};
 ghost use Rattle.nd_shape.specs.declared.checks.CanIndexCheckMode.TheVariants.{OwnedMutable};
 ghost use Rattle.nd_base.specs.Lengths.{NeedsNoMemory};
+ghost use Rattle.nd_base.specs.Rank.{index_of_rank_in};
 ghost use Rattle.nd_base.specs.Size.{size};
 ghost use Rattle.nd_base.specs.Span.{low_span};
 ghost use Rattle.nd_slice.specs.SliceFault.{out_count};
@@ -14,7 +15,7 @@ ghost use Rattle.ndarray_layout.specs.DistinctPlaces.{HasDistinctPlaces};
 ghost use Rattle.ndarray_layout.specs.SlicedView.{IsSliceOf, KeepsPlaces};
 ghost use Rattle.ndarray_layout.specs.SlicedView.{shape_fault, slice_refusal};
 ghost use Rattle.ndarray_layout.specs.View.{IsView, LiesWithin};
-ghost use Rattle.ndarray_layout.specs.View.{view_of, checked_place, view_places};
+ghost use Rattle.ndarray_layout.specs.View.{view_of, checked_place, place_at, view_places};
 
 use crate::places::{offset_place, push_places};
 use crate::slicing::{check_counts_and_elems, slice_axes};
@@ -115,6 +116,9 @@ impl<D: Dimension> Strided<D> {
         ensures items { IfOk result (λ v. map pos v.items ≡ view_places order self.now) }
         ensures len { IfOk result (λ v. vec_len v ≡ size self.now.shape) }
         ensures capacity { IfOk result (λ v. vec_capacity v ≡ size self.now.shape) }
+        ensures at_rank { IfOk result (λ v. (r : ℕ) → r < size self.now.shape →
+            option_map pos (slice_get v.items r)
+            ≡ Some (place_at self.now (index_of_rank_in order self.now.shape r))) }
         ensures inside { IfOk result (λ v. (len : ℕ) → LiesWithin len self.now →
             All (λ place. place < len) v.items) }
         ensures memory { size self.now.shape ≡ 0 → IsOk result }

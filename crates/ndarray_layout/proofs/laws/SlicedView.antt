@@ -1,6 +1,7 @@
 -- Laws of slices of views: a slice is a view of the same data, whose indices lie where those that they stand for do.
 use Rattle.std.proofs.Common.{◌≡◌, ℕ, ℤ, pos, negsuc, ◌+ℤ◌, ◌≤ℤ◌, Option, Some, None, Bool, true, false, not, ◌||◌, cond, eqb, List, length, sym, subst, ◌∙◌, refl, arith}
 use Rattle.std.proofs.lemmas.Int.{ints}
+use Rattle.std.specs.Option.{option_map_or}
 use Rattle.nd_base.specs.declared.error.ErrorKind.TheVariants.{IncompatibleShape}
 use Rattle.nd_base.specs.Indices.{is_index}
 use Rattle.nd_base.specs.Signed.{magnitude}
@@ -15,13 +16,13 @@ use Rattle.nd_slice.specs.Selected.{selected}
 use Rattle.nd_slice.proofs.laws.Selected.{selected_injective}
 use Rattle.nd_slice.proofs.laws.SliceFault.{elements_of_no_fault}
 use Rattle.ndarray_layout.specs.DistinctPlaces.{HasDistinctPlaces}
-use Rattle.ndarray_layout.specs.SlicedView.{KeepsPlaces, slice_of, sliced_start, slice_refusal, is_count}
+use Rattle.ndarray_layout.specs.SlicedView.{KeepsPlaces, slice_of, sliced_start, slice_refusal}
 use Rattle.ndarray_layout.specs.View.{View, IsView, LiesWithin, place_at}
 use Rattle.ndarray_layout.proofs.Slices.{SliceKept, slices_kept, places_kept}
 
 -- an argument that is not refused fits the shape
 pub fits_of_no_refusal : (fixed : Option ℕ) (shape : List ℕ) (elems : List SliceInfoElem) → slice_refusal fixed shape elems ≡ None → argument_fault shape elems ≡ None
-fits_of_no_refusal fixed shape elems = by (eqb (in_count elems) (length shape)) (is_count fixed (out_count elems))
+fits_of_no_refusal fixed shape elems = by (eqb (in_count elems) (length shape)) (option_map_or (λ count. eqb (out_count elems) count) fixed true)
   where
     by : (t u : Bool) → cond (not t || not u) (Some IncompatibleShape) (first_fault shape elems) ≡ None → cond t (first_fault shape elems) (Some IncompatibleShape) ≡ None
     by true true none = none

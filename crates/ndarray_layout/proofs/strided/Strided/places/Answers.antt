@@ -4,7 +4,7 @@ use Rattle.nd_base.specs.Signed.{all_signed}
 use Rattle.nd_base.specs.Size.{size}
 use Rattle.ndarray_layout.specs.View.{View}
 use Rattle.ndarray_layout.specs.Walk.{nested}
-use Rattle.ndarray_layout.proofs.laws.View.{items_lie_within}
+use Rattle.ndarray_layout.proofs.laws.View.{item_at_rank, items_lie_within}
 use Rattle.ndarray_layout.proofs.Reversed.{places_nested, size_nested, view_nested}
 use Rattle.ndarray_layout.proofs.Views.{size_fits, no_places}
 use Rattle.ndarray_layout.proofs.strided.Strided.places.Goals as goal
@@ -41,6 +41,7 @@ returns g c =
             items = same;
             len = omega (arith, w.push_places.ensures.len, c.in_ok-places.ensures.len, whole);
             capacity = w.push_places.ensures.capacity ∙ c.in_ok-places.ensures.exact ∙ known;
+            at_rank = λ r below. item_at_rank order view w.push_places.new.places.items r same below;
             inside = λ len within. items_lie_within len order view w.push_places.new.places.items same within;
             memory = λ none. refl;
           })
@@ -51,6 +52,7 @@ returns g c =
             items = same;
             len = c.in_ok-places.ensures.len ∙ sym none;
             capacity = c.in_ok-places.ensures.exact ∙ known;
+            at_rank = λ r below. item_at_rank order view c.in_ok-places.places.items r same below;
             inside = λ len within. items_lie_within len order view c.in_ok-places.places.items same within;
             memory = λ none. refl;
           })
