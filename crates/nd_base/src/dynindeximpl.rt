@@ -68,9 +68,12 @@ impl IxDynImpl {
         ensures list { IfOk result (λ dim. dim ≡ replicate n 0) }
         ensures memory { n ≤ 4 → IsOk result }
     {
-        Ok(IxDynImpl {
-            lens: SmallVec::from_elem(alloc, 0, n)?,
-        })
+        let lens = if n <= 4 {
+            SmallVec::from_slice(alloc, &[0; 4][..n])?
+        } else {
+            SmallVec::from_elem(alloc, 0, n)?
+        };
+        Ok(IxDynImpl { lens })
     }
 
     /// The lengths with a new axis of length 1 at place `i`. Upstream's `insert`.

@@ -11,6 +11,7 @@ ghost use Rattle.nd_base.specs.ValidLayout.{IsValidLayout};
 use crate::strides::stride_offset;
 
 /// The sum of each entry times its stride.
+#[inline(always)]
 pub fn index_offset(index: &[usize], strides: &[usize]) -> isize
     requires small { All (λ entry. entry ≤ limit) index.now }
     requires fits { farthest_offset (all_signed strides.now) index.now ≤ limit }
@@ -24,6 +25,7 @@ pub fn index_offset(index: &[usize], strides: &[usize]) -> isize
 }
 
 /// Whether each entry is below the length beside it.
+#[inline(always)]
 fn all_below(shape: &[usize], index: &[usize]) -> bool
     ensures { result ≡ list_all (λ pair. nat_lt pair.1 pair.0) (zip shape.now index.now) }
 {
@@ -31,6 +33,7 @@ fn all_below(shape: &[usize], index: &[usize]) -> bool
 }
 
 /// Whether the entries are as many as the lengths, each below its length.
+#[inline(always)]
 fn is_index(shape: &[usize], index: &[usize]) -> bool
     ensures { result ≡ is_index_of_shape shape.now index.now }
 {
@@ -39,6 +42,7 @@ fn is_index(shape: &[usize], index: &[usize]) -> bool
 
 /// How many elements lie between the first index of the shape `dim` and this one, with its sign;
 /// `None` where this is no index of the shape. Upstream's `stride_offset_checked`.
+#[inline(always)]
 pub fn stride_offset_checked(dim: &[usize], strides: &[usize], index: &[usize]) -> Option<isize>
     requires { IsValidLayout dim.now (all_signed strides.now) }
     ensures { result ≡ checked_offset dim.now (all_signed strides.now) index.now }

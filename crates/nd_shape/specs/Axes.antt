@@ -1,7 +1,6 @@
 -- The axes of a layout, with their lengths and strides.
 use Rattle.std.specs.Prelude.{◌≡◌, ℕ, ◌+◌, ℤ, pos, negsuc, List, [], ◌∷◌, refl}
 use Rattle.nd_base.specs.Signed.{all_signed}
-use Rattle.nd_base.specs.declared.axis.Axis.{Axis}
 use Rattle.nd_shape.specs.declared.axes.iter.AxisDescription.{AxisDescription}
 use Rattle.nd_shape.specs.declared.axes.iter.Axes.{Axes}
 

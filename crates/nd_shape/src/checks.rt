@@ -29,6 +29,7 @@ pub enum CanIndexCheckMode {
 }
 
 /// The number of indices of a shape.
+#[inline(always)]
 fn size_of_lengths(shape: &[usize]) -> Result<usize, ShapeError>
     ensures ok { IfOk result (λ n. n ≡ size shape.now) }
     ensures fault { result_err result ≡
@@ -52,6 +53,7 @@ pub fn size_of_shape_checked<D: Dimension>(dim: &D) -> Result<usize, ShapeError>
 
 /// The span of a layout, where the product of the lengths that are not 0, the span, and the span
 /// in bytes are each at most the greatest `isize`.
+#[inline(always)]
 fn span_within_limits(elem_size: usize, shape: &[usize], strides: &[usize]) -> Option<usize>
     ensures { SomeIff result
         ((nonzero_size shape.now ≤ limit)
@@ -66,6 +68,7 @@ fn span_within_limits(elem_size: usize, shape: &[usize], strides: &[usize]) -> O
 }
 
 /// The span of a layout.
+#[inline(always)]
 fn span_of_lengths(
     elem_size: usize,
     shape: &[usize],
@@ -99,6 +102,7 @@ pub fn max_abs_offset_check_overflow<D: Dimension>(
 }
 
 /// Whether a layout is accepted over data of `len` elements.
+#[inline(always)]
 fn accept(
     elem_size: usize,
     len: usize,
@@ -202,6 +206,7 @@ pub fn can_index_slice_with_strides<D: Dimension>(
 }
 
 /// Whether a stride leads back.
+#[inline(always)]
 fn leads_back(stride: usize) -> bool
     ensures { result ≡ is_negative (signed_reading stride) }
 {
@@ -209,6 +214,7 @@ fn leads_back(stride: usize) -> bool
 }
 
 /// Whether some stride leads back.
+#[inline(always)]
 fn some_lead_back(strides: &[usize]) -> bool
     ensures { result ≡ list_any (λ stride. is_negative (signed_reading stride)) strides.now }
 {

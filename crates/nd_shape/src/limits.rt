@@ -7,6 +7,7 @@ ghost use Rattle.nd_base.specs.Span.{reach as reach_of_axis, span};
 use nd_dim::signed;
 
 /// The product, where it is at most the greatest `isize`.
+#[inline(always)]
 pub fn multiply(a: usize, b: usize) -> Option<usize>
     ensures { SomeIff result (a * b ≤ limit) (a * b) }
 {
@@ -14,6 +15,7 @@ pub fn multiply(a: usize, b: usize) -> Option<usize>
 }
 
 /// The sum, where it is at most the greatest `isize`.
+#[inline(always)]
 fn add(a: usize, b: usize) -> Option<usize>
     ensures { SomeIff result (a + b ≤ limit) (a + b) }
 {
@@ -21,6 +23,7 @@ fn add(a: usize, b: usize) -> Option<usize>
 }
 
 /// The product of the lengths that are not 0, where it is at most the greatest `isize`.
+#[inline(always)]
 pub fn checked_nonzero_size(shape: &[usize]) -> Option<usize>
     ensures { SomeIff result (nonzero_size shape.now ≤ limit) (nonzero_size shape.now) }
 {
@@ -35,6 +38,7 @@ pub fn checked_nonzero_size(shape: &[usize]) -> Option<usize>
 
 /// How many elements lie between the first and the last entry of an axis, where that is at most
 /// the greatest `isize`.
+#[inline(always)]
 fn checked_reach(len: usize, stride: usize) -> Option<usize>
     ensures { SomeIff result
         (reach_of_axis len (signed_reading stride) ≤ limit)
@@ -45,6 +49,7 @@ fn checked_reach(len: usize, stride: usize) -> Option<usize>
 
 /// How many elements lie between the lowest and the highest index, where that is at most the
 /// greatest `isize`.
+#[inline(always)]
 pub fn checked_span(shape: &[usize], strides: &[usize]) -> Option<usize>
     ensures { SomeIff result
         (span shape.now (all_signed strides.now) ≤ limit)
@@ -58,6 +63,7 @@ pub fn checked_span(shape: &[usize], strides: &[usize]) -> Option<usize>
 }
 
 /// How many elements lie between the first and the last entry of an axis.
+#[inline(always)]
 pub fn reach(len: usize, stride: isize) -> usize
     requires { reach_of_axis len stride ≤ limit }
     ensures { result ≡ reach_of_axis len stride }

@@ -9,6 +9,7 @@ use crate::limits::reach;
 use nd_dim::{Dimension, signed};
 
 /// How many elements lie between the lowest entry of an axis and the first one.
+#[inline(always)]
 fn reach_down(len: usize, stride: usize) -> usize
     requires { reach_down_of_axis len (signed_reading stride) ≤ limit }
     ensures { result ≡ reach_down_of_axis len (signed_reading stride) }
@@ -18,6 +19,7 @@ fn reach_down(len: usize, stride: usize) -> usize
 }
 
 /// How many elements lie between the lowest index and the first one.
+#[inline(always)]
 fn low_span(shape: &[usize], strides: &[usize]) -> usize
     requires { span shape.now (all_signed strides.now) ≤ limit }
     ensures { result ≡ low_span_of_layout shape.now (all_signed strides.now) }

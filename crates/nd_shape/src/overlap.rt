@@ -1,5 +1,6 @@
 //! Whether two indices of a layout may share an element.
-ghost use Rattle.std.specs.Prelude.{◌≡◌, ◌<◌, ◌≤◌, ◌↔◌, ◌⊎◌, IsTrue, IsFalse, not, ◌&&◌, [], ◌∷◌, length};
+ghost use Rattle.std.specs.Option.{IfSome};
+ghost use Rattle.std.specs.Prelude.{◌≡◌, ◌<◌, ◌≤◌, ◌-◌, ◌↔◌, ◌⊎◌, IsTrue, IsFalse, not, ◌&&◌, if◌then◌else◌, [], ◌∷◌, length};
 ghost use Rattle.nd_base.specs.Signed.{signed as signed_reading, all_signed};
 ghost use Rattle.nd_base.specs.Size.{is_empty, limit};
 ghost use Rattle.nd_base.specs.Span.{span};
@@ -49,8 +50,62 @@ fn overlaps_others(shape: &[usize], strides: &[usize], axis: usize) -> bool
     len > 1 && magnitude <= span_up_to(shape, strides, magnitude) - reach(len, stride)
 }
 
+/// Whether some axis of more than one entry has a stride that steps over no more than the axes of
+/// no greater stride span together.
+fn some_overlaps_others(shape: &[usize], strides: &[usize]) -> bool
+    requires same_count { length shape.now ≡ length strides.now }
+    requires span_fits { span shape.now (all_signed strides.now) ≤ limit }
+    ensures { result ≡ not (meets_owned_rule shape.now (all_signed strides.now)) }
+{
+    for axis in 0..shape.len() {
+        if overlaps_others(shape, strides, axis) {
+            return true;
+        }
+    }
+    false
+}
+
+/// The axis that a walk over `count` axes comes to behind `place` others.
+#[inline(always)]
+fn axis_on_walk(count: usize, place: usize, from_last: bool) -> usize
+    requires { place < count }
+    ensures { result ≡ (if from_last then count - 1 - place else place) }
+{
+    if from_last { count - 1 - place } else { place }
+}
+
+/// Whether a walk along the axes, from the last or from the first one on, comes to one of more than
+/// one entry whose stride is no longer than those before it span together. `None` where it comes to
+/// a stride that is shorter than one before it, since such a walk can't tell.
+#[inline(always)]
+fn overlap_on_walk(shape: &[usize], strides: &[usize], from_last: bool) -> Option<bool>
+    requires same_count { length shape.now ≡ length strides.now }
+    requires span_fits { span shape.now (all_signed strides.now) ≤ limit }
+    ensures { IfSome result
+        (λ overlaps. overlaps ≡ not (meets_owned_rule shape.now (all_signed strides.now))) }
+{
+    let mut reached = 0usize;
+    let mut longest = 0usize;
+    for place in 0..shape.len() {
+        let axis = axis_on_walk(shape.len(), place, from_last);
+        let (len, stride) = (shape[axis], signed(strides[axis]));
+        let magnitude = stride.unsigned_abs();
+        if len > 1 {
+            if magnitude <= reached {
+                return (magnitude >= longest).then_some(true);
+            }
+            longest = magnitude;
+            reached += reach(len, stride);
+        }
+    }
+    Some(false)
+}
+
 /// Whether the layout has an index, and an axis of more than one entry whose stride steps over no
 /// more than the axes of no greater stride span together.
+///
+/// One walk along axes that stand in order of their strides tells; others are compared one by one.
+#[inline(always)]
 pub fn has_overlap(shape: &[usize], strides: &[usize]) -> bool
     requires same_count { length shape.now ≡ length strides.now }
     requires span_fits { span shape.now (all_signed strides.now) ≤ limit }
@@ -60,12 +115,13 @@ pub fn has_overlap(shape: &[usize], strides: &[usize]) -> bool
     if shape.contains(&0) {
         return false;
     }
-    for axis in 0..shape.len() {
-        if overlaps_others(shape, strides, axis) {
-            return true;
-        }
+    if let Some(overlaps) = overlap_on_walk(shape, strides, true) {
+        return overlaps;
     }
-    false
+    if let Some(overlaps) = overlap_on_walk(shape, strides, false) {
+        return overlaps;
+    }
+    some_overlaps_others(shape, strides)
 }
 
 /// Whether two indices of a layout may share an element: it has an index, and some axis of more

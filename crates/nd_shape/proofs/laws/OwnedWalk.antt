@@ -1,5 +1,5 @@
 -- The walk along the axes by their strides answers what the rule for owned data does.
-use Rattle.std.proofs.Common.{◌≡◌, ℕ, zero, suc, ◌+◌, ◌-◌, ◌*◌, ◌<◌, ◌≤◌, ℤ, pos, true, List, [], ◌∷◌, length, get_or, take, drop, refl, sym, ap, ◌∙◌, inl, inr, arith, add-one, drop-cons, mul-zero, one-mul, zero-mul}
+use Rattle.std.proofs.Common.{◌≡◌, ℕ, zero, suc, ◌+◌, ◌-◌, ◌*◌, ◌<◌, ◌≤◌, ℤ, pos, true, false, List, [], ◌∷◌, length, get_or, take, drop, refl, sym, ap, ◌∙◌, inl, inr, arith, add-one, drop-cons, mul-zero, one-mul, zero-mul}
 use Rattle.std.specs.Prelude.{nat_le, nat_lt}
 use Rattle.std.specs.List.{sum_by, range_with_len, All}
 use Rattle.std.specs.List.Sorted.{IsPermutation}
@@ -9,20 +9,20 @@ use Rattle.std.proofs.lemmas.List.{drop_all, get_or_default, get_or-drop, get_or
 use Rattle.std.proofs.lemmas.Nat.{mul-le}
 use Rattle.std.proofs.lemmas.List.FromFn.{length-range_with_len, get_or-range_with_len}
 use Rattle.std.proofs.lemmas.List.Sorted.{Contains-permutation, All-permutation, sum_by-IsPermutation}
-use Rattle.std.proofs.lemmas.List.Sums.{get_or-le-sum_by, sum_by-cons, sum_by-drop_more, sum_by-le, sum_by-le-sum_by, sum_by-take-drop}
+use Rattle.std.proofs.lemmas.List.Sums.{get_or-le-sum_by, sum_by-cons, sum_by-drop_more, sum_by-le, sum_by-le-sum_by, sum_by-take-drop, sum_by_more_le}
 use Rattle.nd_base.specs.Indices.{below}
 use Rattle.nd_base.specs.Signed.{magnitude}
-use Rattle.nd_base.specs.Span.{reach, sum_over_axes}
+use Rattle.nd_base.specs.Span.{reach, span, sum_over_axes}
 use Rattle.nd_base.proofs.laws.Span.{sum_and_others}
 use Rattle.nd_dim.specs.AxisOrder.{magnitude_at, comes_before, IsStrideOrder}
-use Rattle.nd_shape.specs.OwnedRule.{span_of_others, meets_owned_rule, MeetsOwnedRule}
+use Rattle.nd_shape.specs.OwnedRule.{span_of_others, steps_over_others, meets_owned_rule, MeetsOwnedRule}
 use Rattle.nd_shape.specs.OwnedWalk.{reach_at, steps_over, walk_from, meets_owned_walk}
 use Rattle.nd_shape.proofs.OwnedRule.{reach_up_to, reach_up_to_le}
-use Rattle.nd_shape.proofs.laws.OwnedRule.{rule_holds, rule_tested}
+use Rattle.nd_shape.proofs.laws.OwnedRule.{rule_broken, rule_holds, rule_tested}
 
 -- ---- the walk by places
 -- each axis of more than one entry has a stride past what the walk reached before it
-abbrev WalkHolds : ℕ → List ℕ → List ℤ → List ℕ → Type 0
+abbrev pub WalkHolds : ℕ → List ℕ → List ℤ → List ℕ → Type 0
 WalkHolds reached shape strides order = (place : ℕ) → place < length order → 1 < get_or shape (get_or order place 0) 0 → reached + sum_by (reach_at shape strides) (take place order) < magnitude_at strides (get_or order place 0)
 
 -- a test that an axis passes
@@ -128,6 +128,17 @@ sorted strides order i (suc j) h le l = elim (cases_lt j i) [
 counted : (m len : ℕ) (stride : ℤ) → magnitude stride ≤ m → reach len stride ≤ reach_up_to m len stride
 counted m len stride h = let own : reach_up_to m len stride ≡ reach len stride = cond-true (nat_le (magnitude stride) m) (reach len stride) 0 (le-leb (magnitude stride) m h) in omega arith
 
+-- an axis of at most one entry reaches nowhere
+pub reaches_nowhere : (len : ℕ) (stride : ℤ) → len ≤ 1 → reach len stride ≡ 0
+reaches_nowhere len stride h = let none : len - 1 ≡ 0 = omega arith in rw none (zero-mul (magnitude stride))
+
+-- so it does where its stride matters at all
+counts_before : (m len : ℕ) (stride : ℤ) → (1 < len → magnitude stride ≤ m) → reach len stride ≤ reach_up_to m len stride
+counts_before m len stride h = elim (cases_lt 1 len) [
+  | inl long ↦ counted m len stride (h long)
+  | inr short ↦ omega (arith, reaches_nowhere len stride short)
+]
+
 -- where the rule is met, so is the walk: the axes before a place are among the others that count
 walk_from_rule : (shape : List ℕ) (strides : List ℤ) (order : List ℕ) → length shape ≡ length strides → IsStrideOrder strides order → MeetsOwnedRule shape strides → meets_owned_walk shape strides order ≡ true
 walk_from_rule shape strides order count h rule = walk_tested 0 shape strides order (λ place l long.
@@ -151,7 +162,7 @@ nowhere m len stride h = elim (cases_lt m (magnitude stride)) [
 ]
 
 -- an axis of more than one entry reaches at least one stride
-reaches : (len : ℕ) (stride : ℤ) → 1 < len → magnitude stride ≤ reach len stride
+pub reaches : (len : ℕ) (stride : ℤ) → 1 < len → magnitude stride ≤ reach len stride
 reaches len stride h =
     let once : 1 * magnitude stride ≤ (len - 1) * magnitude stride = mul-le 1 (magnitude stride) (len - 1) (magnitude stride) (omega arith) (omega arith) in
     omega (arith, one-mul (magnitude stride))
@@ -183,15 +194,38 @@ rule_at_place shape strides order place count p walk l long =
     let later = sum_by-le (term_at f shape strides) 0 (drop (place + 1) order) none in
     omega (arith, walk place l long, others_by_place shape strides order place count p l, mul-zero (length (drop (place + 1) order)))
 
--- where the walk is met, so is the rule
-rule_from_walk : (shape : List ℕ) (strides : List ℤ) (order : List ℕ) → length shape ≡ length strides → IsStrideOrder strides order → meets_owned_walk shape strides order ≡ true → MeetsOwnedRule shape strides
-rule_from_walk shape strides order count h walk axis inside long =
-    let found = place_of (length strides) order axis h.each_once (omega arith) in
-    rw found.2 at (rule_at_place shape strides order found.0 count h.each_once (walk_holds 0 shape strides order walk) found.1 (rw found.2 long))
+-- where a walk along all axes goes through, whatever their order, the rule is met
+pub rule_from_walk : (shape : List ℕ) (strides : List ℤ) (order : List ℕ) → length shape ≡ length strides → IsPermutation (below (length strides)) order → WalkHolds 0 shape strides order → MeetsOwnedRule shape strides
+rule_from_walk shape strides order count p walk axis inside long =
+    let found = place_of (length strides) order axis p (omega arith) in
+    rw found.2 at (rule_at_place shape strides order found.0 count p walk found.1 (rw found.2 long))
 
 -- the walk in an order of the strides answers what the rule does, also where a length is 0
 pub walk_answers_rule : (shape : List ℕ) (strides : List ℤ) (order : List ℕ) → length shape ≡ length strides → IsStrideOrder strides order → meets_owned_walk shape strides order ≡ meets_owned_rule shape strides
 walk_answers_rule shape strides order count h =
     same_from_decides {P = MeetsOwnedRule shape strides} (meets_owned_walk shape strides order) (meets_owned_rule shape strides)
-    (rule_from_walk shape strides order count h, walk_from_rule shape strides order count h)
+    (λ walk. rule_from_walk shape strides order count h.each_once (walk_holds 0 shape strides order walk), walk_from_rule shape strides order count h)
     (rule_holds shape strides, rule_tested shape strides)
+
+-- no walk reaches further than the axes span together
+pub walked_le_span : (shape : List ℕ) (strides : List ℤ) (order : List ℕ) (place : ℕ) → length shape ≡ length strides → IsPermutation (below (length strides)) order → place < length order → sum_by (reach_at shape strides) (take place order) + reach_at shape strides (get_or order place 0) ≤ span shape strides
+walked_le_span shape strides order place count p l =
+    let all : span shape strides ≡ sum_by (reach_at shape strides) order = sum_in_order reach shape strides order count p in
+    omega (arith, all, sum_by_more_le (reach_at shape strides) order place 0 l)
+
+-- the test of an axis that steps over no more than the others span
+stopped_test : (shape : List ℕ) (strides : List ℤ) (axis : ℕ) → 1 < get_or shape axis 0 → magnitude_at strides axis ≤ span_of_others shape strides axis → steps_over_others shape strides axis ≡ false
+stopped_test shape strides axis long upto = grind (arith, nat_tests)
+
+-- an axis at which a walk stops, and whose stride is no shorter than those before it, breaks the rule
+pub walk_stops : (shape : List ℕ) (strides : List ℤ) (order : List ℕ) (place : ℕ) → length shape ≡ length strides → IsPermutation (below (length strides)) order → place < length order → 1 < get_or shape (get_or order place 0) 0 → magnitude_at strides (get_or order place 0) ≤ sum_by (reach_at shape strides) (take place order) → ((k : ℕ) → k < place → 1 < get_or shape (get_or order k 0) 0 → magnitude_at strides (get_or order k 0) ≤ magnitude_at strides (get_or order place 0)) → meets_owned_rule shape strides ≡ false
+walk_stops shape strides order place count p l long upto rising =
+    let axis = get_or order place 0 in
+    let m = magnitude_at strides axis in
+    let inside : axis < length shape = omega (arith, axis_at (length strides) order place p l) in
+    let earlier : sum_by (reach_at shape strides) (take place order) ≤ sum_by (term_at (reach_up_to m) shape strides) (take place order) =
+    sum_le_within (reach_at shape strides) (term_at (reach_up_to m) shape strides) (take place order) (λ k g.
+    let before : k < place = omega (arith, length-take place order) in
+    rw (get_or-take place order k 0 before) (counts_before m (get_or shape (get_or order k 0) 0) (get_or strides (get_or order k 0) (pos 0)) (rising k before))) in
+    let others : m ≤ span_of_others shape strides axis = omega (arith, upto, earlier, others_by_place shape strides order place count p l) in
+    rule_broken shape strides axis inside (stopped_test shape strides axis long others)

@@ -1,8 +1,8 @@
 use Rattle.std.proofs.Common.{rules, ◌≡◌, length, ◌+◌, ◌∷◌, [], ◌++◌, ap, ◌∙◌, arith}
 use Rattle.std.proofs.lemmas.List.{length_push}
-use Rattle.nd_base.specs.Signed.{signed, all_signed}
-use Rattle.nd_shape.specs.Axes.{description, axes_from, axes_left}
-use Rattle.nd_shape.proofs.AxesWalk.{length-axes_left, axes_left-push}
+use Rattle.nd_base.specs.Signed.{all_signed}
+use Rattle.nd_shape.specs.Axes.{description, axes_from}
+use Rattle.nd_shape.proofs.AxesWalk.{axes_left-push}
 use Rattle.nd_shape.proofs.axes.iter.AxesDoubleEndedIterator.next_back.Goals as goal
 
 pub returns-clause-steps : goal.returns-clause-steps

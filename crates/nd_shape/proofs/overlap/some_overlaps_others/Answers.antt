@@ -1,27 +1,24 @@
 use Rattle.std.proofs.Common.{◌≡◌, true, false, arith, sym, ◌∙◌, below_more}
-use Rattle.std.specs.Prelude.{not}
-use Rattle.std.proofs.lemmas.Bool.{and_from, and_right, not_from_true, not_from_false, not-true, not-false}
+use Rattle.std.proofs.lemmas.Bool.{not_from_true, not_from_false, not-true, not-false}
 use Rattle.nd_base.specs.Signed.{all_signed}
-use Rattle.nd_base.specs.Size.{is_empty}
 use Rattle.nd_shape.specs.OwnedRule.{meets_owned_rule, steps_over_others}
 use Rattle.nd_shape.proofs.laws.OwnedRule.{rule_met, rule_broken}
-use Rattle.nd_shape.proofs.overlap.has_overlap.Goals as goal
+use Rattle.nd_shape.proofs.overlap.some_overlaps_others.Goals as goal
 
 pub returns : goal.returns
 returns c =
     let shape = c.args.shape.now in
     let strides = all_signed c.args.strides.now in
     let met : meets_owned_rule shape strides ≡ true = rule_met shape strides (λ axis below. c.loop-axis.invariant axis (omega arith)) in
-    sym (and_right (not (is_empty shape)) (not (meets_owned_rule shape strides)) (not_from_true (meets_owned_rule shape strides) met))
+    sym (not_from_true (meets_owned_rule shape strides) met)
 
 pub returns-then-overlaps_others : goal.returns-then-overlaps_others
 returns-then-overlaps_others c =
     let shape = c.args.shape.now in
     let strides = all_signed c.args.strides.now in
-    let some : is_empty shape ≡ false = sym c.contains.ensures.value ∙ c.if-contains.false in
     let broken : steps_over_others shape strides c.loop-axis.axis ≡ false = not-true (steps_over_others shape strides c.loop-axis.axis) (sym c.overlaps_others.ensures ∙ c.if-overlaps_others.true) in
     let rule : meets_owned_rule shape strides ≡ false = rule_broken shape strides c.loop-axis.axis (omega arith) broken in
-    sym (and_from (not (is_empty shape)) (not (meets_owned_rule shape strides)) (not_from_false (is_empty shape) some) (not_from_false (meets_owned_rule shape strides) rule))
+    sym (not_from_false (meets_owned_rule shape strides) rule)
 
 pub loop-axis-preserved : goal.loop-axis-preserved
 loop-axis-preserved c =
