@@ -1,8 +1,7 @@
 -- Facts about the offsets of indices: which lists are indices, how far they lie, and a sum of offsets from an axis on.
-use Rattle.std.proofs.Common.{inl, inr, min, ◌≡◌, ℕ, suc, ◌+◌, ◌*◌, ◌<◌, ◌≤◌, ℤ, pos, negsuc, neg_ℤ, ◌+ℤ◌, ◌*ℤ◌, ◌≤ℤ◌, false, Option, Some, None, List, [], ◌∷◌, length, drop, get_or, refl, ap, ◌∙◌, arith, add-one, drop-cons}
-use Rattle.std.specs.Prelude.{nat_lt, ◌&&◌}
-use Rattle.std.specs.List.{list_all, zip}
-use Rattle.std.proofs.lemmas.Bool.{and_right, cases_lt}
+use Rattle.std.proofs.Common.{inl, inr, min, ◌≡◌, ℕ, suc, ◌+◌, ◌-◌, ◌*◌, ◌<◌, ◌≤◌, ℤ, pos, negsuc, neg_ℤ, ◌+ℤ◌, ◌*ℤ◌, ◌≤ℤ◌, true, false, Option, Some, None, List, [], ◌∷◌, length, drop, get_or, refl, ap, ◌∙◌, arith, add-one, drop-cons}
+use Rattle.std.specs.Prelude.{nat_lt}
+use Rattle.std.proofs.lemmas.Bool.{and_from, and_right, cases_Bool, cases_lt, lt-ltb}
 use Rattle.std.proofs.lemmas.Int.{ints}
 use Rattle.std.proofs.lemmas.List.{drop_all}
 use Rattle.std.proofs.iter.Yields.{fronts}
@@ -17,20 +16,32 @@ use Rattle.std.specs.declared.slice.Iter.{Iter}
 use Rattle.nd_base.specs.Indices.{is_index}
 use Rattle.nd_base.specs.Offset.{offset_of}
 use Rattle.nd_base.specs.Signed.{signed, all_signed, magnitude}
+use Rattle.nd_base.specs.Span.{reach}
+use Rattle.nd_base.proofs.laws.IsIndex.{entry_of_index}
 use Rattle.nd_base.proofs.laws.Span.{sum_from, sum_from_step}
+use Rattle.std.proofs.lemmas.Nat.{mul-le}
 
--- the test by counts and pairs is the one of indices
-pub is_index_by_pairs : (shape index : List ℕ) → length shape ≡ length index → list_all (λ pair. nat_lt pair.1 pair.0) (zip shape index) ≡ is_index shape index
-is_index_by_pairs [] [] e = refl
-is_index_by_pairs [] (i ∷ index) e = absurd (omega arith)
-is_index_by_pairs (len ∷ shape) [] e = absurd (omega arith)
-is_index_by_pairs (len ∷ shape) (i ∷ index) e = ap (λ b. nat_lt i len && b) (is_index_by_pairs shape index (omega arith))
-
+-- a list of another count is no index
 pub is_index_of_count : (shape index : List ℕ) → (length shape ≡ length index → ⊥) → is_index shape index ≡ false
 is_index_of_count [] [] ne = absurd (ne refl)
 is_index_of_count [] (i ∷ index) ne = refl
 is_index_of_count (len ∷ shape) [] ne = refl
 is_index_of_count (len ∷ shape) (i ∷ index) ne = and_right (nat_lt i len) (is_index shape index) (is_index_of_count shape index (λ e. ne (omega arith)))
+
+-- nor is one with an entry past the end of its axis
+pub is_index_of_entry : (shape index : List ℕ) (axis : ℕ) → axis < length shape → get_or shape axis 0 ≤ get_or index axis 0 → is_index shape index ≡ false
+is_index_of_entry shape index axis l past = elim (cases_Bool (is_index shape index)) [
+  | inl here ↦ absurd (omega (arith, entry_of_index shape index axis here l))
+  | inr none ↦ none
+]
+
+-- a list with an entry below the length of each axis is one
+pub is_index_of_entries : (shape index : List ℕ) → length shape ≡ length index → ((axis : ℕ) → axis < length shape → get_or index axis 0 < get_or shape axis 0) → is_index shape index ≡ true
+is_index_of_entries [] [] e h = refl
+is_index_of_entries [] (i ∷ index) e h = absurd (omega arith)
+is_index_of_entries (len ∷ shape) [] e h = absurd (omega arith)
+is_index_of_entries (len ∷ shape) (i ∷ index) e h =
+    and_from (nat_lt i len) (is_index shape index) (lt-ltb i len (h 0 (omega arith))) (is_index_of_entries shape index (omega arith) (λ axis l. h (suc axis) (omega arith)))
 
 -- how far an entry lies from the first one
 abbrev pub entry_offset : ℕ → ℤ → ℕ
@@ -40,6 +51,10 @@ entry_offset entry stride = entry * magnitude stride
 pub entry_offset_bounds : (entry : ℕ) (stride : ℤ) → (neg_ℤ (pos (entry_offset entry stride)) ≤ℤ (pos entry *ℤ stride)) × ((pos entry *ℤ stride) ≤ℤ pos (entry_offset entry stride))
 entry_offset_bounds entry (pos s) = (omega (arith, ints), omega (arith, ints))
 entry_offset_bounds entry (negsuc s) = (omega (arith, ints), omega (arith, ints))
+
+-- an entry below the length lies no farther than the axis reaches
+pub entry_offset_le : (len entry : ℕ) (stride : ℤ) → entry < len → entry_offset entry stride ≤ reach len stride
+entry_offset_le len entry stride h = mul-le entry (magnitude stride) (len - 1) (magnitude stride) (omega arith) (omega arith)
 
 -- the offset from axis k on
 abbrev pub offset_from : List ℕ → List ℕ → ℕ → ℤ

@@ -1,7 +1,6 @@
 //! Where the indices of a shape lie from its first index.
-ghost use Rattle.std.specs.Prelude.{◌≡◌, ◌≤◌, nat_lt};
-ghost use Rattle.std.specs.List.{All, list_all, zip};
-ghost use Rattle.nd_base.specs.Indices.{is_index as is_index_of_shape};
+ghost use Rattle.std.specs.Prelude.{◌≡◌, ◌≤◌};
+ghost use Rattle.std.specs.List.{All};
 ghost use Rattle.nd_base.specs.Offset.{offset_of, checked_offset};
 ghost use Rattle.nd_base.specs.Reach.{farthest_offset};
 ghost use Rattle.nd_base.specs.Signed.{all_signed};
@@ -24,22 +23,6 @@ pub fn index_offset(index: &[usize], strides: &[usize]) -> isize
     offset
 }
 
-/// Whether each entry is below the length beside it.
-#[inline(always)]
-fn all_below(shape: &[usize], index: &[usize]) -> bool
-    ensures { result ≡ list_all (λ pair. nat_lt pair.1 pair.0) (zip shape.now index.now) }
-{
-    shape.iter().zip(index).all(|(len, entry)| entry < len)
-}
-
-/// Whether the entries are as many as the lengths, each below its length.
-#[inline(always)]
-fn is_index(shape: &[usize], index: &[usize]) -> bool
-    ensures { result ≡ is_index_of_shape shape.now index.now }
-{
-    shape.len() == index.len() && all_below(shape, index)
-}
-
 /// How many elements lie between the first index of the shape `dim` and this one, with its sign;
 /// `None` where this is no index of the shape. Upstream's `stride_offset_checked`.
 #[inline(always)]
@@ -47,9 +30,15 @@ pub fn stride_offset_checked(dim: &[usize], strides: &[usize], index: &[usize]) 
     requires { IsValidLayout dim.now (all_signed strides.now) }
     ensures { result ≡ checked_offset dim.now (all_signed strides.now) index.now }
 {
-    if is_index(dim, index) {
-        Some(index_offset(index, strides))
-    } else {
-        None
+    if dim.len() != index.len() {
+        return None;
     }
+    let mut offset = 0isize;
+    for axis in 0..dim.len() {
+        if index[axis] >= dim[axis] {
+            return None;
+        }
+        offset += stride_offset(index[axis], strides[axis]);
+    }
+    Some(offset)
 }

@@ -12,6 +12,7 @@ use nd_dim::{Dimension, signed};
 
 /// How many elements lie between the first and the last entry of an axis, or 0 where its stride is
 /// of a magnitude past `magnitude`.
+#[inline(always)]
 fn reach_up_to(len: usize, stride: usize, magnitude: usize) -> usize
     requires { span_up_to_magnitude magnitude (len ∷ []) (signed_reading stride ∷ []) ≤ limit }
     ensures { result ≡ span_up_to_magnitude magnitude (len ∷ []) (signed_reading stride ∷ []) }
@@ -25,6 +26,7 @@ fn reach_up_to(len: usize, stride: usize, magnitude: usize) -> usize
 }
 
 /// The summed spans of the axes whose strides are of magnitude at most `magnitude`.
+#[inline(always)]
 fn span_up_to(shape: &[usize], strides: &[usize], magnitude: usize) -> usize
     requires { span shape.now (all_signed strides.now) ≤ limit }
     ensures { result ≡ span_up_to_magnitude magnitude shape.now (all_signed strides.now) }
@@ -38,6 +40,7 @@ fn span_up_to(shape: &[usize], strides: &[usize], magnitude: usize) -> usize
 
 /// Whether the stride of an axis of more than one entry steps over no more than the axes of no
 /// greater stride span together.
+#[inline(always)]
 fn overlaps_others(shape: &[usize], strides: &[usize], axis: usize) -> bool
     requires axis { axis < length shape.now }
     requires same_count { length shape.now ≡ length strides.now }
@@ -52,6 +55,7 @@ fn overlaps_others(shape: &[usize], strides: &[usize], axis: usize) -> bool
 
 /// Whether some axis of more than one entry has a stride that steps over no more than the axes of
 /// no greater stride span together.
+#[inline(always)]
 fn some_overlaps_others(shape: &[usize], strides: &[usize]) -> bool
     requires same_count { length shape.now ≡ length strides.now }
     requires span_fits { span shape.now (all_signed strides.now) ≤ limit }

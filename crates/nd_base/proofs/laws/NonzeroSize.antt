@@ -45,6 +45,23 @@ nonzero_size_from_zero shape k h e = rw add-one (ap nonzero_size (drop-cons shap
 pub nonzero_size_from_other : (shape : List ℕ) (k : ℕ) → k < length shape → get_or shape k 0 ≢ 0 → nonzero_size (drop k shape) ≡ get_or shape k 0 * nonzero_size (drop (k + 1) shape)
 nonzero_size_from_other shape k h e = rw add-one (ap nonzero_size (drop-cons shape k 0 h) ∙ nonzero_size_of_other (get_or shape k 0) (drop (suc k) shape) e)
 
+-- each length is at most the product
+pub length_le_nonzero_size : (shape : List ℕ) (axis : ℕ) → axis < length shape → get_or shape axis 0 ≤ nonzero_size shape
+length_le_nonzero_size [] axis l = absurd (omega arith)
+length_le_nonzero_size (len ∷ lens) zero l =
+    elim (cases_eq len 0) [
+      | inl e ↦ omega arith
+      | inr e ↦ rw (nonzero_size_of_other len lens e) (le-mul_of_pos_right len (nonzero_size_pos lens))
+    ]
+length_le_nonzero_size (len ∷ lens) (suc axis) l =
+    let rest = length_le_nonzero_size lens axis (omega arith) in
+    elim (cases_eq len 0) [
+      | inl e ↦ rw (nonzero_size_of_zero len lens e) rest
+      | inr e ↦
+          let whole : nonzero_size lens ≤ nonzero_size lens * len = le-mul_of_pos_right (nonzero_size lens) (pos_of_ne-zero e) in
+          rw (nonzero_size_of_other len lens e) (omega arith)
+    ]
+
 -- each entry of an index is at most the product
 pub entry_le_nonzero_size : (shape index : List ℕ) → is_index shape index ≡ true → (k d : ℕ) → k < length index → get_or index k d ≤ nonzero_size shape
 entry_le_nonzero_size [] [] h k d l = omega arith
