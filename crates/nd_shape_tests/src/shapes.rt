@@ -1,67 +1,89 @@
 //! Shapes with an order or with strides: what builds them, which strides they have, and which of them
 //! are accepted over data.
+ghost use Rattle.nd_base.specs.Signed.{all_signed};
+ghost use Rattle.nd_base.specs.ValidLayout.{IsValidLayout};
+ghost use Rattle.nd_shape.specs.ShapeBuilder.{strides_list};
+
 use CanIndexCheckMode::{OwnedMutable, ReadOnly};
-use ErrorKind::{OutOfBounds, Overflow, RangeLimited, Unsupported};
+use ErrorKind::{OutOfBounds, Overflow, Unsupported};
 use nd_dim::{
-    Dimension, ErrorKind, Ix2, IxDyn, LayoutError, Lengths, ShapeError, new_ix2, new_ix3,
-    new_ixdyn, unsigned,
+    Dimension, ErrorKind, Ix2, Ix3, IxDyn, Lengths, new_ix2, new_ix3, new_ixdyn, unsigned,
 };
 use nd_shape::{
     CanIndexCheckMode, Shape, ShapeBuilder, StrideShape, Strides, can_index_slice,
     can_index_slice_not_custom, can_index_slice_with_strides, strides_non_negative,
 };
-use nd_testing::asked;
+use nd_testing::{asked, fault_of};
 use std::alloc::{AllocError, Global};
 use std::fmt::Debug;
-use std::test::Fail;
 
 const MAX: usize = 9223372036854775807;
 
-/// What fault a call names, if any.
-fn fault_of(answer: Result<(), ShapeError>) -> Option<ErrorKind> {
-    match answer {
-        Ok(()) => None,
-        Err(fault) => Some(fault.kind()),
+// ---- what builds them
+
+/// Whether a shape has this size.
+fn has_size<D: Dimension>(shape: &Shape<D>, size: usize) -> bool {
+    match shape.raw_dim().size_checked() {
+        Some(_) => shape.size() == size,
+        None => false,
     }
 }
 
-// ---- what builds them
+/// Whether a shape has these lengths, this size and this order.
+fn has<D: Dimension>(
+    shape: Result<Shape<D>, AllocError>,
+    dim: &D,
+    size: usize,
+    is_c: bool,
+) -> bool {
+    match shape {
+        Ok(shape) => {
+            shape.raw_dim().equal(dim) && has_size(&shape, size) && shape.is_c() == is_c
+        }
+        Err(_) => false,
+    }
+}
 
-/// Whether a shape has these lengths, and this order.
-fn has<D: Dimension>(shape: Result<Shape<D>, AllocError>, dim: &D, is_c: bool) -> bool {
-    shape.is_ok_and(|shape| shape.raw_dim().equal(dim) && shape.is_c() == is_c)
+/// Whether these strides are given, and no others.
+fn are_given<D: Dimension>(strides: &Strides<D>, given: &D) -> bool {
+    match strides {
+        Strides::Custom(custom) => strides.is_custom() && custom.equal(given),
+        Strides::C | Strides::F => false,
+    }
 }
 
 /// Whether a shape has these lengths, and these strides, which are given.
 fn is_given<D: Dimension>(shape: Result<StrideShape<D>, AllocError>, dim: &D, strides: &D) -> bool {
-    shape.is_ok_and(|shape| {
-        shape.raw_dim().equal(dim)
-            && match &shape.strides {
-                Strides::Custom(given) => shape.strides.is_custom() && given.equal(strides),
-                Strides::C | Strides::F => false,
-            }
-    })
+    match shape {
+        Ok(shape) => shape.raw_dim().equal(dim) && are_given(&shape.strides, strides),
+        Err(_) => false,
+    }
+}
+
+/// Whether these strides are those of this order.
+fn are_of_order<D>(strides: &Strides<D>, is_c: bool) -> bool {
+    match strides {
+        Strides::C => is_c,
+        Strides::F => !is_c,
+        Strides::Custom(_) => false,
+    }
 }
 
 /// Whether a shape has these lengths, and the strides of this order.
 fn follows<D: Dimension>(shape: Result<StrideShape<D>, AllocError>, dim: &D, is_c: bool) -> bool {
-    shape.is_ok_and(|shape| {
-        shape.raw_dim().equal(dim)
-            && match shape.strides {
-                Strides::C => is_c,
-                Strides::F => !is_c,
-                Strides::Custom(_) => false,
-            }
-    })
+    match shape {
+        Ok(shape) => shape.raw_dim().equal(dim) && are_of_order(&shape.strides, is_c),
+        Err(_) => false,
+    }
 }
 
 /// Whether a builder of two axes in this order builds them in each order.
 fn builds<T: ShapeBuilder<Dim = Ix2> + Copy>(alloc: Global, builder: T, is_c: bool) -> bool {
     let dim = new_ix2(2, 3);
-    has(builder.into_shape_with_order(alloc), &dim, is_c)
-        && has(builder.f(alloc), &dim, false)
-        && has(builder.set_f(alloc, true), &dim, false)
-        && has(builder.set_f(alloc, false), &dim, true)
+    has(builder.into_shape_with_order(alloc), &dim, 6, is_c)
+        && has(builder.f(alloc), &dim, 6, false)
+        && has(builder.set_f(alloc, true), &dim, 6, false)
+        && has(builder.set_f(alloc, false), &dim, 6, true)
         && follows(StrideShape::from_builder(alloc, builder), &dim, is_c)
 }
 
@@ -84,36 +106,35 @@ fn two_by_columns(alloc: Global) -> Result<Shape<Ix2>, AllocError> {
     two_by_rows().f(alloc)
 }
 
+/// Whether a builder that may want memory builds two axes, column-major.
+fn builds_columns(alloc: Global, builder: Result<Shape<Ix2>, AllocError>) -> bool {
+    match builder {
+        Ok(builder) => builds(alloc, builder, false),
+        Err(_) => false,
+    }
+}
+
 #[test]
-fn r3_rows_of_builders_of_two_axes(rt: HostRuntime) -> Result<(), Fail> {
+fn r3_rows_of_builders_of_two_axes(rt: HostRuntime) {
     let alloc = rt.alloc();
-    let rows = [
-        builds(alloc, (2, 3), true),
-        builds(alloc, [2, 3], true),
-        builds(alloc, new_ix2(2, 3), true),
-        builds(alloc, two_by_rows(), true),
-        builds(alloc, two_by_columns(alloc)?, false),
-    ];
-    assert_eq!(rt; rows, [true; 5]);
-    Ok(())
+    assert!(rt;
+        builds(alloc, (2, 3), true)
+            && builds(alloc, [2, 3], true)
+            && builds(alloc, new_ix2(2, 3), true)
+            && builds(alloc, two_by_rows(), true)
+            && builds_columns(alloc, two_by_columns(alloc))
+    );
 }
 
 #[test]
 fn r3_rows_of_given_strides_of_two_axes(rt: HostRuntime) {
     let alloc = rt.alloc();
-    let rows = [
-        gives(alloc, (2, 3), (4, 7)),
-        gives(alloc, [2, 3], [4, 7]),
-        gives(alloc, new_ix2(2, 3), new_ix2(4, 7)),
-        gives(alloc, two_by_rows(), new_ix2(4, 7)),
-    ];
-    assert_eq!(rt; rows, [true; 4]);
-}
-
-#[test]
-fn r3_rows_of_sizes(rt: HostRuntime) {
-    let shape = Shape::from(new_ix2(2, 3));
-    assert_eq!(rt; (shape.size(), shape.is_c()), (6, true));
+    assert!(rt;
+        gives(alloc, (2, 3), (4, 7))
+            && gives(alloc, [2, 3], [4, 7])
+            && gives(alloc, new_ix2(2, 3), new_ix2(4, 7))
+            && gives(alloc, two_by_rows(), new_ix2(4, 7))
+    );
 }
 
 /// A shape of any number of axes.
@@ -136,37 +157,52 @@ fn five_given(alloc: Global) -> Result<StrideShape<IxDyn>, AllocError> {
     five(alloc)?.strides(alloc, new_ixdyn(alloc, &[1, 2, 6, 6, 12])?)
 }
 
-/// Whether a builder of five axes builds them in each order, and with given strides, as many.
-fn builds_five<T: ShapeBuilder<Dim = IxDyn, Strides = T> + Copy>(
+/// Whether a builder of a shape builds it in each order, and with given strides, as many.
+fn builds_any<T: ShapeBuilder<Dim = IxDyn, Strides = T> + Copy>(
     alloc: Global,
     builder: T,
-) -> Result<bool, AllocError> {
-    let dim = five(alloc)?;
-    Ok(
-        has(builder.into_shape_with_order(alloc), &dim, true)
-            && has(builder.f(alloc), &dim, false)
-            && is_given(builder.strides(alloc, builder), &dim, &dim),
-    )
+    dim: &IxDyn,
+    size: usize,
+) -> bool {
+    has(builder.into_shape_with_order(alloc), dim, size, true)
+        && has(builder.f(alloc), dim, size, false)
+        && is_given(builder.strides(alloc, builder), dim, dim)
+        && follows(StrideShape::from_builder(alloc, builder), dim, true)
+}
+
+/// Whether a list builds shapes of any number of axes.
+fn list_builds(alloc: Global, lens: &[usize], size: usize) -> bool {
+    match new_ixdyn(alloc, lens) {
+        Ok(dim) => builds_any(alloc, lens, &dim, size),
+        Err(_) => false,
+    }
+}
+
+/// Whether five axes have the strides of their order, column-major.
+fn five_follow_columns(alloc: Global) -> bool {
+    match five(alloc) {
+        Ok(five) => follows(five_from_columns(alloc), &five, false),
+        Err(_) => false,
+    }
 }
 
 #[test]
-fn r3_rows_of_builders_of_any_number_of_axes(rt: HostRuntime) -> Result<(), Fail> {
-    let alloc = rt.alloc();
-    assert!(rt; builds_five(alloc, [2, 3, 1, 2, 2].as_slice())?);
-    assert!(rt; follows(five_from_columns(alloc), &five(alloc)?, false));
-    Ok(())
+fn r3_rows_of_builders_of_any_number_of_axes(rt: HostRuntime) {
+    assert!(rt; list_builds(rt.alloc(), &[2, 3, 1, 2, 2], 24) && five_follow_columns(rt.alloc()));
 }
 
 // ---- their strides
 
-/// The strides of a shape that data of `len` elements may be owned in.
-fn strides_of<D: Dimension>(
-    alloc: Global,
-    len: usize,
-    shape: StrideShape<D>,
-) -> Result<D, LayoutError> {
-    can_index_slice_with_strides(1, len, &shape.dim, &shape.strides, OwnedMutable)?;
-    Ok(shape.strides.strides_for_dim(alloc, &shape.dim)?)
+/// Whether these are the strides that a shape has.
+fn are_strides<D: Dimension>(alloc: Global, dim: &D, kept: Strides<D>, strides: &D) -> bool
+    requires valid { IsValidLayout
+        (D.list dim.now)
+        (all_signed (strides_list D.list (D.list dim.now) kept)) }
+{
+    match kept.strides_for_dim(alloc, dim) {
+        Ok(given) => given.equal(strides),
+        Err(_) => false,
+    }
 }
 
 /// Whether these are the strides of a shape, which data of as many elements as it has indices may
@@ -176,10 +212,12 @@ fn has_strides<D: Dimension>(
     shape: Result<StrideShape<D>, AllocError>,
     strides: &D,
 ) -> bool {
-    shape.is_ok_and(|shape| {
-        let size = shape.dim.size_checked().unwrap_or(0);
-        strides_of(alloc, size, shape).is_ok_and(|given| given.equal(strides))
-    })
+    let Ok(StrideShape { dim, strides: kept }) = shape else {
+        return false;
+    };
+    let len = dim.size_checked().unwrap_or(0);
+    can_index_slice_with_strides(1, len, &dim, &kept, OwnedMutable).is_ok()
+        && are_strides(alloc, &dim, kept, strides)
 }
 
 /// Whether these are the strides of what a builder of two axes builds.
@@ -187,206 +225,260 @@ fn builds_strides<T: ShapeBuilder<Dim = Ix2>>(alloc: Global, builder: T, strides
     has_strides(alloc, StrideShape::from_builder(alloc, builder), strides)
 }
 
-#[test]
-fn r3_rows_of_strides(rt: HostRuntime) -> Result<(), Fail> {
-    let alloc = rt.alloc();
-    let rows = [
-        builds_strides(alloc, (2, 3), &new_ix2(3, 1)),
-        builds_strides(alloc, two_by_columns(alloc)?, &new_ix2(1, 2)),
-    ];
-    assert_eq!(rt; rows, [true; 2]);
-    Ok(())
+/// The same of a builder that may want memory.
+fn builds_strides_of_columns(
+    alloc: Global,
+    builder: Result<Shape<Ix2>, AllocError>,
+    strides: &Ix2,
+) -> bool {
+    match builder {
+        Ok(builder) => builds_strides(alloc, builder, strides),
+        Err(_) => false,
+    }
 }
 
 #[test]
-fn r3_rows_of_strides_of_any_number_of_axes(rt: HostRuntime) -> Result<(), Fail> {
+fn r3_rows_of_strides(rt: HostRuntime) {
     let alloc = rt.alloc();
-    let strides = new_ixdyn(alloc, &[1, 2, 6, 6, 12])?;
-    let rows = [
-        has_strides(alloc, five_from_columns(alloc), &strides),
-        has_strides(alloc, five_given(alloc), &strides),
-    ];
-    assert_eq!(rt; rows, [true; 2]);
-    Ok(())
+    assert!(rt;
+        builds_strides(alloc, (2, 3), &new_ix2(3, 1))
+            && builds_strides_of_columns(alloc, two_by_columns(alloc), &new_ix2(1, 2))
+    );
+}
+
+/// Whether shapes of five axes, column-major and with these strides, have these strides.
+fn five_have_strides(alloc: Global, strides: Result<IxDyn, AllocError>) -> bool {
+    match strides {
+        Ok(strides) => {
+            has_strides(alloc, five_from_columns(alloc), &strides)
+                && has_strides(alloc, five_given(alloc), &strides)
+        }
+        Err(_) => false,
+    }
+}
+
+#[test]
+fn r3_rows_of_strides_of_any_number_of_axes(rt: HostRuntime) {
+    let alloc = rt.alloc();
+    assert!(rt; five_have_strides(alloc, new_ixdyn(alloc, &[1, 2, 6, 6, 12])));
 }
 
 // ---- which of them are accepted
 
-/// The fault of a shape with these strides over data of `len` elements of one byte.
-fn fault_with<D: Dimension>(
+/// Whether a shape with these strides over data of `len` elements of one byte has this fault.
+fn has_fault<D: Dimension>(
     len: usize,
     dim: &D,
     strides: &Strides<D>,
     mode: CanIndexCheckMode,
-) -> Option<ErrorKind> {
-    fault_of(can_index_slice_with_strides(1, len, dim, strides, mode))
+    fault: Option<ErrorKind>,
+) -> bool {
+    let by_its_own = fault_of(can_index_slice_not_custom(len, dim));
+    (strides.is_custom() || by_its_own == fault)
+        && fault_of(can_index_slice_with_strides(1, len, dim, strides, mode)) == fault
 }
 
-/// The fault of a shape by its own strides, row-major and column-major, owned and read, where all
-/// have one; `RangeLimited` where they differ.
-fn standard_fault<D: Dimension>(len: usize, dim: &D) -> Option<ErrorKind> {
-    let fault = fault_of(can_index_slice_not_custom(len, dim));
-    let others = [
-        fault_with(len, dim, &Strides::C, OwnedMutable),
-        fault_with(len, dim, &Strides::F, OwnedMutable),
-        fault_with(len, dim, &Strides::C, ReadOnly),
-        fault_with(len, dim, &Strides::F, ReadOnly),
-    ];
-    if others == [fault; 4] {
-        fault
-    } else {
-        Some(RangeLimited)
+/// The same with any of these strides, in any of these modes.
+fn have_fault<D: Dimension>(
+    len: usize,
+    dim: &D,
+    strides: &[Strides<D>],
+    modes: &[CanIndexCheckMode],
+    fault: Option<ErrorKind>,
+) -> bool {
+    for strides in strides {
+        for mode in modes {
+            if !has_fault(len, dim, strides, *mode, fault) {
+                return false;
+            }
+        }
+    }
+    true
+}
+
+/// The same of two axes.
+fn two_have_fault(
+    len: usize,
+    dim: &Ix2,
+    strides: &[Strides<Ix2>],
+    modes: &[CanIndexCheckMode],
+    fault: Option<ErrorKind>,
+) -> bool {
+    have_fault(len, dim, strides, modes, fault)
+}
+
+/// Either mode.
+const MODES: [CanIndexCheckMode; 2] = [OwnedMutable, ReadOnly];
+
+/// The same of two axes by their own strides, in either order and mode.
+fn two_have_standard_fault(len: usize, dim: Ix2, fault: Option<ErrorKind>) -> bool {
+    two_have_fault(len, &dim, &[Strides::C, Strides::F], &MODES, fault)
+}
+
+/// The same of five axes.
+fn five_have_standard_fault(alloc: Global, len: usize, fault: Option<ErrorKind>) -> bool {
+    match five(alloc) {
+        Ok(five) => have_fault(len, &five, &[Strides::C, Strides::F], &MODES, fault),
+        Err(_) => false,
     }
 }
 
 #[test]
-fn r3_rows_of_standard_shapes(rt: HostRuntime) -> Result<(), Fail> {
-    let five = five(rt.alloc())?;
-    assert_eq!(rt;
-        [
-            standard_fault(6, &new_ix2(2, 3)),
-            standard_fault(5, &new_ix2(2, 3)),
-            standard_fault(0, &new_ix2(0, MAX)),
-            standard_fault(9, &new_ix2(0, MAX + 1)),
-            standard_fault(24, &five),
-            standard_fault(23, &five),
-        ],
-        [
-            None,
-            Some(OutOfBounds),
-            None,
-            Some(Overflow),
-            None,
-            Some(OutOfBounds)
-        ]
+fn r3_rows_of_standard_shapes(rt: HostRuntime) {
+    assert!(rt;
+        two_have_standard_fault(6, new_ix2(2, 3), None)
+            && two_have_standard_fault(5, new_ix2(2, 3), Some(OutOfBounds))
+            && two_have_standard_fault(0, new_ix2(0, MAX), None)
+            && two_have_standard_fault(9, new_ix2(0, MAX + 1), Some(Overflow))
+            && five_have_standard_fault(rt.alloc(), 24, None)
+            && five_have_standard_fault(rt.alloc(), 23, Some(OutOfBounds))
     );
-    Ok(())
 }
 
-/// The fault of three rows of two along these strides, over data of `len` elements.
-fn three_rows_fault(len: usize, strides: [isize; 2], mode: CanIndexCheckMode) -> Option<ErrorKind> {
-    let strides = Strides::Custom(new_ix2(unsigned(strides[0]), unsigned(strides[1])));
-    fault_with(len, &new_ix2(3, 2), &strides, mode)
-}
-
-#[test]
-fn r3_rows_of_given_strides(rt: HostRuntime) {
-    let faults = [
-        three_rows_fault(8, [2, 3], OwnedMutable),
-        three_rows_fault(8, [2, 3], ReadOnly),
-        three_rows_fault(7, [2, 3], ReadOnly),
-        three_rows_fault(6, [-2, 1], OwnedMutable),
-    ];
-    assert_eq!(rt; faults, [Some(Unsupported), None, Some(OutOfBounds), None]);
-}
-
-/// Kept strides, and the fault of those that lead back.
-const SIGNS: [(&[usize], Option<ErrorKind>); 5] = [
-    (&[], None),
-    (&[3, 0], None),
-    (&[MAX + 1, 1], Some(Unsupported)),
-    (&[4, 3, 2, 1, MAX], None),
-    (&[4, 3, 18446744073709551614, 1, 0], Some(Unsupported)),
-];
-
-/// The fault of such strides of any number of axes.
-fn sign_fault(alloc: Global, strides: &[usize]) -> Result<Option<ErrorKind>, AllocError> {
-    Ok(fault_of(strides_non_negative(&new_ixdyn(alloc, strides)?)))
-}
-
-#[test]
-fn r3_rows_of_signs(rt: HostRuntime) -> Result<(), Fail> {
-    for (strides, fault) in SIGNS {
-        assert_eq!(rt; sign_fault(rt.alloc(), strides)?, fault, "{strides:?}");
-    }
-    let back = new_ix2(unsigned(-3), 1);
-    assert_eq!(rt; fault_of(strides_non_negative(&back)), Some(Unsupported));
-    Ok(())
-}
-
-/// Whether a shape by its own strides is accepted over the same data as along these strides, where
-/// they are given: over data of up to 28 elements, owned.
-fn is_accepted_along<D: Dimension>(dim: &D, strides: &D) -> bool {
-    (0..29).all(|len| {
-        fault_of(can_index_slice_not_custom(len, dim))
-            == fault_of(can_index_slice(1, len, dim, strides, OwnedMutable))
-    })
-}
-
-/// The same along its own strides, in both orders.
-fn is_accepted_along_its_own<D: Dimension>(alloc: Global, dim: &D) -> Result<bool, AllocError> {
-    if dim.size_checked().is_none() {
-        return Ok(false);
-    }
-    let rows = is_accepted_along(dim, &dim.default_strides(alloc)?);
-    Ok(rows && is_accepted_along(dim, &dim.fortran_strides(alloc)?))
-}
-
-/// The same of any number of axes.
-fn is_accepted_at(alloc: Global, lens: &[usize]) -> Result<bool, AllocError> {
-    is_accepted_along_its_own(alloc, &new_ixdyn(alloc, lens)?)
-}
-
-/// The same of no axes, the first one, the first two and all three.
-fn are_accepted(alloc: Global, lens: [usize; 3]) -> Result<bool, AllocError> {
-    Ok(
-        is_accepted_along_its_own(alloc, &new_ix3(lens[0], lens[1], lens[2]))?
-            && is_accepted_at(alloc, &lens[..0])?
-            && is_accepted_at(alloc, &lens[..1])?
-            && is_accepted_at(alloc, &lens[..2])?
-            && is_accepted_at(alloc, &lens)?,
+/// Whether three rows of two along given strides, over data of `len` elements, have this fault.
+fn three_rows_have_fault(
+    len: usize,
+    strides: Ix2,
+    mode: CanIndexCheckMode,
+    fault: Option<ErrorKind>,
+) -> bool {
+    two_have_fault(
+        len,
+        &new_ix2(3, 2),
+        &[Strides::Custom(strides)],
+        &[mode],
+        fault,
     )
 }
 
 #[test]
-fn r3_rows_of_shapes_along_their_own_strides(rt: HostRuntime) -> Result<(), Fail> {
+fn r3_rows_of_given_strides(rt: HostRuntime) {
+    let strides = new_ix2(2, 3);
+    let back = new_ix2(unsigned(-2), 1);
+    assert!(rt;
+        three_rows_have_fault(8, strides, OwnedMutable, Some(Unsupported))
+            && three_rows_have_fault(8, strides, ReadOnly, None)
+            && three_rows_have_fault(7, strides, ReadOnly, Some(OutOfBounds))
+            && three_rows_have_fault(6, back, OwnedMutable, None)
+    );
+}
+
+/// Whether strides of any number of axes have this fault, as they lead back, or none.
+fn have_sign_fault(alloc: Global, strides: &[usize], fault: Option<ErrorKind>) -> bool {
+    match new_ixdyn(alloc, strides) {
+        Ok(strides) => fault_of(strides_non_negative(&strides)) == fault,
+        Err(_) => false,
+    }
+}
+
+/// The same of two axes.
+fn two_have_sign_fault(strides: &Ix2, fault: Option<ErrorKind>) -> bool {
+    fault_of(strides_non_negative(strides)) == fault
+}
+
+#[test]
+fn r3_rows_of_signs(rt: HostRuntime) {
+    let alloc = rt.alloc();
+    let back = Some(Unsupported);
+    assert!(rt;
+        have_sign_fault(alloc, &[], None)
+            && have_sign_fault(alloc, &[3, 0], None)
+            && have_sign_fault(alloc, &[MAX + 1, 1], back)
+            && have_sign_fault(alloc, &[4, 3, 2, 1, MAX], None)
+            && have_sign_fault(alloc, &[4, 3, 18446744073709551614, 1, 0], back)
+            && two_have_sign_fault(&new_ix2(unsigned(-3), 1), back)
+    );
+}
+
+/// Whether a shape by its own strides is accepted over the same data as along these strides, where
+/// they are given: over data of up to 28 elements, owned.
+fn is_accepted_along<D: Dimension>(dim: &D, strides: Result<D, AllocError>) -> bool {
+    let Ok(strides) = strides else {
+        return false;
+    };
+    for len in 0..29 {
+        let along = can_index_slice(1, len, dim, &strides, OwnedMutable);
+        if fault_of(along) != fault_of(can_index_slice_not_custom(len, dim)) {
+            return false;
+        }
+    }
+    true
+}
+
+/// The same along its own strides, in both orders.
+fn is_accepted_along_its_own<D: Dimension>(alloc: Global, dim: &D) -> bool {
+    dim.size_checked().is_some()
+        && is_accepted_along(dim, dim.default_strides(alloc))
+        && is_accepted_along(dim, dim.fortran_strides(alloc))
+}
+
+/// The same of three axes.
+fn three_are_accepted(alloc: Global, dim: &Ix3) -> bool {
+    is_accepted_along_its_own(alloc, dim)
+}
+
+/// The same of any number of axes.
+fn any_are_accepted(alloc: Global, lens: &[usize]) -> bool {
+    match new_ixdyn(alloc, lens) {
+        Ok(dim) => is_accepted_along_its_own(alloc, &dim),
+        Err(_) => false,
+    }
+}
+
+/// The same of no axes, the first one, the first two and all three.
+fn are_accepted(alloc: Global, lens: [usize; 3]) -> bool {
+    three_are_accepted(alloc, &new_ix3(lens[0], lens[1], lens[2]))
+        && any_are_accepted(alloc, &lens[..0])
+        && any_are_accepted(alloc, &lens[..1])
+        && any_are_accepted(alloc, &lens[..2])
+        && any_are_accepted(alloc, &lens)
+}
+
+#[test]
+fn r3_rows_of_shapes_along_their_own_strides(rt: HostRuntime) {
     for a in 0..4 {
         for b in 0..4 {
             for c in 0..4 {
-                assert!(rt; are_accepted(rt.alloc(), [a, b, c])?);
+                assert!(rt; are_accepted(rt.alloc(), [a, b, c]));
             }
         }
     }
-    Ok(())
 }
 
 // ---- their traits
 
-/// A value that can be shown and copied.
-fn shown_twice<T: Copy + Debug>(value: T) -> (T, T) {
-    (value, value)
+/// Whether there is such a value, which can be shown and let go.
+fn is_shown<T: Debug + Drop>(value: Result<T, AllocError>) -> bool {
+    value.is_ok()
 }
 
-/// A value that can be shown and let go.
-fn shown<T: Debug + Drop>(_value: T) {}
+#[test]
+fn shapes_are_shown(rt: HostRuntime) {
+    let alloc = rt.alloc();
+    assert!(rt;
+        is_shown(two_by_columns(alloc))
+            && is_shown(StrideShape::from_builder(alloc, (2, 3)))
+            && is_shown(five_by_columns(alloc))
+            && is_shown(five_given(alloc))
+    );
+}
 
 #[test]
-fn shapes_are_shown_and_copied(rt: HostRuntime) -> Result<(), Fail> {
-    let (one, other) = shown_twice(two_by_columns(rt.alloc())?);
-    assert!(rt; one.raw_dim().equal(other.raw_dim()));
-    let (one, other) = shown_twice(StrideShape {
+fn shapes_are_copied(rt: HostRuntime) {
+    let shape = StrideShape {
         dim: new_ix2(2, 3),
         strides: Strides::C,
-    });
-    assert!(rt; one.raw_dim().equal(other.raw_dim()));
-    shown(five_by_columns(rt.alloc())?);
-    shown(five_given(rt.alloc())?);
-    Ok(())
+    };
+    let copy = shape;
+    assert!(rt; copy.dim == shape.dim && copy.dim == new_ix2(2, 3));
 }
 
 // ---- refused memory
 
-/// Whether a builder of at most four axes, which are its strides too, is never refused.
-fn is_served<T: ShapeBuilder<Dim = IxDyn, Strides = T> + Copy>(alloc: Global, builder: T) -> bool {
-    builder.into_shape_with_order(alloc).is_ok()
-        && builder.f(alloc).is_ok()
-        && builder.strides(alloc, builder).is_ok()
-        && StrideShape::from_builder(alloc, builder).is_ok()
-}
-
+// Builders of at most four axes are never refused.
 #[test]
 fn r9_rows_of_builders(rt: HostRuntime) {
-    assert!(rt; is_served(rt.alloc(), [2, 3, 1, 2].as_slice()));
+    assert!(rt; list_builds(rt.alloc(), &[2, 3, 1, 2], 12));
 }
 
 #[test]

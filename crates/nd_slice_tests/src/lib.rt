@@ -5,3 +5,5 @@
 mod arguments;
 #[cfg(test)]
 mod axis_slice;
+#[cfg(test)]
+mod equality;

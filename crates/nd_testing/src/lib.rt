@@ -1,16 +1,13 @@
-//! What the tests of several crates share: a hash, what tells of refused memory, and tables as text.
+//! What the tests of several crates share: what a refusal names, which values are equal, what tells of
+//! refused memory, and tables as text.
 #![tactic(auto)]
 
+mod equality;
+mod faults;
 mod memory;
 mod table;
 
+pub use equality::{are_distinct, hash_of};
+pub use faults::{fault_of, or_fault};
 pub use memory::{asked, grants};
-use std::hash::{DefaultHasher, Hash, Hasher};
 pub use table::{Row, TableError, rows};
-
-/// The hash of a value.
-pub fn hash_of<T: Hash>(value: &T) -> u64 {
-    let mut state = DefaultHasher::new();
-    value.hash(&mut state);
-    state.finish()
-}

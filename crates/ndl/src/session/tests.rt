@@ -5,37 +5,35 @@ use crate::watched::Watched;
 use std::alloc::Global;
 use std::fmt::Write;
 use std::io::ErrorKind;
-use std::process::Abort;
 use std::test::Fail;
 
-/// A whole run on an input: what it writes, and its status.
-fn run(alloc: Global, input: &[u8]) -> (Vec<u8>, u8) {
+/// A row: whether this is the answer to an input.
+fn answers(alloc: Global, input: &[u8], text: &[u8], status: u8) -> bool {
     let mut reader = Watched::new(input);
     let mut writer = Watched::new(Vec::new(alloc));
-    let status = session(alloc, &mut reader, &mut writer);
-    (writer.into_inner(), status)
-}
-
-/// A row: the answer to an input.
-fn answers(rt: &impl Abort, alloc: Global, input: &[u8], text: &str, status: u8) {
-    let (written, ended) = run(alloc, input);
-    assert_eq!(rt; (written.as_slice(), ended), (text.as_bytes(), status));
+    let ended = session(alloc, &mut reader, &mut writer);
+    writer.into_inner().as_slice() == text && ended == status
 }
 
 /// A line of a table: an input and the text of its answer. A `|` stands for a line feed.
-fn row_holds(rt: &impl Abort, alloc: Global, row: &str, status: u8) -> Result<(), Fail> {
-    let row = row.replace(alloc, "|", "\n")?;
-    let (input, text) = row.as_str().split_once(" => ").expect(rt, "an answer");
-    answers(rt, alloc, input.as_bytes(), text, status);
-    Ok(())
+fn row_holds(alloc: Global, row: &str, status: u8) -> bool {
+    let Ok(row) = row.replace(alloc, "|", "\n") else {
+        return false;
+    };
+    match row.as_str().split_once(" => ") {
+        Some((input, text)) => answers(alloc, input.as_bytes(), text.as_bytes(), status),
+        None => false,
+    }
 }
 
-/// The lines of a table whose answers have one status.
-fn rows_hold(rt: &impl Abort, alloc: Global, table: &str, status: u8) -> Result<(), Fail> {
+/// The first line that doesn't hold, of a table whose answers have one status.
+fn wrong_row(alloc: Global, table: &str, status: u8) -> Option<&str> {
     for row in table.lines() {
-        row_holds(rt, alloc, row, status)?;
+        if !row_holds(alloc, row, status) {
+            return Some(row);
+        }
     }
-    Ok(())
+    None
 }
 
 const DONE: &str = "\
@@ -56,9 +54,9 @@ data 4 owned 4 1|slice ..,..,..,..,..| => step 1: ShapeError/IncompatibleShape: 
 ";
 
 #[test]
-fn r1_rows(rt: HostRuntime) -> Result<(), Fail> {
-    rows_hold(&rt, rt.alloc(), DONE, 0)?;
-    rows_hold(&rt, rt.alloc(), REFUSED, 1)
+fn r1_rows(rt: HostRuntime) {
+    assert_eq!(rt; wrong_row(rt.alloc(), DONE, 0), None);
+    assert_eq!(rt; wrong_row(rt.alloc(), REFUSED, 1), None);
 }
 
 const READABLE: &str = "\
@@ -108,35 +106,45 @@ data 6 owned 2,3 3,1|slice ..,..|slise ..| => line 3: unreadable|
 ";
 
 #[test]
-fn r1_grammar_rows(rt: HostRuntime) -> Result<(), Fail> {
-    rows_hold(&rt, rt.alloc(), READABLE, 0)?;
-    rows_hold(&rt, rt.alloc(), UNREADABLE, 2)?;
-    let text = "line 1: unreadable\n";
-    answers(&rt, rt.alloc(), b"data \xff owned 4 1\n", text, 2);
-    Ok(())
+fn r1_grammar_rows(rt: HostRuntime) {
+    assert_eq!(rt; wrong_row(rt.alloc(), READABLE, 0), None);
+    assert_eq!(rt; wrong_row(rt.alloc(), UNREADABLE, 2), None);
+    let text = b"line 1: unreadable\n";
+    assert!(rt; answers(rt.alloc(), b"data \xff owned 4 1\n", text, 2));
 }
 
-/// Inputs that one read can't give: blanks before the words of a line, and blank lines.
+/// A row whose input is more than one read can give: many blanks or blank lines, and then the rest.
+fn answers_behind(alloc: Global, blank: u8, rest: &[u8], text: &[u8], status: u8) -> bool {
+    match vec![in alloc; blank; 9000] {
+        Ok(mut input) => {
+            input.extend_from_slice(rest).is_ok() && answers(alloc, &input, text, status)
+        }
+        Err(_) => false,
+    }
+}
+
 #[test]
-fn a_row_of_more_than_one_read(rt: HostRuntime) -> Result<(), Fail> {
-    let mut input = vec![in rt.alloc(); b' '; 9000]?;
-    input.extend_from_slice(b"data 4 owned 4 1\n")?;
-    let text = "shape 4\nstrides 1\nplaces 0 1 2 3\n";
-    answers(&rt, rt.alloc(), &input, text, 0);
-    let mut input = vec![in rt.alloc(); b'\n'; 9000]?;
-    input.extend_from_slice(b"slise ..")?;
-    answers(&rt, rt.alloc(), &input, "line 9001: unreadable\n", 2);
-    Ok(())
+fn a_row_of_more_than_one_read(rt: HostRuntime) {
+    let text = b"shape 4\nstrides 1\nplaces 0 1 2 3\n";
+    assert!(rt; answers_behind(rt.alloc(), b' ', b"data 4 owned 4 1\n", text, 0));
+    let text = b"line 9001: unreadable\n";
+    assert!(rt; answers_behind(rt.alloc(), b'\n', b"slise ..", text, 2));
+}
+
+/// The text of as many places as there are elements, one behind the other.
+fn places_text(alloc: Global, len: usize) -> Result<String, Fail> {
+    let mut text = format!(in alloc; "shape {len}\nstrides 1\nplaces 0")?;
+    for place in 1..len {
+        write!(text, " {place}")?;
+    }
+    text.push_str("\n")?;
+    Ok(text)
 }
 
 #[test]
 fn a_row_of_many_places(rt: HostRuntime) -> Result<(), Fail> {
-    let mut text = "shape 150\nstrides 1\nplaces 0".to_string(rt.alloc())?;
-    for place in 1..150 {
-        write!(text, " {place}")?;
-    }
-    text.push_str("\n")?;
-    answers(&rt, rt.alloc(), b"data 150 owned 150 1\n", &text, 0);
+    let text = places_text(rt.alloc(), 150)?;
+    assert!(rt; answers(rt.alloc(), b"data 150 owned 150 1\n", text.as_bytes(), 0));
     Ok(())
 }
 
@@ -144,7 +152,7 @@ fn a_row_of_many_places(rt: HostRuntime) -> Result<(), Fail> {
 #[test]
 fn too_many_places(rt: HostRuntime) {
     let input = b"data 1 read 1000000000000000000 0\n";
-    answers(&rt, rt.alloc(), input, "out of memory\n", 3);
+    assert!(rt; answers(rt.alloc(), input, b"out of memory\n", 3));
 }
 
 const INPUT: &[u8] = b"data 4 owned 4 1\nslice 1..;-2\n";
@@ -155,22 +163,19 @@ const BROKEN: Fault = Fault::Error(ErrorKind::BrokenPipe);
 
 const INTERRUPTED: Fault = Fault::Error(ErrorKind::Interrupted);
 
-/// A row: the status, how often was read and written, and what went out, over these devices.
-fn ends(
-    rt: &impl Abort,
-    alloc: Global,
-    reader: FakeReader,
-    writer: FakeWriter,
-    due: (u8, usize, usize, &[u8]),
-) {
+/// What a run leaves: its status, how often was read and written, and what went out.
+type Ended<'a> = (u8, usize, usize, &'a [u8]);
+
+/// A row: whether a run over these devices ends so.
+fn ends(alloc: Global, reader: FakeReader, writer: FakeWriter, due: Ended) -> bool {
     let mut reader = Watched::new(reader);
     let mut writer = Watched::new(writer);
     let status = session(alloc, &mut reader, &mut writer);
     let (reader, writer) = (reader.into_inner(), writer.into_inner());
-    assert_eq!(rt;
-        (status, reader.calls, writer.calls, writer.taken.as_slice()),
-        due
-    );
+    status == due.0
+        && reader.calls == due.1
+        && writer.calls == due.2
+        && writer.taken.as_slice() == due.3
 }
 
 #[test]
@@ -178,7 +183,7 @@ fn a_byte_at_a_time(rt: HostRuntime) {
     let reader = FakeReader::new(INPUT, 1, None);
     let writer = FakeWriter::new(rt.alloc(), 1, None);
     let due = (0, INPUT.len() + 1, TEXT.len(), TEXT);
-    ends(&rt, rt.alloc(), reader, writer, due);
+    assert!(rt; ends(rt.alloc(), reader, writer, due));
 }
 
 #[test]
@@ -186,35 +191,40 @@ fn nothing_is_read_after_the_end(rt: HostRuntime) {
     let reader = FakeReader::new(INPUT, 1, Some((2, Fault::Nothing)));
     let writer = FakeWriter::new(rt.alloc(), 100, None);
     let due = (2, 3, 1, b"line 1: unreadable\n".as_slice());
-    ends(&rt, rt.alloc(), reader, writer, due);
+    assert!(rt; ends(rt.alloc(), reader, writer, due));
+}
+
+/// A row: a read that fails is the last one, and what is written tells so.
+fn ends_at_read(alloc: Global, call: usize, reads: usize, fault: Fault) -> bool {
+    let reader = FakeReader::new(INPUT, 2, Some((call, fault)));
+    let writer = FakeWriter::new(alloc, 100, None);
+    ends(alloc, reader, writer, (4, reads, 1, b"input failed\n"))
 }
 
 #[test]
 fn a_failed_read(rt: HostRuntime) {
     for fault in [BROKEN, INTERRUPTED] {
         for (call, reads) in [(0, 1), (1, 2), (5, 6)] {
-            let reader = FakeReader::new(INPUT, 2, Some((call, fault)));
-            let writer = FakeWriter::new(rt.alloc(), 100, None);
-            let due = (4, reads, 1, b"input failed\n".as_slice());
-            ends(&rt, rt.alloc(), reader, writer, due);
+            assert!(rt; ends_at_read(rt.alloc(), call, reads, fault), "at {call}");
         }
     }
+}
+
+/// A row: a write that fails is the last one, and the text ends before it.
+fn ends_at_write(alloc: Global, call: usize, writes: usize, text: &[u8], fault: Fault) -> bool {
+    let reader = FakeReader::new(INPUT, 100, None);
+    let writer = FakeWriter::new(alloc, 1, Some((call, fault)));
+    ends(alloc, reader, writer, (4, 2, writes, text))
 }
 
 #[test]
 fn a_failed_write(rt: HostRuntime) {
     for fault in [BROKEN, INTERRUPTED, Fault::Nothing] {
-        for call in [0usize, 1, 5] {
-            let reader = FakeReader::new(INPUT, 100, None);
-            let writer = FakeWriter::new(rt.alloc(), 1, Some((call, fault)));
-            ends(
-                &rt,
-                rt.alloc(),
-                reader,
-                writer,
-                (4, 2, call + 1, &TEXT[..call]),
-            );
-        }
+        assert!(rt;
+            ends_at_write(rt.alloc(), 0, 1, b"", fault)
+                && ends_at_write(rt.alloc(), 1, 2, b"s", fault)
+                && ends_at_write(rt.alloc(), 5, 6, b"shape", fault)
+        );
     }
 }
 
@@ -223,7 +233,6 @@ fn a_failed_read_and_a_failed_write(rt: HostRuntime) {
     for fault in [BROKEN, INTERRUPTED, Fault::Nothing] {
         let reader = FakeReader::new(INPUT, 3, Some((1, BROKEN)));
         let writer = FakeWriter::new(rt.alloc(), 1, Some((5, fault)));
-        let due = (4, 2, 6, b"input".as_slice());
-        ends(&rt, rt.alloc(), reader, writer, due);
+        assert!(rt; ends(rt.alloc(), reader, writer, (4, 2, 6, b"input")));
     }
 }
