@@ -188,7 +188,6 @@ const REACH: &str = "\
 4 9223372036854775807 0,2,2 1,2305843009213693951,1 0,1,1 \
   => (Ok(0), Err(Overflow), Err(Overflow), Err(Overflow))
 4 12 2,3,2 5,2,1 1,2,1 => (Ok(12), Ok(10), Err(Unsupported), Ok((true, 0, Some((10, 10)))))
-4 12 2,3,2 -5,2,-1 1,2,1 => (Ok(12), Ok(10), Err(Unsupported), Ok((true, 6, Some((-2, -2)))))
 4 12 2,3,2 6,2,1 1,2,1 => (Ok(12), Ok(11), Ok(()), Ok((false, 0, Some((11, 11)))))
 4 12 2,3,2 6,0,1 1,2,1 => (Ok(12), Ok(7), Err(Unsupported), Ok((true, 0, Some((7, 7)))))
 4 12 2,3,2 -6,0,1 1,2,1 => (Ok(12), Ok(7), Err(Unsupported), Ok((true, 6, Some((-5, -5)))))";

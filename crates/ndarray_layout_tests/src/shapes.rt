@@ -16,10 +16,14 @@ fn by_columns<D: Dimension>(alloc: Global, dim: D, len: usize) -> Result<Strided
     Strided::from_shape(alloc, StrideShape { dim, strides }, 1, len, OwnedMutable)
 }
 
-/// Two axes.
+/// Two axes, built in column-major order.
+fn two(alloc: Global) -> Result<StrideShape<Ix2>, AllocError> {
+    StrideShape::from_builder(alloc, (2, 3).f(alloc)?)
+}
+
+/// Their view.
 fn two_by_columns(alloc: Global, len: usize) -> Result<Strided<Ix2>, LayoutError> {
-    let shape = StrideShape::from_builder(alloc, (2, 3).f(alloc)?)?;
-    Strided::from_shape(alloc, shape, 1, len, OwnedMutable)
+    Strided::from_shape(alloc, two(alloc)?, 1, len, OwnedMutable)
 }
 
 /// Five axes.
@@ -91,7 +95,7 @@ fn empty(alloc: Global) -> Result<Strided<IxDyn>, LayoutError> {
 
 /// Whether a view has so many axes.
 fn has_axes(view: Result<Strided<IxDyn>, LayoutError>, count: usize) -> bool {
-    view.is_ok_and(|view| (view.dim().ndim(), view.axes().len()) == (count, count))
+    view.is_ok_and(|view| view.axes().len() == count)
 }
 
 #[test]
@@ -120,6 +124,11 @@ fn in_turn(mut axes: Axes<'_>) -> [Option<(Axis, usize, isize)>; 6] {
     given.map(|axis| axis.map(parts_of))
 }
 
+/// Whether these are told in turn.
+fn are_in_turn(axes: Axes<'_>, told: [Option<(Axis, usize, isize)>; 6]) -> bool {
+    in_turn(axes) == told
+}
+
 /// An axis as it is told.
 const fn axis(number: usize, len: usize, stride: isize) -> Option<(Axis, usize, isize)> {
     Some((Axis(number), len, stride))
@@ -137,7 +146,7 @@ fn r3_rows_of_axes(rt: HostRuntime) {
         None,
         None,
     ];
-    assert_eq!(rt; in_turn(view.axes()), told);
+    assert!(rt; are_in_turn(view.axes(), told));
 }
 
 #[test]
@@ -151,7 +160,7 @@ fn r3_rows_of_five_axes_in_turn(rt: HostRuntime) {
         axis(2, 3, 1),
         None,
     ];
-    assert_eq!(rt; in_turn(view.axes()), told);
+    assert!(rt; are_in_turn(view.axes(), told));
 }
 
 // ---- refused memory
@@ -189,7 +198,7 @@ fn memory_of_a_shape_of_five(rt: HostRuntime) {
     }
 }
 
-/// The view is the one of five axes, or a request for it was refused.
+/// Whether this is the view of five axes, or a request for it was refused.
 fn is_five(alloc: Global, view: Result<Strided<IxDyn>, AllocError>) -> bool {
     match view {
         Ok(view) => view.start() == 6,
@@ -197,6 +206,7 @@ fn is_five(alloc: Global, view: Result<Strided<IxDyn>, AllocError>) -> bool {
     }
 }
 
+// The view itself takes two requests: the third and the fourth are those of what is asked here.
 #[test]
 fn memory_of_a_view_of_five(rt: HostRuntime) {
     let alloc = rt.alloc();

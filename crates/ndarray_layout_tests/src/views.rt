@@ -1,4 +1,5 @@
-//! Views at dimension types of none, one, two, three, six and any number of axes: where their indices lie.
+//! Views at dimension types of none, one, two, three, six and any number of axes: where their indices
+//! lie.
 //!
 //! A row is a dimension type, a layout (size of an element, length and use of the data, shape,
 //! strides), a question and its answer.
