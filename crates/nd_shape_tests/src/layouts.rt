@@ -1,5 +1,5 @@
-//! What the public calls tell of layouts and their indices, at dimension types of one, two, three,
-//! six and any number of axes.
+//! What the public calls tell of layouts and their indices, at dimension types of none, one, two,
+//! three, six and any number of axes.
 //!
 //! A row is the size of an element, a count of them, a shape, strides and an index; then, behind an
 //! arrow, what is told: the size, the span, whether the data may be owned through the layout, and
@@ -7,7 +7,7 @@
 //! below the first index, and where the index lies, checked and unchecked.
 use crate::lists::{dim_of, strides_of};
 use CanIndexCheckMode::{OwnedMutable, ReadOnly};
-use nd_dim::{Dimension, ErrorKind, Ix1, Ix2, Ix3, Ix6, IxDyn, ShapeError};
+use nd_dim::{Dimension, ErrorKind, Ix0, Ix1, Ix2, Ix3, Ix6, IxDyn, ShapeError};
 use nd_shape::{
     CanIndexCheckMode, NdIndex, can_index_slice, dim_stride_overlap, max_abs_offset_check_overflow,
     offset_from_low_addr_ptr_to_logical_ptr, size_of_shape_checked,
@@ -83,6 +83,7 @@ fn ask<D: Dimension>(rt: &impl Abort, alloc: Global, data: Data, lists: Lists) -
 /// The same at the dimension type of the count of axes.
 fn ask_lists(rt: &impl Abort, alloc: Global, data: Data, lists: Lists) -> Told {
     match (lists.shape.len(), lists.strides.len(), lists.index.len()) {
+        (0, 0, 0) => ask::<Ix0>(rt, alloc, data, lists),
         (1, 1, 1) => ask::<Ix1>(rt, alloc, data, lists),
         (2, 2, 2) => ask::<Ix2>(rt, alloc, data, lists),
         (3, 3, 3) => ask::<Ix3>(rt, alloc, data, lists),
@@ -163,6 +164,62 @@ const R1: &str = "\
 #[test]
 fn r1_rows(rt: HostRuntime) {
     tells(&rt, rt.alloc(), R1);
+}
+
+/// Layouts of no axes and of three: how far they reach, and which of their indices may share
+/// an element.
+const REACH: &str = "\
+1 1 - - - => (Ok(1), Ok(0), Ok(()), Ok((false, 0, Some((0, 0)))))
+1 0 - - - => (Ok(1), Ok(0), Err(OutOfBounds), Err(OutOfBounds))
+1 0 1,9223372036854775807,2 1,1,1 0,9223372036854775806,1 \
+  => (Err(Overflow), Err(Overflow), Err(Overflow), Err(Overflow))
+1 9223372036854775807 1,9223372036854775807,2 1,1,1 0,9223372036854775806,1 \
+  => (Err(Overflow), Err(Overflow), Err(Overflow), Err(Overflow))
+4 12 2,3,2 1,2,6 1,2,1 => (Ok(12), Ok(11), Ok(()), Ok((false, 0, Some((11, 11)))))
+4 12 2,3,2 2,4,12 1,2,1 => (Ok(12), Ok(22), Err(OutOfBounds), Err(OutOfBounds))
+4 0 0,0,1 2,1,3 0,0,0 => (Ok(0), Ok(0), Ok(()), Ok((false, 0, None)))
+4 11 2,2,3 6,3,1 1,1,2 => (Ok(12), Ok(11), Err(OutOfBounds), Err(OutOfBounds))
+4 12 2,2,3 6,3,1 1,1,2 => (Ok(12), Ok(11), Ok(()), Ok((false, 0, Some((11, 11)))))
+1 9223372036854775807 1,9223372036854775807,1 1,1,1 0,9223372036854775806,0 \
+  => (Ok(9223372036854775807), Ok(9223372036854775806), Ok(()), Ok((false, 0, \
+  Some((9223372036854775806, 9223372036854775806)))))
+1 9223372036854775807 0,2,2 1,9223372036854775807,1 0,1,1 \
+  => (Ok(0), Err(Overflow), Err(Overflow), Err(Overflow))
+4 9223372036854775807 0,2,2 1,2305843009213693951,1 0,1,1 \
+  => (Ok(0), Err(Overflow), Err(Overflow), Err(Overflow))
+4 12 2,3,2 5,2,1 1,2,1 => (Ok(12), Ok(10), Err(Unsupported), Ok((true, 0, Some((10, 10)))))
+4 12 2,3,2 6,2,1 1,2,1 => (Ok(12), Ok(11), Ok(()), Ok((false, 0, Some((11, 11)))))
+4 12 2,3,2 6,0,1 1,2,1 => (Ok(12), Ok(7), Err(Unsupported), Ok((true, 0, Some((7, 7)))))
+4 12 2,3,2 -6,0,1 1,2,1 => (Ok(12), Ok(7), Err(Unsupported), Ok((true, 6, Some((-5, -5)))))";
+
+/// Layouts of few elements or none.
+const SMALL: &str = "\
+4 0 0 0 0 => (Ok(0), Ok(0), Ok(()), Ok((false, 0, None)))
+4 0 0 1 0 => (Ok(0), Ok(0), Ok(()), Ok((false, 0, None)))
+4 0 0,0 0,0 0,0 => (Ok(0), Ok(0), Ok(()), Ok((false, 0, None)))
+4 0 0,0 2,1 0,0 => (Ok(0), Ok(0), Ok(()), Ok((false, 0, None)))
+4 0 0,1 0,0 0,0 => (Ok(0), Ok(0), Ok(()), Ok((false, 0, None)))
+4 0 0,1 2,1 0,0 => (Ok(0), Ok(0), Ok(()), Ok((false, 0, None)))
+4 1 1 0 0 => (Ok(1), Ok(0), Ok(()), Ok((false, 0, Some((0, 0)))))
+4 1 1 2 0 => (Ok(1), Ok(0), Ok(()), Ok((false, 0, Some((0, 0)))))
+4 1 1,1,1 2,1,3 0,0,0 => (Ok(1), Ok(0), Ok(()), Ok((false, 0, Some((0, 0)))))
+4 2 2 1 1 => (Ok(2), Ok(1), Ok(()), Ok((false, 0, Some((1, 1)))))
+4 0 1 0 0 => (Ok(1), Ok(0), Err(OutOfBounds), Err(OutOfBounds))
+4 0 1 1 0 => (Ok(1), Ok(0), Err(OutOfBounds), Err(OutOfBounds))
+4 0 0,2 2,1 0,1 => (Ok(0), Ok(1), Err(OutOfBounds), Err(OutOfBounds))
+4 0 1,1,1 2,1,3 0,0,0 => (Ok(1), Ok(0), Err(OutOfBounds), Err(OutOfBounds))
+4 1 2 1 1 => (Ok(2), Ok(1), Err(OutOfBounds), Err(OutOfBounds))
+4 2 1,2 5,2 0,1 => (Ok(2), Ok(2), Err(OutOfBounds), Err(OutOfBounds))
+0 0 0 1 0 => (Ok(0), Ok(0), Ok(()), Ok((false, 0, None)))
+0 0 0,2 0,0 0,1 => (Ok(0), Ok(0), Ok(()), Ok((false, 0, None)))
+0 1 1 1 0 => (Ok(1), Ok(0), Ok(()), Ok((false, 0, Some((0, 0)))))
+0 2 2,1 1,0 1,0 => (Ok(2), Ok(1), Ok(()), Ok((false, 0, Some((1, 1)))))
+0 0 1 1 0 => (Ok(1), Ok(0), Err(OutOfBounds), Err(OutOfBounds))";
+
+#[test]
+fn r3_rows(rt: HostRuntime) {
+    tells(&rt, rt.alloc(), REACH);
+    tells(&rt, rt.alloc(), SMALL);
 }
 
 /// Layouts in which no two indices share an element: over as many elements as they span, over one

@@ -1,4 +1,4 @@
-pub mod Axes
+pub mod OneAxis
 pub mod Offsets
 pub mod Picked
 pub mod PicksFit

@@ -5,7 +5,7 @@ use Rattle.std.proofs.lemmas.Bool.{and_parts, ltb-true}
 use Rattle.nd_base.specs.Indices.{is_index}
 use Rattle.nd_base.specs.Offset.{offset_of}
 use Rattle.nd_base.specs.Span.{reach_down, reach_up, low_span, high_span}
-use Rattle.ndarray_layout.proofs.Axes.{Within, axis_within}
+use Rattle.ndarray_layout.proofs.OneAxis.{Within, axis_within}
 
 -- the sum of numbers within bounds
 pub sum_within : (l h m k : ℕ) (y z : ℤ) → Within l h y → Within m k z → Within (l + m) (h + k) (y +ℤ z)

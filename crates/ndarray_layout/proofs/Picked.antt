@@ -5,7 +5,7 @@ use Rattle.std.proofs.lemmas.Bool.{cases_lt, cond-true, cond-false, le-leb, lt-l
 use Rattle.nd_base.specs.Span.{reach, reach_down, reach_up}
 use Rattle.nd_slice.specs.Sliced.{picked_stride, first_offset}
 use Rattle.nd_base.proofs.laws.Span.{reach_parts}
-use Rattle.ndarray_layout.proofs.Axes.{Within, axis_within}
+use Rattle.ndarray_layout.proofs.OneAxis.{Within, axis_within}
 
 -- the picks of a slice that fits an axis of length len
 pub record PicksFit (len : ℕ) (step : ℤ) (picks : List ℕ) : Type 0 where

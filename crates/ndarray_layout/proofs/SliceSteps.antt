@@ -17,7 +17,7 @@ use Rattle.nd_slice.specs.declared.slice.SliceInfoElem.TheVariants as elem
 use Rattle.nd_slice.specs.Picks.{meaning, picks}
 use Rattle.nd_slice.specs.SliceFault.{slice_fault, index_fault, in_count, out_count, first_fault}
 use Rattle.nd_slice.specs.Sliced.{sliced_shape, sliced_strides, sliced_offset, picked_stride, first_offset}
-use Rattle.ndarray_layout.proofs.Axes.{Within, axis_within}
+use Rattle.ndarray_layout.proofs.OneAxis.{Within, axis_within}
 use Rattle.ndarray_layout.proofs.Picked.{slice_kept}
 use Rattle.ndarray_layout.proofs.PicksFit.{picks_fit}
 use Rattle.ndarray_layout.proofs.Slices.{or_none, index_entry}

@@ -18,7 +18,7 @@ use Rattle.nd_slice.specs.Picks.{picks, meaning, is_entry}
 use Rattle.nd_slice.specs.SliceFault.{slice_fault, index_fault, in_count, first_fault}
 use Rattle.nd_slice.specs.Sliced.{sliced_shape, sliced_strides, sliced_offset}
 use Rattle.nd_slice.specs.Selected.{selected}
-use Rattle.ndarray_layout.proofs.Axes.{Within, axis_within}
+use Rattle.ndarray_layout.proofs.OneAxis.{Within, axis_within}
 use Rattle.ndarray_layout.proofs.Picked.{slice_kept, pick_offset}
 use Rattle.ndarray_layout.proofs.PicksFit.{picks_fit}
 

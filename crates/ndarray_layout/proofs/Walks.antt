@@ -14,7 +14,7 @@ use Rattle.ndarray_layout.specs.View.{IsView, view_places}
 use Rattle.ndarray_layout.specs.Walk.{nested, nested_view}
 use Rattle.nd_base.proofs.laws.Indices.{indices_more}
 use Rattle.nd_base.proofs.laws.NonzeroSize.{nonzero_size_pos}
-use Rattle.ndarray_layout.proofs.Axes.{axis_within}
+use Rattle.ndarray_layout.proofs.OneAxis.{axis_within}
 
 -- an entry of the first axis moves the start
 row_at : (start i inner : ℕ) (stride : ℤ) (strides : List ℤ) (xs : List (List ℕ)) → pos inner ≡ pos start +ℤ (pos i *ℤ stride) → map (place start (stride ∷ strides)) (map (λ index. i ∷ index) xs) ≡ map (place inner strides) xs

@@ -13,8 +13,10 @@ pub use nd_dim::{
     stride_offset_checked, unsigned,
 };
 pub use nd_shape::{
-    CanIndexCheckMode, NdIndex, can_index_slice, dim_stride_overlap, max_abs_offset_check_overflow,
-    offset_from_low_addr_ptr_to_logical_ptr, size_of_shape_checked,
+    Axes, AxisDescription, CanIndexCheckMode, NdIndex, Shape, ShapeBuilder, StrideShape, Strides,
+    axes_of, can_index_slice, can_index_slice_not_custom, can_index_slice_with_strides,
+    dim_stride_overlap, max_abs_offset_check_overflow, offset_from_low_addr_ptr_to_logical_ptr,
+    size_of_shape_checked, strides_non_negative,
 };
 pub use nd_slice::{
     NewAxis, Slice, SliceElems, SliceInfoElem, abs_index, check_elems, check_slice, do_slice,

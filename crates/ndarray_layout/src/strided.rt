@@ -1,10 +1,14 @@
 //! Views of data: a shape and strides that were accepted, with the place of the first index.
+ghost use Rattle.std.specs.Iterator.{YieldsFirst, YieldsLast};
+ghost use Rattle.std.specs.Iterator.Runs.{YieldsInOrder, YieldsInReverse};
 ghost use Rattle.std.specs.List.{All};
-ghost use Rattle.std.specs.Prelude.{◌≡◌, ℕ, ◌<◌, pos, None, map, vec_len, vec_capacity, IfOk, IsOk, Some, slice_get};
-ghost use Rattle.std.specs.Option.{option_map};
+ghost use Rattle.std.specs.Prelude.{◌≡◌, ℕ, ◌<◌, pos, None, map, length, vec_len, vec_capacity, IfOk, IsOk, Some, slice_get};
+ghost use Rattle.std.specs.Option.{IsSome, option_map};
 ghost use Rattle.std.specs.Result.{result_err};
 ghost use Rattle.nd_base.specs.Signed.{all_signed};
-ghost use Rattle.nd_shape.specs.Acceptance.{acceptance};
+ghost use Rattle.nd_shape.specs.Acceptance.{acceptance, acceptance_by_strides};
+ghost use Rattle.nd_shape.specs.Axes.{axes, axes_left};
+ghost use Rattle.nd_shape.specs.ShapeBuilder.{custom_strides, strides_list};
 ghost use Rattle.nd_shape.specs.declared.checks.CanIndexCheckMode.TheVariants.{OwnedMutable};
 ghost use Rattle.nd_base.specs.Lengths.{NeedsNoMemory};
 ghost use Rattle.nd_base.specs.Rank.{index_of_rank_in};
@@ -21,7 +25,8 @@ use crate::places::{offset_place, push_places};
 use crate::slicing::{check_counts_and_elems, slice_axes};
 use nd_dim::{Dimension, LayoutError, Order, ShapeError};
 use nd_shape::{
-    CanIndexCheckMode, NdIndex, can_index_slice, offset_from_low_addr_ptr_to_logical_ptr,
+    Axes, CanIndexCheckMode, NdIndex, StrideShape, axes_of, can_index_slice,
+    can_index_slice_with_strides, offset_from_low_addr_ptr_to_logical_ptr,
 };
 use nd_slice::{SliceElems, SliceInfoElem, out_ndim_of};
 use std::alloc::{AllocError, Global};
@@ -76,6 +81,45 @@ impl<D: Dimension> Strided<D> {
         })
     }
 
+    /// The view of a shape by its own strides or by given ones, over data of `len` elements of
+    /// `elem_size` bytes, with the lowest element of the view first in the data. Refused as
+    /// `can_index_slice_with_strides` refuses it, and then for want of memory: not where the strides
+    /// are given, where the type fixes the count or where there are at most 4 axes.
+    pub fn from_shape(
+        alloc: Global,
+        shape: StrideShape<D>,
+        elem_size: usize,
+        len: usize,
+        mode: CanIndexCheckMode,
+    ) -> Result<Self, LayoutError>
+        ensures fault { shape_fault result ≡
+            acceptance_by_strides D.list elem_size len mode (D.list shape.dim) shape.strides }
+        ensures given { shape_fault result ≡ None → IsSome (custom_strides shape.strides) →
+            IsOk result }
+        ensures memory { shape_fault result ≡ None →
+            NeedsNoMemory D.NDIM (length (D.list shape.dim)) → IsOk result }
+        ensures view { IfOk result (λ v. v ≡
+            view_of
+            (low_span
+            (D.list shape.dim)
+            (all_signed (strides_list D.list (D.list shape.dim) shape.strides)))
+            (D.list shape.dim)
+            (strides_list D.list (D.list shape.dim) shape.strides)) }
+        ensures is_view { IfOk result (λ v. IsView v) }
+        ensures inside { IfOk result (λ v. LiesWithin len v) }
+        ensures distinct { IfOk result (λ v. mode ≡ OwnedMutable → HasDistinctPlaces v) }
+    {
+        let StrideShape { dim, strides } = shape;
+        can_index_slice_with_strides(elem_size, len, &dim, &strides, mode)?;
+        let strides = strides.strides_for_dim(alloc, &dim)?;
+        let start = offset_from_low_addr_ptr_to_logical_ptr(&dim, &strides);
+        Ok(Strided {
+            start,
+            dim,
+            strides,
+        })
+    }
+
     /// The place of the first index, in elements from the start of the data.
     #[inline]
     pub fn start(&self) -> usize
@@ -101,6 +145,31 @@ impl<D: Dimension> Strided<D> {
         ensures is_view { IsView self.now }
     {
         &self.strides
+    }
+
+    /// The axes with their lengths and strides, each once, from the first or from the last on.
+    pub fn axes(&self) -> Axes<'_>
+        ensures list { axes_left result ≡ axes self.now.shape self.now.strides }
+        ensures in_order { YieldsInOrder (YieldsFirst axes_left) axes_left }
+        ensures in_reverse { YieldsInReverse (YieldsLast axes_left) axes_left }
+        ensures is_view { IsView self.now }
+    {
+        axes_of(&self.dim, &self.strides)
+    }
+
+    /// The same view, with a shape and strides of its own. In place of upstream's `Clone`.
+    ///
+    /// Errors: want of memory, and none where the type fixes the count or there are at most 4 axes.
+    pub fn duplicate(&self, alloc: Global) -> Result<Self, AllocError>
+        ensures view { IfOk result (λ v. v ≡ self.now) }
+        ensures is_view { IfOk result (λ v. IsView v) }
+        ensures memory { NeedsNoMemory D.NDIM (length self.now.shape) → IsOk result }
+    {
+        Ok(Strided {
+            start: self.start,
+            dim: self.dim.duplicate(alloc)?,
+            strides: self.strides.duplicate(alloc)?,
+        })
     }
 
     /// The place of an index in the data; `None` where it is no index of the shape.

@@ -68,7 +68,7 @@ fn look<D: Dimension>(rt: &impl Abort, alloc: Global, view: &Strided<D>) -> Seen
 }
 
 /// What a call that makes a view answers.
-fn told<D: Dimension>(
+pub fn told<D: Dimension>(
     rt: &impl Abort,
     alloc: Global,
     view: Result<Strided<D>, LayoutError>,

@@ -10,6 +10,8 @@ mod question;
 #[cfg(test)]
 mod rows;
 #[cfg(test)]
+mod shapes;
+#[cfg(test)]
 mod slices;
 #[cfg(test)]
 mod two_rows;

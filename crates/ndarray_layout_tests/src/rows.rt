@@ -1,7 +1,8 @@
 //! Tables of rows: a dimension type, a layout over data, a question and its answer.
-use crate::answer::{answer_at, expected};
+use crate::answer::{answer_at, expected, told};
 use crate::question::{fixed_count, read_layout, read_question};
 use nd_testing::{Row, rows};
+use ndarray_layout::{Dimension, LayoutError, Strided};
 use std::alloc::Global;
 use std::process::Abort;
 
@@ -20,4 +21,14 @@ pub fn hold(rt: &impl Abort, alloc: Global, table: &str) {
     for line in rows(table) {
         holds(rt, alloc, line);
     }
+}
+
+/// Whether a call that makes a view answers so.
+pub fn is_told<D: Dimension>(
+    rt: &impl Abort,
+    alloc: Global,
+    view: Result<Strided<D>, LayoutError>,
+    answer: &str,
+) -> bool {
+    told(rt, alloc, view) == expected(rt, alloc, &mut Row::new(answer))
 }

@@ -1,8 +1,11 @@
-//! Views at dimension types of one, two, three, six and any number of axes: where their indices lie.
+//! Views at dimension types of none, one, two, three, six and any number of axes: where their indices
+//! lie.
 //!
 //! A row is a dimension type, a layout (size of an element, length and use of the data, shape,
 //! strides), a question and its answer.
-use crate::rows::hold;
+use crate::rows::{hold, is_told};
+use CanIndexCheckMode::OwnedMutable;
+use ndarray_layout::{CanIndexCheckMode, Ix0, LayoutError, Strided, new_ix0};
 
 /// Views: shape, strides, start, places by rows and by columns; or the rule that refuses one.
 const ROWS: &str = "\
@@ -16,6 +19,25 @@ Ix2 1 0 owned 0,9223372036854775807 0,0 view is 0,9223372036854775807 0,0 0 - -"
 #[test]
 fn r1_rows(rt: HostRuntime) {
     hold(&rt, rt.alloc(), ROWS);
+}
+
+/// Two entries on each of three axes, and the same with axes of one entry between them.
+const TWO_BY_TWO: &str = "\
+Ix3 1 8 owned 2,2,2 4,-2,1 view is 2,2,2 4,-2,1 2 2,3,0,1,6,7,4,5 2,6,0,4,3,7,1,5
+Ix3 1 8 owned 2,2,2 3,2,1 view Unsupported
+IxDyn 1 8 owned 2,1,2,1,2 4,7,-2,7,1 view is 2,1,2,1,2 4,7,-2,7,1 2 2,3,0,1,6,7,4,5 2,6,0,4,3,7,1,5
+IxDyn 1 8 owned 2,1,2,1,2 3,7,2,7,1 view Unsupported";
+
+/// The view of no axes over `len` elements.
+fn without_axes(len: usize) -> Result<Strided<Ix0>, LayoutError> {
+    Ok(Strided::new(new_ix0(), new_ix0(), 1, len, OwnedMutable)?)
+}
+
+#[test]
+fn r3_rows(rt: HostRuntime) {
+    hold(&rt, rt.alloc(), TWO_BY_TWO);
+    assert!(rt; is_told(&rt, rt.alloc(), without_axes(1), "is - - 0 0 0"));
+    assert!(rt; is_told(&rt, rt.alloc(), without_axes(0), "OutOfBounds"));
 }
 
 /// Layouts in which no two indices share an element: how far each reaches, over data that is one
