@@ -38,28 +38,3 @@ pub(crate) fn set_last_len(lens: &mut [usize], len: usize)
     let last = lens.len() - 1;
     lens[last] = len;
 }
-
-#[cfg(test)]
-mod tests {
-    use super::*;
-
-    #[test]
-    fn r2_rows(rt: HostRuntime) {
-        let mut larger = [9; 3];
-        insert_axis_into(&[4, 5], 0, &mut larger);
-        assert_eq!(rt; larger, [1, 4, 5]);
-        insert_axis_into(&[4, 5], 1, &mut larger);
-        assert_eq!(rt; larger, [4, 1, 5]);
-        insert_axis_into(&[4, 5], 2, &mut larger);
-        assert_eq!(rt; larger, [4, 5, 1]);
-        let mut smaller = [9; 2];
-        remove_axis_into(&[3, 4, 5], 0, &mut smaller);
-        assert_eq!(rt; smaller, [4, 5]);
-        remove_axis_into(&[3, 4, 5], 2, &mut smaller);
-        assert_eq!(rt; smaller, [3, 4]);
-        assert_eq!(rt; last_len(&[]), 0);
-        assert_eq!(rt; last_len(&smaller), 4);
-        set_last_len(&mut smaller, 7);
-        assert_eq!(rt; smaller, [3, 7]);
-    }
-}

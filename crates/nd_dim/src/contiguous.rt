@@ -83,23 +83,3 @@ pub(crate) fn is_contiguous(lens: &[usize], strides: &[usize]) -> bool
         is_packed(lens, strides)
     }
 }
-
-#[cfg(test)]
-mod tests {
-    use super::*;
-    use nd_base::unsigned;
-
-    #[test]
-    fn r2_rows(rt: HostRuntime) {
-        let back = unsigned(-1);
-        assert!(rt; is_contiguous(&[2, 3], &[unsigned(-3), back]));
-        assert!(rt; !is_contiguous(&[3, 2], &[2, 3]));
-        assert!(rt; is_contiguous(&[2, 3], &[1, 2]));
-        assert!(rt; is_contiguous(&[5], &[back]));
-        assert!(rt; !is_contiguous(&[5], &[2]));
-        assert!(rt; is_contiguous(&[1, 2], &[unsigned(isize::MIN), 1]));
-        assert!(rt; is_contiguous(&[], &[]));
-        assert!(rt; is_contiguous(&[0], &[9]));
-        assert!(rt; is_contiguous(&[2, 3], &[3, 1]));
-    }
-}

@@ -52,22 +52,3 @@ pub(crate) fn max_stride_axis(lens: &[usize], strides: &[usize]) -> usize
     }
     greatest
 }
-
-#[cfg(test)]
-mod tests {
-    use super::*;
-    use nd_base::unsigned;
-
-    #[test]
-    fn r2_rows(rt: HostRuntime) {
-        assert_eq!(rt; min_stride_axis(&[1, 3, 2], &[0, 2, 6]), 1);
-        assert_eq!(rt; max_stride_axis(&[1, 3, 2], &[0, 2, 6]), 2);
-        let extremes = [unsigned(isize::MIN), unsigned(isize::MAX), 0];
-        assert_eq!(rt; min_stride_axis(&[2, 2, 1], &extremes), 1);
-        assert_eq!(rt; max_stride_axis(&[2, 2, 1], &extremes), 0);
-        assert_eq!(rt; min_stride_axis(&[5], &[7]), 0);
-        assert_eq!(rt; max_stride_axis(&[5], &[7]), 0);
-        assert_eq!(rt; min_stride_axis(&[1, 1], &[7, 9]), 1);
-        assert_eq!(rt; max_stride_axis(&[1, 1], &[7, 9]), 0);
-    }
-}

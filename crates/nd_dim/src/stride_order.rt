@@ -16,18 +16,3 @@ pub(crate) fn fill_stride_order(strides: &[usize], order: &mut [usize])
     }
     order.sort_unstable_by_key(|axis| (magnitude_at(strides, *axis), *axis));
 }
-
-#[cfg(test)]
-mod tests {
-    use super::*;
-    use nd_base::unsigned;
-
-    #[test]
-    fn r2_rows(rt: HostRuntime) {
-        let mut order = [9; 3];
-        fill_stride_order(&[unsigned(isize::MIN), 1, unsigned(-1)], &mut order);
-        assert_eq!(rt; order, [1, 2, 0]);
-        fill_stride_order(&[12, unsigned(-4), 1], &mut order);
-        assert_eq!(rt; order, [2, 1, 0]);
-    }
-}

@@ -51,37 +51,3 @@ pub(crate) fn are_equivalent(lens: &[usize], strides: &[usize], others: &[usize]
             .zip(strides.iter().zip(others))
             .all(|(len, (stride, other))| *len <= 1 || stride == other)
 }
-
-#[cfg(test)]
-mod tests {
-    use super::*;
-    use std::test::Fail;
-
-    /// Lengths, two lists of strides, and whether they are equivalent.
-    const PAIRS: [(&[usize], &[usize], &[usize], bool); 5] = [
-        (&[2, 3], &[3, 1], &[3, 1], true),
-        (&[2, 3], &[3, 1], &[1, 3], false),
-        (&[1, 3], &[7, 1], &[9, 1], true),
-        (&[0, 3], &[7, 1], &[9, 1], true),
-        (&[2, 3], &[3, 1], &[3], false),
-    ];
-
-    #[test]
-    fn r2_rows(rt: HostRuntime) -> Result<(), Fail> {
-        let mut strides = [9; 3];
-        fill_default_strides(&[3, 4, 5], &mut strides);
-        assert_eq!(rt; strides, [20, 5, 1]);
-        fill_default_strides(&[2, 0, 3], &mut strides);
-        assert_eq!(rt; strides, [0, 0, 0]);
-        fill_fortran_strides(&[3, 4, 5], &mut strides);
-        assert_eq!(rt; strides, [1, 3, 12]);
-        fill_fortran_strides(&[2, 0, 3], &mut strides);
-        assert_eq!(rt; strides, [0, 0, 0]);
-        fill_default_strides(&[], &mut []);
-        fill_fortran_strides(&[], &mut []);
-        for (lens, strides, others, equivalent) in PAIRS {
-            assert_eq!(rt; are_equivalent(lens, strides, others), equivalent);
-        }
-        Ok(())
-    }
-}

@@ -1,10 +1,6 @@
 //! What the calls answer, each by the bound alone: whether it is what a row wants. Want of memory is not.
-ghost use Rattle.std.specs.Prelude.{◌≤◌, ◌≡◌, length};
-ghost use Rattle.nd_base.specs.Signed.{all_signed};
-ghost use Rattle.nd_base.specs.Size.{nonzero_size, limit};
-ghost use Rattle.nd_base.specs.ValidLayout.{IsValidLayout};
-
-use nd_dim::{Axis, Dimension, Lengths, RemoveAxis, unsigned};
+use crate::lists::made;
+use nd_dim::{Axis, Dimension, IntoDimension, IxDyn, Lengths, RemoveAxis};
 use nd_testing::hash_of;
 use std::alloc::{AllocError, Global};
 use std::hash::Hash;
@@ -54,74 +50,140 @@ pub(crate) fn has_strides<D: Dimension>(
 }
 
 /// Whether strides are equivalent to those of another type.
-pub(crate) fn is_equivalent<D: Dimension, E: Lengths>(dim: &D, strides: &D, others: &E) -> bool {
-    dim.strides_equivalent(strides, others)
+pub(crate) fn is_equivalent<D: Dimension>(
+    alloc: Global,
+    dim: &D,
+    strides: &[usize],
+    others: &[usize],
+) -> Option<bool> {
+    match (made::<D>(alloc, strides), made::<IxDyn>(alloc, others)) {
+        (Some(strides), Some(others)) => Some(dim.strides_equivalent(&strides, &others)),
+        _ => None,
+    }
 }
 
-/// An axis more.
-pub(crate) fn widens<D: Dimension>(
+/// An axis more, as a value of this type.
+pub(crate) fn widens<D: Dimension<Larger = L>, L: Lengths>(
     alloc: Global,
     dim: &D,
     axis: usize,
-    larger: &D::Larger,
+    larger: &[usize],
 ) -> bool {
-    axis <= dim.ndim() && makes(dim.insert_axis(alloc, Axis(axis)), larger)
+    match made::<L>(alloc, larger) {
+        Some(larger) => { axis <= dim.ndim() && makes(dim.insert_axis(alloc, Axis(axis)), &larger) }
+        None => false,
+    }
+}
+
+/// An axis less, as a value of this type. No axes stay none.
+pub(crate) fn tries_to_narrow<D: Dimension<Smaller = S>, S: Lengths>(
+    alloc: Global,
+    dim: &D,
+    axis: usize,
+    smaller: &[usize],
+) -> bool {
+    match made::<S>(alloc, smaller) {
+        Some(smaller) => {
+            (axis < dim.ndim() || dim.ndim() == 0)
+                && makes(dim.try_remove_axis(alloc, Axis(axis)), &smaller)
+        }
+        None => false,
+    }
 }
 
 /// An axis less, where there is one.
-pub(crate) fn tries_to_narrow<D: Dimension>(
+pub(crate) fn narrows<D: RemoveAxis + Dimension<Smaller = S>, S: Lengths>(
     alloc: Global,
     dim: &D,
     axis: usize,
-    smaller: &D::Smaller,
+    smaller: &[usize],
 ) -> bool {
-    (axis < dim.ndim() || dim.ndim() == 0) && makes(dim.try_remove_axis(alloc, Axis(axis)), smaller)
-}
-
-/// An axis less, by either call where there is one.
-pub(crate) fn narrows<D: RemoveAxis>(
-    alloc: Global,
-    dim: &D,
-    axis: usize,
-    smaller: &D::Smaller,
-) -> bool {
-    tries_to_narrow(alloc, dim, axis, smaller)
-        && (axis >= dim.ndim() || makes(dim.remove_axis(alloc, Axis(axis)), smaller))
+    match made::<S>(alloc, smaller) {
+        Some(smaller) => {
+            axis >= dim.ndim() || makes(dim.remove_axis(alloc, Axis(axis)), &smaller)
+        }
+        None => false,
+    }
 }
 
 /// The axes of the least and of the greatest stride.
-pub(crate) fn has_stride_axes<D: Dimension>(dim: &D, strides: &D, axes: &[usize]) -> bool {
+pub(crate) fn has_stride_axes<D: Dimension>(
+    alloc: Global,
+    dim: &D,
+    strides: &[usize],
+    axes: &[usize],
+) -> bool {
+    let Some(strides) = made::<D>(alloc, strides) else {
+        return false;
+    };
     if dim.ndim() == 0 || dim.ndim() != strides.ndim() {
         return false;
     }
-    let found = [
-        dim.min_stride_axis(strides).0,
-        dim.max_stride_axis(strides).0,
-    ];
-    found.as_slice() == axes
+    let least = dim.min_stride_axis(&strides);
+    let greatest = dim.max_stride_axis(&strides);
+    [least.0, greatest.0].as_slice() == axes
 }
 
-/// The axes from the least stride to the greatest.
-pub(crate) fn has_order<D: Dimension>(alloc: Global, strides: &D, order: &[usize]) -> bool {
-    gives(strides._fastest_varying_stride_order(alloc), order)
-}
-
-/// Whether the indices fill a stretch of memory.
-pub(crate) fn is_contiguous<D: Dimension>(dim: &D, strides: &D) -> Option<bool>
-    requires { nonzero_size (D.list dim.now) ≤ limit }
-{
-    if dim.ndim() != strides.ndim() {
-        return None;
+/// The list, and a copy that is equal by either comparison.
+pub(crate) fn has_list<D: Dimension>(alloc: Global, dim: &D, lens: &[usize]) -> bool {
+    match dim.duplicate(alloc) {
+        Ok(same) => {
+            dim.slice() == lens && dim.ndim() == lens.len() && same == *dim && same.equal(dim)
+        }
+        Err(_) => false,
     }
-    Some(D::is_contiguous(dim, strides))
 }
 
-/// The offset of an index, as it is kept, or none.
-pub(crate) fn has_offset<D: Dimension>(dim: &D, strides: &D, index: &D, wanted: &[usize]) -> bool
-    requires { IsValidLayout (D.list dim.now) (all_signed (D.list strides.now)) }
-{
-    match dim.stride_offset_checked(strides, index) {
-        Some(offset) => [unsigned(offset)].as_slice() == wanted,
-        None => wanted.is_empty(),
+/// To a pattern and back.
+pub(crate) fn keeps_list<D: Dimension>(alloc: Global, dim: D, lens: &[usize]) -> bool {
+    gives(dim.into_pattern().into_dimension(alloc), lens)
+}
+
+/// To the type of any number of axes and back.
+pub(crate) fn changes_type<D: Dimension>(alloc: Global, dim: D, lens: &[usize]) -> bool {
+    match dim.into_dyn(alloc) {
+        Ok(dynamic) => dynamic.slice() == lens && becomes::<D>(alloc, &dynamic, true),
+        Err(_) => false,
     }
+}
+
+/// A list is one of this type, or is none.
+pub(crate) fn becomes<D: Dimension>(alloc: Global, dynamic: &IxDyn, answer: bool) -> bool {
+    match D::from_dimension(alloc, dynamic) {
+        Ok(Some(made)) => answer && made.slice() == dynamic.slice(),
+        Ok(None) => !answer,
+        Err(_) => false,
+    }
+}
+
+/// Writes the last length.
+pub(crate) fn writes_last<D: Dimension>(mut dim: D, len: usize, lens: &[usize]) -> bool {
+    if dim.ndim() == 0 {
+        return false;
+    }
+    dim.set_last_elem(len);
+    dim.last_elem() == len && dim.slice() == lens
+}
+
+/// Writes one length by its axis.
+pub(crate) fn writes<D: Dimension>(mut dim: D, axis: usize, len: usize, lens: &[usize]) -> bool {
+    if axis >= dim.ndim() {
+        return false;
+    }
+    dim[axis] = len;
+    dim.slice() == lens
+}
+
+/// Writes one length in the list.
+pub(crate) fn writes_slice<D: Dimension>(
+    mut dim: D,
+    axis: usize,
+    len: usize,
+    lens: &[usize],
+) -> bool {
+    if axis >= dim.ndim() {
+        return false;
+    }
+    dim.slice_mut()[axis] = len;
+    dim[axis] == len && dim.slice() == lens
 }

@@ -9,8 +9,6 @@
 #![tactic(auto)]
 
 #[cfg(test)]
-mod bounds;
-#[cfg(test)]
 mod checks;
 #[cfg(test)]
 mod contiguity;
@@ -27,4 +25,4 @@ mod operators;
 #[cfg(test)]
 mod tables;
 #[cfg(test)]
-mod types;
+mod told;

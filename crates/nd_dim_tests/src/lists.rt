@@ -1,58 +1,60 @@
-//! The lists of a row of a table.
-use nd_dim::{IxDyn, Lengths, new_ixdyn, unsigned};
-use nd_testing::{Row, TableError};
-use std::alloc::{AllocError, Global};
+//! The lists of a row of a table, and the values that stand for lists.
+ghost use Rattle.std.specs.Prelude.{◌≡◌, IfSome};
+
+use nd_dim::{Lengths, unsigned};
+use nd_testing::Row;
+use std::alloc::Global;
 
 /// The lists of a row: numbers parted by commas, negative ones as they are kept. Those that the row
 /// doesn't have are empty.
 #[derive(Drop)]
 pub(crate) struct Lists {
-    pub(crate) first: IxDyn,
-    pub(crate) second: IxDyn,
-    pub(crate) third: IxDyn,
+    pub(crate) first: Vec<usize>,
+    pub(crate) second: Vec<usize>,
+    pub(crate) third: Vec<usize>,
 }
 
 impl Lists {
-    pub(crate) fn read(line: &str, alloc: Global) -> Result<Lists, TableError> {
+    pub(crate) fn read(line: &str, alloc: Global) -> Option<Lists> {
         let mut row = Row::new(line);
-        let (first, second) = two(&mut row, alloc)?;
-        Ok(Lists {
-            first,
-            second,
+        Some(Lists {
+            first: list(&mut row, alloc)?,
+            second: list(&mut row, alloc)?,
             third: list(&mut row, alloc)?,
         })
     }
 }
 
-/// The next two words as lists.
-fn two(row: &mut Row<'_>, alloc: Global) -> Result<(IxDyn, IxDyn), TableError> {
-    let first = list(row, alloc)?;
-    Ok((first, list(row, alloc)?))
-}
-
 /// The next word as a list.
-fn list(row: &mut Row<'_>, alloc: Global) -> Result<IxDyn, TableError> {
-    let word = row.word().unwrap_or("-");
-    if word.contains('-') {
-        strides_of(word, alloc)
+fn list(row: &mut Row<'_>, alloc: Global) -> Option<Vec<usize>> {
+    let mut list = Vec::new(alloc);
+    for part in row.word().unwrap_or("-").split(',') {
+        if part != "-" {
+            list.push(entry(part)?).ok()?;
+        }
+    }
+    Some(list)
+}
+
+/// A length, or a stride as it is kept.
+fn entry(part: &str) -> Option<usize> {
+    let mut row = Row::new(part);
+    if part.starts_with('-') {
+        Some(unsigned(row.number().ok()?))
     } else {
-        lengths_of(word, alloc)
+        row.length().ok()
     }
 }
 
-fn lengths_of(word: &str, alloc: Global) -> Result<IxDyn, TableError> {
-    Ok(new_ixdyn(alloc, &Row::new(word).lengths(alloc)?)?)
-}
-
-fn strides_of(word: &str, alloc: Global) -> Result<IxDyn, TableError> {
-    Ok(kept(alloc, &Row::new(word).numbers(alloc)?)?)
-}
-
-/// Strides as they are kept.
-fn kept(alloc: Global, strides: &[isize]) -> Result<IxDyn, AllocError> {
-    let mut kept = IxDyn::zeros(alloc, strides.len())?;
-    for (place, stride) in kept.slice_mut().iter_mut().zip(strides) {
-        *place = unsigned(*stride);
+/// The value of a type that stands for a list, if the type allows as many axes.
+pub(crate) fn made<D: Lengths>(alloc: Global, lens: &[usize]) -> Option<D>
+    ensures { IfSome result (λ dim. D.list dim ≡ lens.now) }
+{
+    match D::NDIM {
+        Some(count) if count != lens.len() => return None,
+        _ => {}
     }
-    Ok(kept)
+    let mut dim = D::zeros(alloc, lens.len()).ok()?;
+    dim.slice_mut().copy_from_slice(lens);
+    Some(dim)
 }

@@ -4,34 +4,34 @@
 //! A call that needs no memory goes well whatever is refused. A call that needs memory is made
 //! twice, before one small request.
 use crate::checks::is_one;
+use crate::lists::made;
 use nd_dim::{
-    Axis, Dimension, FixedCount, Ix3, Ix5, IxDyn, IxDynImpl, Lengths, RemoveAxis, ShapeArg,
-    new_dim, new_ix0, new_ix1, new_ix2, new_ix3, new_ix4, new_ix5, new_ix6, new_ixdyn,
+    Axis, Dimension, FixedCount, IntoDimension, Ix0, Ix1, Ix2, Ix3, Ix4, Ix5, Ix6, IxDyn,
+    IxDynImpl, Lengths, RemoveAxis, ShapeArg, new_dim, new_ixdyn,
 };
 use nd_testing::asked;
 use std::alloc::{AllocError, Global};
-use std::process::Abort;
+use std::hash::Hash;
 
 /// What a call of a shape gives needs no memory.
 fn serves_shape<D: Dimension>(alloc: Global, dim: &D) -> bool {
     dim.size_checked().is_some()
         && dim.default_strides(alloc).is_ok()
         && dim.fortran_strides(alloc).is_ok()
+        && dim._fastest_varying_stride_order(alloc).is_ok()
 }
 
-/// What needs no memory at a type of a fixed count of axes, nor with up to four axes at another.
-fn serves<D: Dimension>(rt: &impl Abort, alloc: Global, dim: &D) {
-    assert!(rt; serves_shape(alloc, dim));
-    assert!(rt; D::default_in(alloc).is_ok() && D::zeros(alloc, dim.ndim()).is_ok());
-    assert!(rt; dim.duplicate(alloc).is_ok() && becomes::<D, D>(alloc, dim));
-    assert!(rt; dim._fastest_varying_stride_order(alloc).is_ok());
-    assert!(rt; dim.ndim() > 4 || is_dynamic(alloc, dim.duplicate(alloc)));
-    assert!(rt; D::Larger::NDIM.is_none() && dim.ndim() > 3 || is_wider(alloc, dim, 0));
+/// Values of the same type need no memory.
+fn serves_type<D: Dimension>(alloc: Global, dim: &D) -> bool {
+    D::default_in(alloc).is_ok()
+        && D::zeros(alloc, dim.ndim()).is_ok()
+        && dim.duplicate(alloc).is_ok()
+        && D::from_dimension(alloc, dim).is_ok()
 }
 
-/// An axis more needs no memory.
-fn is_wider<D: Dimension>(alloc: Global, dim: &D, axis: usize) -> bool {
-    axis <= dim.ndim() && dim.insert_axis(alloc, Axis(axis)).is_ok()
+/// An axis more needs no memory, at the front and at the end.
+fn is_wider<D: Dimension>(alloc: Global, dim: &D) -> bool {
+    dim.insert_axis(alloc, Axis(0)).is_ok() && dim.insert_axis(alloc, Axis(dim.ndim())).is_ok()
 }
 
 /// An axis less needs no memory.
@@ -41,99 +41,112 @@ fn is_narrower<D: RemoveAxis>(alloc: Global, dim: &D, axis: usize) -> bool {
         && dim.remove_axis(alloc, Axis(axis)).is_ok()
 }
 
-/// A value of any number of axes needs no memory.
-fn is_dynamic<D: Dimension>(alloc: Global, dim: Result<D, AllocError>) -> bool {
-    match dim {
-        Ok(dim) => dim.into_dyn(alloc).is_ok(),
-        Err(_) => false,
-    }
-}
-
-/// A list as one of this type, or as none, needs no memory.
-fn becomes<D: Dimension, E: Lengths>(alloc: Global, from: &E) -> bool {
-    D::from_dimension(alloc, from).is_ok()
+/// What needs no memory at a type of a fixed count of axes, nor with up to four axes at another.
+fn serves<D: Dimension>(alloc: Global, lens: &[usize]) -> bool {
+    let Some(dim) = made::<D>(alloc, lens) else {
+        return false;
+    };
+    serves_shape(alloc, &dim)
+        && serves_type(alloc, &dim)
+        && (D::Larger::NDIM.is_none() && dim.ndim() > 3 || is_wider(alloc, &dim))
+        && (dim.ndim() > 0 || dim.try_remove_axis(alloc, Axis(0)).is_ok())
+        && (dim.ndim() > 4 || dim.into_dyn(alloc).is_ok())
 }
 
 /// What needs no memory where there is an axis.
-fn serves_axes<D: RemoveAxis>(rt: &impl Abort, alloc: Global, dim: &D) {
-    serves(rt, alloc, dim);
-    assert!(rt; is_narrower(alloc, dim, 0));
+fn serves_axes<D: RemoveAxis>(alloc: Global, lens: &[usize]) -> bool {
+    match made::<D>(alloc, lens) {
+        Some(dim) => is_narrower(alloc, &dim, 0) && serves::<D>(alloc, lens),
+        None => false,
+    }
 }
 
 #[test]
 fn r9_rows_at_fixed_types(rt: HostRuntime) {
     let alloc = rt.alloc();
-    serves(&rt, alloc, &new_ix0());
-    assert!(rt; new_ix0().try_remove_axis(alloc, Axis(0)).is_ok());
-    serves_axes(&rt, alloc, &new_ix1(2));
-    serves_axes(&rt, alloc, &new_ix2(2, 3));
-    serves_axes(&rt, alloc, &new_ix3(2, 3, 4));
-    serves_axes(&rt, alloc, &new_ix4(2, 3, 4, 5));
-    serves_axes(&rt, alloc, &new_ix5(2, 3, 4, 5, 6));
-    assert!(rt; is_wider(alloc, &new_ix5(2, 3, 4, 5, 6), 5));
-    serves_axes(&rt, alloc, &new_ix6(2, 3, 4, 5, 6, 7));
+    assert!(rt; serves::<Ix0>(alloc, &[]) && serves_axes::<Ix1>(alloc, &[2]));
+    assert!(rt; serves_axes::<Ix2>(alloc, &[2, 3]) && serves_axes::<Ix3>(alloc, &[2, 3, 4]));
+    assert!(rt; serves_axes::<Ix4>(alloc, &[2, 3, 4, 5]));
+    assert!(rt; serves_axes::<Ix5>(alloc, &[2, 3, 4, 5, 6]));
+    assert!(rt; serves_axes::<Ix6>(alloc, &[2, 3, 4, 5, 6, 7]));
 }
 
-/// So few lengths are made without memory, and serve.
-fn serves_made<D: RemoveAxis>(rt: &impl Abort, alloc: Global, dim: Result<D, AllocError>) {
-    serves_axes(rt, alloc, &dim.expect(rt, "memory"));
+/// A value of another type needs no memory.
+fn crosses<D: Dimension, E: Dimension>(alloc: Global, lens: &[usize]) -> bool {
+    match made::<D>(alloc, lens) {
+        Some(dim) => E::from_dimension(alloc, &dim).is_ok() && dim.into_dyn(alloc).is_ok(),
+        None => is_unmade::<D>(lens),
+    }
+}
+
+/// To make the value itself needs memory.
+fn is_unmade<D: FixedCount>(lens: &[usize]) -> bool {
+    D::NDIM.is_none() && lens.len() > 4
 }
 
 #[test]
 fn r9_rows(rt: HostRuntime) {
     let alloc = rt.alloc();
-    serves_made(&rt, alloc, new_ixdyn(alloc, &[2]));
-    serves_made(&rt, alloc, new_ixdyn(alloc, &[2, 3]));
-    serves_made(&rt, alloc, new_ixdyn(alloc, &[2, 3, 4]));
-    serves_made(&rt, alloc, new_ixdyn(alloc, &[1, 2, 3, 4]));
+    assert!(rt; serves_axes::<IxDyn>(alloc, &[2]) && serves_axes::<IxDyn>(alloc, &[2, 3]));
+    assert!(rt; serves_axes::<IxDyn>(alloc, &[2, 3, 4]));
+    assert!(rt; serves_axes::<IxDyn>(alloc, &[1, 2, 3, 4]));
     assert!(rt; new_dim(alloc, [1, 2, 3, 4].as_slice()).is_ok());
     assert!(rt; [1, 2, 3, 4].as_slice().into_shape_and_order(alloc).is_ok());
-    assert!(rt; becomes::<IxDyn, _>(alloc, &new_ix4(1, 2, 3, 4)));
-    assert!(rt; is_dynamic(alloc, Ok(new_ix4(1, 2, 3, 4))));
+    assert!(rt; crosses::<Ix4, IxDyn>(alloc, &[1, 2, 3, 4]));
 }
 
 #[test]
 fn r9_rows_insert_axis_into_three(rt: HostRuntime) {
-    if let Ok(three) = new_ixdyn(rt.alloc(), &[1, 2, 3]) {
-        serves_axes(&rt, rt.alloc(), &three);
-        assert!(rt; is_wider(rt.alloc(), &three, 3));
-    }
+    assert!(rt; serves_axes::<IxDyn>(rt.alloc(), &[1, 2, 3]));
 }
 
 /// What is left of a list is one that was made so, and has its hash.
-fn leaves(left: Result<IxDyn, AllocError>, made: Result<IxDyn, AllocError>) -> bool {
-    match left {
-        Ok(left) => is_one(&left, made),
-        Err(_) => false,
+fn leaves<D, S>(alloc: Global, lens: &[usize], axis: usize, left: &[usize]) -> bool
+where
+    D: RemoveAxis + Dimension<Smaller = S>,
+    S: Lengths + Hash,
+{
+    match (made::<D>(alloc, lens), made::<S>(alloc, left)) {
+        (Some(dim), Some(left)) => {
+            axis < dim.ndim() && is_one(&left, dim.remove_axis(alloc, Axis(axis)))
+        }
+        (None, Some(_)) => is_unmade::<D>(lens),
+        _ => false,
     }
 }
 
 // In each of the following to make the list is the first request.
 #[test]
 fn r9_rows_of_equality(rt: HostRuntime) {
-    let alloc = rt.alloc();
-    if let Ok(five) = new_ixdyn(alloc, &[1, 2, 3, 4, 5]) {
-        let left = five.remove_axis(alloc, Axis(2));
-        assert!(rt; leaves(left, new_ixdyn(alloc, &[1, 2, 4, 5])));
+    assert!(rt; leaves::<IxDyn, IxDyn>(rt.alloc(), &[1, 2, 3, 4, 5], 2, &[1, 2, 4, 5]));
+}
+
+/// What needs no memory of a list of five: an axis less, the default and the list itself.
+fn serves_five<D: RemoveAxis + IntoDimension>(alloc: Global, lens: &[usize]) -> bool {
+    match made::<D>(alloc, lens) {
+        Some(five) => {
+            is_narrower(alloc, &five, 2)
+                && is_narrower(alloc, &five, 4)
+                && D::default_in(alloc).is_ok()
+                && new_dim(alloc, five).is_ok()
+        }
+        None => is_unmade::<D>(lens),
     }
 }
 
 #[test]
 fn r9_rows_remove_axis_from_five(rt: HostRuntime) {
-    let alloc = rt.alloc();
-    if let Ok(five) = new_ixdyn(alloc, &[1, 2, 3, 4, 5]) {
-        assert!(rt; is_narrower(alloc, &five, 2) && is_narrower(alloc, &five, 4));
-        assert!(rt; IxDyn::default_in(alloc).is_ok());
-        assert!(rt; becomes::<Ix5, _>(alloc, &five) && becomes::<Ix3, _>(alloc, &five));
-        assert!(rt; new_dim(alloc, five).is_ok());
-    }
+    assert!(rt; serves_five::<IxDyn>(rt.alloc(), &[1, 2, 3, 4, 5]));
 }
 
 #[test]
 fn r9_rows_five_into_dyn(rt: HostRuntime) {
-    if let Ok(five) = new_ixdyn(rt.alloc(), &[1, 2, 3, 4, 5]) {
-        assert!(rt; is_dynamic(rt.alloc(), Ok(five)));
-    }
+    assert!(rt; crosses::<IxDyn, Ix5>(rt.alloc(), &[1, 2, 3, 4, 5]));
+}
+
+#[test]
+fn r9_rows_five_into_three(rt: HostRuntime) {
+    assert!(rt; crosses::<IxDyn, Ix3>(rt.alloc(), &[1, 2, 3, 4, 5]));
 }
 
 #[test]
@@ -159,7 +172,9 @@ enum Call {
     FortranStrides,
     Duplicate,
     StrideOrder,
-    InsertAxis,
+    /// At this axis, and at the end.
+    InsertAxis(usize),
+    /// The first and the last one.
     RemoveAxis,
 }
 
@@ -182,13 +197,13 @@ fn asks_for_strides<D: Dimension>(alloc: Global, call: Call, dim: &D) -> bool {
     }
 }
 
-/// An axis more asks for memory, at the front or a place behind it and at the end.
-fn asks_for_axis<D: Dimension>(alloc: Global, dim: &D, front: usize) -> bool {
+/// An axis more asks for memory.
+fn asks_for_axis<D: Dimension>(alloc: Global, dim: &D, axis: usize) -> bool {
     let end = dim.ndim();
-    front <= end
+    axis <= end
         && asked(
             alloc,
-            dim.insert_axis(alloc, Axis(front)),
+            dim.insert_axis(alloc, Axis(axis)),
             dim.insert_axis(alloc, Axis(end)),
         )
 }
@@ -215,82 +230,52 @@ fn asks<D: RemoveAxis>(alloc: Global, call: Call, dim: &D) -> bool {
             dim._fastest_varying_stride_order(alloc),
             dim._fastest_varying_stride_order(alloc),
         ),
-        Call::InsertAxis => asks_for_axis(alloc, dim, 1),
+        Call::InsertAxis(axis) => asks_for_axis(alloc, dim, axis),
         Call::RemoveAxis => asks_without_axis(alloc, dim),
     }
 }
 
 /// The call asks for memory with these lengths, if there was memory for them.
-fn asks_with(rt: &impl Abort, alloc: Global, call: Call, dim: Result<IxDyn, AllocError>) {
-    if let Ok(dim) = dim {
-        assert!(rt; asks(alloc, call, &dim));
+fn asks_with<D: RemoveAxis>(alloc: Global, call: Call, lens: &[usize]) -> bool {
+    match made::<D>(alloc, lens) {
+        Some(dim) => asks(alloc, call, &dim),
+        None => is_unmade::<D>(lens),
     }
+}
+
+/// The same at the type of any number of axes.
+fn asks_at_any_count(alloc: Global, call: Call, lens: &[usize]) -> bool {
+    asks_with::<IxDyn>(alloc, call, lens)
 }
 
 #[test]
 fn r9_rows_default_strides_of_five(rt: HostRuntime) {
-    let alloc = rt.alloc();
-    asks_with(
-        &rt,
-        alloc,
-        Call::DefaultStrides,
-        new_ixdyn(alloc, &[1, 2, 3, 4, 5]),
-    );
+    assert!(rt; asks_at_any_count(rt.alloc(), Call::DefaultStrides, &[1, 2, 3, 4, 5]));
 }
 
 #[test]
 fn r9_rows_fortran_strides_of_five(rt: HostRuntime) {
-    let alloc = rt.alloc();
-    asks_with(
-        &rt,
-        alloc,
-        Call::FortranStrides,
-        new_ixdyn(alloc, &[1, 2, 3, 4, 5]),
-    );
+    assert!(rt; asks_at_any_count(rt.alloc(), Call::FortranStrides, &[1, 2, 3, 4, 5]));
 }
 
 #[test]
 fn r9_rows_duplicate_of_five(rt: HostRuntime) {
-    let alloc = rt.alloc();
-    asks_with(
-        &rt,
-        alloc,
-        Call::Duplicate,
-        new_ixdyn(alloc, &[1, 2, 3, 4, 5]),
-    );
+    assert!(rt; asks_at_any_count(rt.alloc(), Call::Duplicate, &[1, 2, 3, 4, 5]));
 }
 
 #[test]
 fn r9_rows_stride_order_of_five(rt: HostRuntime) {
-    let alloc = rt.alloc();
-    asks_with(
-        &rt,
-        alloc,
-        Call::StrideOrder,
-        new_ixdyn(alloc, &[1, 2, 3, 4, 5]),
-    );
+    assert!(rt; asks_at_any_count(rt.alloc(), Call::StrideOrder, &[1, 2, 3, 4, 5]));
 }
 
 #[test]
 fn r9_rows_insert_axis_into_four(rt: HostRuntime) {
-    let alloc = rt.alloc();
-    asks_with(
-        &rt,
-        alloc,
-        Call::InsertAxis,
-        new_ixdyn(alloc, &[1, 2, 3, 4]),
-    );
+    assert!(rt; asks_at_any_count(rt.alloc(), Call::InsertAxis(1), &[1, 2, 3, 4]));
 }
 
 #[test]
 fn r9_rows_remove_axis_from_six(rt: HostRuntime) {
-    let alloc = rt.alloc();
-    asks_with(
-        &rt,
-        alloc,
-        Call::RemoveAxis,
-        new_ixdyn(alloc, &[1, 2, 3, 4, 5, 6]),
-    );
+    assert!(rt; asks_at_any_count(rt.alloc(), Call::RemoveAxis, &[1, 2, 3, 4, 5, 6]));
 }
 
 // These ask for memory at once.
@@ -316,28 +301,37 @@ fn r9_rows_shape_of_five(rt: HostRuntime) {
 
 #[test]
 fn r9_rows_insert_axis_into_six(rt: HostRuntime) {
-    assert!(rt; asks_for_axis(rt.alloc(), &new_ix6(1, 2, 3, 4, 5, 6), 0));
+    assert!(rt; asks_with::<Ix6>(rt.alloc(), Call::InsertAxis(0), &[1, 2, 3, 4, 5, 6]));
+}
+
+/// The value of any number of axes asks for memory.
+fn asks_into_dyn<D: Dimension>(alloc: Global, lens: &[usize]) -> bool {
+    match (made::<D>(alloc, lens), made::<D>(alloc, lens)) {
+        (Some(dim), Some(same)) => asked(alloc, dim.into_dyn(alloc), same.into_dyn(alloc)),
+        _ => false,
+    }
 }
 
 #[test]
 fn r9_rows_into_dyn_of_five(rt: HostRuntime) {
-    let first = new_ix5(1, 2, 3, 4, 5).into_dyn(rt.alloc());
-    let second = new_ix5(1, 2, 3, 4, 5).into_dyn(rt.alloc());
-    assert!(rt; asked(rt.alloc(), first, second));
+    assert!(rt; asks_into_dyn::<Ix5>(rt.alloc(), &[1, 2, 3, 4, 5]));
 }
 
 /// A list of another type asks for memory.
-fn asks_from<D: Dimension, E: Lengths>(alloc: Global, from: &E) -> bool {
-    asked(
-        alloc,
-        D::from_dimension(alloc, from),
-        D::from_dimension(alloc, from),
-    )
+fn asks_from<D: Dimension, E: Lengths>(alloc: Global, lens: &[usize]) -> bool {
+    match made::<E>(alloc, lens) {
+        Some(from) => asked(
+            alloc,
+            D::from_dimension(alloc, &from),
+            D::from_dimension(alloc, &from),
+        ),
+        None => false,
+    }
 }
 
 #[test]
 fn r9_rows_from_dimension_of_five(rt: HostRuntime) {
-    assert!(rt; asks_from::<IxDyn, _>(rt.alloc(), &new_ix5(1, 2, 3, 4, 5)));
+    assert!(rt; asks_from::<IxDyn, Ix5>(rt.alloc(), &[1, 2, 3, 4, 5]));
 }
 
 #[test]

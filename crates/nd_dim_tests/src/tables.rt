@@ -1,73 +1,13 @@
-//! Tables of rows of one call each, at the type of any number of axes.
-use crate::checks::{
-    has_order, has_size, has_stride_axes, has_strides, is_equivalent, is_one, narrows, widens,
-};
-use crate::lists::Lists;
-use nd_dim::{IxDyn, Lengths, new_dim};
-use nd_testing::{TableError, rows};
-use std::alloc::{AllocError, Global};
-use std::process::Abort;
-use std::test::Fail;
-
-/// What the rows of a table tell of their lists.
-#[derive(Clone, Copy)]
-enum Told {
-    /// Lengths, and their product where it fits.
-    Size,
-    /// Lengths, default strides and Fortran strides.
-    Strides,
-    /// Lengths, and two lists of strides that are equivalent, or are not.
-    Equivalent(bool),
-    /// Lengths, an axis, and the lengths with one more axis there.
-    Inserted,
-    /// Lengths, an axis, and the lengths without it.
-    Removed,
-    /// Lengths, strides, and the axes of the least and of the greatest stride.
-    StrideAxes,
-    /// Strides, and the axes from the least stride to the greatest.
-    Order,
-    /// Lengths.
-    Equality,
-}
-
-/// A list that is handed over.
-fn handed(alloc: Global, lens: &[usize]) -> Result<IxDyn, AllocError> {
-    new_dim(alloc, lens.to_vec(alloc)?)
-}
-
-/// The axis that a list of one number tells; no axis without it.
-fn axis_of(list: &IxDyn) -> usize {
-    list.slice().first().copied().unwrap_or(usize::MAX)
-}
-
-/// Whether a row tells what the calls answer.
-fn holds(told: Told, alloc: Global, lists: &Lists) -> bool {
-    let (first, second, third) = (&lists.first, &lists.second, &lists.third);
-    match told {
-        Told::Size => has_size(first, second.slice()),
-        Told::Strides => has_strides(alloc, first, second.slice(), third.slice()),
-        Told::Equivalent(answer) => is_equivalent(first, second, third) == answer,
-        Told::Inserted => widens(alloc, first, axis_of(second), third),
-        Told::Removed => narrows(alloc, first, axis_of(second), third),
-        Told::StrideAxes => has_stride_axes(first, second, third.slice()),
-        Told::Order => has_order(alloc, first, second.slice()),
-        Told::Equality => is_one(first, handed(alloc, first.slice())),
-    }
-}
-
-fn row_holds(told: Told, alloc: Global, line: &str) -> Result<bool, TableError> {
-    Ok(holds(told, alloc, &Lists::read(line, alloc)?))
-}
-
-/// The rows of a table, one by one.
-fn table(rt: &impl Abort, alloc: Global, told: Told, table: &str) -> Result<(), Fail> {
-    for line in rows(table) {
-        assert!(rt; row_holds(told, alloc, line)?, "{line}");
-    }
-    Ok(())
-}
+//! Tables of rows of one call each.
+use crate::told::{Told, table, table_at_its_type};
 
 const SIZES: &str = "\
+5 5
+2,3 6
+2,3,4,5 120
+2,3,4,5,6 720
+1,2,3,4,5,6 720
+3,2 6
 - 1
 3,4,5 60
 1099511627776,1099511627776,0 0
@@ -92,11 +32,17 @@ const SIZES: &str = "\
 4,3,2,1,0 0";
 
 #[test]
-fn r2_rows_of_sizes(rt: HostRuntime) -> Result<(), Fail> {
-    table(&rt, rt.alloc(), Told::Size, SIZES)
+fn r2_rows_of_sizes(rt: HostRuntime) {
+    table(&rt, rt.alloc(), Told::Size, SIZES);
 }
 
 const STRIDES: &str = "\
+5 1 1
+2,3 3,1 1,2
+2,3,4,5 60,20,5,1 1,2,6,24
+2,3,4,5,6 360,120,30,6,1 1,2,6,24,120
+1,2,3,4,5,6 720,360,120,30,6,1 1,1,2,6,24,120
+3,2 2,1 1,3
 3,4,5 20,5,1 1,3,12
 2,0,3 0,0,0 0,0,0
 1099511627776,1099511627776,0 0,0,0 0,0,0
@@ -118,26 +64,50 @@ const STRIDES: &str = "\
 2,2,2,2,2,2 32,16,8,4,2,1 1,2,4,8,16,32";
 
 #[test]
-fn r2_rows_of_strides(rt: HostRuntime) -> Result<(), Fail> {
-    table(&rt, rt.alloc(), Told::Strides, STRIDES)
+fn r2_rows_of_strides(rt: HostRuntime) {
+    table(&rt, rt.alloc(), Told::Strides, STRIDES);
 }
 
 const EQUIVALENT: &str = "\
+- - -
+5 -1 -1
+2,3 -3,-1 -3,-1
+3,4,5 1,3,12 1,3,12
+2,3,4,5 60,20,5,1 60,20,5,1
+2,3,4,5,6 1,2,6,24,120 1,2,6,24,120
+1,2,3,4,5,6 720,360,120,30,6,1 720,360,120,30,6,1
+3,2 2,3 2,3
 2,3 3,1 3,1
 1,3 7,1 9,1
 0,3 7,1 9,1";
 
 const NOT_EQUIVALENT: &str = "\
+- - 1,1,1,1
+5 -1 1,1,1,1
+2,3 -3,-1 1,1,1,1
+3,4,5 1,3,12 1,1,1,1
+2,3,4,5 60,20,5,1 1,1,1,1
+2,3,4,5,6 1,2,6,24,120 1,1,1,1
+1,2,3,4,5,6 720,360,120,30,6,1 1,1,1,1
+3,2 2,3 1,1,1,1
 2,3 3,1 1,3
 2,3 3,1 3";
 
 #[test]
-fn r2_rows_of_equivalent_strides(rt: HostRuntime) -> Result<(), Fail> {
-    table(&rt, rt.alloc(), Told::Equivalent(true), EQUIVALENT)?;
-    table(&rt, rt.alloc(), Told::Equivalent(false), NOT_EQUIVALENT)
+fn r2_rows_of_equivalent_strides(rt: HostRuntime) {
+    table(&rt, rt.alloc(), Told::Equivalent(true), EQUIVALENT);
+    table(&rt, rt.alloc(), Told::Equivalent(false), NOT_EQUIVALENT);
 }
 
 const INSERTED: &str = "\
+3,4,5 2 3,4,1,5
+2,3,4,5 3 2,3,4,1,5
+2,3,4,5,6 4 2,3,4,5,1,6
+1,2,3,4,5,6 5 1,2,3,4,5,1,6
+3,2 1 3,1,2
+2,3,4 1 2,1,3,4
+2,3,4,5,6 5 2,3,4,5,6,1
+1,2,3,4,5,6 6 1,2,3,4,5,6,1
 4,5 0 1,4,5
 4,5 1 4,1,5
 4,5 2 4,5,1
@@ -165,11 +135,22 @@ const INSERTED: &str = "\
 18446744073709551615,0,3,1,2,9 3 18446744073709551615,0,3,1,1,2,9";
 
 #[test]
-fn r2_rows_of_insertion(rt: HostRuntime) -> Result<(), Fail> {
-    table(&rt, rt.alloc(), Told::Inserted, INSERTED)
+fn r2_rows_of_insertion(rt: HostRuntime) {
+    table(&rt, rt.alloc(), Told::Inserted, INSERTED);
 }
 
 const REMOVED: &str = "\
+- 3 -
+5 0 -
+2,3 1 2
+2,3,4,5,6 4 2,3,4,5
+3,2 1 3
+2,3 0 3
+2,3,4,5,6 0 3,4,5,6
+1,2,3,4,5,6 0 2,3,4,5,6
+3,2 0 2
+3 0 -
+2,3,4,5,6 2 2,3,5,6
 3,4,5 0 4,5
 3,4,5 2 3,4
 1,2 0 2
@@ -194,11 +175,18 @@ const REMOVED: &str = "\
 18446744073709551615,0,3,1,2,9 5 18446744073709551615,0,3,1,2";
 
 #[test]
-fn r2_rows_of_removal(rt: HostRuntime) -> Result<(), Fail> {
-    table(&rt, rt.alloc(), Told::Removed, REMOVED)
+fn r2_rows_of_removal(rt: HostRuntime) {
+    table(&rt, rt.alloc(), Told::Removed, REMOVED);
 }
 
 const STRIDE_AXES: &str = "\
+5 -1 0,0
+2,3 -3,-1 1,0
+3,4,5 1,3,12 0,2
+2,3,4,5 60,20,5,1 3,0
+2,3,4,5,6 1,2,6,24,120 0,4
+1,2,3,4,5,6 720,360,120,30,6,1 5,1
+3,2 2,3 0,1
 2,2,1 -9223372036854775808,9223372036854775807,0 1,0
 5 7 0,0
 1,3,2 0,2,6 1,2
@@ -227,11 +215,18 @@ const STRIDE_AXES: &str = "\
 2,3,4,5,6 -360,120,30,-6,1 4,0";
 
 #[test]
-fn r2_rows_of_stride_axes(rt: HostRuntime) -> Result<(), Fail> {
-    table(&rt, rt.alloc(), Told::StrideAxes, STRIDE_AXES)
+fn r2_rows_of_stride_axes(rt: HostRuntime) {
+    table(&rt, rt.alloc(), Told::StrideAxes, STRIDE_AXES);
 }
 
 const ORDERS: &str = "\
+-1 0
+-3,-1 1,0
+1,3,12 0,1,2
+60,20,5,1 3,2,1,0
+1,2,6,24,120 0,1,2,3,4
+720,360,120,30,6,1 5,4,3,2,1,0
+2,3 0,1
 -9223372036854775808,1,-1 1,2,0
 12,-4,1 2,1,0
 2,8,4,1 3,0,2,1
@@ -252,16 +247,106 @@ const ORDERS: &str = "\
 24,-12,4,0 3,2,1,0";
 
 #[test]
-fn r2_rows_of_stride_order(rt: HostRuntime) -> Result<(), Fail> {
-    table(&rt, rt.alloc(), Told::Order, ORDERS)
+fn r2_rows_of_stride_order(rt: HostRuntime) {
+    table(&rt, rt.alloc(), Told::Order, ORDERS);
 }
 
-const LENGTHS: &str = "\
+const VALUES: &str = "\
 -
+5
+2,3
 3,4,5
-1,2,3,4,5";
+2,3,4,5
+2,3,4,5,6
+1,2,3,4,5,6
+3,2";
 
 #[test]
-fn r2_rows_of_equality(rt: HostRuntime) -> Result<(), Fail> {
-    table(&rt, rt.alloc(), Told::Equality, LENGTHS)
+fn r2_rows_of_values(rt: HostRuntime) {
+    table(&rt, rt.alloc(), Told::Values, VALUES);
+}
+
+const ZEROS: &str = "\
+- -
+5 0
+2,3 0,0
+3,4,5 0,0,0
+2,3,4,5 0,0,0,0
+2,3,4,5,6 0,0,0,0,0
+1,2,3,4,5,6 0,0,0,0,0,0
+3,2 0,0";
+
+#[test]
+fn r2_rows_of_zeros(rt: HostRuntime) {
+    table(&rt, rt.alloc(), Told::Zeros, ZEROS);
+}
+
+/// Of the types of no axes, of one to six axes, and of any number, for which seven stand.
+const DEFAULTS: &str = "\
+- -
+5 0
+2,3 0,0
+3,4,5 0,0,0
+2,3,4,5 0,0,0,0
+2,3,4,5,6 0,0,0,0,0
+1,2,3,4,5,6 0,0,0,0,0,0
+2,3,4,5,6,7,8 0";
+
+#[test]
+fn r2_rows_of_default(rt: HostRuntime) {
+    table_at_its_type(&rt, rt.alloc(), Told::Default, DEFAULTS);
+}
+
+const LAST_LENGTHS: &str = "\
+- 0
+3,4 4
+5 5
+2,3 3
+3,4,5 5
+2,3,4,5 5
+2,3,4,5,6 6
+1,2,3,4,5,6 6
+3,2 2";
+
+#[test]
+fn r2_rows_of_last_lengths(rt: HostRuntime) {
+    table(&rt, rt.alloc(), Told::Last, LAST_LENGTHS);
+}
+
+const LAST_LENGTHS_WRITTEN: &str = "\
+3,4 7 3,7
+5 9 9
+2,3 9 2,9
+3,4,5 9 3,4,9
+2,3,4,5 9 2,3,4,9
+2,3,4,5,6 9 2,3,4,5,9
+1,2,3,4,5,6 9 1,2,3,4,5,9
+3,2 9 3,9";
+
+#[test]
+fn r2_rows_of_last_lengths_written(rt: HostRuntime) {
+    table(&rt, rt.alloc(), Told::LastWritten, LAST_LENGTHS_WRITTEN);
+}
+
+const WRITTEN: &str = "\
+3,3 1,7 3,7
+3,3 0,7 7,3
+5 0,7 7
+2,3 0,7 7,3
+3,4,5 0,7 7,4,5
+2,3,4,5 0,7 7,3,4,5
+2,3,4,5,6 0,7 7,3,4,5,6
+1,2,3,4,5,6 0,7 7,2,3,4,5,6
+3,2 0,7 7,2
+5 0,8 8
+2,3 0,8 8,3
+3,4,5 0,8 8,4,5
+2,3,4,5 0,8 8,3,4,5
+2,3,4,5,6 0,8 8,3,4,5,6
+1,2,3,4,5,6 0,8 8,2,3,4,5,6
+3,2 0,8 8,2";
+
+#[test]
+fn r2_rows_of_entries(rt: HostRuntime) {
+    table(&rt, rt.alloc(), Told::Written, WRITTEN);
 }
