@@ -69,7 +69,7 @@ impl IxDynImpl {
         ensures memory { n ≤ 4 → IsOk result }
     {
         let lens = if n <= 4 {
-            SmallVec::from_slice(alloc, &[0; 4][..n])?
+            SmallVec::from_buf_and_len(alloc, [0; 4], n)
         } else {
             SmallVec::from_elem(alloc, 0, n)?
         };

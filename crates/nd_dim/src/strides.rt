@@ -5,6 +5,7 @@ ghost use Rattle.nd_dim.specs.Strides.{default_strides, fortran_strides, AreEqui
 
 /// Writes the strides by which the last axis moves fastest: each the product of the later
 /// lengths, and all 0 where some length is 0. The strides of upstream's `default_strides`.
+#[inline(always)]
 pub(crate) fn fill_default_strides(lens: &[usize], strides: &mut [usize])
     requires same_count { length lens.now ≡ length strides.old }
     requires size_fits { size lens.now < 2 ^ 64 }
@@ -23,6 +24,7 @@ pub(crate) fn fill_default_strides(lens: &[usize], strides: &mut [usize])
 
 /// Writes the strides by which the first axis moves fastest: each the product of the earlier
 /// lengths, and all 0 where some length is 0. The strides of upstream's `fortran_strides`.
+#[inline(always)]
 pub(crate) fn fill_fortran_strides(lens: &[usize], strides: &mut [usize])
     requires same_count { length lens.now ≡ length strides.old }
     requires size_fits { size lens.now < 2 ^ 64 }

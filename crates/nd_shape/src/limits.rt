@@ -1,25 +1,25 @@
 //! Products and sums that stay within the limit of sizes and spans.
-ghost use Rattle.std.specs.Prelude.{◌≡◌, ◌+◌, ◌*◌, ◌≤◌, length, SomeIff};
+ghost use Rattle.std.specs.Prelude.{◌≡◌, ◌*◌, ◌^◌, ◌<◌, ◌≤◌, SomeIff};
 ghost use Rattle.nd_base.specs.Size.{nonzero_size, limit};
 ghost use Rattle.nd_base.specs.Signed.{signed as signed_reading, all_signed};
 ghost use Rattle.nd_base.specs.Span.{reach as reach_of_axis, span};
 
 use nd_dim::signed;
 
+/// The number, where it is at most the greatest `isize`.
+#[inline(always)]
+fn within_limit(n: usize) -> Option<usize>
+    ensures { SomeIff result (n ≤ limit) n }
+{
+    (n <= isize::MAX as usize).then_some(n)
+}
+
 /// The product, where it is at most the greatest `isize`.
 #[inline(always)]
 pub fn multiply(a: usize, b: usize) -> Option<usize>
     ensures { SomeIff result (a * b ≤ limit) (a * b) }
 {
-    a.checked_mul(b).filter(|n| *n <= isize::MAX as usize)
-}
-
-/// The sum, where it is at most the greatest `isize`.
-#[inline(always)]
-fn add(a: usize, b: usize) -> Option<usize>
-    ensures { SomeIff result (a + b ≤ limit) (a + b) }
-{
-    a.checked_add(b).filter(|n| *n <= isize::MAX as usize)
+    within_limit(a.checked_mul(b)?)
 }
 
 /// The product of the lengths that are not 0, where it is at most the greatest `isize`.
@@ -30,21 +30,21 @@ pub fn checked_nonzero_size(shape: &[usize]) -> Option<usize>
     let mut size = 1usize;
     for len in shape {
         if *len != 0 {
-            size = multiply(size, *len)?;
+            size = size.checked_mul(*len)?;
         }
     }
-    Some(size)
+    within_limit(size)
 }
 
-/// How many elements lie between the first and the last entry of an axis, where that is at most
-/// the greatest `isize`.
+/// How many elements lie between the first and the last entry of an axis, where that fits.
 #[inline(always)]
 fn checked_reach(len: usize, stride: usize) -> Option<usize>
     ensures { SomeIff result
-        (reach_of_axis len (signed_reading stride) ≤ limit)
+        (reach_of_axis len (signed_reading stride) < 2 ^ 64)
         (reach_of_axis len (signed_reading stride)) }
 {
-    multiply(len.saturating_sub(1), signed(stride).unsigned_abs())
+    len.saturating_sub(1)
+        .checked_mul(signed(stride).unsigned_abs())
 }
 
 /// How many elements lie between the lowest and the highest index, where that is at most the
@@ -57,9 +57,9 @@ pub fn checked_span(shape: &[usize], strides: &[usize]) -> Option<usize>
 {
     let mut span = 0usize;
     for (len, stride) in shape.iter().zip(strides) {
-        span = add(span, checked_reach(*len, *stride)?)?;
+        span = span.checked_add(checked_reach(*len, *stride)?)?;
     }
-    Some(span)
+    within_limit(span)
 }
 
 /// How many elements lie between the first and the last entry of an axis.
