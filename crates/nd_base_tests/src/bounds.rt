@@ -22,9 +22,12 @@ fn are_one<D: Lengths>(dim: &D, other: &D) -> bool
 }
 
 /// A value goes with another one of the same list.
-fn behaves<D: Lengths>(dim: &D, same: D) -> bool {
-    same.equal(dim)
-        && are_one(&same, dim)
+fn behaves<D: Lengths>(alloc: Global, dim: D) -> bool
+    requires { NeedsNoMemory D.NDIM (length (D.list dim)) }
+{
+    let same = copy_of(alloc, &dim);
+    same.equal(&dim)
+        && are_one(&same, &dim)
         && dim.slice().len() == dim.ndim()
         && (D::NDIM == None || D::NDIM == Some(dim.ndim()))
 }
@@ -32,9 +35,8 @@ fn behaves<D: Lengths>(dim: &D, same: D) -> bool {
 #[test]
 fn r1_rows_of_lengths(rt: HostRuntime) {
     let alloc = rt.alloc();
-    let (one, two, dynamic) = (new_ix1(4), new_ix2(2, 3), ixdyn(alloc, &[2, 3]));
-    assert!(rt; behaves(&one, copy_of(alloc, &one)) && behaves(&two, copy_of(alloc, &two)));
-    assert!(rt; behaves(&dynamic, copy_of(alloc, &dynamic)));
+    assert!(rt; behaves(alloc, new_ix1(4)) && behaves(alloc, new_ix2(2, 3)));
+    assert!(rt; behaves(alloc, ixdyn(alloc, &[2, 3])));
 }
 
 fn has<D: Lengths>(dim: D, lens: &[usize]) -> bool {
@@ -75,11 +77,19 @@ fn calculates_on<D: Arithmetic + Scale>(alloc: Global, mut dim: D, other: &D) ->
     has(dim, &[9, 36])
 }
 
+/// All operators on (3, 5) and (1, 2).
+fn operates<D: Arithmetic + Scale>(alloc: Global, dim: D, other: D) -> bool
+    requires no_memory { NeedsNoMemory D.NDIM (length (D.list dim)) }
+    requires no_memory_either { NeedsNoMemory D.NDIM (length (D.list other)) }
+    requires dim_is { D.list dim ≡ 3 ∷ 5 ∷ [] }
+    requires other_is { D.list other ≡ 1 ∷ 2 ∷ [] }
+{
+    calculates(alloc, &dim, &other) && recalculates(alloc, dim, &other)
+}
+
 #[test]
 fn r2_rows_of_operators(rt: HostRuntime) {
     let alloc = rt.alloc();
-    let (two, other) = (new_ix2(3, 5), new_ix2(1, 2));
-    assert!(rt; calculates(alloc, &two, &other) && recalculates(alloc, two, &other));
-    let (two, other) = (ixdyn(alloc, &[3, 5]), ixdyn(alloc, &[1, 2]));
-    assert!(rt; calculates(alloc, &two, &other) && recalculates(alloc, two, &other));
+    assert!(rt; operates(alloc, new_ix2(3, 5), new_ix2(1, 2)));
+    assert!(rt; operates(alloc, ixdyn(alloc, &[3, 5]), ixdyn(alloc, &[1, 2])));
 }
