@@ -1,0 +1,11 @@
+//! Tests of `nd_base`, by its public calls.
+mod axes;
+mod bounds;
+mod dims;
+mod equality;
+mod errors;
+mod ixdynimpl;
+mod lists;
+mod memory;
+mod operators;
+mod strides;

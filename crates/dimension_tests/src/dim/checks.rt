@@ -1,0 +1,189 @@
+//! What the calls answer, each by the bound alone: whether it is what a row wants. Want of memory is not.
+use crate::dim::lists::made;
+use nd_dim::{Axis, Dimension, IntoDimension, IxDyn, Lengths, RemoveAxis};
+use nd_testing::hash_of;
+use std::alloc::{AllocError, Global};
+use std::hash::Hash;
+
+/// A call made this value.
+pub(crate) fn makes<D: Lengths>(made: Result<D, AllocError>, wanted: &D) -> bool {
+    match made {
+        Ok(made) => made == *wanted,
+        Err(_) => false,
+    }
+}
+
+/// A call made a value of these lengths.
+pub(crate) fn gives<D: Lengths>(made: Result<D, AllocError>, lens: &[usize]) -> bool {
+    match made {
+        Ok(made) => made.slice() == lens,
+        Err(_) => false,
+    }
+}
+
+/// Two lists that were made in two ways are equal, and have one hash.
+pub(crate) fn is_one<D: Lengths + Hash>(dim: &D, made: Result<D, AllocError>) -> bool {
+    match made {
+        Ok(made) => *dim == made && hash_of(dim) == hash_of(&made),
+        Err(_) => false,
+    }
+}
+
+/// The product of the lengths, or none.
+pub(crate) fn has_size<D: Dimension>(dim: &D, wanted: &[usize]) -> bool {
+    match dim.size_checked() {
+        Some(size) => [size].as_slice() == wanted && dim.size() == size,
+        None => wanted.is_empty(),
+    }
+}
+
+/// The strides that a shape has by itself.
+pub(crate) fn has_strides<D: Dimension>(
+    alloc: Global,
+    dim: &D,
+    default_strides: &[usize],
+    fortran_strides: &[usize],
+) -> bool {
+    dim.size_checked().is_some()
+        && gives(dim.default_strides(alloc), default_strides)
+        && gives(dim.fortran_strides(alloc), fortran_strides)
+}
+
+/// Whether strides are equivalent to those of another type.
+pub(crate) fn is_equivalent<D: Dimension>(
+    alloc: Global,
+    dim: &D,
+    strides: &[usize],
+    others: &[usize],
+) -> Option<bool> {
+    match (made::<D>(alloc, strides), made::<IxDyn>(alloc, others)) {
+        (Some(strides), Some(others)) => Some(dim.strides_equivalent(&strides, &others)),
+        _ => None,
+    }
+}
+
+/// An axis more, as a value of this type.
+pub(crate) fn widens<D: Dimension<Larger = L>, L: Lengths>(
+    alloc: Global,
+    dim: &D,
+    axis: usize,
+    larger: &[usize],
+) -> bool {
+    match made::<L>(alloc, larger) {
+        Some(larger) => { axis <= dim.ndim() && makes(dim.insert_axis(alloc, Axis(axis)), &larger) }
+        None => false,
+    }
+}
+
+/// An axis less, as a value of this type. No axes stay none.
+pub(crate) fn tries_to_narrow<D: Dimension<Smaller = S>, S: Lengths>(
+    alloc: Global,
+    dim: &D,
+    axis: usize,
+    smaller: &[usize],
+) -> bool {
+    match made::<S>(alloc, smaller) {
+        Some(smaller) => {
+            (axis < dim.ndim() || dim.ndim() == 0)
+                && makes(dim.try_remove_axis(alloc, Axis(axis)), &smaller)
+        }
+        None => false,
+    }
+}
+
+/// An axis less, where there is one.
+pub(crate) fn narrows<D: RemoveAxis + Dimension<Smaller = S>, S: Lengths>(
+    alloc: Global,
+    dim: &D,
+    axis: usize,
+    smaller: &[usize],
+) -> bool {
+    match made::<S>(alloc, smaller) {
+        Some(smaller) => {
+            axis >= dim.ndim() || makes(dim.remove_axis(alloc, Axis(axis)), &smaller)
+        }
+        None => false,
+    }
+}
+
+/// The axes of the least and of the greatest stride.
+pub(crate) fn has_stride_axes<D: Dimension>(
+    alloc: Global,
+    dim: &D,
+    strides: &[usize],
+    axes: &[usize],
+) -> bool {
+    let Some(strides) = made::<D>(alloc, strides) else {
+        return false;
+    };
+    if dim.ndim() == 0 || dim.ndim() != strides.ndim() {
+        return false;
+    }
+    let least = dim.min_stride_axis(&strides);
+    let greatest = dim.max_stride_axis(&strides);
+    [least.0, greatest.0].as_slice() == axes
+}
+
+/// The list, and a copy that is equal by either comparison.
+pub(crate) fn has_list<D: Dimension>(alloc: Global, dim: &D, lens: &[usize]) -> bool {
+    match dim.duplicate(alloc) {
+        Ok(same) => {
+            dim.slice() == lens && dim.ndim() == lens.len() && same == *dim && same.equal(dim)
+        }
+        Err(_) => false,
+    }
+}
+
+/// To a pattern and back.
+pub(crate) fn keeps_list<D: Dimension>(alloc: Global, dim: D, lens: &[usize]) -> bool {
+    gives(dim.into_pattern().into_dimension(alloc), lens)
+}
+
+/// To the type of any number of axes and back.
+pub(crate) fn changes_type<D: Dimension>(alloc: Global, dim: D, lens: &[usize]) -> bool {
+    match dim.into_dyn(alloc) {
+        Ok(dynamic) => dynamic.slice() == lens && becomes::<D>(alloc, &dynamic, true),
+        Err(_) => false,
+    }
+}
+
+/// A list is one of this type, or is none.
+pub(crate) fn becomes<D: Dimension>(alloc: Global, dynamic: &IxDyn, answer: bool) -> bool {
+    match D::from_dimension(alloc, dynamic) {
+        Ok(Some(made)) => answer && made.slice() == dynamic.slice(),
+        Ok(None) => !answer,
+        Err(_) => false,
+    }
+}
+
+/// Writes the last length.
+pub(crate) fn writes_last<D: Dimension>(mut dim: D, len: usize, lens: &[usize]) -> bool {
+    if dim.ndim() == 0 {
+        return false;
+    }
+    dim.set_last_elem(len);
+    dim.last_elem() == len && dim.slice() == lens
+}
+
+/// Writes one length by its axis.
+pub(crate) fn writes<D: Dimension>(mut dim: D, axis: usize, len: usize, lens: &[usize]) -> bool {
+    if axis >= dim.ndim() {
+        return false;
+    }
+    dim[axis] = len;
+    dim.slice() == lens
+}
+
+/// Writes one length in the list.
+pub(crate) fn writes_slice<D: Dimension>(
+    mut dim: D,
+    axis: usize,
+    len: usize,
+    lens: &[usize],
+) -> bool {
+    if axis >= dim.ndim() {
+        return false;
+    }
+    dim.slice_mut()[axis] = len;
+    dim[axis] == len && dim.slice() == lens
+}

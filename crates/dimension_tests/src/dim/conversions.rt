@@ -1,0 +1,188 @@
+//! What makes a dimension, and what a dimension makes.
+use crate::dim::checks::{gives, is_one, makes};
+use crate::dim::lists::made;
+use nd_dim::{
+    Dimension, ErrorKind, IntoDimension, Ix0, Ix1, Ix2, Ix3, Ix4, Ix5, Ix6, IxDyn, IxDynImpl,
+    Lengths, Order, ShapeArg, incompatible_shapes, new_dim, new_ix0, new_ix1, new_ix2, new_ix3,
+    new_ix4, new_ix5, new_ix6,
+};
+use std::alloc::Global;
+
+/// A value makes this dimension.
+fn converts<T: IntoDimension>(alloc: Global, value: T, wanted: &T::Dim) -> bool {
+    makes(value.into_dimension(alloc), wanted)
+}
+
+/// A dimension of these lengths makes itself.
+fn stays<D: Lengths + IntoDimension<Dim = D>>(alloc: Global, lens: &[usize]) -> bool {
+    match made::<D>(alloc, lens) {
+        Some(dim) => gives(dim.into_dimension(alloc), lens),
+        None => false,
+    }
+}
+
+#[test]
+fn r2_rows_from_dimensions(rt: HostRuntime) {
+    let alloc = rt.alloc();
+    assert!(rt; stays::<Ix0>(alloc, &[]) && stays::<Ix1>(alloc, &[2]));
+    assert!(rt; stays::<Ix2>(alloc, &[2, 3]) && stays::<Ix3>(alloc, &[2, 3, 4]));
+    assert!(rt; stays::<Ix4>(alloc, &[2, 3, 4, 5]) && stays::<Ix5>(alloc, &[2, 3, 4, 5, 6]));
+    assert!(rt; stays::<Ix6>(alloc, &[2, 3, 4, 5, 6, 7]) && stays::<IxDyn>(alloc, &[2, 3]));
+}
+
+/// The pattern of a dimension of any number of axes is that dimension.
+fn is_its_pattern(alloc: Global, lens: &[usize]) -> bool {
+    match made::<IxDyn>(alloc, lens) {
+        Some(dim) => {
+            let pattern: IxDyn = dim.into_pattern();
+            pattern.slice() == lens
+        }
+        None => false,
+    }
+}
+
+#[test]
+fn r2_rows_into_patterns(rt: HostRuntime) {
+    assert!(rt;
+        new_ix0().into_pattern() == ()
+            && new_ix1(2).into_pattern() == 2
+            && new_ix2(2, 3).into_pattern() == (2, 3)
+            && new_ix3(2, 3, 4).into_pattern() == (2, 3, 4)
+            && new_ix4(2, 3, 4, 5).into_pattern() == (2, 3, 4, 5)
+            && new_ix5(2, 3, 4, 5, 6).into_pattern() == (2, 3, 4, 5, 6)
+            && new_ix6(2, 3, 4, 5, 6, 7).into_pattern() == (2, 3, 4, 5, 6, 7)
+            && is_its_pattern(rt.alloc(), &[2, 3])
+    );
+}
+
+#[test]
+fn r2_rows_from_patterns(rt: HostRuntime) {
+    let alloc = rt.alloc();
+    assert!(rt; converts(alloc, (), &new_ix0()) && converts(alloc, 2, &new_ix1(2)));
+    assert!(rt; converts(alloc, (2, 3), &new_ix2(2, 3)));
+    assert!(rt; converts(alloc, (2, 3, 4), &new_ix3(2, 3, 4)));
+    assert!(rt; converts(alloc, (2, 3, 4, 5), &new_ix4(2, 3, 4, 5)));
+    assert!(rt; converts(alloc, (2, 3, 4, 5, 6), &new_ix5(2, 3, 4, 5, 6)));
+    assert!(rt; converts(alloc, (2, 3, 4, 5, 6, 7), &new_ix6(2, 3, 4, 5, 6, 7)));
+}
+
+#[test]
+fn r2_rows_from_arrays(rt: HostRuntime) {
+    let alloc = rt.alloc();
+    assert!(rt; converts(alloc, [0; 0], &new_ix0()) && converts(alloc, (2,), &new_ix1(2)));
+    assert!(rt; converts(alloc, [2], &new_ix1(2)) && converts(alloc, [2, 3], &new_ix2(2, 3)));
+    assert!(rt; converts(alloc, [2, 3, 4], &new_ix3(2, 3, 4)));
+    assert!(rt; converts(alloc, [2, 3, 4, 5], &new_ix4(2, 3, 4, 5)));
+    assert!(rt; converts(alloc, [2, 3, 4, 5, 6], &new_ix5(2, 3, 4, 5, 6)));
+    assert!(rt; converts(alloc, [2, 3, 4, 5, 6, 7], &new_ix6(2, 3, 4, 5, 6, 7)));
+}
+
+/// A vector makes the dimension of its items.
+fn comes_of_vector(alloc: Global, lens: &[usize]) -> bool {
+    match lens.to_vec(alloc) {
+        Ok(items) => gives(items.into_dimension(alloc), lens),
+        Err(_) => false,
+    }
+}
+
+/// A list makes the dimension of its lengths.
+fn comes_of_list(alloc: Global, lens: &[usize]) -> bool {
+    match IxDynImpl::copy_from(alloc, lens) {
+        Ok(list) => gives(list.into_dimension(alloc), lens),
+        Err(_) => false,
+    }
+}
+
+#[test]
+fn r2_rows_from_lists(rt: HostRuntime) {
+    let alloc = rt.alloc();
+    let lens = [2, 3, 4, 5, 6, 7, 8];
+    assert!(rt; gives(lens.as_slice().into_dimension(alloc), &lens));
+    assert!(rt; comes_of_vector(alloc, &lens) && comes_of_list(alloc, &lens));
+    assert!(rt; gives(new_dim(alloc, lens.as_slice()), &lens));
+    assert!(rt; makes(new_dim(alloc, (3, 4)), &new_ix2(3, 4)));
+}
+
+/// A vector that is handed over makes a dimension equal to that of the same lengths.
+fn is_one_with_vector(alloc: Global, lens: &[usize]) -> bool {
+    match (made::<IxDyn>(alloc, lens), lens.to_vec(alloc)) {
+        (Some(dim), Ok(items)) => is_one(&dim, new_dim(alloc, items)),
+        _ => false,
+    }
+}
+
+#[test]
+fn r2_rows_of_equality(rt: HostRuntime) {
+    let alloc = rt.alloc();
+    assert!(rt; is_one_with_vector(alloc, &[]) && is_one_with_vector(alloc, &[3, 4, 5]));
+    assert!(rt; is_one_with_vector(alloc, &[1, 2, 3, 4, 5]));
+}
+
+/// A list makes a value of a type, or is none of it.
+fn becomes<D: Dimension, E: Lengths>(alloc: Global, lens: &[usize], answer: bool) -> bool {
+    let Some(from) = made::<E>(alloc, lens) else {
+        return false;
+    };
+    match D::from_dimension(alloc, &from) {
+        Ok(Some(made)) => answer && made.slice() == lens,
+        Ok(None) => !answer,
+        Err(_) => false,
+    }
+}
+
+/// A value makes another of any number of axes.
+fn becomes_dynamic<D: Dimension>(alloc: Global, lens: &[usize]) -> bool {
+    match made::<D>(alloc, lens) {
+        Some(dim) => gives(dim.into_dyn(alloc), lens),
+        None => false,
+    }
+}
+
+#[test]
+fn r2_rows_of_other_types(rt: HostRuntime) {
+    let alloc = rt.alloc();
+    assert!(rt; becomes::<Ix2, IxDyn>(alloc, &[3, 4, 5], false));
+    assert!(rt; becomes::<Ix2, IxDyn>(alloc, &[3, 4], true));
+    assert!(rt; becomes_dynamic::<IxDyn>(alloc, &[3, 4, 5]));
+}
+
+/// A value stands for this shape of this type, and tells an order or none.
+fn shapes<T: ShapeArg<Dim = D>, D: Lengths>(
+    alloc: Global,
+    value: T,
+    lens: &[usize],
+    order: Option<Order>,
+) -> bool {
+    match value.into_shape_and_order(alloc) {
+        Ok((dim, told)) => dim.slice() == lens && told == order,
+        Err(_) => false,
+    }
+}
+
+#[test]
+fn r2_rows_of_shapes(rt: HostRuntime) {
+    let alloc = rt.alloc();
+    assert!(rt; shapes::<_, Ix2>(alloc, (2, 3), &[2, 3], None));
+    assert!(rt; shapes::<_, Ix2>(alloc, ((2, 3), Order::C), &[2, 3], Some(Order::C)));
+    assert!(rt; shapes::<_, Ix3>(alloc, ([2, 3, 4], Order::F), &[2, 3, 4], Some(Order::F)));
+    assert!(rt; shapes::<_, IxDyn>(alloc, [2, 3].as_slice(), &[2, 3], None));
+}
+
+/// The refusal of two shapes is of this kind.
+fn refuses<D: Dimension, E: Dimension>(
+    alloc: Global,
+    lens: &[usize],
+    others: &[usize],
+    kind: ErrorKind,
+) -> bool {
+    match (made::<D>(alloc, lens), made::<E>(alloc, others)) {
+        (Some(dim), Some(other)) => incompatible_shapes(&dim, &other).kind() == kind,
+        _ => false,
+    }
+}
+
+#[test]
+fn r2_rows_of_faults(rt: HostRuntime) {
+    let kind = ErrorKind::IncompatibleShape;
+    assert!(rt; refuses::<Ix3, IxDyn>(rt.alloc(), &[2, 3, 4], &[2, 3], kind));
+}

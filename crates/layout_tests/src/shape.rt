@@ -1,0 +1,7 @@
+//! Tests of `nd_shape`, by its public calls.
+mod acceptance;
+mod axes;
+mod indexing;
+mod layouts;
+mod lists;
+mod shapes;

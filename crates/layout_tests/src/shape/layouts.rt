@@ -1,0 +1,323 @@
+//! What the public calls tell of layouts and their indices, at dimension types of none, one, two,
+//! three, six and any number of axes.
+//!
+//! A row is the size of an element, a count of them, a shape, strides and an index; then, behind an
+//! arrow, what is told: the size, the span, whether the data may be owned through the layout, and
+//! whether it may be read and then, whether indices may share an element, how many elements lie
+//! below the first index, and where the index lies, checked and unchecked.
+use crate::shape::lists::{dim_of, strides_of};
+use CanIndexCheckMode::{OwnedMutable, ReadOnly};
+use nd_dim::{Dimension, ErrorKind, Ix0, Ix1, Ix2, Ix3, Ix6, IxDyn, ShapeError};
+use nd_shape::{
+    CanIndexCheckMode, NdIndex, can_index_slice, dim_stride_overlap, max_abs_offset_check_overflow,
+    offset_from_low_addr_ptr_to_logical_ptr, size_of_shape_checked,
+};
+use nd_testing::{Row, TableError, rows};
+use std::alloc::Global;
+use std::process::Abort;
+
+/// Some elements in a row.
+#[derive(Clone, Copy)]
+struct Data {
+    elem_size: usize,
+    len: usize,
+}
+
+/// What is told of a layout that data may be read through.
+type Extent = (bool, usize, Option<(isize, isize)>);
+
+/// What is told of a layout over data.
+type Told = (
+    Result<usize, ErrorKind>,
+    Result<usize, ErrorKind>,
+    Result<(), ErrorKind>,
+    Result<Extent, ErrorKind>,
+);
+
+/// The answer of a call, or of what kind its refusal is.
+fn or_kind<T: Drop>(answer: Result<T, ShapeError>) -> Result<T, ErrorKind> {
+    match answer {
+        Ok(answer) => Ok(answer),
+        Err(fault) => Err(fault.kind()),
+    }
+}
+
+/// What is told of a layout, where data may be read through it.
+fn read<D: Dimension>(data: Data, dim: &D, strides: &D, index: &D) -> Result<Extent, ErrorKind> {
+    match can_index_slice(data.elem_size, data.len, dim, strides, ReadOnly) {
+        Ok(()) => {
+            let shares = dim_stride_overlap(dim, strides);
+            let low = offset_from_low_addr_ptr_to_logical_ptr(dim, strides);
+            let place = match index.index_checked(dim, strides) {
+                Some(checked) => Some((checked, index.index_unchecked(strides))),
+                None => None,
+            };
+            Ok((shares, low, place))
+        }
+        Err(fault) => Err(fault.kind()),
+    }
+}
+
+/// A shape, strides and an index as lists.
+#[derive(Clone, Copy)]
+struct Lists<'a> {
+    shape: &'a [usize],
+    strides: &'a [usize],
+    index: &'a [usize],
+}
+
+/// What is told of a layout over data, at a dimension type.
+fn ask<D: Dimension>(rt: &impl Abort, alloc: Global, data: Data, lists: Lists) -> Told {
+    let Data { elem_size, len } = data;
+    let dim = dim_of::<D>(rt, alloc, lists.shape);
+    let strides = dim_of::<D>(rt, alloc, lists.strides);
+    let index = dim_of::<D>(rt, alloc, lists.index);
+    (
+        or_kind(size_of_shape_checked(&dim)),
+        or_kind(max_abs_offset_check_overflow(elem_size, &dim, &strides)),
+        or_kind(can_index_slice(elem_size, len, &dim, &strides, OwnedMutable)),
+        read(data, &dim, &strides, &index),
+    )
+}
+
+/// The same at the dimension type of the count of axes.
+fn ask_lists(rt: &impl Abort, alloc: Global, data: Data, lists: Lists) -> Told {
+    match (lists.shape.len(), lists.strides.len(), lists.index.len()) {
+        (0, 0, 0) => ask::<Ix0>(rt, alloc, data, lists),
+        (1, 1, 1) => ask::<Ix1>(rt, alloc, data, lists),
+        (2, 2, 2) => ask::<Ix2>(rt, alloc, data, lists),
+        (3, 3, 3) => ask::<Ix3>(rt, alloc, data, lists),
+        (6, 6, 6) => ask::<Ix6>(rt, alloc, data, lists),
+        _ => ask::<IxDyn>(rt, alloc, data, lists),
+    }
+}
+
+/// The elements that a row begins with.
+fn read_data(row: &mut Row) -> Result<Data, TableError> {
+    Ok(Data {
+        elem_size: row.length()?,
+        len: row.length()?,
+    })
+}
+
+/// What is told of the layout that a row begins with.
+fn tell(rt: &impl Abort, alloc: Global, row: &mut Row) -> Told {
+    let data = read_data(row).expect(rt, "data");
+    let shape = row.lengths(alloc).expect(rt, "a shape");
+    let strides = row.numbers(alloc).expect(rt, "strides");
+    let strides = strides_of(alloc, strides).expect(rt, "memory");
+    let index = row.lengths(alloc).expect(rt, "an index");
+    let lists = Lists {
+        shape: shape.as_slice(),
+        strides: strides.as_slice(),
+        index: index.as_slice(),
+    };
+    ask_lists(rt, alloc, data, lists)
+}
+
+/// What is told of a layout, as it is printed.
+fn is_told(rt: &impl Abort, alloc: Global, told: Told, answer: &str) {
+    let text = format!(in alloc; "{told:?}").expect(rt, "memory");
+    assert_eq!(rt; text.as_str(), answer);
+}
+
+/// A table of layouts.
+fn tells(rt: &impl Abort, alloc: Global, table: &str) {
+    for line in rows(table) {
+        let (layout, answer) = line.split_once(" => ").expect(rt, "an arrow");
+        let told = tell(rt, alloc, &mut Row::new(layout));
+        is_told(rt, alloc, told, answer);
+    }
+}
+
+/// Layouts of one axis and of two, and indices of the shape 2, 3.
+const R1: &str = "\
+4 1 1 -1 0 => (Ok(1), Ok(0), Ok(()), Ok((false, 0, Some((0, 0)))))
+4 2 2 0 1 => (Ok(2), Ok(0), Err(Unsupported), Ok((true, 0, Some((0, 0)))))
+4 2 2 -1 1 => (Ok(2), Ok(1), Ok(()), Ok((false, 1, Some((-1, -1)))))
+0 2 2 1 1 => (Ok(2), Ok(1), Ok(()), Ok((false, 0, Some((1, 1)))))
+0 1 2 1 1 => (Ok(2), Ok(1), Err(OutOfBounds), Err(OutOfBounds))
+0 9223372036854775807 9223372036854775807 1 0 \
+  => (Ok(9223372036854775807), Ok(9223372036854775806), Ok(()), Ok((false, 0, Some((0, 0)))))
+0 9223372036854775806 9223372036854775807 1 0 \
+  => (Ok(9223372036854775807), Ok(9223372036854775806), Err(OutOfBounds), Err(OutOfBounds))
+2 9223372036854775807 9223372036854775807 1 0 \
+  => (Ok(9223372036854775807), Err(Overflow), Err(Overflow), Err(Overflow))
+1 8 3,2 2,3 2,1 => (Ok(6), Ok(7), Err(Unsupported), Ok((true, 0, Some((7, 7)))))
+1 0 0,2 2,1 0,1 => (Ok(0), Ok(1), Err(OutOfBounds), Err(OutOfBounds))
+1 1 0,2 2,1 0,1 => (Ok(0), Ok(1), Ok(()), Ok((false, 0, None)))
+4 1 1,2 5,1 0,1 => (Ok(2), Ok(1), Err(OutOfBounds), Err(OutOfBounds))
+4 2 1,2 5,1 0,1 => (Ok(2), Ok(1), Ok(()), Ok((false, 0, Some((1, 1)))))
+4 5 2,2 3,1 1,1 => (Ok(4), Ok(4), Ok(()), Ok((false, 0, Some((4, 4)))))
+4 4 2,2 3,1 1,1 => (Ok(4), Ok(4), Err(OutOfBounds), Err(OutOfBounds))
+4 4 2,2 1,1 1,1 => (Ok(4), Ok(2), Err(Unsupported), Ok((true, 0, Some((2, 2)))))
+4 0 0,2 0,0 0,1 => (Ok(0), Ok(0), Ok(()), Ok((false, 0, None)))
+0 0 0,2 2,1 0,1 => (Ok(0), Ok(1), Err(OutOfBounds), Err(OutOfBounds))
+1 2 1,2 -9223372036854775808,1 0,1 => (Ok(2), Ok(1), Ok(()), Ok((false, 0, Some((1, 1)))))
+1 9223372036854775807 2,2 3,2 1,1 => (Ok(4), Ok(5), Ok(()), Ok((false, 0, Some((5, 5)))))
+1 9223372036854775807 2,2 3,-2 1,1 => (Ok(4), Ok(5), Ok(()), Ok((false, 2, Some((1, 1)))))
+1 9223372036854775807 2,2 1,1 1,1 => (Ok(4), Ok(2), Err(Unsupported), Ok((true, 0, Some((2, 2)))))
+1 6 2,3 3,1 1,2 => (Ok(6), Ok(5), Ok(()), Ok((false, 0, Some((5, 5)))))
+1 6 2,3 3,1 1,3 => (Ok(6), Ok(5), Ok(()), Ok((false, 0, None)))
+1 6 2,3 3,1 2,0 => (Ok(6), Ok(5), Ok(()), Ok((false, 0, None)))";
+
+#[test]
+fn r1_rows(rt: HostRuntime) {
+    tells(&rt, rt.alloc(), R1);
+}
+
+/// Layouts of no axes and of three: how far they reach, and which of their indices may share
+/// an element.
+const REACH: &str = "\
+1 1 - - - => (Ok(1), Ok(0), Ok(()), Ok((false, 0, Some((0, 0)))))
+1 0 - - - => (Ok(1), Ok(0), Err(OutOfBounds), Err(OutOfBounds))
+1 0 1,9223372036854775807,2 1,1,1 0,9223372036854775806,1 \
+  => (Err(Overflow), Err(Overflow), Err(Overflow), Err(Overflow))
+1 9223372036854775807 1,9223372036854775807,2 1,1,1 0,9223372036854775806,1 \
+  => (Err(Overflow), Err(Overflow), Err(Overflow), Err(Overflow))
+4 12 2,3,2 1,2,6 1,2,1 => (Ok(12), Ok(11), Ok(()), Ok((false, 0, Some((11, 11)))))
+4 12 2,3,2 2,4,12 1,2,1 => (Ok(12), Ok(22), Err(OutOfBounds), Err(OutOfBounds))
+4 0 0,0,1 2,1,3 0,0,0 => (Ok(0), Ok(0), Ok(()), Ok((false, 0, None)))
+4 11 2,2,3 6,3,1 1,1,2 => (Ok(12), Ok(11), Err(OutOfBounds), Err(OutOfBounds))
+4 12 2,2,3 6,3,1 1,1,2 => (Ok(12), Ok(11), Ok(()), Ok((false, 0, Some((11, 11)))))
+1 9223372036854775807 1,9223372036854775807,1 1,1,1 0,9223372036854775806,0 \
+  => (Ok(9223372036854775807), Ok(9223372036854775806), Ok(()), Ok((false, 0, \
+  Some((9223372036854775806, 9223372036854775806)))))
+1 9223372036854775807 0,2,2 1,9223372036854775807,1 0,1,1 \
+  => (Ok(0), Err(Overflow), Err(Overflow), Err(Overflow))
+4 9223372036854775807 0,2,2 1,2305843009213693951,1 0,1,1 \
+  => (Ok(0), Err(Overflow), Err(Overflow), Err(Overflow))
+4 12 2,3,2 5,2,1 1,2,1 => (Ok(12), Ok(10), Err(Unsupported), Ok((true, 0, Some((10, 10)))))
+4 12 2,3,2 6,2,1 1,2,1 => (Ok(12), Ok(11), Ok(()), Ok((false, 0, Some((11, 11)))))
+4 12 2,3,2 6,0,1 1,2,1 => (Ok(12), Ok(7), Err(Unsupported), Ok((true, 0, Some((7, 7)))))
+4 12 2,3,2 -6,0,1 1,2,1 => (Ok(12), Ok(7), Err(Unsupported), Ok((true, 6, Some((-5, -5)))))";
+
+/// Layouts of few elements or none.
+const SMALL: &str = "\
+4 0 0 0 0 => (Ok(0), Ok(0), Ok(()), Ok((false, 0, None)))
+4 0 0 1 0 => (Ok(0), Ok(0), Ok(()), Ok((false, 0, None)))
+4 0 0,0 0,0 0,0 => (Ok(0), Ok(0), Ok(()), Ok((false, 0, None)))
+4 0 0,0 2,1 0,0 => (Ok(0), Ok(0), Ok(()), Ok((false, 0, None)))
+4 0 0,1 0,0 0,0 => (Ok(0), Ok(0), Ok(()), Ok((false, 0, None)))
+4 0 0,1 2,1 0,0 => (Ok(0), Ok(0), Ok(()), Ok((false, 0, None)))
+4 1 1 0 0 => (Ok(1), Ok(0), Ok(()), Ok((false, 0, Some((0, 0)))))
+4 1 1 2 0 => (Ok(1), Ok(0), Ok(()), Ok((false, 0, Some((0, 0)))))
+4 1 1,1,1 2,1,3 0,0,0 => (Ok(1), Ok(0), Ok(()), Ok((false, 0, Some((0, 0)))))
+4 2 2 1 1 => (Ok(2), Ok(1), Ok(()), Ok((false, 0, Some((1, 1)))))
+4 0 1 0 0 => (Ok(1), Ok(0), Err(OutOfBounds), Err(OutOfBounds))
+4 0 1 1 0 => (Ok(1), Ok(0), Err(OutOfBounds), Err(OutOfBounds))
+4 0 0,2 2,1 0,1 => (Ok(0), Ok(1), Err(OutOfBounds), Err(OutOfBounds))
+4 0 1,1,1 2,1,3 0,0,0 => (Ok(1), Ok(0), Err(OutOfBounds), Err(OutOfBounds))
+4 1 2 1 1 => (Ok(2), Ok(1), Err(OutOfBounds), Err(OutOfBounds))
+4 2 1,2 5,2 0,1 => (Ok(2), Ok(2), Err(OutOfBounds), Err(OutOfBounds))
+0 0 0 1 0 => (Ok(0), Ok(0), Ok(()), Ok((false, 0, None)))
+0 0 0,2 0,0 0,1 => (Ok(0), Ok(0), Ok(()), Ok((false, 0, None)))
+0 1 1 1 0 => (Ok(1), Ok(0), Ok(()), Ok((false, 0, Some((0, 0)))))
+0 2 2,1 1,0 1,0 => (Ok(2), Ok(1), Ok(()), Ok((false, 0, Some((1, 1)))))
+0 0 1 1 0 => (Ok(1), Ok(0), Err(OutOfBounds), Err(OutOfBounds))";
+
+#[test]
+fn r3_rows(rt: HostRuntime) {
+    tells(&rt, rt.alloc(), REACH);
+    tells(&rt, rt.alloc(), SMALL);
+}
+
+/// Layouts in which no two indices share an element: over as many elements as they span, over one
+/// more, and with elements so large that the span in bytes passes the limit.
+const APART: &str = "\
+4 6 4 -2 3 => (Ok(4), Ok(6), Err(OutOfBounds), Err(OutOfBounds))
+4 7 4 -2 3 => (Ok(4), Ok(6), Ok(()), Ok((false, 6, Some((-6, -6)))))
+9223372036854775807 6 4 -2 3 => (Ok(4), Err(Overflow), Err(Overflow), Err(Overflow))
+4 5 2,3 -3,1 1,2 => (Ok(6), Ok(5), Err(OutOfBounds), Err(OutOfBounds))
+4 6 2,3 -3,1 1,2 => (Ok(6), Ok(5), Ok(()), Ok((false, 3, Some((-1, -1)))))
+9223372036854775807 5 2,3 -3,1 1,2 => (Ok(6), Err(Overflow), Err(Overflow), Err(Overflow))
+4 11 2,3,2 6,-2,1 1,2,1 => (Ok(12), Ok(11), Err(OutOfBounds), Err(OutOfBounds))
+4 12 2,3,2 6,-2,1 1,2,1 => (Ok(12), Ok(11), Ok(()), Ok((false, 4, Some((3, 3)))))
+9223372036854775807 11 2,3,2 6,-2,1 1,2,1 => (Ok(12), Err(Overflow), Err(Overflow), Err(Overflow))
+4 94 2,1,3,2,2,2 -48,7,16,8,-4,2 1,0,2,1,1,1 \
+  => (Ok(48), Ok(94), Err(OutOfBounds), Err(OutOfBounds))
+4 95 2,1,3,2,2,2 -48,7,16,8,-4,2 1,0,2,1,1,1 \
+  => (Ok(48), Ok(94), Ok(()), Ok((false, 52, Some((-10, -10)))))
+9223372036854775807 94 2,1,3,2,2,2 -48,7,16,8,-4,2 1,0,2,1,1,1 \
+  => (Ok(48), Err(Overflow), Err(Overflow), Err(Overflow))
+4 43 2,3,1,2,2 24,-8,5,2,-1 1,2,0,1,1 => (Ok(24), Ok(43), Err(OutOfBounds), Err(OutOfBounds))
+4 44 2,3,1,2,2 24,-8,5,2,-1 1,2,0,1,1 => (Ok(24), Ok(43), Ok(()), Ok((false, 17, Some((9, 9)))))
+9223372036854775807 43 2,3,1,2,2 24,-8,5,2,-1 1,2,0,1,1 \
+  => (Ok(24), Err(Overflow), Err(Overflow), Err(Overflow))";
+
+/// Layouts with a stride no longer than the others span, and then layouts without an index.
+const SHARED_AND_EMPTY: &str = "\
+4 2 2 0 1 => (Ok(2), Ok(0), Err(Unsupported), Ok((true, 0, Some((0, 0)))))
+4 8 3,2 2,3 2,1 => (Ok(6), Ok(7), Err(Unsupported), Ok((true, 0, Some((7, 7)))))
+4 11 2,3,2 -5,2,-1 1,2,1 => (Ok(12), Ok(10), Err(Unsupported), Ok((true, 6, Some((-2, -2)))))
+4 93 2,1,3,2,2,2 -46,7,16,8,-4,2 1,0,2,1,1,1 \
+  => (Ok(48), Ok(92), Err(Unsupported), Ok((true, 50, Some((-8, -8)))))
+4 39 2,3,1,2,2 19,-8,5,2,-1 1,2,0,1,1 \
+  => (Ok(24), Ok(38), Err(Unsupported), Ok((true, 17, Some((4, 4)))))
+4 0 0 5 0 => (Ok(0), Ok(0), Ok(()), Ok((false, 0, None)))
+4 1 0,2 1,1 0,1 => (Ok(0), Ok(1), Ok(()), Ok((false, 0, None)))
+4 2 2,0,2 1,1,1 1,0,1 => (Ok(0), Ok(2), Ok(()), Ok((false, 0, None)))
+4 4 2,2,0,2,1,2 1,-1,1,1,9,1 1,1,0,1,0,1 => (Ok(0), Ok(4), Ok(()), Ok((false, 1, None)))
+4 4 2,2,0,2,2 1,1,1,1,1 1,1,0,1,1 => (Ok(0), Ok(4), Ok(()), Ok((false, 0, None)))";
+
+/// Lists that are indices of a layout, and lists that are none.
+const INDICES: &str = "\
+4 2305843009213693951 4 -2 3 => (Ok(4), Ok(6), Ok(()), Ok((false, 6, Some((-6, -6)))))
+4 2305843009213693951 4 -2 4 => (Ok(4), Ok(6), Ok(()), Ok((false, 6, None)))
+4 2305843009213693951 2,3 -3,1 1,2 => (Ok(6), Ok(5), Ok(()), Ok((false, 3, Some((-1, -1)))))
+4 2305843009213693951 2,3 -3,1 1,3 => (Ok(6), Ok(5), Ok(()), Ok((false, 3, None)))
+4 2305843009213693951 2,3,2 6,-2,1 1,2,1 => (Ok(12), Ok(11), Ok(()), Ok((false, 4, Some((3, 3)))))
+4 2305843009213693951 2,3,2 6,-2,1 1,3,0 => (Ok(12), Ok(11), Ok(()), Ok((false, 4, None)))
+4 2305843009213693951 2,1,3,2,2,2 -48,7,16,8,-4,2 1,0,2,1,1,1 \
+  => (Ok(48), Ok(94), Ok(()), Ok((false, 52, Some((-10, -10)))))
+4 2305843009213693951 2,1,3,2,2,2 -48,7,16,8,-4,2 0,1,0,0,0,0 \
+  => (Ok(48), Ok(94), Ok(()), Ok((false, 52, None)))
+4 2305843009213693951 2,3,1,2,2 24,-8,5,2,-1 1,2,0,1,1 \
+  => (Ok(24), Ok(43), Ok(()), Ok((false, 17, Some((9, 9)))))
+4 2305843009213693951 2,3,1,2,2 24,-8,5,2,-1 1,2,0,2,1 \
+  => (Ok(24), Ok(43), Ok(()), Ok((false, 17, None)))
+4 2305843009213693951 2,3,1,2,2 24,-8,5,2,-1 1,2,0,1 \
+  => (Ok(24), Ok(43), Ok(()), Ok((false, 17, None)))";
+
+#[test]
+fn rows_at_every_dimension_type(rt: HostRuntime) {
+    tells(&rt, rt.alloc(), APART);
+    tells(&rt, rt.alloc(), SHARED_AND_EMPTY);
+    tells(&rt, rt.alloc(), INDICES);
+}
+
+/// Sizes that pass the limit and sizes that do not; spans and offsets at the limit and beyond it;
+/// and fewer strides than lengths.
+const LIMITS: &str = "\
+1 9223372036854775807 9223372036854775808 0 0 \
+  => (Err(Overflow), Err(Overflow), Err(Overflow), Err(Overflow))
+1 9223372036854775807 0,9223372036854775808 0,0 0,0 \
+  => (Err(Overflow), Err(Overflow), Err(Overflow), Err(Overflow))
+1 9223372036854775807 2097152,2097152,2097152 0,0,0 0,0,0 \
+  => (Err(Overflow), Err(Overflow), Err(Overflow), Err(Overflow))
+1 9223372036854775807 2048,2048,2048,2048,2048,256 0,0,0,0,0,0 0,0,0,0,0,0 \
+  => (Err(Overflow), Err(Overflow), Err(Overflow), Err(Overflow))
+1 9223372036854775807 8192,8192,8192,8192,2048 0,0,0,0,0 0,0,0,0,0 \
+  => (Err(Overflow), Err(Overflow), Err(Overflow), Err(Overflow))
+1 1 9223372036854775807 0 0 \
+  => (Ok(9223372036854775807), Ok(0), Err(Unsupported), Ok((true, 0, Some((0, 0)))))
+1 1 0,9223372036854775807 0,0 0,0 => (Ok(0), Ok(0), Ok(()), Ok((false, 0, None)))
+1 1 2097152,2097152,2097151 0,0,0 0,0,0 \
+  => (Ok(9223367638808264704), Ok(0), Err(Unsupported), Ok((true, 0, Some((0, 0)))))
+1 1 2048,2048,2048,2048,2048,255 0,0,0,0,0,0 0,0,0,0,0,0 \
+  => (Ok(9187343239835811840), Ok(0), Err(Unsupported), Ok((true, 0, Some((0, 0)))))
+1 1 8192,8192,8192,8192,2047 0,0,0,0,0 0,0,0,0,0 \
+  => (Ok(9218868437227405312), Ok(0), Err(Unsupported), Ok((true, 0, Some((0, 0)))))
+1 1 2 -9223372036854775808 1 => (Ok(2), Err(Overflow), Err(Overflow), Err(Overflow))
+1 1 1 -9223372036854775808 0 => (Ok(1), Ok(0), Ok(()), Ok((false, 0, Some((0, 0)))))
+1 9223372036854775808 2 -9223372036854775807 1 \
+  => (Ok(2), Ok(9223372036854775807), Ok(()), Ok((false, 9223372036854775807, \
+  Some((-9223372036854775807, -9223372036854775807)))))
+1 6 2,3 -3,-1 1,2 => (Ok(6), Ok(5), Ok(()), Ok((false, 5, Some((-5, -5)))))
+1 9 2,3 1 1,2 \
+  => (Ok(6), Err(IncompatibleLayout), Err(IncompatibleLayout), Err(IncompatibleLayout))";
+
+#[test]
+fn limits(rt: HostRuntime) {
+    tells(&rt, rt.alloc(), LIMITS);
+}

@@ -1,0 +1,9 @@
+//! Tests of `ndarray_layout`, by its public calls.
+mod answer;
+mod elems;
+mod question;
+mod rows;
+mod shapes;
+mod slices;
+mod two_rows;
+mod views;

@@ -1,0 +1,193 @@
+//! What views answer, at any dimension type.
+use crate::view::question::{Asked, Question, lens, strides};
+use ErrorKind::{IncompatibleShape, OutOfBounds, Unsupported};
+use Order::{ColumnMajor, RowMajor};
+use nd_testing::Row;
+use ndarray_layout::{
+    Dimension, ErrorKind, Ix1, Ix2, Ix3, Ix5, Ix6, IxDyn, LayoutError, Lengths, Order,
+    SliceInfoElem, Strided, max_abs_offset_check_overflow, new_ixdyn,
+};
+use std::alloc::Global;
+use std::process::Abort;
+
+/// All that a view tells.
+#[derive(Drop, PartialEq)]
+pub struct Seen {
+    shape: Vec<usize>,
+    strides: Vec<usize>,
+    start: usize,
+    by_rows: Vec<usize>,
+    by_columns: Vec<usize>,
+}
+
+/// What is answered to a question.
+#[derive(Drop, PartialEq)]
+pub enum Answer {
+    View(Seen),
+    Number(Option<usize>),
+    Refused(ErrorKind),
+    OutOfMemory,
+}
+
+/// The next words of a row as an answer.
+pub fn expected(rt: &impl Abort, alloc: Global, row: &mut Row<'_>) -> Answer {
+    match row.word().expect(rt, "an answer") {
+        "is" => Answer::View(seen_in_row(rt, alloc, row)),
+        "IncompatibleShape" => Answer::Refused(IncompatibleShape),
+        "OutOfBounds" => Answer::Refused(OutOfBounds),
+        "Unsupported" => Answer::Refused(Unsupported),
+        word => Answer::Number(word.parse().ok()),
+    }
+}
+
+/// The next words of a row: shape, strides, start, places by rows and by columns.
+fn seen_in_row(rt: &impl Abort, alloc: Global, row: &mut Row<'_>) -> Seen {
+    Seen {
+        shape: lens(rt, alloc, row),
+        strides: strides(rt, alloc, row),
+        start: row.length().expect(rt, "a start"),
+        by_rows: lens(rt, alloc, row),
+        by_columns: lens(rt, alloc, row),
+    }
+}
+
+/// A list of its own.
+fn copy(rt: &impl Abort, alloc: Global, lens: &[usize]) -> Vec<usize> {
+    Vec::from_slice(alloc, lens).expect(rt, "memory")
+}
+
+/// All that a view tells.
+fn look<D: Dimension>(rt: &impl Abort, alloc: Global, view: &Strided<D>) -> Seen {
+    Seen {
+        shape: copy(rt, alloc, view.dim().slice()),
+        strides: copy(rt, alloc, view.strides().slice()),
+        start: view.start(),
+        by_rows: view.places(alloc, RowMajor).expect(rt, "memory"),
+        by_columns: view.places(alloc, ColumnMajor).expect(rt, "memory"),
+    }
+}
+
+/// What a call that makes a view answers.
+pub fn told<D: Dimension>(
+    rt: &impl Abort,
+    alloc: Global,
+    view: Result<Strided<D>, LayoutError>,
+) -> Answer {
+    match view {
+        Ok(view) => Answer::View(look(rt, alloc, &view)),
+        Err(LayoutError::Shape(fault)) => Answer::Refused(fault.kind()),
+        Err(LayoutError::Memory(_error)) => Answer::OutOfMemory,
+    }
+}
+
+/// The value of a dimension type that stands for a list.
+fn dim<D: Dimension>(rt: &impl Abort, alloc: Global, lens: &[usize]) -> D {
+    let dim = new_ixdyn(alloc, lens).expect(rt, "memory");
+    let same = D::from_dimension(alloc, &dim).expect(rt, "memory");
+    same.expect(rt, "another count of axes")
+}
+
+/// The view of a layout.
+fn view<D: Dimension>(
+    rt: &impl Abort,
+    alloc: Global,
+    layout: &Asked,
+) -> Result<Strided<D>, LayoutError> {
+    let shape = dim(rt, alloc, layout.shape.as_slice());
+    let strides = dim(rt, alloc, layout.strides.as_slice());
+    Ok(Strided::new(shape, strides, layout.elem_size, layout.len, layout.mode)?)
+}
+
+/// How far a layout reaches.
+fn span<D: Dimension>(rt: &impl Abort, alloc: Global, layout: &Asked) -> Option<usize> {
+    let shape: D = dim(rt, alloc, layout.shape.as_slice());
+    let strides: D = dim(rt, alloc, layout.strides.as_slice());
+    max_abs_offset_check_overflow(layout.elem_size, &shape, &strides).ok()
+}
+
+/// The place of an index.
+fn place<D: Dimension>(
+    rt: &impl Abort,
+    alloc: Global,
+    layout: &Asked,
+    index: &[usize],
+) -> Option<usize> {
+    let view = view::<D>(rt, alloc, layout).expect(rt, "refused");
+    view.place(&dim::<D>(rt, alloc, index))
+}
+
+/// What is told of the slice of a view into a dimension type.
+fn told_of_slice<D: Dimension, E: Dimension>(
+    rt: &impl Abort,
+    alloc: Global,
+    view: &Strided<D>,
+    elems: &[SliceInfoElem],
+) -> Answer {
+    told::<E>(rt, alloc, view.slice(alloc, &elems))
+}
+
+/// The slice of a view, into the type of so many axes.
+fn slice<D: Dimension>(
+    rt: &impl Abort,
+    alloc: Global,
+    view: &Strided<D>,
+    ndim: Option<usize>,
+    elems: &[SliceInfoElem],
+) -> Answer {
+    match ndim {
+        Some(1) => told_of_slice::<D, Ix1>(rt, alloc, view, elems),
+        Some(2) => told_of_slice::<D, Ix2>(rt, alloc, view, elems),
+        Some(3) => told_of_slice::<D, Ix3>(rt, alloc, view, elems),
+        Some(5) => told_of_slice::<D, Ix5>(rt, alloc, view, elems),
+        Some(6) => told_of_slice::<D, Ix6>(rt, alloc, view, elems),
+        _ => told_of_slice::<D, IxDyn>(rt, alloc, view, elems),
+    }
+}
+
+/// The slice of the view of a layout.
+fn slice_of_layout<D: Dimension>(
+    rt: &impl Abort,
+    alloc: Global,
+    layout: &Asked,
+    ndim: Option<usize>,
+    elems: &[SliceInfoElem],
+) -> Answer {
+    let view = view::<D>(rt, alloc, layout).expect(rt, "refused");
+    slice(rt, alloc, &view, ndim, elems)
+}
+
+/// The answer of a layout at a dimension type.
+fn ask<D: Dimension>(
+    rt: &impl Abort,
+    alloc: Global,
+    layout: &Asked,
+    question: &Question,
+) -> Answer {
+    match question {
+        Question::View => told(rt, alloc, view::<D>(rt, alloc, layout)),
+        Question::Span => Answer::Number(span::<D>(rt, alloc, layout)),
+        Question::Place(index) => {
+            Answer::Number(place::<D>(rt, alloc, layout, index.as_slice()))
+        },
+        Question::Slice(ndim, elems) => {
+            slice_of_layout::<D>(rt, alloc, layout, *ndim, elems.as_slice())
+        },
+    }
+}
+
+/// The answer of a layout at the dimension type of so many axes.
+pub fn answer_at(
+    rt: &impl Abort,
+    alloc: Global,
+    ndim: Option<usize>,
+    layout: &Asked,
+    question: &Question,
+) -> Answer {
+    match ndim {
+        Some(1) => ask::<Ix1>(rt, alloc, layout, question),
+        Some(2) => ask::<Ix2>(rt, alloc, layout, question),
+        Some(3) => ask::<Ix3>(rt, alloc, layout, question),
+        Some(6) => ask::<Ix6>(rt, alloc, layout, question),
+        _ => ask::<IxDyn>(rt, alloc, layout, question),
+    }
+}

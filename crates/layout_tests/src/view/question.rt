@@ -1,0 +1,80 @@
+//! Layouts and what is asked of them, as rows of tables tell it.
+use crate::view::elems::elems;
+use CanIndexCheckMode::{OwnedMutable, ReadOnly};
+use nd_testing::Row;
+use ndarray_layout::{CanIndexCheckMode, SliceInfoElem, unsigned};
+use std::alloc::Global;
+use std::process::Abort;
+
+/// A layout over some data.
+#[derive(Drop)]
+pub struct Asked {
+    pub elem_size: usize,
+    pub len: usize,
+    pub mode: CanIndexCheckMode,
+    pub shape: Vec<usize>,
+    pub strides: Vec<usize>,
+}
+
+/// What is asked of a layout.
+#[derive(Drop)]
+pub enum Question {
+    /// The view.
+    View,
+    /// How far it reaches.
+    Span,
+    /// The place of an index.
+    Place(Vec<usize>),
+    /// The slice into the type of so many axes.
+    Slice(Option<usize>, Vec<SliceInfoElem>),
+}
+
+/// The next word of a row as lengths.
+pub fn lens(rt: &impl Abort, alloc: Global, row: &mut Row<'_>) -> Vec<usize> {
+    row.lengths(alloc).expect(rt, "a list of lengths")
+}
+
+/// The next word of a row as strides, as they are kept.
+pub fn strides(rt: &impl Abort, alloc: Global, row: &mut Row<'_>) -> Vec<usize> {
+    let mut strides = Vec::new(alloc);
+    for stride in row.numbers(alloc).expect(rt, "a list of strides") {
+        strides.push(unsigned(stride)).expect(rt, "memory");
+    }
+    strides
+}
+
+/// The use of the data that a word names.
+fn mode(word: &str) -> CanIndexCheckMode {
+    if word == "owned" {
+        OwnedMutable
+    } else {
+        ReadOnly
+    }
+}
+
+/// The next words of a row: size of an element, length and use of the data, shape, strides.
+pub fn read_layout(rt: &impl Abort, alloc: Global, row: &mut Row<'_>) -> Asked {
+    Asked {
+        elem_size: row.length().expect(rt, "a size"),
+        len: row.length().expect(rt, "a length"),
+        mode: mode(row.word().expect(rt, "a mode")),
+        shape: lens(rt, alloc, row),
+        strides: strides(rt, alloc, row),
+    }
+}
+
+/// The count of axes that the next word fixes, the name of a dimension type.
+pub fn fixed_count(rt: &impl Abort, row: &mut Row<'_>) -> Option<usize> {
+    let name = row.word().expect(rt, "a dimension type");
+    name.strip_prefix("Ix")?.parse().ok()
+}
+
+/// The next words of a row as a question.
+pub fn read_question(rt: &impl Abort, alloc: Global, row: &mut Row<'_>) -> Question {
+    match row.word().expect(rt, "a question") {
+        "view" => Question::View,
+        "span" => Question::Span,
+        "at" => Question::Place(lens(rt, alloc, row)),
+        _ => Question::Slice(fixed_count(rt, row), elems(rt, alloc, row)),
+    }
+}
