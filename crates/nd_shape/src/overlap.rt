@@ -1,11 +1,11 @@
 //! Whether two indices of a layout may share an element.
 ghost use Rattle.std.specs.Option.{IfSome};
-ghost use Rattle.std.specs.Prelude.{◌≡◌, ◌<◌, ◌≤◌, ◌-◌, ◌↔◌, ◌⊎◌, IsTrue, IsFalse, not, ◌&&◌, if◌then◌else◌, [], ◌∷◌, length};
+ghost use Rattle.std.specs.Prelude.{◌≡◌, ◌<◌, ◌≤◌, ◌-◌, ◌↔◌, ◌⊎◌, IsTrue, IsFalse, not, ◌&&◌, nat_le, if◌then◌else◌, [], ◌∷◌, length};
 ghost use Rattle.nd_base.specs.Signed.{signed as signed_reading, all_signed};
 ghost use Rattle.nd_base.specs.Size.{is_empty, limit};
 ghost use Rattle.nd_base.specs.Span.{span};
 ghost use Rattle.nd_base.specs.ValidLayout.{IsValidLayout};
-ghost use Rattle.nd_shape.specs.OwnedRule.{MeetsOwnedRule, meets_owned_rule, steps_over_others, span_up_to as span_up_to_magnitude};
+ghost use Rattle.nd_shape.specs.OwnedRule.{MeetsOwnedRule, meets_owned_rule, steps_over_others, span_up_to};
 
 use crate::limits::reach;
 use nd_dim::{Dimension, signed};
@@ -14,8 +14,8 @@ use nd_dim::{Dimension, signed};
 /// of a magnitude past `magnitude`.
 #[inline(always)]
 fn reach_up_to(len: usize, stride: usize, magnitude: usize) -> usize
-    requires { span_up_to_magnitude magnitude (len ∷ []) (signed_reading stride ∷ []) ≤ limit }
-    ensures { result ≡ span_up_to_magnitude magnitude (len ∷ []) (signed_reading stride ∷ []) }
+    requires { span_up_to magnitude (len ∷ []) (signed_reading stride ∷ []) ≤ limit }
+    ensures { result ≡ span_up_to magnitude (len ∷ []) (signed_reading stride ∷ []) }
 {
     let stride = signed(stride);
     if stride.unsigned_abs() <= magnitude {
@@ -25,17 +25,23 @@ fn reach_up_to(len: usize, stride: usize, magnitude: usize) -> usize
     }
 }
 
-/// The summed spans of the axes whose strides are of magnitude at most `magnitude`.
+/// Whether the axes whose strides are of magnitude at most `magnitude` span at least `bound` elements
+/// together. There is an axis.
 #[inline(always)]
-fn span_up_to(shape: &[usize], strides: &[usize], magnitude: usize) -> usize
-    requires { span shape.now (all_signed strides.now) ≤ limit }
-    ensures { result ≡ span_up_to_magnitude magnitude shape.now (all_signed strides.now) }
+fn spans_up_to(shape: &[usize], strides: &[usize], magnitude: usize, bound: usize) -> bool
+    requires some_axis { 0 < length shape.now }
+    requires same_count { length shape.now ≡ length strides.now }
+    requires span_fits { span shape.now (all_signed strides.now) ≤ limit }
+    ensures { result ≡ nat_le bound (span_up_to magnitude shape.now (all_signed strides.now)) }
 {
     let mut total = 0usize;
     for (len, stride) in shape.iter().zip(strides) {
         total += reach_up_to(*len, *stride, magnitude);
+        if total >= bound {
+            return true;
+        }
     }
-    total
+    false
 }
 
 /// Whether the stride of an axis of more than one entry steps over no more than the axes of no
@@ -50,7 +56,7 @@ fn overlaps_others(shape: &[usize], strides: &[usize], axis: usize) -> bool
     let len = shape[axis];
     let stride = signed(strides[axis]);
     let magnitude = stride.unsigned_abs();
-    len > 1 && magnitude <= span_up_to(shape, strides, magnitude) - reach(len, stride)
+    len > 1 && spans_up_to(shape, strides, magnitude, reach(len, stride) + magnitude)
 }
 
 /// Whether some axis of more than one entry has a stride that steps over no more than the axes of
