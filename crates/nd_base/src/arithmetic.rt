@@ -72,9 +72,11 @@ pub trait Scale: Lengths + Mul<usize, Output = Self> + MulAssign<usize> {
         → Self.mul_assign_gives d factor r → Self.list r ≡ scaled (Self.list d) factor };
 }
 
+// The clause on `[usize; 4]` always holds. Without it this kit stops at an impl for `IxDyn` that asks for these laws.
 impl<I: Drop> Arithmetic for Dim<I>
 where
     Dim<I>: Lengths,
+    [usize; 4]: Eq,
 {
     ghost can_add_fitting = { λ d e h. h };
 
@@ -104,6 +106,7 @@ where
 impl<I: Drop> Scale for Dim<I>
 where
     Dim<I>: Lengths,
+    [usize; 4]: Eq,
 {
     ghost can_mul_scaling = { λ d factor h. h };
 
