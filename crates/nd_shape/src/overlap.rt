@@ -3,7 +3,7 @@ ghost use Rattle.std.specs.Option.{IfSome};
 ghost use Rattle.std.specs.Prelude.{◌≡◌, ◌<◌, ◌≤◌, ◌-◌, ◌↔◌, ◌⊎◌, IsTrue, IsFalse, not, ◌&&◌, nat_le, if◌then◌else◌, [], ◌∷◌, length};
 ghost use Rattle.nd_base.specs.Signed.{signed as signed_reading, all_signed};
 ghost use Rattle.nd_base.specs.Size.{is_empty, limit};
-ghost use Rattle.nd_base.specs.Span.{span};
+ghost use Rattle.nd_base.specs.Span.{reach as reach_of_axis, span};
 ghost use Rattle.nd_base.specs.ValidLayout.{IsValidLayout};
 ghost use Rattle.nd_shape.specs.OwnedRule.{MeetsOwnedRule, meets_owned_rule, steps_over_others, span_up_to};
 
@@ -14,12 +14,13 @@ use nd_dim::{Dimension, signed};
 /// of a magnitude past `magnitude`.
 #[inline(always)]
 fn reach_up_to(len: usize, stride: usize, magnitude: usize) -> usize
-    requires { span_up_to magnitude (len ∷ []) (signed_reading stride ∷ []) ≤ limit }
+    requires { reach_of_axis len (signed_reading stride) ≤ limit }
     ensures { result ≡ span_up_to magnitude (len ∷ []) (signed_reading stride ∷ []) }
 {
     let stride = signed(stride);
+    let far = reach(len, stride);
     if stride.unsigned_abs() <= magnitude {
-        reach(len, stride)
+        far
     } else {
         0
     }

@@ -29,11 +29,14 @@ step c =
     sum_at_turn (reach_up_to c.args.magnitude) c.args.shape.now c.args.strides.now c.loop-len.yielded c.into_iter-len-iterator.result c.loop-len.len-iterator c.next.new.self c.next.result
     (search rules) (search rules) c.loop-len.yielded_by (c.in-Some.len, c.in-Some.stride) c.in-Some.is c.next.ensures.steps
 
+-- how far this axis reaches, and how far those behind it
+reached : (c : In-Some) → sum_from reach c.args.shape.now c.args.strides.now (length c.loop-len.yielded) ≡ reach c.in-Some.len.now (signed c.in-Some.stride.now) + sum_from reach c.args.shape.now c.args.strides.now (length c.loop-len.yielded + 1)
+reached c =
+    sum_at_turn reach c.args.shape.now c.args.strides.now c.loop-len.yielded c.into_iter-len-iterator.result c.loop-len.len-iterator c.next.new.self c.next.result
+    (search rules) (search rules) c.loop-len.yielded_by (c.in-Some.len, c.in-Some.stride) c.in-Some.is c.next.ensures.steps
+
 pub reach_up_to-total-requires : goal.reach_up_to-total-requires
-reach_up_to-total-requires c =
-    let step = step (goal.at.reach_up_to-total-requires c).In-Some in
-    let less : span_up_to c.args.magnitude c.args.shape.now (all_signed c.args.strides.now) ≤ span c.args.shape.now (all_signed c.args.strides.now) = sum_le (reach_up_to c.args.magnitude) reach (reach_up_to_le c.args.magnitude) c.args.shape.now (all_signed c.args.strides.now) in
-    omega arith
+reach_up_to-total-requires c = omega (arith, reached (goal.at.reach_up_to-total-requires c).In-Some, c.loop-len.invariant.rest)
 
 pub overflow_add-total : goal.overflow_add-total
 overflow_add-total c =
@@ -51,5 +54,6 @@ loop-len-preserved c =
     let step = step (goal.at.loop-len-preserved c).In-Some in
     record {
       sum = rw length_push (omega (arith, step, c.loop-len.invariant.sum, c.reach_up_to-total.ensures));
+      rest = rw length_push (omega (arith, reached (goal.at.loop-len-preserved c).In-Some, c.loop-len.invariant.rest));
       short = λ some. c.if-total-bound.false;
     }
