@@ -148,6 +148,23 @@ fn a_row_of_many_places(rt: HostRuntime) -> Result<(), Fail> {
     Ok(())
 }
 
+/// A script that slices one axis by so many ranges.
+fn script_of_ranges(alloc: Global, ranges: usize) -> Result<String, Fail> {
+    let mut script = format!(in alloc; "data 4 owned 4 1\nslice ..")?;
+    for _ in 1..ranges {
+        script.push_str(",..")?;
+    }
+    Ok(script)
+}
+
+#[test]
+fn a_row_of_many_ranges(rt: HostRuntime) -> Result<(), Fail> {
+    let script = script_of_ranges(rt.alloc(), 150)?;
+    let text = b"step 1: ShapeError/IncompatibleShape: incompatible shapes\n";
+    assert!(rt; answers(rt.alloc(), script.as_bytes(), text, 1));
+    Ok(())
+}
+
 /// More places than can be reserved.
 #[test]
 fn too_many_places(rt: HostRuntime) {
