@@ -3,9 +3,10 @@ ghost use Rattle.std.specs.Prelude.{◌≡◌, ◌↔◌, [], ◌∷◌, replica
 ghost use Rattle.nd_base.specs.Dim.{lengths};
 ghost use Rattle.nd_base.specs.Entrywise.{sums, differences, products, scaled, SumsFit, DifferencesFit, ProductsFit, ScaledFit};
 
+mod dynamic;
+
 use crate::dim::{Dim, Ix1};
 use crate::entries::{add_to, multiply_by, scale, subtract_from};
-use crate::lengths::Lengths;
 use std::ops::{Add, AddAssign, Mul, MulAssign, Sub, SubAssign};
 
 impl<const N: usize> Dim<[usize; N]> {
@@ -24,56 +25,34 @@ impl<const N: usize> Dim<[usize; N]> {
     }
 }
 
-impl<I: Drop> AddAssign<&Dim<I>> for Dim<I>
-where
-    Dim<I>: Lengths,
-{
-    ghost can_add_assign = { λ dim others. SumsFit
-        (⟦<Dim<I> as Lengths>⟧.list dim)
-        (⟦<Dim<I> as Lengths>⟧.list others.now) };
+impl<const N: usize> AddAssign<&Dim<[usize; N]>> for Dim<[usize; N]> {
+    ghost can_add_assign = { λ dim others. SumsFit (lengths dim) (lengths others.now) };
 
     ghost add_assign_gives = { λ dim others result.
-        ⟦<Dim<I> as Lengths>⟧.list result ≡ sums
-        (⟦<Dim<I> as Lengths>⟧.list dim)
-        (⟦<Dim<I> as Lengths>⟧.list others.now) };
+        lengths result ≡ sums (lengths dim) (lengths others.now) };
 
     fn add_assign(&mut self, others: &Self) {
-        add_to(self.slice_mut(), others.slice());
+        add_to(&mut self.index, &others.index);
     }
 }
 
-impl<I: Drop> AddAssign for Dim<I>
-where
-    Dim<I>: Lengths,
-{
-    ghost can_add_assign = { λ dim others. SumsFit
-        (⟦<Dim<I> as Lengths>⟧.list dim)
-        (⟦<Dim<I> as Lengths>⟧.list others) };
+impl<const N: usize> AddAssign for Dim<[usize; N]> {
+    ghost can_add_assign = { λ dim others. SumsFit (lengths dim) (lengths others) };
 
     ghost add_assign_gives = { λ dim others result.
-        ⟦<Dim<I> as Lengths>⟧.list result ≡ sums
-        (⟦<Dim<I> as Lengths>⟧.list dim)
-        (⟦<Dim<I> as Lengths>⟧.list others) };
+        lengths result ≡ sums (lengths dim) (lengths others) };
 
     fn add_assign(&mut self, others: Self) {
         *self += &others;
     }
 }
 
-impl<I: Drop> Add for Dim<I>
-where
-    Dim<I>: Lengths,
-{
+impl<const N: usize> Add for Dim<[usize; N]> {
     type Output = Self;
 
-    ghost can_add = { λ dim others. SumsFit
-        (⟦<Dim<I> as Lengths>⟧.list dim)
-        (⟦<Dim<I> as Lengths>⟧.list others) };
+    ghost can_add = { λ dim others. SumsFit (lengths dim) (lengths others) };
 
-    ghost add_gives = { λ dim others result.
-        ⟦<Dim<I> as Lengths>⟧.list result ≡ sums
-        (⟦<Dim<I> as Lengths>⟧.list dim)
-        (⟦<Dim<I> as Lengths>⟧.list others) };
+    ghost add_gives = { λ dim others result. lengths result ≡ sums (lengths dim) (lengths others) };
 
     fn add(mut self, others: Self) -> Self {
         self += &others;
@@ -81,56 +60,35 @@ where
     }
 }
 
-impl<I: Drop> SubAssign<&Dim<I>> for Dim<I>
-where
-    Dim<I>: Lengths,
-{
-    ghost can_sub_assign = { λ dim others. DifferencesFit
-        (⟦<Dim<I> as Lengths>⟧.list dim)
-        (⟦<Dim<I> as Lengths>⟧.list others.now) };
+impl<const N: usize> SubAssign<&Dim<[usize; N]>> for Dim<[usize; N]> {
+    ghost can_sub_assign = { λ dim others. DifferencesFit (lengths dim) (lengths others.now) };
 
     ghost sub_assign_gives = { λ dim others result.
-        ⟦<Dim<I> as Lengths>⟧.list result ≡ differences
-        (⟦<Dim<I> as Lengths>⟧.list dim)
-        (⟦<Dim<I> as Lengths>⟧.list others.now) };
+        lengths result ≡ differences (lengths dim) (lengths others.now) };
 
     fn sub_assign(&mut self, others: &Self) {
-        subtract_from(self.slice_mut(), others.slice());
+        subtract_from(&mut self.index, &others.index);
     }
 }
 
-impl<I: Drop> SubAssign for Dim<I>
-where
-    Dim<I>: Lengths,
-{
-    ghost can_sub_assign = { λ dim others. DifferencesFit
-        (⟦<Dim<I> as Lengths>⟧.list dim)
-        (⟦<Dim<I> as Lengths>⟧.list others) };
+impl<const N: usize> SubAssign for Dim<[usize; N]> {
+    ghost can_sub_assign = { λ dim others. DifferencesFit (lengths dim) (lengths others) };
 
     ghost sub_assign_gives = { λ dim others result.
-        ⟦<Dim<I> as Lengths>⟧.list result ≡ differences
-        (⟦<Dim<I> as Lengths>⟧.list dim)
-        (⟦<Dim<I> as Lengths>⟧.list others) };
+        lengths result ≡ differences (lengths dim) (lengths others) };
 
     fn sub_assign(&mut self, others: Self) {
         *self -= &others;
     }
 }
 
-impl<I: Drop> Sub for Dim<I>
-where
-    Dim<I>: Lengths,
-{
+impl<const N: usize> Sub for Dim<[usize; N]> {
     type Output = Self;
 
-    ghost can_sub = { λ dim others. DifferencesFit
-        (⟦<Dim<I> as Lengths>⟧.list dim)
-        (⟦<Dim<I> as Lengths>⟧.list others) };
+    ghost can_sub = { λ dim others. DifferencesFit (lengths dim) (lengths others) };
 
     ghost sub_gives = { λ dim others result.
-        ⟦<Dim<I> as Lengths>⟧.list result ≡ differences
-        (⟦<Dim<I> as Lengths>⟧.list dim)
-        (⟦<Dim<I> as Lengths>⟧.list others) };
+        lengths result ≡ differences (lengths dim) (lengths others) };
 
     fn sub(mut self, others: Self) -> Self {
         self -= &others;
@@ -138,56 +96,35 @@ where
     }
 }
 
-impl<I: Drop> MulAssign<&Dim<I>> for Dim<I>
-where
-    Dim<I>: Lengths,
-{
-    ghost can_mul_assign = { λ dim others. ProductsFit
-        (⟦<Dim<I> as Lengths>⟧.list dim)
-        (⟦<Dim<I> as Lengths>⟧.list others.now) };
+impl<const N: usize> MulAssign<&Dim<[usize; N]>> for Dim<[usize; N]> {
+    ghost can_mul_assign = { λ dim others. ProductsFit (lengths dim) (lengths others.now) };
 
     ghost mul_assign_gives = { λ dim others result.
-        ⟦<Dim<I> as Lengths>⟧.list result ≡ products
-        (⟦<Dim<I> as Lengths>⟧.list dim)
-        (⟦<Dim<I> as Lengths>⟧.list others.now) };
+        lengths result ≡ products (lengths dim) (lengths others.now) };
 
     fn mul_assign(&mut self, others: &Self) {
-        multiply_by(self.slice_mut(), others.slice());
+        multiply_by(&mut self.index, &others.index);
     }
 }
 
-impl<I: Drop> MulAssign for Dim<I>
-where
-    Dim<I>: Lengths,
-{
-    ghost can_mul_assign = { λ dim others. ProductsFit
-        (⟦<Dim<I> as Lengths>⟧.list dim)
-        (⟦<Dim<I> as Lengths>⟧.list others) };
+impl<const N: usize> MulAssign for Dim<[usize; N]> {
+    ghost can_mul_assign = { λ dim others. ProductsFit (lengths dim) (lengths others) };
 
     ghost mul_assign_gives = { λ dim others result.
-        ⟦<Dim<I> as Lengths>⟧.list result ≡ products
-        (⟦<Dim<I> as Lengths>⟧.list dim)
-        (⟦<Dim<I> as Lengths>⟧.list others) };
+        lengths result ≡ products (lengths dim) (lengths others) };
 
     fn mul_assign(&mut self, others: Self) {
         *self *= &others;
     }
 }
 
-impl<I: Drop> Mul for Dim<I>
-where
-    Dim<I>: Lengths,
-{
+impl<const N: usize> Mul for Dim<[usize; N]> {
     type Output = Self;
 
-    ghost can_mul = { λ dim others. ProductsFit
-        (⟦<Dim<I> as Lengths>⟧.list dim)
-        (⟦<Dim<I> as Lengths>⟧.list others) };
+    ghost can_mul = { λ dim others. ProductsFit (lengths dim) (lengths others) };
 
     ghost mul_gives = { λ dim others result.
-        ⟦<Dim<I> as Lengths>⟧.list result ≡ products
-        (⟦<Dim<I> as Lengths>⟧.list dim)
-        (⟦<Dim<I> as Lengths>⟧.list others) };
+        lengths result ≡ products (lengths dim) (lengths others) };
 
     fn mul(mut self, others: Self) -> Self {
         self *= &others;
@@ -195,38 +132,22 @@ where
     }
 }
 
-impl<I: Drop> MulAssign<usize> for Dim<I>
-where
-    Dim<I>: Lengths,
-{
-    ghost can_mul_assign = { λ dim factor. ScaledFit
-        (⟦<Dim<I> as Lengths>⟧.list dim)
-        factor };
+impl<const N: usize> MulAssign<usize> for Dim<[usize; N]> {
+    ghost can_mul_assign = { λ dim factor. ScaledFit (lengths dim) factor };
 
-    ghost mul_assign_gives = { λ dim factor result.
-        ⟦<Dim<I> as Lengths>⟧.list result ≡ scaled
-        (⟦<Dim<I> as Lengths>⟧.list dim)
-        factor };
+    ghost mul_assign_gives = { λ dim factor result. lengths result ≡ scaled (lengths dim) factor };
 
     fn mul_assign(&mut self, factor: usize) {
-        scale(self.slice_mut(), factor);
+        scale(&mut self.index, factor);
     }
 }
 
-impl<I: Drop> Mul<usize> for Dim<I>
-where
-    Dim<I>: Lengths,
-{
+impl<const N: usize> Mul<usize> for Dim<[usize; N]> {
     type Output = Self;
 
-    ghost can_mul = { λ dim factor. ScaledFit
-        (⟦<Dim<I> as Lengths>⟧.list dim)
-        factor };
+    ghost can_mul = { λ dim factor. ScaledFit (lengths dim) factor };
 
-    ghost mul_gives = { λ dim factor result.
-        ⟦<Dim<I> as Lengths>⟧.list result ≡ scaled
-        (⟦<Dim<I> as Lengths>⟧.list dim)
-        factor };
+    ghost mul_gives = { λ dim factor result. lengths result ≡ scaled (lengths dim) factor };
 
     fn mul(mut self, factor: usize) -> Self {
         self *= factor;
