@@ -1,5 +1,5 @@
 //! Products and sums that stay within the limit of sizes and spans.
-ghost use Rattle.std.specs.Prelude.{◌≡◌, ◌*◌, ◌^◌, ◌<◌, ◌≤◌, SomeIff};
+ghost use Rattle.std.specs.Prelude.{◌≡◌, ◌*◌, ◌≤◌, SomeIff};
 ghost use Rattle.nd_base.specs.Size.{nonzero_size, limit};
 ghost use Rattle.nd_base.specs.Signed.{signed as signed_reading, all_signed};
 ghost use Rattle.nd_base.specs.Span.{reach as reach_of_axis, span};
@@ -14,25 +14,17 @@ fn within_limit(n: usize) -> Option<usize>
     (n <= isize::MAX as usize).then_some(n)
 }
 
-/// The product, where it fits. (`checked_mul` of this kit multiplies twice.)
-#[inline(always)]
-fn product(a: usize, b: usize) -> Option<usize>
-    ensures { SomeIff result (a * b < 2 ^ 64) (a * b) }
-{
-    let product = a as u128 * b as u128;
-    if product <= usize::MAX as u128 {
-        Some(product as usize)
-    } else {
-        None
-    }
-}
-
 /// The product, where it is at most the greatest `isize`.
 #[inline(always)]
 pub fn multiply(a: usize, b: usize) -> Option<usize>
     ensures { SomeIff result (a * b ≤ limit) (a * b) }
 {
-    within_limit(product(a, b)?)
+    let product = a as u128 * b as u128;
+    if product <= isize::MAX as u128 {
+        Some(product as usize)
+    } else {
+        None
+    }
 }
 
 /// The product of the lengths that are not 0, where it is at most the greatest `isize`.
@@ -43,20 +35,21 @@ pub fn checked_nonzero_size(shape: &[usize]) -> Option<usize>
     let mut size = 1usize;
     for len in shape {
         if *len != 0 {
-            size = product(size, *len)?;
+            size = multiply(size, *len)?;
         }
     }
-    within_limit(size)
+    Some(size)
 }
 
-/// How many elements lie between the first and the last entry of an axis, where that fits.
+/// How many elements lie between the first and the last entry of an axis, where that is at most
+/// the greatest `isize`.
 #[inline(always)]
 fn checked_reach(len: usize, stride: usize) -> Option<usize>
     ensures { SomeIff result
-        (reach_of_axis len (signed_reading stride) < 2 ^ 64)
+        (reach_of_axis len (signed_reading stride) ≤ limit)
         (reach_of_axis len (signed_reading stride)) }
 {
-    product(len.saturating_sub(1), signed(stride).unsigned_abs())
+    multiply(len.saturating_sub(1), signed(stride).unsigned_abs())
 }
 
 /// How many elements lie between the lowest and the highest index, where that is at most the
@@ -69,9 +62,9 @@ pub fn checked_span(shape: &[usize], strides: &[usize]) -> Option<usize>
 {
     let mut span = 0usize;
     for (len, stride) in shape.iter().zip(strides) {
-        span = span.checked_add(checked_reach(*len, *stride)?)?;
+        span = within_limit(span + checked_reach(*len, *stride)?)?;
     }
-    within_limit(span)
+    Some(span)
 }
 
 /// How many elements lie between the first and the last entry of an axis.

@@ -9,7 +9,7 @@ returns c =
     let shape = c.args.shape.now in
     let end : drop c.loop-len.len-index shape ≡ [] = drop_of_length-le shape c.loop-len-test.false in
     let whole : c.loop-len.size ≡ nonzero_size shape = sym (mul-one c.loop-len.size) ∙ (rw end at c.loop-len.invariant.product) in
-    rw (← whole) c.within_limit.ensures
+    (omega arith, whole)
 
 pub returns-in_err-size : goal.returns-in_err-size
 returns-in_err-size c =

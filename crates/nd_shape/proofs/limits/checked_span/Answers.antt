@@ -1,7 +1,7 @@
 use Rattle.std.proofs.Common.{rules, ◌≡◌, ◌+◌, length, arith}
 use Rattle.std.proofs.lemmas.List.{length_push}
-use Rattle.nd_base.specs.Signed.{signed, all_signed}
-use Rattle.nd_base.specs.Span.{reach, span}
+use Rattle.nd_base.specs.Signed.{signed}
+use Rattle.nd_base.specs.Span.{reach}
 use Rattle.nd_base.proofs.laws.Span.{sum_from}
 use Rattle.nd_shape.proofs.SumLoop.{sum_at_turn, sum_at_end}
 use Rattle.nd_shape.proofs.limits.checked_span.Goals as goal
@@ -12,8 +12,7 @@ returns c =
     let end : sum_from reach c.args.shape.now c.args.strides.now (length c.loop-len.yielded) ≡ 0 =
     sum_at_end reach c.args.shape.now c.args.strides.now c.loop-len.yielded c.into_iter-len-iterator.result c.loop-len.len-iterator c.next.new.self c.next.result
     (search rules) (search rules) c.loop-len.yielded_by c.in-None.is c.next.ensures.steps in
-    let whole : c.loop-len.span ≡ span c.args.shape.now (all_signed c.args.strides.now) = omega (arith, end, c.loop-len.invariant.sum) in
-    rw (← whole) c.within_limit.ensures
+    (omega arith, omega arith)
 
 -- the reach of this axis, and that of those behind it
 step : (c : In-Some) → sum_from reach c.args.shape.now c.args.strides.now (length c.loop-len.yielded) ≡ reach c.in-Some.len.now (signed c.in-Some.stride.now) + sum_from reach c.args.shape.now c.args.strides.now (length c.loop-len.yielded + 1)
