@@ -16,7 +16,12 @@ const KINDS: [ErrorKind; 6] = [
 
 /// The refusals of all kinds.
 fn refusals() -> [ShapeError; 6] {
-    KINDS.map(from_kind)
+    KINDS.map(refusal_of)
+}
+
+/// The refusal of a kind.
+fn refusal_of(kind: ErrorKind) -> ShapeError {
+    from_kind(kind)
 }
 
 #[test]

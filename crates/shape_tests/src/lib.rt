@@ -1,7 +1,15 @@
 //! Tests of `nd_shape`, by its public calls.
+#![tactic(auto)]
+
+#[cfg(test)]
 mod acceptance;
+#[cfg(test)]
 mod axes;
+#[cfg(test)]
 mod indexing;
+#[cfg(test)]
 mod layouts;
+#[cfg(test)]
 mod lists;
+#[cfg(test)]
 mod shapes;

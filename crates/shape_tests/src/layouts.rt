@@ -5,7 +5,7 @@
 //! arrow, what is told: the size, the span, whether the data may be owned through the layout, and
 //! whether it may be read and then, whether indices may share an element, how many elements lie
 //! below the first index, and where the index lies, checked and unchecked.
-use crate::shape::lists::{dim_of, strides_of};
+use crate::lists::{dim_of, strides_of};
 use CanIndexCheckMode::{OwnedMutable, ReadOnly};
 use nd_dim::{Dimension, ErrorKind, Ix0, Ix1, Ix2, Ix3, Ix6, IxDyn, ShapeError};
 use nd_shape::{

@@ -1,5 +1,5 @@
 //! Which shapes with an order or with strides are accepted over data.
-use crate::shape::shapes::five;
+use crate::shapes::five;
 use CanIndexCheckMode::{OwnedMutable, ReadOnly};
 use ErrorKind::{OutOfBounds, Overflow, Unsupported};
 use nd_dim::{Dimension, ErrorKind, Ix2, Ix3, new_ix2, new_ix3, new_ixdyn, unsigned};
