@@ -17,9 +17,13 @@ with_lengths d xs = record d { index = xs }
 abbrev pub rewritten : Dim (List ℕ) → List ℕ → Dim (List ℕ)
 rewritten d xs = record d { index = refill (length d.index) d.index xs }
 
--- as many lengths replace those that there are
+-- as many numbers replace those that there are
+pub refilled : (ms ns : List ℕ) → length ns ≡ length ms → refill (length ms) ms ns ≡ ns
+refilled ms ns h =
+    ap (λ n. take n (ns ++ drop (length ns) ms)) (sym h)
+    ∙ take-append_seam ns (drop (length ns) ms)
+
+-- and lengths likewise
 pub lengths_rewritten : (d : Dim (List ℕ)) (xs : List ℕ)
     → length xs ≡ length (lengths d) → lengths (rewritten d xs) ≡ xs
-lengths_rewritten d xs h =
-    ap (λ n. take n (xs ++ drop (length xs) d.index)) (sym h)
-    ∙ take-append_seam xs (drop (length xs) d.index)
+lengths_rewritten d xs h = refilled (lengths d) xs h

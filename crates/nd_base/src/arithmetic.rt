@@ -4,6 +4,7 @@ ghost use Rattle.nd_base.specs.Dim.{lengths};
 ghost use Rattle.nd_base.specs.Entrywise.{sums, differences, products, scaled, SumsFit, DifferencesFit, ProductsFit, ScaledFit};
 
 use crate::dim::Dim;
+use crate::dynindeximpl::IxDynImpl;
 use crate::lengths::Lengths;
 use std::ops::{Add, AddAssign, Mul, MulAssign, Sub, SubAssign};
 
@@ -72,10 +73,45 @@ pub trait Scale: Lengths + Mul<usize, Output = Self> + MulAssign<usize> {
         → Self.mul_assign_gives d factor r → Self.list r ≡ scaled (Self.list d) factor };
 }
 
-// The clause on `[usize; 4]` always holds. Without it this kit stops at an impl for `IxDyn` that asks for these laws.
-impl<I: Drop> Arithmetic for Dim<I>
+impl<const N: usize> Arithmetic for Dim<[usize; N]> {
+    ghost can_add_fitting = { λ d e h. h };
+
+    ghost add_gives_sums = { λ d e r h. h };
+
+    ghost can_add_assign_fitting = { λ d e h. h };
+
+    ghost add_assign_gives_sums = { λ d e r h. h };
+
+    ghost can_sub_fitting = { λ d e h. h };
+
+    ghost sub_gives_differences = { λ d e r h. h };
+
+    ghost can_sub_assign_fitting = { λ d e h. h };
+
+    ghost sub_assign_gives_differences = { λ d e r h. h };
+
+    ghost can_mul_fitting = { λ d e h. h };
+
+    ghost mul_gives_products = { λ d e r h. h };
+
+    ghost can_mul_assign_fitting = { λ d e h. h };
+
+    ghost mul_assign_gives_products = { λ d e r h. h };
+}
+
+impl<const N: usize> Scale for Dim<[usize; N]> {
+    ghost can_mul_scaling = { λ d factor h. h };
+
+    ghost mul_gives_scaled = { λ d factor r h. h };
+
+    ghost can_mul_assign_scaling = { λ d factor h. h };
+
+    ghost mul_assign_gives_scaled = { λ d factor r h. h };
+}
+
+// The clause on `[usize; 4]` always holds. Without it this kit stops at the laws of `IxDyn`, by a fault of its own.
+impl Arithmetic for Dim<IxDynImpl>
 where
-    Dim<I>: Lengths,
     [usize; 4]: Eq,
 {
     ghost can_add_fitting = { λ d e h. h };
@@ -103,9 +139,8 @@ where
     ghost mul_assign_gives_products = { λ d e r h. h };
 }
 
-impl<I: Drop> Scale for Dim<I>
+impl Scale for Dim<IxDynImpl>
 where
-    Dim<I>: Lengths,
     [usize; 4]: Eq,
 {
     ghost can_mul_scaling = { λ d factor h. h };

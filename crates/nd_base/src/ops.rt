@@ -5,7 +5,7 @@ ghost use Rattle.nd_base.specs.Entrywise.{sums, differences, products, scaled, S
 
 use crate::dim::{Dim, Ix1};
 use crate::entries::{add_to, multiply_by, scale, subtract_from};
-use crate::lengths::Lengths;
+use crate::numbers::Numbers;
 use std::ops::{Add, AddAssign, Mul, MulAssign, Sub, SubAssign};
 
 impl<const N: usize> Dim<[usize; N]> {
@@ -24,56 +24,35 @@ impl<const N: usize> Dim<[usize; N]> {
     }
 }
 
-impl<I: Drop> AddAssign<&Dim<I>> for Dim<I>
-where
-    Dim<I>: Lengths,
-{
-    ghost can_add_assign = { λ dim others. SumsFit
-        (⟦<Dim<I> as Lengths>⟧.list dim)
-        (⟦<Dim<I> as Lengths>⟧.list others.now) };
+impl<I: Numbers> AddAssign<&Dim<I>> for Dim<I> {
+    ghost can_add_assign = { λ dim others. SumsFit (I.list dim.index) (I.list others.now.index) };
 
     ghost add_assign_gives = { λ dim others result.
-        ⟦<Dim<I> as Lengths>⟧.list result ≡ sums
-        (⟦<Dim<I> as Lengths>⟧.list dim)
-        (⟦<Dim<I> as Lengths>⟧.list others.now) };
+        I.list result.index ≡ sums (I.list dim.index) (I.list others.now.index) };
 
     fn add_assign(&mut self, others: &Self) {
-        add_to(self.slice_mut(), others.slice());
+        add_to(self.index.slice_mut(), others.index.slice());
     }
 }
 
-impl<I: Drop> AddAssign for Dim<I>
-where
-    Dim<I>: Lengths,
-{
-    ghost can_add_assign = { λ dim others. SumsFit
-        (⟦<Dim<I> as Lengths>⟧.list dim)
-        (⟦<Dim<I> as Lengths>⟧.list others) };
+impl<I: Numbers> AddAssign for Dim<I> {
+    ghost can_add_assign = { λ dim others. SumsFit (I.list dim.index) (I.list others.index) };
 
     ghost add_assign_gives = { λ dim others result.
-        ⟦<Dim<I> as Lengths>⟧.list result ≡ sums
-        (⟦<Dim<I> as Lengths>⟧.list dim)
-        (⟦<Dim<I> as Lengths>⟧.list others) };
+        I.list result.index ≡ sums (I.list dim.index) (I.list others.index) };
 
     fn add_assign(&mut self, others: Self) {
         *self += &others;
     }
 }
 
-impl<I: Drop> Add for Dim<I>
-where
-    Dim<I>: Lengths,
-{
+impl<I: Numbers> Add for Dim<I> {
     type Output = Self;
 
-    ghost can_add = { λ dim others. SumsFit
-        (⟦<Dim<I> as Lengths>⟧.list dim)
-        (⟦<Dim<I> as Lengths>⟧.list others) };
+    ghost can_add = { λ dim others. SumsFit (I.list dim.index) (I.list others.index) };
 
     ghost add_gives = { λ dim others result.
-        ⟦<Dim<I> as Lengths>⟧.list result ≡ sums
-        (⟦<Dim<I> as Lengths>⟧.list dim)
-        (⟦<Dim<I> as Lengths>⟧.list others) };
+        I.list result.index ≡ sums (I.list dim.index) (I.list others.index) };
 
     fn add(mut self, others: Self) -> Self {
         self += &others;
@@ -81,56 +60,35 @@ where
     }
 }
 
-impl<I: Drop> SubAssign<&Dim<I>> for Dim<I>
-where
-    Dim<I>: Lengths,
-{
-    ghost can_sub_assign = { λ dim others. DifferencesFit
-        (⟦<Dim<I> as Lengths>⟧.list dim)
-        (⟦<Dim<I> as Lengths>⟧.list others.now) };
+impl<I: Numbers> SubAssign<&Dim<I>> for Dim<I> {
+    ghost can_sub_assign = { λ dim others. DifferencesFit (I.list dim.index) (I.list others.now.index) };
 
     ghost sub_assign_gives = { λ dim others result.
-        ⟦<Dim<I> as Lengths>⟧.list result ≡ differences
-        (⟦<Dim<I> as Lengths>⟧.list dim)
-        (⟦<Dim<I> as Lengths>⟧.list others.now) };
+        I.list result.index ≡ differences (I.list dim.index) (I.list others.now.index) };
 
     fn sub_assign(&mut self, others: &Self) {
-        subtract_from(self.slice_mut(), others.slice());
+        subtract_from(self.index.slice_mut(), others.index.slice());
     }
 }
 
-impl<I: Drop> SubAssign for Dim<I>
-where
-    Dim<I>: Lengths,
-{
-    ghost can_sub_assign = { λ dim others. DifferencesFit
-        (⟦<Dim<I> as Lengths>⟧.list dim)
-        (⟦<Dim<I> as Lengths>⟧.list others) };
+impl<I: Numbers> SubAssign for Dim<I> {
+    ghost can_sub_assign = { λ dim others. DifferencesFit (I.list dim.index) (I.list others.index) };
 
     ghost sub_assign_gives = { λ dim others result.
-        ⟦<Dim<I> as Lengths>⟧.list result ≡ differences
-        (⟦<Dim<I> as Lengths>⟧.list dim)
-        (⟦<Dim<I> as Lengths>⟧.list others) };
+        I.list result.index ≡ differences (I.list dim.index) (I.list others.index) };
 
     fn sub_assign(&mut self, others: Self) {
         *self -= &others;
     }
 }
 
-impl<I: Drop> Sub for Dim<I>
-where
-    Dim<I>: Lengths,
-{
+impl<I: Numbers> Sub for Dim<I> {
     type Output = Self;
 
-    ghost can_sub = { λ dim others. DifferencesFit
-        (⟦<Dim<I> as Lengths>⟧.list dim)
-        (⟦<Dim<I> as Lengths>⟧.list others) };
+    ghost can_sub = { λ dim others. DifferencesFit (I.list dim.index) (I.list others.index) };
 
     ghost sub_gives = { λ dim others result.
-        ⟦<Dim<I> as Lengths>⟧.list result ≡ differences
-        (⟦<Dim<I> as Lengths>⟧.list dim)
-        (⟦<Dim<I> as Lengths>⟧.list others) };
+        I.list result.index ≡ differences (I.list dim.index) (I.list others.index) };
 
     fn sub(mut self, others: Self) -> Self {
         self -= &others;
@@ -138,56 +96,35 @@ where
     }
 }
 
-impl<I: Drop> MulAssign<&Dim<I>> for Dim<I>
-where
-    Dim<I>: Lengths,
-{
-    ghost can_mul_assign = { λ dim others. ProductsFit
-        (⟦<Dim<I> as Lengths>⟧.list dim)
-        (⟦<Dim<I> as Lengths>⟧.list others.now) };
+impl<I: Numbers> MulAssign<&Dim<I>> for Dim<I> {
+    ghost can_mul_assign = { λ dim others. ProductsFit (I.list dim.index) (I.list others.now.index) };
 
     ghost mul_assign_gives = { λ dim others result.
-        ⟦<Dim<I> as Lengths>⟧.list result ≡ products
-        (⟦<Dim<I> as Lengths>⟧.list dim)
-        (⟦<Dim<I> as Lengths>⟧.list others.now) };
+        I.list result.index ≡ products (I.list dim.index) (I.list others.now.index) };
 
     fn mul_assign(&mut self, others: &Self) {
-        multiply_by(self.slice_mut(), others.slice());
+        multiply_by(self.index.slice_mut(), others.index.slice());
     }
 }
 
-impl<I: Drop> MulAssign for Dim<I>
-where
-    Dim<I>: Lengths,
-{
-    ghost can_mul_assign = { λ dim others. ProductsFit
-        (⟦<Dim<I> as Lengths>⟧.list dim)
-        (⟦<Dim<I> as Lengths>⟧.list others) };
+impl<I: Numbers> MulAssign for Dim<I> {
+    ghost can_mul_assign = { λ dim others. ProductsFit (I.list dim.index) (I.list others.index) };
 
     ghost mul_assign_gives = { λ dim others result.
-        ⟦<Dim<I> as Lengths>⟧.list result ≡ products
-        (⟦<Dim<I> as Lengths>⟧.list dim)
-        (⟦<Dim<I> as Lengths>⟧.list others) };
+        I.list result.index ≡ products (I.list dim.index) (I.list others.index) };
 
     fn mul_assign(&mut self, others: Self) {
         *self *= &others;
     }
 }
 
-impl<I: Drop> Mul for Dim<I>
-where
-    Dim<I>: Lengths,
-{
+impl<I: Numbers> Mul for Dim<I> {
     type Output = Self;
 
-    ghost can_mul = { λ dim others. ProductsFit
-        (⟦<Dim<I> as Lengths>⟧.list dim)
-        (⟦<Dim<I> as Lengths>⟧.list others) };
+    ghost can_mul = { λ dim others. ProductsFit (I.list dim.index) (I.list others.index) };
 
     ghost mul_gives = { λ dim others result.
-        ⟦<Dim<I> as Lengths>⟧.list result ≡ products
-        (⟦<Dim<I> as Lengths>⟧.list dim)
-        (⟦<Dim<I> as Lengths>⟧.list others) };
+        I.list result.index ≡ products (I.list dim.index) (I.list others.index) };
 
     fn mul(mut self, others: Self) -> Self {
         self *= &others;
@@ -195,38 +132,24 @@ where
     }
 }
 
-impl<I: Drop> MulAssign<usize> for Dim<I>
-where
-    Dim<I>: Lengths,
-{
-    ghost can_mul_assign = { λ dim factor. ScaledFit
-        (⟦<Dim<I> as Lengths>⟧.list dim)
-        factor };
+impl<I: Numbers> MulAssign<usize> for Dim<I> {
+    ghost can_mul_assign = { λ dim factor. ScaledFit (I.list dim.index) factor };
 
     ghost mul_assign_gives = { λ dim factor result.
-        ⟦<Dim<I> as Lengths>⟧.list result ≡ scaled
-        (⟦<Dim<I> as Lengths>⟧.list dim)
-        factor };
+        I.list result.index ≡ scaled (I.list dim.index) factor };
 
     fn mul_assign(&mut self, factor: usize) {
-        scale(self.slice_mut(), factor);
+        scale(self.index.slice_mut(), factor);
     }
 }
 
-impl<I: Drop> Mul<usize> for Dim<I>
-where
-    Dim<I>: Lengths,
-{
+impl<I: Numbers> Mul<usize> for Dim<I> {
     type Output = Self;
 
-    ghost can_mul = { λ dim factor. ScaledFit
-        (⟦<Dim<I> as Lengths>⟧.list dim)
-        factor };
+    ghost can_mul = { λ dim factor. ScaledFit (I.list dim.index) factor };
 
     ghost mul_gives = { λ dim factor result.
-        ⟦<Dim<I> as Lengths>⟧.list result ≡ scaled
-        (⟦<Dim<I> as Lengths>⟧.list dim)
-        factor };
+        I.list result.index ≡ scaled (I.list dim.index) factor };
 
     fn mul(mut self, factor: usize) -> Self {
         self *= factor;
