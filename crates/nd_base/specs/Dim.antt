@@ -5,6 +5,10 @@ use Rattle.std.proofs.Common.{ap, sym, ◌∙◌}
 use Rattle.std.proofs.Math.Seq.{take-append_seam}
 use Rattle.nd_base.specs.declared.dim.Dim.{Dim}
 
+-- what it keeps
+abbrev pub kept : {A : Type 0} → Dim A → A
+kept d = d.index
+
 -- its lengths, in order
 abbrev pub lengths : Dim (List ℕ) → List ℕ
 lengths d = d.index
