@@ -63,7 +63,7 @@ impl IxDynImpl {
         })
     }
 
-    /// `n` zeros.
+    /// `n` zeros. Up to four are made at once, where `from_elem` would push one by one.
     pub(crate) fn zeros(alloc: Global, n: usize) -> Result<Self, AllocError>
         ensures list { IfOk result (λ dim. dim ≡ replicate n 0) }
         ensures memory { n ≤ 4 → IsOk result }

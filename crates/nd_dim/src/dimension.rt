@@ -90,6 +90,7 @@ pub trait Dimension: Lengths + Arithmetic + Scale {
             Self.list strides ≡ default_strides_of (Self.list self.now)) }
         ensures memory { NeedsNoMemory Self.NDIM (length (Self.list self.now)) → IsOk result }
     {
+        // (a copy to write over is made faster than as many zeros)
         let mut strides = self.duplicate(alloc)?;
         fill_default_strides(self.slice(), strides.slice_mut());
         Ok(strides)
@@ -107,6 +108,7 @@ pub trait Dimension: Lengths + Arithmetic + Scale {
             Self.list strides ≡ fortran_strides_of (Self.list self.now)) }
         ensures memory { NeedsNoMemory Self.NDIM (length (Self.list self.now)) → IsOk result }
     {
+        // (a copy to write over is made faster than as many zeros)
         let mut strides = self.duplicate(alloc)?;
         fill_fortran_strides(self.slice(), strides.slice_mut());
         Ok(strides)

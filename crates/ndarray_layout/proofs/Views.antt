@@ -1,26 +1,18 @@
 -- What a view gives: each index of its shape has a place.
-use Rattle.std.proofs.Common.{◌≡◌, ℕ, ◌<◌, ◌^◌, ℤ, pos, ◌+ℤ◌, ◌≤ℤ◌, List, [], length, cond, eqb, Bool, true, false, Option, Some, None, arith, refl, sym, ap, ◌∙◌, subst, not, ◌||◌, map}
+use Rattle.std.proofs.Common.{◌≡◌, ℕ, ◌<◌, ◌^◌, ℤ, pos, ◌+ℤ◌, ◌≤ℤ◌, List, [], cond, Bool, true, false, Some, None, arith, refl, ap, map}
 use Rattle.std.proofs.lemmas.Int.{ints}
-use Rattle.std.proofs.lemmas.Bool.{eqb-true}
 use Rattle.nd_base.specs.declared.order.Order.{Order}
 use Rattle.nd_base.specs.Indices.{is_index}
 use Rattle.nd_base.specs.Offset.{offset_of, checked_offset}
 use Rattle.nd_shape.specs.Place.{place}
 use Rattle.nd_base.specs.Size.{size, limit}
-use Rattle.nd_base.specs.Span.{low_span, high_span}
+use Rattle.nd_base.specs.Span.{low_span}
 use Rattle.nd_base.specs.ValidLayout.{IsValidLayout}
-use Rattle.nd_slice.specs.declared.slice.SliceInfoElem.{SliceInfoElem}
-use Rattle.nd_base.specs.declared.error.ErrorKind.TheVariants.{IncompatibleShape}
-use Rattle.nd_slice.specs.SliceFault.{in_count, out_count, first_fault}
-use Rattle.nd_slice.specs.Sliced.{sliced_shape, sliced_strides}
-use Rattle.nd_slice.specs.Selected.{selected}
 use Rattle.ndarray_layout.specs.View.{View, IsView, place_at, view_places}
-use Rattle.ndarray_layout.specs.SlicedView.{IsSliceOf, sliced_start, slice_refusal}
 use Rattle.nd_base.proofs.laws.Indices.{indices_in_of_empty}
 use Rattle.nd_base.proofs.laws.NonzeroSize.{size_le_nonzero_size}
 use Rattle.nd_base.proofs.laws.Span.{low_high_span}
 use Rattle.ndarray_layout.proofs.Offsets.{offset_within}
-use Rattle.ndarray_layout.proofs.Slices.{slices_kept, places_kept}
 
 -- a layout from its lowest element on
 pub lowest_view : (shape : List ℕ) (strides : List ℤ) → IsValidLayout shape strides → IsView (record { start = low_span shape strides; shape = shape; strides = strides })

@@ -57,6 +57,7 @@ fn keeps<D: Dimension>(alloc: Global, dim: D, lens: &[usize]) -> bool {
         && is_of_four::<D>(alloc)
 }
 
+/// Whether four axes make a value of a type just where it fixes no other count.
 fn is_of_four<D: Dimension>(alloc: Global) -> bool {
     match made::<IxDyn>(alloc, &[1; 4]) {
         Some(four) => becomes::<D>(alloc, &four, D::NDIM.unwrap_or(4) == 4),

@@ -1,12 +1,10 @@
 -- Laws of slices of views: a slice is a view of the same data, whose indices lie where those that they stand for do.
-use Rattle.std.proofs.Common.{◌≡◌, ℕ, ℤ, pos, negsuc, ◌+ℤ◌, ◌≤ℤ◌, Option, Some, None, Bool, true, false, not, ◌||◌, cond, eqb, List, length, sym, subst, ◌∙◌, refl, arith}
+use Rattle.std.proofs.Common.{◌≡◌, ℕ, ℤ, pos, negsuc, ◌≤ℤ◌, Option, Some, None, Bool, true, false, not, ◌||◌, cond, eqb, List, length, sym, subst, ◌∙◌, refl, arith}
 use Rattle.std.proofs.lemmas.Int.{ints}
 use Rattle.std.specs.Option.{option_map_or}
 use Rattle.nd_base.specs.declared.error.ErrorKind.TheVariants.{IncompatibleShape}
-use Rattle.nd_base.specs.Indices.{is_index}
 use Rattle.nd_base.specs.Signed.{magnitude}
 use Rattle.nd_base.specs.Size.{limit}
-use Rattle.nd_base.specs.Span.{low_span, high_span}
 use Rattle.nd_base.proofs.laws.Span.{low_high_span}
 use Rattle.nd_shape.specs.Inside.{IsInside}
 use Rattle.nd_slice.specs.declared.slice.SliceInfoElem.{SliceInfoElem}
@@ -17,7 +15,7 @@ use Rattle.nd_slice.proofs.laws.Selected.{selected_injective}
 use Rattle.nd_slice.proofs.laws.SliceFault.{elements_of_no_fault}
 use Rattle.ndarray_layout.specs.DistinctPlaces.{HasDistinctPlaces}
 use Rattle.ndarray_layout.specs.SlicedView.{KeepsPlaces, slice_of, sliced_start, slice_refusal}
-use Rattle.ndarray_layout.specs.View.{View, IsView, LiesWithin, place_at}
+use Rattle.ndarray_layout.specs.View.{View, IsView, LiesWithin}
 use Rattle.ndarray_layout.proofs.Slices.{SliceKept, slices_kept, places_kept}
 
 -- an argument that is not refused fits the shape

@@ -6,7 +6,7 @@ use Rattle.nd_base.specs.Signed.{all_signed, magnitude}
 use Rattle.nd_slice.specs.SliceFault.{argument_fault}
 use Rattle.ndarray_layout.specs.DistinctPlaces.{HasDistinctPlaces}
 use Rattle.ndarray_layout.specs.SlicedView.{IsSliceOf, KeepsPlaces}
-use Rattle.ndarray_layout.specs.View.{View, IsView, LiesWithin, view_of}
+use Rattle.ndarray_layout.specs.View.{IsView, LiesWithin, view_of}
 use Rattle.ndarray_layout.proofs.laws.SlicedView.{fits_of_no_refusal, sliced_start_within, IsView-slice_of, KeepsPlaces-slice_of, LiesWithin-slice_of, HasDistinctPlaces-slice_of}
 use Rattle.ndarray_layout.proofs.strided.Strided.fitting_slice.Given.{Over}
 use Rattle.ndarray_layout.proofs.strided.Strided.fitting_slice.Goals as goal
