@@ -7,7 +7,7 @@ use Rattle.ndarray_layout.specs.View.{View, view_places}
 use Rattle.ndl.specs.Answer.{Reply, listing, unless, step_fault, view_after, reply_to_steps, reply_to_script}
 use Rattle.ndl.specs.Script.{ScriptValue}
 use Rattle.ndl.specs.StepLine.{StepValue}
-use Rattle.ndl.specs.Text.{line, listed}
+use Rattle.ndl_text.specs.Text.{line, listed}
 
 -- a place is not negative, so it prints without a sign
 printed_places : (places : List ℕ) → map signed_decimal (map pos places) ≡ map decimal places

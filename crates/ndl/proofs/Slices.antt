@@ -6,13 +6,13 @@ use Rattle.std.proofs.lemmas.Bool.{ne_eqb, and_parts}
 use Rattle.std.specs.Cmp.Lexicographic.{pointwise}
 use Rattle.nd_slice.specs.declared.slice.SliceInfoElem.{SliceInfoElem}
 use Rattle.nd_slice.specs.declared.slice.SliceInfoElem.TheVariants as elem
-use Rattle.ndl.specs.Bytes.{dot, semicolon}
+use Rattle.ndl_text.specs.Bytes.{dot, semicolon}
 use Rattle.ndl.specs.Reading.{◌>>=◌}
-use Rattle.ndl.specs.Lines.{parts}
-use Rattle.ndl.specs.Numbers.{signed_number_of}
+use Rattle.ndl_text.specs.Lines.{parts}
+use Rattle.ndl_text.specs.Numbers.{signed_number_of}
 use Rattle.ndl.specs.Elements.{start_of, end_of, slice_of_bounds, slice_of_parts}
-use Rattle.ndl.proofs.Parts.{lone_part, some_part}
-use Rattle.ndl.proofs.Digits.{number_part}
+use Rattle.ndl_text.proofs.laws.Lines.{lone_part, some_part}
+use Rattle.ndl_text.proofs.laws.Numbers.{number_part}
 
 -- ---- the step
 step_at : (range step : List ℕ) (cut : List (List ℕ)) (o : Option ℤ) → signed_number_of step ≡ o → ((z : ℤ) → o ≡ Some z → cut ≡ step ∷ []) → ((part : List ℕ) → cut ≡ part ∷ [] → part ≡ step) → cut ≢ []

@@ -14,7 +14,7 @@ use Rattle.ndl.specs.declared.answer.Answer.{Answer}
 use Rattle.ndl.specs.DataLine.{LayoutValue}
 use Rattle.ndl.specs.StepLine.{StepValue, SliceBy}
 use Rattle.ndl.specs.Script.{ScriptValue, script_of}
-use Rattle.ndl.specs.Text.{line, listed}
+use Rattle.ndl_text.specs.Text.{line, listed}
 
 -- what goes out, and the exit status
 pub record Reply : Type 0 where

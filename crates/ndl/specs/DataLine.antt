@@ -5,8 +5,9 @@ use Rattle.nd_shape.specs.declared.checks.CanIndexCheckMode.{CanIndexCheckMode}
 use Rattle.nd_shape.specs.declared.checks.CanIndexCheckMode.TheVariants.{OwnedMutable, ReadOnly}
 use Rattle.ndl.specs.declared.data_line.Layout.{Layout}
 use Rattle.ndl.specs.Reading.{◌>>=◌}
-use Rattle.ndl.specs.Lines.{words_of}
-use Rattle.ndl.specs.Numbers.{number_of, lengths_of, strides_of}
+use Rattle.ndl_text.specs.Lines.{words_of}
+use Rattle.ndl_text.specs.Numbers.{number_of}
+use Rattle.ndl.specs.Lists.{lengths_of, strides_of}
 
 -- a layout over some data, without where it lies in memory
 pub record LayoutValue : Type 0 where

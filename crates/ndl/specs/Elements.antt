@@ -3,10 +3,11 @@ use Rattle.std.specs.Prelude.{◌≡◌, ℕ, ℤ, pos, negsuc, Option, Some, No
 use Rattle.std.specs.Option.{option_map}
 use Rattle.nd_slice.specs.declared.slice.SliceInfoElem.{SliceInfoElem}
 use Rattle.nd_slice.specs.declared.slice.SliceInfoElem.TheVariants as elem
-use Rattle.ndl.specs.Bytes.{dot, semicolon}
+use Rattle.ndl_text.specs.Bytes.{dot, semicolon}
 use Rattle.ndl.specs.Reading.{◌>>=◌}
-use Rattle.ndl.specs.Lines.{parts}
-use Rattle.ndl.specs.Numbers.{signed_number_of, list_of}
+use Rattle.ndl_text.specs.Lines.{parts}
+use Rattle.ndl_text.specs.Numbers.{signed_number_of}
+use Rattle.ndl.specs.Lists.{list_of}
 
 -- the start of a range, where missing means the first entry
 abbrev pub start_of : List ℕ → Option ℤ

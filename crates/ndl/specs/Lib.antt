@@ -1,14 +1,9 @@
 pub mod Answer
-pub mod Bytes
 pub mod DataLine
-pub mod Device
 pub mod Elements
-pub mod Lines
-pub mod Numbers
+pub mod Lists
 pub mod ReadByNow
 pub mod Reading
 pub mod Script
 pub mod Session
 pub mod StepLine
-pub mod Text
-pub mod Watched

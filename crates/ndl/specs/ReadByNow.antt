@@ -1,8 +1,8 @@
 -- What is read by now of all that the grammar has: layouts of one axis or two, and one step. A line past that counts as one of no words, which nothing reads.
 use Rattle.std.specs.Prelude.{◌≡◌, ℕ, ◌+◌, Bool, true, false, not, ◌==◌, ◌&&◌, nat_le, if◌then◌else◌, List, [], ◌∷◌, count_by, codes, refl}
 use Rattle.std.specs.Str.{bytes_eq}
-use Rattle.ndl.specs.Bytes.{comma}
-use Rattle.ndl.specs.Lines.{NumberedLine, words_of}
+use Rattle.ndl_text.specs.Bytes.{comma}
+use Rattle.ndl_text.specs.Lines.{NumberedLine, words_of}
 
 -- a list of one entry or two: not the empty list, and no more than one comma
 abbrev pub is_short_list : List ℕ → Bool

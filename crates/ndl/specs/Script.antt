@@ -6,9 +6,9 @@ use Rattle.nd_slice.specs.declared.slice.SliceInfoElem.TheVariants as elem
 use Rattle.ndl.specs.declared.script.Script.{Script}
 use Rattle.ndl.specs.declared.script.ReadError.{ReadError}
 use Rattle.ndl.specs.declared.script.ReadError.TheVariants as script
-use Rattle.ndl.specs.Bytes.{carriage_return}
+use Rattle.ndl_text.specs.Bytes.{carriage_return}
 use Rattle.ndl.specs.Reading.{both}
-use Rattle.ndl.specs.Lines.{NumberedLine, lines_from}
+use Rattle.ndl_text.specs.Lines.{NumberedLine, lines_from}
 use Rattle.ndl.specs.DataLine.{LayoutValue, layout_value, layout_of}
 use Rattle.ndl.specs.StepLine.{StepValue, SliceBy, step_value, step_of}
 use Rattle.ndl.specs.ReadByNow.{lines_read_by_now}

@@ -1,7 +1,7 @@
 -- What a session writes.
 use Rattle.std.specs.Prelude.{ℕ, List, ◌⊎◌, codes, Option, IfSome}
 use Rattle.ndl.specs.Answer.{answer_of}
-use Rattle.ndl.specs.Device.{AppendsBeginning}
+use Rattle.ndl_text.specs.Device.{AppendsBeginning}
 
 -- the whole text where a read failed
 abbrev pub input_failed_text : List ℕ

@@ -6,7 +6,7 @@ use Rattle.nd_slice.specs.declared.slice.SliceInfoElem.{SliceInfoElem}
 use Rattle.nd_slice.specs.declared.slice.SliceInfoElem.TheVariants as elem
 use Rattle.ndl.specs.declared.step_line.Step.{Step}
 use Rattle.ndl.specs.declared.step_line.Step.TheVariants as step
-use Rattle.ndl.specs.Lines.{words_of}
+use Rattle.ndl_text.specs.Lines.{words_of}
 use Rattle.ndl.specs.Elements.{elements_of}
 
 -- a step, without where it lies in memory

@@ -10,10 +10,10 @@ ghost use Rattle.ndl.specs.StepLine.{step_value};
 
 use crate::script::{ReadError, Script, read_script};
 use crate::step_line::Step;
-use crate::text::push_line;
 use ndarray_layout::{
     IxDyn, LayoutError, Lengths, Order, ShapeError, Strided, new_ixdyn, signed, unsigned,
 };
+use ndl_text::push_line;
 use std::alloc::{AllocError, Global};
 
 /// A whole text and the exit status that goes with it.

@@ -3,8 +3,9 @@ ghost use Rattle.std.specs.Prelude.{◌≡◌, map, IfOk};
 ghost use Rattle.std.specs.Option.{option_map};
 ghost use Rattle.ndl.specs.DataLine.{layout_value, layout_of, mode_of};
 
-use crate::words::{Entry, list};
+use crate::lists::list;
 use nd_shape::CanIndexCheckMode;
+use ndl_text::number;
 use std::alloc::{AllocError, Global};
 
 /// A layout over some data, as a script gives it.
@@ -46,7 +47,7 @@ pub fn read_layout(alloc: Global, words: &[&[u8]]) -> Result<Option<Layout>, All
     if *keyword != b"data".as_slice() {
         return Ok(None);
     }
-    let (Some(len), Some(mode)) = (usize::read(len), mode(mode_name)) else {
+    let (Some(len), Some(mode)) = (number(len), mode(mode_name)) else {
         return Ok(None);
     };
     let Some(shape) = list(alloc, shape)? else {

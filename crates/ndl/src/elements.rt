@@ -1,11 +1,12 @@
 //! Elements of a slice argument as words spell them.
 ghost use Rattle.std.specs.Prelude.{◌≡◌};
-ghost use Rattle.ndl.specs.Bytes.{dot};
-ghost use Rattle.ndl.specs.Lines.{parts};
+ghost use Rattle.ndl_text.specs.Bytes.{dot};
+ghost use Rattle.ndl_text.specs.Lines.{parts};
 ghost use Rattle.ndl.specs.Elements.{element_of, slice_of_bounds, start_of, end_of};
 
-use crate::words::{Entry, split_once};
+use crate::lists::Entry;
 use nd_slice::SliceInfoElem;
+use ndl_text::{signed_number, split_once};
 
 /// The start of a range: the first entry where it is missing.
 fn start(text: &[u8]) -> Option<isize>
@@ -14,7 +15,7 @@ fn start(text: &[u8]) -> Option<isize>
     if text.is_empty() {
         return Some(0);
     }
-    isize::read(text)
+    signed_number(text)
 }
 
 /// The end of a range: none where it is missing.
@@ -24,7 +25,7 @@ fn end(text: &[u8]) -> Option<Option<isize>>
     if text.is_empty() {
         return Some(None);
     }
-    isize::read(text).map(Some)
+    signed_number(text).map(Some)
 }
 
 /// A range with a step.
@@ -46,7 +47,7 @@ impl Entry for SliceInfoElem {
     /// A range, with an optional step behind a semicolon.
     fn read(text: &[u8]) -> Option<SliceInfoElem> {
         match split_once(text, b';') {
-            Some((range, step)) => slice(range, isize::read(step)?),
+            Some((range, step)) => slice(range, signed_number(step)?),
             None => slice(text, 1),
         }
     }

@@ -3,21 +3,18 @@
 
 mod answer;
 mod data_line;
-mod device;
 mod elements;
 #[cfg(test)]
 mod fakes;
-mod lines;
-mod numbers;
+mod lists;
 mod read_by_now;
 mod script;
 mod session;
 mod step_line;
-mod text;
-mod watched;
-mod words;
+#[cfg(test)]
+mod watched_tests;
 
-use crate::watched::Watched;
+use ndl_text::Watched;
 use std::process::ExitCode;
 
 fn main(rt: HostRuntime) -> ExitCode {

@@ -1,14 +1,14 @@
 //! Reads a whole script.
 ghost use Rattle.std.specs.Prelude.{◌≡◌, ◌+◌, ◌<◌, ◌^◌, length, map};
-ghost use Rattle.ndl.specs.Lines.{lines_from};
+ghost use Rattle.ndl_text.specs.Lines.{lines_from};
 ghost use Rattle.ndl.specs.ReadByNow.{step_lines_read_by_now};
 ghost use Rattle.ndl.specs.Script.{Gives, script_of, script_value, steps_of_lines};
 ghost use Rattle.ndl.specs.StepLine.{step_value};
 
 use crate::data_line::{Layout, read_layout};
-use crate::lines::next_line;
 use crate::read_by_now::words_read_by_now;
 use crate::step_line::{Step, read_step};
+use ndl_text::next_line;
 use std::alloc::{AllocError, AllocFailed, Global};
 
 /// A layout, and the steps to take from it, in order.

@@ -3,7 +3,7 @@ ghost use Rattle.std.specs.Prelude.{◌≡◌, map, IfOk};
 ghost use Rattle.std.specs.Option.{option_map};
 ghost use Rattle.ndl.specs.StepLine.{step_of, step_value};
 
-use crate::words::list;
+use crate::lists::list;
 use nd_slice::SliceInfoElem;
 use std::alloc::{AllocError, Global};
 

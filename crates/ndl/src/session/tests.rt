@@ -1,7 +1,7 @@
 //! Whole runs, and runs whose reader or writer goes wrong.
 use super::session;
 use crate::fakes::{FakeReader, FakeWriter, Fault};
-use crate::watched::Watched;
+use ndl_text::Watched;
 use std::alloc::Global;
 use std::fmt::Write;
 use std::io::ErrorKind;

@@ -1,7 +1,7 @@
 use Rattle.std.proofs.Common.{◌≡◌, sym, ◌∙◌, Some, refl, rules}
 use Rattle.nd_slice.specs.declared.slice.SliceInfoElem.TheVariants as elem
-use Rattle.ndl.specs.Bytes.{dot}
-use Rattle.ndl.specs.Lines.{parts}
+use Rattle.ndl_text.specs.Bytes.{dot}
+use Rattle.ndl_text.specs.Lines.{parts}
 use Rattle.ndl.specs.Elements.{slice_of_bounds}
 use Rattle.ndl.proofs.Slices.{cut_bounds}
 use Rattle.ndl.proofs.elements.slice.Goals as goal

@@ -1,6 +1,6 @@
 -- With the steps that were read before, those of the rest are those of all lines.
 use Rattle.std.proofs.Common.{◌≡◌, ◌+◌, ◌<◌, ◌^◌, length, map, vec_len}
-use Rattle.ndl.specs.Lines.{lines_from}
+use Rattle.ndl_text.specs.Lines.{lines_from}
 use Rattle.ndl.specs.ReadByNow.{step_lines_read_by_now}
 use Rattle.ndl.specs.Script.{steps_of_lines}
 use Rattle.ndl.specs.StepLine.{step_value}

@@ -1,0 +1,44 @@
+//! The texts of an answer.
+ghost use Rattle.std.specs.Prelude.{◌≡◌, ◌++◌, IsSome, OnOk, string_bytes};
+ghost use Rattle.ndl_text.specs.Text.{line, listed, printed};
+
+use std::alloc::AllocError;
+use std::fmt::{Display, Write};
+
+/// Appends the items with the separator between each two, or `-` where there are none.
+pub fn push_list<T: Display + Copy>(
+    text: &mut String,
+    separator: &str,
+    items: &[T],
+) -> Result<(), AllocError>
+    requires { (x : T) → IsSome (T.output x) }
+    ensures { OnOk result (string_bytes text.new
+        ≡ string_bytes text.old ++ listed separator.now (printed T.output items.now)) }
+{
+    let Some((first, others)) = items.split_first() else {
+        return text.push_str("-");
+    };
+    write!(text, "{first}")?;
+    for item in others {
+        text.push_str(separator)?;
+        write!(text, "{item}")?;
+    }
+    Ok(())
+}
+
+/// Appends a line: a name, a space and the list of the items.
+pub fn push_line<T: Display + Copy>(
+    text: &mut String,
+    name: &str,
+    separator: &str,
+    items: &[T],
+) -> Result<(), AllocError>
+    requires { (x : T) → IsSome (T.output x) }
+    ensures { OnOk result (string_bytes text.new ≡ string_bytes text.old
+        ++ line name.now (listed separator.now (printed T.output items.now))) }
+{
+    text.push_str(name)?;
+    text.push_str(" ")?;
+    push_list(text, separator, items)?;
+    text.push_str("\n")
+}
