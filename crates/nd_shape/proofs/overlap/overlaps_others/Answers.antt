@@ -34,21 +34,14 @@ magnitude_is c = c.unsigned_abs-magnitude.ensures.value ∙ ap unsigned_abs (str
 own_is : (at : After-unsigned_abs-magnitude) (r : ℕ) → r ≡ reach (get_or at.args.shape.now at.args.axis 0) (to_z w64 (of_z w64 at.signed-stride.result)) → r ≡ reach (get_or at.args.shape.now at.args.axis 0) (get_or (all_signed at.args.strides.now) at.args.axis (pos 0))
 own_is at r e = e ∙ ap (reach (get_or at.args.shape.now at.args.axis 0)) (stride_is at)
 
-pub overflow_add-reach : goal.overflow_add-reach
-overflow_add-reach c =
-    let at = (goal.at.overflow_add-reach c).After-unsigned_abs-magnitude in
+pub overflow_add-result : goal.overflow_add-result
+overflow_add-result c =
+    let at = (goal.at.overflow_add-result c).After-unsigned_abs-magnitude in
     let shape = c.args.shape.now in
     let strides = all_signed c.args.strides.now in
     let count : length strides ≡ length c.args.strides.now = length-map c.args.strides.now signed in
     let own = own_is at c.reach.result c.reach.ensures in
     omega (arith, own, own_le_span shape strides c.args.axis (omega arith) (omega arith), at.unsigned_abs-magnitude.ensures.bound)
-
-pub spans_up_to-requires : goal.spans_up_to-requires
-spans_up_to-requires c = record {
-  some_axis = omega (arith, c.requires.axis);
-  same_count = c.requires.same_count;
-  span_fits = c.requires.span_fits;
-}
 
 -- a bound of an axis' own reach and its stride is one on the others
 past_own : (shape : List ℕ) (strides : List ℤ) (axis : ℕ) → axis < length shape → length shape ≡ length strides → nat_le (reach (get_or shape axis 0) (get_or strides axis (pos 0)) + magnitude_at strides axis) (span_up_to (magnitude_at strides axis) shape strides) ≡ nat_le (magnitude_at strides axis) (span_of_others shape strides axis)
@@ -70,5 +63,5 @@ returns-then-len-gt1 c =
     let count : length strides ≡ length c.args.strides.now = length-map c.args.strides.now signed in
     let own = own_is at c.reach.result c.reach.ensures in
     let m = magnitude_is at in
-    let told : c.spans_up_to.result ≡ nat_le (reach (get_or shape c.args.axis 0) (get_or strides c.args.axis (pos 0)) + magnitude_at strides c.args.axis) (span_up_to (magnitude_at strides c.args.axis) shape strides) = rw (← own, ← m) c.spans_up_to.ensures in
-    told ∙ past_own shape strides c.args.axis (omega arith) (omega arith) ∙ sym (long_axis shape strides c.args.axis c.if-len-gt1.true)
+    let whole : c.span_up_to.result ≡ span_up_to (magnitude_at (all_signed c.args.strides.now) c.args.axis) shape strides = c.span_up_to.ensures ∙ ap (λ magnitude. span_up_to magnitude shape strides) m in
+    rw (own, whole, m) (past_own shape strides c.args.axis (omega arith) (omega arith) ∙ sym (long_axis shape strides c.args.axis c.if-len-gt1.true))
