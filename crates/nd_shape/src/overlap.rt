@@ -106,20 +106,16 @@ fn overlap_on_walk(shape: &[usize], strides: &[usize], from_last: bool) -> Optio
     Some(false)
 }
 
-/// Whether the layout has an index, and an axis of more than one entry whose stride steps over no
-/// more than the axes of no greater stride span together.
+/// Whether an axis of more than one entry has a stride that steps over no more than the axes of no
+/// greater stride span together.
 ///
 /// One walk along axes that stand in order of their strides tells; others are compared one by one.
 #[inline(always)]
-pub fn has_overlap(shape: &[usize], strides: &[usize]) -> bool
+fn breaks_owned_rule(shape: &[usize], strides: &[usize]) -> bool
     requires same_count { length shape.now ≡ length strides.now }
     requires span_fits { span shape.now (all_signed strides.now) ≤ limit }
-    ensures { result ≡
-        (not (is_empty shape.now) && not (meets_owned_rule shape.now (all_signed strides.now))) }
+    ensures { result ≡ not (meets_owned_rule shape.now (all_signed strides.now)) }
 {
-    if shape.contains(&0) {
-        return false;
-    }
     if let Some(overlaps) = overlap_on_walk(shape, strides, true) {
         return overlaps;
     }
@@ -127,6 +123,17 @@ pub fn has_overlap(shape: &[usize], strides: &[usize]) -> bool
         return overlaps;
     }
     some_overlaps_others(shape, strides)
+}
+
+/// Whether the layout has an index, and breaks the rule.
+#[inline(always)]
+pub fn has_overlap(shape: &[usize], strides: &[usize]) -> bool
+    requires same_count { length shape.now ≡ length strides.now }
+    requires span_fits { span shape.now (all_signed strides.now) ≤ limit }
+    ensures { result ≡
+        (not (is_empty shape.now) && not (meets_owned_rule shape.now (all_signed strides.now))) }
+{
+    breaks_owned_rule(shape, strides) && !shape.contains(&0)
 }
 
 /// Whether two indices of a layout may share an element: it has an index, and some axis of more
