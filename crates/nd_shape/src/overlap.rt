@@ -51,7 +51,7 @@ fn overlaps_others(shape: &[usize], strides: &[usize], axis: usize) -> bool
     let len = shape[axis];
     let stride = signed(strides[axis]);
     let magnitude = stride.unsigned_abs();
-    len > 1 && reach(len, stride) + magnitude <= span_up_to(shape, strides, magnitude)
+    len > 1 && magnitude <= span_up_to(shape, strides, magnitude) - reach(len, stride)
 }
 
 /// Whether some axis of more than one entry has a stride that steps over no more than the axes of
@@ -109,18 +109,21 @@ fn overlap_on_walk(shape: &[usize], strides: &[usize], from_last: bool) -> Optio
 /// Whether an axis of more than one entry has a stride that steps over no more than the axes of no
 /// greater stride span together.
 ///
-/// One walk along axes that stand in order of their strides tells; others are compared one by one.
+/// One walk along axes that stand in order of their strides tells; others are compared one by one, and
+/// two axes at once.
 #[inline(always)]
 fn breaks_owned_rule(shape: &[usize], strides: &[usize]) -> bool
     requires same_count { length shape.now ≡ length strides.now }
     requires span_fits { span shape.now (all_signed strides.now) ≤ limit }
     ensures { result ≡ not (meets_owned_rule shape.now (all_signed strides.now)) }
 {
-    if let Some(overlaps) = overlap_on_walk(shape, strides, true) {
-        return overlaps;
-    }
-    if let Some(overlaps) = overlap_on_walk(shape, strides, false) {
-        return overlaps;
+    if shape.len() > 2 {
+        if let Some(overlaps) = overlap_on_walk(shape, strides, true) {
+            return overlaps;
+        }
+        if let Some(overlaps) = overlap_on_walk(shape, strides, false) {
+            return overlaps;
+        }
     }
     some_overlaps_others(shape, strides)
 }
