@@ -132,6 +132,7 @@ fn accept(
 /// `Unsupported` where elements are owned or written and two indices may share one, by the rule of
 /// `dim_stride_overlap`. So in owned mode no two indices of what is accepted share an element.
 /// Upstream's `can_index_slice`.
+#[inline(always)]
 pub fn can_index_slice<D: Dimension>(
     elem_size: usize,
     len: usize,

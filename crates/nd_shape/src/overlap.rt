@@ -1,11 +1,11 @@
 //! Whether two indices of a layout may share an element.
 ghost use Rattle.std.specs.Option.{IfSome};
-ghost use Rattle.std.specs.Prelude.{◌≡◌, ◌<◌, ◌≤◌, ◌-◌, ◌↔◌, ◌⊎◌, IsTrue, IsFalse, not, ◌&&◌, nat_le, if◌then◌else◌, [], ◌∷◌, length};
+ghost use Rattle.std.specs.Prelude.{◌≡◌, ◌<◌, ◌≤◌, ◌-◌, ◌↔◌, ◌⊎◌, IsTrue, IsFalse, not, ◌&&◌, if◌then◌else◌, [], ◌∷◌, length};
 ghost use Rattle.nd_base.specs.Signed.{signed as signed_reading, all_signed};
 ghost use Rattle.nd_base.specs.Size.{is_empty, limit};
 ghost use Rattle.nd_base.specs.Span.{reach as reach_of_axis, span};
 ghost use Rattle.nd_base.specs.ValidLayout.{IsValidLayout};
-ghost use Rattle.nd_shape.specs.OwnedRule.{MeetsOwnedRule, meets_owned_rule, steps_over_others, span_up_to};
+ghost use Rattle.nd_shape.specs.OwnedRule.{MeetsOwnedRule, meets_owned_rule, steps_over_others, span_up_to as span_up_to_magnitude};
 
 use crate::limits::reach;
 use nd_dim::{Dimension, signed};
@@ -15,7 +15,7 @@ use nd_dim::{Dimension, signed};
 #[inline(always)]
 fn reach_up_to(len: usize, stride: usize, magnitude: usize) -> usize
     requires { reach_of_axis len (signed_reading stride) ≤ limit }
-    ensures { result ≡ span_up_to magnitude (len ∷ []) (signed_reading stride ∷ []) }
+    ensures { result ≡ span_up_to_magnitude magnitude (len ∷ []) (signed_reading stride ∷ []) }
 {
     let stride = signed(stride);
     let far = reach(len, stride);
@@ -26,23 +26,17 @@ fn reach_up_to(len: usize, stride: usize, magnitude: usize) -> usize
     }
 }
 
-/// Whether the axes whose strides are of magnitude at most `magnitude` span at least `bound` elements
-/// together. There is an axis.
+/// The summed spans of the axes whose strides are of magnitude at most `magnitude`.
 #[inline(always)]
-fn spans_up_to(shape: &[usize], strides: &[usize], magnitude: usize, bound: usize) -> bool
-    requires some_axis { 0 < length shape.now }
-    requires same_count { length shape.now ≡ length strides.now }
-    requires span_fits { span shape.now (all_signed strides.now) ≤ limit }
-    ensures { result ≡ nat_le bound (span_up_to magnitude shape.now (all_signed strides.now)) }
+fn span_up_to(shape: &[usize], strides: &[usize], magnitude: usize) -> usize
+    requires { span shape.now (all_signed strides.now) ≤ limit }
+    ensures { result ≡ span_up_to_magnitude magnitude shape.now (all_signed strides.now) }
 {
     let mut total = 0usize;
     for (len, stride) in shape.iter().zip(strides) {
         total += reach_up_to(*len, *stride, magnitude);
-        if total >= bound {
-            return true;
-        }
     }
-    false
+    total
 }
 
 /// Whether the stride of an axis of more than one entry steps over no more than the axes of no
@@ -57,7 +51,7 @@ fn overlaps_others(shape: &[usize], strides: &[usize], axis: usize) -> bool
     let len = shape[axis];
     let stride = signed(strides[axis]);
     let magnitude = stride.unsigned_abs();
-    len > 1 && spans_up_to(shape, strides, magnitude, reach(len, stride) + magnitude)
+    len > 1 && magnitude <= span_up_to(shape, strides, magnitude) - reach(len, stride)
 }
 
 /// Whether some axis of more than one entry has a stride that steps over no more than the axes of
@@ -112,10 +106,29 @@ fn overlap_on_walk(shape: &[usize], strides: &[usize], from_last: bool) -> Optio
     Some(false)
 }
 
-/// Whether the layout has an index, and an axis of more than one entry whose stride steps over no
-/// more than the axes of no greater stride span together.
+/// Whether an axis of more than one entry has a stride that steps over no more than the axes of no
+/// greater stride span together.
 ///
-/// One walk along axes that stand in order of their strides tells; others are compared one by one.
+/// One walk along axes that stand in order of their strides tells; others are compared one by one, and
+/// two axes at once.
+#[inline(always)]
+fn breaks_owned_rule(shape: &[usize], strides: &[usize]) -> bool
+    requires same_count { length shape.now ≡ length strides.now }
+    requires span_fits { span shape.now (all_signed strides.now) ≤ limit }
+    ensures { result ≡ not (meets_owned_rule shape.now (all_signed strides.now)) }
+{
+    if shape.len() > 2 {
+        if let Some(overlaps) = overlap_on_walk(shape, strides, true) {
+            return overlaps;
+        }
+        if let Some(overlaps) = overlap_on_walk(shape, strides, false) {
+            return overlaps;
+        }
+    }
+    some_overlaps_others(shape, strides)
+}
+
+/// Whether the layout has an index, and breaks the rule.
 #[inline(always)]
 pub fn has_overlap(shape: &[usize], strides: &[usize]) -> bool
     requires same_count { length shape.now ≡ length strides.now }
@@ -123,16 +136,7 @@ pub fn has_overlap(shape: &[usize], strides: &[usize]) -> bool
     ensures { result ≡
         (not (is_empty shape.now) && not (meets_owned_rule shape.now (all_signed strides.now))) }
 {
-    if shape.contains(&0) {
-        return false;
-    }
-    if let Some(overlaps) = overlap_on_walk(shape, strides, true) {
-        return overlaps;
-    }
-    if let Some(overlaps) = overlap_on_walk(shape, strides, false) {
-        return overlaps;
-    }
-    some_overlaps_others(shape, strides)
+    breaks_owned_rule(shape, strides) && !shape.contains(&0)
 }
 
 /// Whether two indices of a layout may share an element: it has an index, and some axis of more

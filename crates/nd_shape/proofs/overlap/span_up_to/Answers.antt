@@ -1,27 +1,20 @@
-use Rattle.std.proofs.Common.{rules, ◌≡◌, ◌+◌, ◌<◌, ◌≤◌, length, arith, sym}
-use Rattle.std.proofs.lemmas.Bool.{le-leb, lt-leb}
-use Rattle.std.proofs.lemmas.List.{length_push, length-map}
-use Rattle.std.proofs.lemmas.Slice.Zip.{zip_end}
+use Rattle.std.proofs.Common.{rules, ◌≡◌, ◌+◌, ◌≤◌, length, arith}
+use Rattle.std.proofs.lemmas.List.{length_push}
 use Rattle.nd_base.specs.Signed.{signed, all_signed}
 use Rattle.nd_base.specs.Span.{reach, span}
 use Rattle.nd_shape.specs.OwnedRule.{span_up_to}
 use Rattle.nd_shape.proofs.OwnedRule.{reach_up_to, reach_up_to_le}
 use Rattle.nd_base.proofs.laws.Span.{sum_from, sum_le}
 use Rattle.nd_shape.proofs.SumLoop.{sum_at_turn, sum_at_end}
-use Rattle.nd_shape.proofs.overlap.spans_up_to.Goals as goal
-use Rattle.nd_shape.proofs.overlap.spans_up_to.Goals.{In-Some}
+use Rattle.nd_shape.proofs.overlap.span_up_to.Goals as goal
+use Rattle.nd_shape.proofs.overlap.span_up_to.Goals.{In-Some}
 
 pub returns : goal.returns
 returns c =
-    let whole = span_up_to c.args.magnitude c.args.shape.now (all_signed c.args.strides.now) in
-    let last = zip_end c.args.shape.now c.args.strides.now c.loop-len.yielded c.into_iter-len-iterator.result c.loop-len.len-iterator c.next.new.self c.next.result
-    (search rules) (search rules) c.loop-len.yielded_by c.in-None.is c.next.ensures.steps in
     let end : sum_from (reach_up_to c.args.magnitude) c.args.shape.now c.args.strides.now (length c.loop-len.yielded) ≡ 0 =
     sum_at_end (reach_up_to c.args.magnitude) c.args.shape.now c.args.strides.now c.loop-len.yielded c.into_iter-len-iterator.result c.loop-len.len-iterator c.next.new.self c.next.result
     (search rules) (search rules) c.loop-len.yielded_by c.in-None.is c.next.ensures.steps in
-    let count : length (all_signed c.args.strides.now) ≡ length c.args.strides.now = length-map c.args.strides.now signed in
-    let short : c.loop-len.total < c.args.bound = c.loop-len.invariant.short (omega (arith, last, c.requires.some_axis, c.requires.same_count)) in
-    sym (lt-leb c.args.bound whole (omega (arith, end, short, c.loop-len.invariant.sum)))
+    omega (arith, end, c.loop-len.invariant.sum)
 
 -- the reach of this axis, and that of those behind it
 step : (c : In-Some) → sum_from (reach_up_to c.args.magnitude) c.args.shape.now c.args.strides.now (length c.loop-len.yielded) ≡ reach_up_to c.args.magnitude c.in-Some.len.now (signed c.in-Some.stride.now) + sum_from (reach_up_to c.args.magnitude) c.args.shape.now c.args.strides.now (length c.loop-len.yielded + 1)
@@ -44,16 +37,10 @@ overflow_add-total c =
     let less : span_up_to c.args.magnitude c.args.shape.now (all_signed c.args.strides.now) ≤ span c.args.shape.now (all_signed c.args.strides.now) = sum_le (reach_up_to c.args.magnitude) reach (reach_up_to_le c.args.magnitude) c.args.shape.now (all_signed c.args.strides.now) in
     omega arith
 
-pub returns-then-total-bound : goal.returns-then-total-bound
-returns-then-total-bound c =
-    let step = step (goal.at.returns-then-total-bound c).In-Some in
-    sym (le-leb c.args.bound (span_up_to c.args.magnitude c.args.shape.now (all_signed c.args.strides.now)) (omega (arith, step, c.loop-len.invariant.sum, c.if-total-bound.true, c.reach_up_to-total.ensures)))
-
 pub loop-len-preserved : goal.loop-len-preserved
 loop-len-preserved c =
     let step = step (goal.at.loop-len-preserved c).In-Some in
     record {
       sum = rw length_push (omega (arith, step, c.loop-len.invariant.sum, c.reach_up_to-total.ensures));
       rest = rw length_push (omega (arith, reached (goal.at.loop-len-preserved c).In-Some, c.loop-len.invariant.rest));
-      short = λ some. c.if-total-bound.false;
     }
