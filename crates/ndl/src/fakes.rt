@@ -62,8 +62,8 @@ impl<'a> Read for FakeReader<'a> {
     }
 }
 
-/// Takes `most` bytes a call at the most, but for the call that goes wrong. Its `flush` always answers
-/// an error.
+/// Takes `most` bytes a call at the most, but for the call that goes wrong. Its `flush` is a call
+/// too, and always answers an error.
 #[derive(Drop)]
 pub struct FakeWriter {
     pub taken: Vec<u8>,
@@ -98,6 +98,7 @@ impl Write for FakeWriter {
     }
 
     fn flush(&mut self) -> io::Result<()> {
+        self.calls = self.calls.saturating_add(1);
         Err(io::Error::from(ErrorKind::BrokenPipe))
     }
 }

@@ -102,6 +102,7 @@ data 4 owned 4 1|reshape C 4| => line 2: unreadable|
 data 4 owned 4 1|data 4 owned 4 1| => line 2: unreadable|
 data 4 owned 4 1|slice ..|slice ..| => line 3: unreadable|
 data 6 owned 2,3 3,1|slice ..,..|slise ..| => line 3: unreadable|
+data 6 owned 2,3 1|slise ..| => line 2: unreadable|
 |data 4 owned 4 1|slise ..| => line 3: unreadable|
 ";
 
@@ -180,7 +181,8 @@ const BROKEN: Fault = Fault::Error(ErrorKind::BrokenPipe);
 
 const INTERRUPTED: Fault = Fault::Error(ErrorKind::Interrupted);
 
-/// What a run leaves: its status, how often was read and written, and what went out.
+/// What a run leaves: its status, how often the reader and the writer were called, and what went
+/// out.
 type Ended<'a> = (u8, usize, usize, &'a [u8]);
 
 /// A row: whether a run over these devices ends so.
