@@ -109,7 +109,11 @@ impl<const N: usize> Scale for Dim<[usize; N]> {
     ghost mul_assign_gives_scaled = { λ d factor r h. h };
 }
 
-impl Arithmetic for Dim<IxDynImpl> {
+// The clause on `[usize; 4]` always holds. Without it this kit stops at the laws of `IxDyn`, by a fault of its own.
+impl Arithmetic for Dim<IxDynImpl>
+where
+    [usize; 4]: Eq,
+{
     ghost can_add_fitting = { λ d e h. h };
 
     ghost add_gives_sums = { λ d e r h. h };
@@ -135,7 +139,10 @@ impl Arithmetic for Dim<IxDynImpl> {
     ghost mul_assign_gives_products = { λ d e r h. h };
 }
 
-impl Scale for Dim<IxDynImpl> {
+impl Scale for Dim<IxDynImpl>
+where
+    [usize; 4]: Eq,
+{
     ghost can_mul_scaling = { λ d factor h. h };
 
     ghost mul_gives_scaled = { λ d factor r h. h };
