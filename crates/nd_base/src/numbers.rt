@@ -2,12 +2,14 @@
 ghost use Rattle.std.specs.Prelude.{◌≡◌, ℕ, List, length, refl};
 ghost use Rattle.std.specs.Borrow.{Lends, sem, Array, u64 as word};
 ghost use Rattle.std.specs.List.{refill};
-ghost use Rattle.nd_base.specs.Dim.{refilled};
+ghost use Rattle.nd_base.specs.Dim.{kept, refilled};
 
+use crate::dim::Dim;
 use crate::dynindeximpl::IxDynImpl;
+use crate::lengths::Lengths;
 
-/// One number for each axis, in order, however they are kept. The operators ask for no more than this, so that
-/// they stand once for arrays and for `IxDynImpl`.
+/// One number for each axis, in order, however they are kept. The operators ask for no more than
+/// this, so that they stand once for arrays and for `IxDynImpl`.
 pub trait Numbers: Drop {
     // The list that a value stands for.
     ghost list: { Self → List ℕ };
@@ -28,6 +30,15 @@ pub trait Numbers: Drop {
     // Lists of one count replace one another.
     ghost list_of_with_list: { (numbers : Self) (xs : List ℕ) → length xs ≡ length (list numbers)
         → list (with_list numbers xs) ≡ xs };
+}
+
+/// Numbers that are the lengths of the dimension that keeps them. The operators' laws ask for this.
+pub trait AreLengths: Numbers
+where
+    Dim<Self>: Lengths,
+{
+    // What the dimension stands for is what it keeps.
+    ghost list_is_kept: { ⟦<Dim<Self> as Lengths>⟧.list ≡ (λ dim. Self.list (kept dim)) };
 }
 
 impl<const N: usize> Numbers for [usize; N] {
@@ -60,4 +71,17 @@ impl Numbers for IxDynImpl {
     }
 
     ghost list_of_with_list = { refilled };
+}
+
+impl<const N: usize> AreLengths for [usize; N] {
+    ghost list_is_kept = { refl };
+}
+
+// The clause on `[usize; 4]` always holds. Without it this kit stops at `impl Dimension for IxDyn`, and
+// wherever a trait above is given to `IxDyn`, by a fault of its own.
+impl AreLengths for IxDynImpl
+where
+    [usize; 4]: Eq,
+{
+    ghost list_is_kept = { refl };
 }
