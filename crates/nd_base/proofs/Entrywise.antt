@@ -1,10 +1,8 @@
 -- Facts about two lists that a loop combines entry by entry, from the front on.
-use Rattle.std.proofs.Common.{◌≡◌, ℕ, zero, suc, ◌+◌, ◌-◌, ◌*◌, ◌^◌, ◌<◌, ◌≤◌, ◌++◌, take, drop, List, [], ◌∷◌, length, get_or, set, refl, ap, ◌∙◌, sym, subst, arith, add-one}
-use Rattle.std.specs.List.{AllZip, refill}
-use Rattle.std.proofs.Math.Seq.{take-append_seam}
-use Rattle.std.proofs.lemmas.List.{length-map}
+use Rattle.std.proofs.Common.{◌≡◌, ℕ, zero, suc, ◌+◌, ◌<◌, List, [], ◌∷◌, length, get_or, set, refl, ap, ◌∙◌, sym, subst, arith, add-one}
+use Rattle.std.specs.List.{AllZip}
 use Rattle.std.proofs.lemmas.List.Elements.{AllZip-get_or, length_all_zip}
-use Rattle.nd_base.specs.Entrywise.{entrywise, sums, differences, products, scaled, SumsFit, DifferencesFit, ProductsFit}
+use Rattle.nd_base.specs.Entrywise.{entrywise}
 
 -- the first n entries are combined, the others still those of xs
 abbrev pub combined : (ℕ → ℕ → ℕ) → ℕ → List ℕ → List ℕ → List ℕ
@@ -59,32 +57,3 @@ module _ (R : ℕ → ℕ → Type 0) (f : ℕ → ℕ → ℕ) (xs ys zs : List
   pub combined_all : n ≡ length ys → zs ≡ entrywise f xs ys
   combined_all h =
       e ∙ ap (λ m. combined f m xs ys) h ∙ all_of_them f xs ys (length_all_zip R xs ys r)
-
--- a result has as many entries, so a write over the list leaves the result alone
-pub length-entrywise : (R : ℕ → ℕ → Type 0) (f : ℕ → ℕ → ℕ) (xs ys : List ℕ) → AllZip R xs ys
-    → length (entrywise f xs ys) ≡ length xs
-length-entrywise R f [] [] r = refl
-length-entrywise R f [] (y ∷ ys) r = absurd r
-length-entrywise R f (x ∷ xs) [] r = absurd r
-length-entrywise R f (x ∷ xs) (y ∷ ys) r = ap suc (length-entrywise R f xs ys r.1)
-
-pub refill_of_length : (xs ws : List ℕ) → length ws ≡ length xs → refill (length xs) xs ws ≡ ws
-refill_of_length xs ws h =
-    ap (λ n. take n (ws ++ drop (length ws) xs)) (sym h) ∙ take-append_seam ws (drop (length ws) xs)
-
-pub refill_sums : (xs ys : List ℕ) → SumsFit xs ys → refill (length xs) xs (sums xs ys) ≡ sums xs ys
-refill_sums xs ys r =
-    refill_of_length xs (sums xs ys) (length-entrywise (λ x y. x + y < 2 ^ 64) (λ x y. x + y) xs ys r)
-
-pub refill_differences : (xs ys : List ℕ) → DifferencesFit xs ys
-    → refill (length xs) xs (differences xs ys) ≡ differences xs ys
-refill_differences xs ys r =
-    refill_of_length xs (differences xs ys) (length-entrywise (λ x y. y ≤ x) (λ x y. x - y) xs ys r)
-
-pub refill_products : (xs ys : List ℕ) → ProductsFit xs ys
-    → refill (length xs) xs (products xs ys) ≡ products xs ys
-refill_products xs ys r =
-    refill_of_length xs (products xs ys) (length-entrywise (λ x y. x * y < 2 ^ 64) (λ x y. x * y) xs ys r)
-
-pub refill_scaled : (xs : List ℕ) (n : ℕ) → refill (length xs) xs (scaled xs n) ≡ scaled xs n
-refill_scaled xs n = refill_of_length xs (scaled xs n) (length-map xs (λ x. x * n))

@@ -5,6 +5,10 @@ use Rattle.std.proofs.Common.{ap, sym, ◌∙◌}
 use Rattle.std.proofs.Math.Seq.{take-append_seam}
 use Rattle.nd_base.specs.declared.dim.Dim.{Dim}
 
+-- what it keeps
+abbrev pub kept : {A : Type 0} → Dim A → A
+kept d = d.index
+
 -- its lengths, in order
 abbrev pub lengths : Dim (List ℕ) → List ℕ
 lengths d = d.index
@@ -17,9 +21,13 @@ with_lengths d xs = record d { index = xs }
 abbrev pub rewritten : Dim (List ℕ) → List ℕ → Dim (List ℕ)
 rewritten d xs = record d { index = refill (length d.index) d.index xs }
 
--- as many lengths replace those that there are
+-- as many numbers replace those that there are
+pub refilled : (ms ns : List ℕ) → length ns ≡ length ms → refill (length ms) ms ns ≡ ns
+refilled ms ns h =
+    ap (λ n. take n (ns ++ drop (length ns) ms)) (sym h)
+    ∙ take-append_seam ns (drop (length ns) ms)
+
+-- and lengths likewise
 pub lengths_rewritten : (d : Dim (List ℕ)) (xs : List ℕ)
     → length xs ≡ length (lengths d) → lengths (rewritten d xs) ≡ xs
-lengths_rewritten d xs h =
-    ap (λ n. take n (xs ++ drop (length xs) d.index)) (sym h)
-    ∙ take-append_seam xs (drop (length xs) d.index)
+lengths_rewritten d xs h = refilled (lengths d) xs h

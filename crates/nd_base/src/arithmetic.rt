@@ -1,11 +1,10 @@
 //! What the operators of every dimension type do: arithmetic of lists, entry by entry.
-ghost use Rattle.std.specs.Prelude.{◌≡◌, ℕ, [], ◌∷◌};
-ghost use Rattle.nd_base.specs.Dim.{lengths};
+ghost use Rattle.std.specs.Prelude.{◌≡◌, ℕ};
 ghost use Rattle.nd_base.specs.Entrywise.{sums, differences, products, scaled, SumsFit, DifferencesFit, ProductsFit, ScaledFit};
 
 use crate::dim::Dim;
-use crate::dynindeximpl::IxDynImpl;
 use crate::lengths::Lengths;
+use crate::numbers::AreLengths;
 use std::ops::{Add, AddAssign, Mul, MulAssign, Sub, SubAssign};
 
 /// Lists of lengths that are added, subtracted and multiplied entry by entry. The operators that
@@ -73,74 +72,44 @@ pub trait Scale: Lengths + Mul<usize, Output = Self> + MulAssign<usize> {
         → Self.mul_assign_gives d factor r → Self.list r ≡ scaled (Self.list d) factor };
 }
 
-impl<const N: usize> Arithmetic for Dim<[usize; N]> {
-    ghost can_add_fitting = { λ d e h. h };
+impl<I: AreLengths> Arithmetic for Dim<I>
+where
+    Dim<I>: Lengths,
+{
+    ghost can_add_fitting = { rw I.list_is_kept (λ d e h. h) };
 
-    ghost add_gives_sums = { λ d e r h. h };
+    ghost add_gives_sums = { rw I.list_is_kept (λ d e r h. h) };
 
-    ghost can_add_assign_fitting = { λ d e h. h };
+    ghost can_add_assign_fitting = { rw I.list_is_kept (λ d e h. h) };
 
-    ghost add_assign_gives_sums = { λ d e r h. h };
+    ghost add_assign_gives_sums = { rw I.list_is_kept (λ d e r h. h) };
 
-    ghost can_sub_fitting = { λ d e h. h };
+    ghost can_sub_fitting = { rw I.list_is_kept (λ d e h. h) };
 
-    ghost sub_gives_differences = { λ d e r h. h };
+    ghost sub_gives_differences = { rw I.list_is_kept (λ d e r h. h) };
 
-    ghost can_sub_assign_fitting = { λ d e h. h };
+    ghost can_sub_assign_fitting = { rw I.list_is_kept (λ d e h. h) };
 
-    ghost sub_assign_gives_differences = { λ d e r h. h };
+    ghost sub_assign_gives_differences = { rw I.list_is_kept (λ d e r h. h) };
 
-    ghost can_mul_fitting = { λ d e h. h };
+    ghost can_mul_fitting = { rw I.list_is_kept (λ d e h. h) };
 
-    ghost mul_gives_products = { λ d e r h. h };
+    ghost mul_gives_products = { rw I.list_is_kept (λ d e r h. h) };
 
-    ghost can_mul_assign_fitting = { λ d e h. h };
+    ghost can_mul_assign_fitting = { rw I.list_is_kept (λ d e h. h) };
 
-    ghost mul_assign_gives_products = { λ d e r h. h };
+    ghost mul_assign_gives_products = { rw I.list_is_kept (λ d e r h. h) };
 }
 
-impl<const N: usize> Scale for Dim<[usize; N]> {
-    ghost can_mul_scaling = { λ d factor h. h };
+impl<I: AreLengths> Scale for Dim<I>
+where
+    Dim<I>: Lengths,
+{
+    ghost can_mul_scaling = { rw I.list_is_kept (λ d factor h. h) };
 
-    ghost mul_gives_scaled = { λ d factor r h. h };
+    ghost mul_gives_scaled = { rw I.list_is_kept (λ d factor r h. h) };
 
-    ghost can_mul_assign_scaling = { λ d factor h. h };
+    ghost can_mul_assign_scaling = { rw I.list_is_kept (λ d factor h. h) };
 
-    ghost mul_assign_gives_scaled = { λ d factor r h. h };
-}
-
-impl Arithmetic for Dim<IxDynImpl> {
-    ghost can_add_fitting = { λ d e h. h };
-
-    ghost add_gives_sums = { λ d e r h. h };
-
-    ghost can_add_assign_fitting = { λ d e h. h };
-
-    ghost add_assign_gives_sums = { λ d e r h. h };
-
-    ghost can_sub_fitting = { λ d e h. h };
-
-    ghost sub_gives_differences = { λ d e r h. h };
-
-    ghost can_sub_assign_fitting = { λ d e h. h };
-
-    ghost sub_assign_gives_differences = { λ d e r h. h };
-
-    ghost can_mul_fitting = { λ d e h. h };
-
-    ghost mul_gives_products = { λ d e r h. h };
-
-    ghost can_mul_assign_fitting = { λ d e h. h };
-
-    ghost mul_assign_gives_products = { λ d e r h. h };
-}
-
-impl Scale for Dim<IxDynImpl> {
-    ghost can_mul_scaling = { λ d factor h. h };
-
-    ghost mul_gives_scaled = { λ d factor r h. h };
-
-    ghost can_mul_assign_scaling = { λ d factor h. h };
-
-    ghost mul_assign_gives_scaled = { λ d factor r h. h };
+    ghost mul_assign_gives_scaled = { rw I.list_is_kept (λ d factor r h. h) };
 }

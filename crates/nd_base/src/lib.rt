@@ -11,6 +11,7 @@ mod entries;
 mod error;
 mod ixdyn;
 mod lengths;
+mod numbers;
 mod offsets;
 mod ops;
 mod order;

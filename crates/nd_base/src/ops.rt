@@ -1,12 +1,11 @@
 //! The operators of dimensions. Their conditions rule out other counts and results that do not fit.
 ghost use Rattle.std.specs.Prelude.{◌≡◌, ◌↔◌, [], ◌∷◌, replicate, IsTrue};
-ghost use Rattle.nd_base.specs.Dim.{lengths};
+ghost use Rattle.nd_base.specs.Dim.{lengths, kept};
 ghost use Rattle.nd_base.specs.Entrywise.{sums, differences, products, scaled, SumsFit, DifferencesFit, ProductsFit, ScaledFit};
-
-mod dynamic;
 
 use crate::dim::{Dim, Ix1};
 use crate::entries::{add_to, multiply_by, scale, subtract_from};
+use crate::numbers::Numbers;
 use std::ops::{Add, AddAssign, Mul, MulAssign, Sub, SubAssign};
 
 impl<const N: usize> Dim<[usize; N]> {
@@ -25,34 +24,35 @@ impl<const N: usize> Dim<[usize; N]> {
     }
 }
 
-impl<const N: usize> AddAssign<&Dim<[usize; N]>> for Dim<[usize; N]> {
-    ghost can_add_assign = { λ dim others. SumsFit (lengths dim) (lengths others.now) };
+impl<I: Numbers> AddAssign<&Dim<I>> for Dim<I> {
+    ghost can_add_assign = { λ dim others. SumsFit (I.list (kept dim)) (I.list (kept others.now)) };
 
     ghost add_assign_gives = { λ dim others result.
-        lengths result ≡ sums (lengths dim) (lengths others.now) };
+        I.list (kept result) ≡ sums (I.list (kept dim)) (I.list (kept others.now)) };
 
     fn add_assign(&mut self, others: &Self) {
-        add_to(&mut self.index, &others.index);
+        add_to(self.index.slice_mut(), others.index.slice());
     }
 }
 
-impl<const N: usize> AddAssign for Dim<[usize; N]> {
-    ghost can_add_assign = { λ dim others. SumsFit (lengths dim) (lengths others) };
+impl<I: Numbers> AddAssign for Dim<I> {
+    ghost can_add_assign = { λ dim others. SumsFit (I.list (kept dim)) (I.list (kept others)) };
 
     ghost add_assign_gives = { λ dim others result.
-        lengths result ≡ sums (lengths dim) (lengths others) };
+        I.list (kept result) ≡ sums (I.list (kept dim)) (I.list (kept others)) };
 
     fn add_assign(&mut self, others: Self) {
         *self += &others;
     }
 }
 
-impl<const N: usize> Add for Dim<[usize; N]> {
+impl<I: Numbers> Add for Dim<I> {
     type Output = Self;
 
-    ghost can_add = { λ dim others. SumsFit (lengths dim) (lengths others) };
+    ghost can_add = { λ dim others. SumsFit (I.list (kept dim)) (I.list (kept others)) };
 
-    ghost add_gives = { λ dim others result. lengths result ≡ sums (lengths dim) (lengths others) };
+    ghost add_gives = { λ dim others result.
+        I.list (kept result) ≡ sums (I.list (kept dim)) (I.list (kept others)) };
 
     fn add(mut self, others: Self) -> Self {
         self += &others;
@@ -60,35 +60,35 @@ impl<const N: usize> Add for Dim<[usize; N]> {
     }
 }
 
-impl<const N: usize> SubAssign<&Dim<[usize; N]>> for Dim<[usize; N]> {
-    ghost can_sub_assign = { λ dim others. DifferencesFit (lengths dim) (lengths others.now) };
+impl<I: Numbers> SubAssign<&Dim<I>> for Dim<I> {
+    ghost can_sub_assign = { λ dim others. DifferencesFit (I.list (kept dim)) (I.list (kept others.now)) };
 
     ghost sub_assign_gives = { λ dim others result.
-        lengths result ≡ differences (lengths dim) (lengths others.now) };
+        I.list (kept result) ≡ differences (I.list (kept dim)) (I.list (kept others.now)) };
 
     fn sub_assign(&mut self, others: &Self) {
-        subtract_from(&mut self.index, &others.index);
+        subtract_from(self.index.slice_mut(), others.index.slice());
     }
 }
 
-impl<const N: usize> SubAssign for Dim<[usize; N]> {
-    ghost can_sub_assign = { λ dim others. DifferencesFit (lengths dim) (lengths others) };
+impl<I: Numbers> SubAssign for Dim<I> {
+    ghost can_sub_assign = { λ dim others. DifferencesFit (I.list (kept dim)) (I.list (kept others)) };
 
     ghost sub_assign_gives = { λ dim others result.
-        lengths result ≡ differences (lengths dim) (lengths others) };
+        I.list (kept result) ≡ differences (I.list (kept dim)) (I.list (kept others)) };
 
     fn sub_assign(&mut self, others: Self) {
         *self -= &others;
     }
 }
 
-impl<const N: usize> Sub for Dim<[usize; N]> {
+impl<I: Numbers> Sub for Dim<I> {
     type Output = Self;
 
-    ghost can_sub = { λ dim others. DifferencesFit (lengths dim) (lengths others) };
+    ghost can_sub = { λ dim others. DifferencesFit (I.list (kept dim)) (I.list (kept others)) };
 
     ghost sub_gives = { λ dim others result.
-        lengths result ≡ differences (lengths dim) (lengths others) };
+        I.list (kept result) ≡ differences (I.list (kept dim)) (I.list (kept others)) };
 
     fn sub(mut self, others: Self) -> Self {
         self -= &others;
@@ -96,35 +96,35 @@ impl<const N: usize> Sub for Dim<[usize; N]> {
     }
 }
 
-impl<const N: usize> MulAssign<&Dim<[usize; N]>> for Dim<[usize; N]> {
-    ghost can_mul_assign = { λ dim others. ProductsFit (lengths dim) (lengths others.now) };
+impl<I: Numbers> MulAssign<&Dim<I>> for Dim<I> {
+    ghost can_mul_assign = { λ dim others. ProductsFit (I.list (kept dim)) (I.list (kept others.now)) };
 
     ghost mul_assign_gives = { λ dim others result.
-        lengths result ≡ products (lengths dim) (lengths others.now) };
+        I.list (kept result) ≡ products (I.list (kept dim)) (I.list (kept others.now)) };
 
     fn mul_assign(&mut self, others: &Self) {
-        multiply_by(&mut self.index, &others.index);
+        multiply_by(self.index.slice_mut(), others.index.slice());
     }
 }
 
-impl<const N: usize> MulAssign for Dim<[usize; N]> {
-    ghost can_mul_assign = { λ dim others. ProductsFit (lengths dim) (lengths others) };
+impl<I: Numbers> MulAssign for Dim<I> {
+    ghost can_mul_assign = { λ dim others. ProductsFit (I.list (kept dim)) (I.list (kept others)) };
 
     ghost mul_assign_gives = { λ dim others result.
-        lengths result ≡ products (lengths dim) (lengths others) };
+        I.list (kept result) ≡ products (I.list (kept dim)) (I.list (kept others)) };
 
     fn mul_assign(&mut self, others: Self) {
         *self *= &others;
     }
 }
 
-impl<const N: usize> Mul for Dim<[usize; N]> {
+impl<I: Numbers> Mul for Dim<I> {
     type Output = Self;
 
-    ghost can_mul = { λ dim others. ProductsFit (lengths dim) (lengths others) };
+    ghost can_mul = { λ dim others. ProductsFit (I.list (kept dim)) (I.list (kept others)) };
 
     ghost mul_gives = { λ dim others result.
-        lengths result ≡ products (lengths dim) (lengths others) };
+        I.list (kept result) ≡ products (I.list (kept dim)) (I.list (kept others)) };
 
     fn mul(mut self, others: Self) -> Self {
         self *= &others;
@@ -132,22 +132,24 @@ impl<const N: usize> Mul for Dim<[usize; N]> {
     }
 }
 
-impl<const N: usize> MulAssign<usize> for Dim<[usize; N]> {
-    ghost can_mul_assign = { λ dim factor. ScaledFit (lengths dim) factor };
+impl<I: Numbers> MulAssign<usize> for Dim<I> {
+    ghost can_mul_assign = { λ dim factor. ScaledFit (I.list (kept dim)) factor };
 
-    ghost mul_assign_gives = { λ dim factor result. lengths result ≡ scaled (lengths dim) factor };
+    ghost mul_assign_gives = { λ dim factor result.
+        I.list (kept result) ≡ scaled (I.list (kept dim)) factor };
 
     fn mul_assign(&mut self, factor: usize) {
-        scale(&mut self.index, factor);
+        scale(self.index.slice_mut(), factor);
     }
 }
 
-impl<const N: usize> Mul<usize> for Dim<[usize; N]> {
+impl<I: Numbers> Mul<usize> for Dim<I> {
     type Output = Self;
 
-    ghost can_mul = { λ dim factor. ScaledFit (lengths dim) factor };
+    ghost can_mul = { λ dim factor. ScaledFit (I.list (kept dim)) factor };
 
-    ghost mul_gives = { λ dim factor result. lengths result ≡ scaled (lengths dim) factor };
+    ghost mul_gives = { λ dim factor result.
+        I.list (kept result) ≡ scaled (I.list (kept dim)) factor };
 
     fn mul(mut self, factor: usize) -> Self {
         self *= factor;
