@@ -1,0 +1,43 @@
+-- The text of a view from its three lines, and the statuses of replies.
+use Rattle.std.proofs.Common.{◌≡◌, ℕ, ◌+◌, ℤ, pos, ◌≤◌, List, [], ◌∷◌, ◌++◌, map, codes, decimal, Option, Some, None, refl, ap, ◌∙◌, sym, arith}
+use Rattle.std.specs.Fmt.{signed_decimal}
+use Rattle.nd_base.specs.declared.error.ErrorKind.{ErrorKind}
+use Rattle.nd_base.specs.declared.order.Order.TheVariants.{RowMajor}
+use Rattle.ndarray_layout.specs.View.{View, view_places}
+use Rattle.ndl_session.specs.Answer.{Reply, listing, unless, step_fault, view_after, reply_to_steps, reply_to_script}
+use Rattle.ndl_session.specs.Script.{ScriptValue}
+use Rattle.ndl_session.specs.StepLine.{StepValue}
+use Rattle.ndl_text.specs.Text.{line, listed}
+
+-- a place is not negative, so it prints without a sign
+printed_places : (places : List ℕ) → map signed_decimal (map pos places) ≡ map decimal places
+printed_places [] = refl
+printed_places (place ∷ places) = ap (λ texts. decimal place ∷ texts) (printed_places places)
+
+-- one line after another
+three_lines : (t0 t1 t2 t3 a b c : List ℕ) → t0 ≡ [] → t1 ≡ t0 ++ a → t2 ≡ t1 ++ b → t3 ≡ t2 ++ c → t3 ≡ a ++ b ++ c
+three_lines t0 t1 t2 t3 a b c e0 e1 e2 e3 = e3 ∙ ap (λ t. t ++ c) (e2 ∙ ap (λ t. t ++ b) (e1 ∙ ap (λ t. t ++ a) e0))
+
+pub listing_text : (view : View) (t0 t1 t2 t3 : List ℕ) (shape : List ℕ) (strides : List ℤ) (places : List ℕ)
+    → shape ≡ view.shape → strides ≡ view.strides → map pos places ≡ view_places RowMajor view
+    → t0 ≡ []
+    → t1 ≡ t0 ++ line (codes "shape") (listed (codes ",") (map decimal shape))
+    → t2 ≡ t1 ++ line (codes "strides") (listed (codes ",") (map signed_decimal strides))
+    → t3 ≡ t2 ++ line (codes "places") (listed (codes " ") (map decimal places))
+    → t3 ≡ (listing view).text
+listing_text view t0 t1 t2 t3 shape strides places same_shape same_strides same_places e0 e1 e2 e3 =
+    three_lines t0 t1 t2 t3 _ _ _ e0
+    (e1 ∙ ap (λ lens. t0 ++ line (codes "shape") (listed (codes ",") (map decimal lens))) same_shape)
+    (e2 ∙ ap (λ lens. t1 ++ line (codes "strides") (listed (codes ",") (map signed_decimal lens))) same_strides)
+    (e3 ∙ ap (λ texts. t2 ++ line (codes "places") (listed (codes " ") texts)) (sym (printed_places places) ∙ ap (map signed_decimal) same_places))
+
+unless_small : (step : ℕ) (fault : Option ErrorKind) (reply : Reply) → reply.status ≤ 2 → (unless step fault reply).status ≤ 2
+unless_small step None reply small = small
+unless_small step (Some kind) reply small = omega arith
+
+reply_to_steps_small : (number : ℕ) (view : View) (steps : List StepValue) → (reply_to_steps number view steps).status ≤ 2
+reply_to_steps_small number view [] = omega arith
+reply_to_steps_small number view (step ∷ steps) = unless_small number (step_fault view step) _ (reply_to_steps_small (number + 1) (view_after view step) steps)
+
+pub reply_to_script_small : (script : ScriptValue) → (reply_to_script script).status ≤ 2
+reply_to_script_small script = unless_small 0 _ _ (reply_to_steps_small 1 _ script.steps)

@@ -1,0 +1,23 @@
+use Rattle.ndl_session.proofs.over_devices.session.Goals as goal
+use Rattle.ndl_session.proofs.over_devices.session.Goals.{in-Ok, in-Err-ReadFailed, in-Err-OutOfMemory}
+
+-- Only the arm of a failed read has a reader that failed.
+pub returns-then-write_failed-clause-input_cut : goal.returns-then-write_failed-clause-input_cut
+returns-then-write_failed-clause-input_cut g c read_failed write_failed =
+    elim c.match-answer_input.branch [
+      | in-Ok w ↦ absurd (let other = w.in-Ok.ensures.failed.0 read_failed in cc)
+      | in-Err-ReadFailed w ↦ (let is = w.writer-is in
+          rw is (w.write_whole-in-Err-ReadFailed.ensures.cut (rw is at write_failed)))
+      | in-Err-OutOfMemory w ↦ absurd (let other = w.in-Err-OutOfMemory.ensures.failed.0 read_failed in
+          let this = w.in-Err-OutOfMemory.field-0-is in cc)
+    ]
+
+pub returns-else-write_failed-clause-input : goal.returns-else-write_failed-clause-input
+returns-else-write_failed-clause-input g c read_failed written =
+    elim c.match-answer_input.branch [
+      | in-Ok w ↦ absurd (let other = w.in-Ok.ensures.failed.0 read_failed in cc)
+      | in-Err-ReadFailed w ↦ (let is = w.writer-is in
+          rw is (w.write_whole-in-Err-ReadFailed.ensures.whole (rw is at written)))
+      | in-Err-OutOfMemory w ↦ absurd (let other = w.in-Err-OutOfMemory.ensures.failed.0 read_failed in
+          let this = w.in-Err-OutOfMemory.field-0-is in cc)
+    ]

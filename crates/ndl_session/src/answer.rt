@@ -1,0 +1,138 @@
+//! The answer to a whole input: its text and its status.
+ghost use Rattle.std.specs.Prelude.{◌≡◌, ◌≤◌, map, IfOk};
+ghost use Rattle.nd_base.specs.Signed.{all_signed, unsigned as unsigned_bits};
+ghost use Rattle.ndarray_layout.specs.SlicedView.{shape_fault};
+ghost use Rattle.ndl_session.specs.Answer.{answer_of, listing, refused as refusal, IsReply};
+ghost use Rattle.ndl_session.specs.Answer.{reply_to_script, reply_to_steps, unreadable as unreadable_reply};
+ghost use Rattle.ndl_session.specs.Answer.{step_fault, view_after};
+ghost use Rattle.ndl_session.specs.Script.{script_value};
+ghost use Rattle.ndl_session.specs.StepLine.{step_value};
+
+use crate::script::{ReadError, Script, read_script};
+use crate::step_line::Step;
+use ndarray_layout::{
+    IxDyn, LayoutError, Lengths, Order, ShapeError, Strided, new_ixdyn, signed, unsigned,
+};
+use ndl_text::push_line;
+use std::alloc::{AllocError, Global};
+
+/// A whole text and the exit status that goes with it.
+#[derive(Drop)]
+pub struct Answer {
+    /// The text.
+    pub text: String,
+    /// 0 where every step was done, 1 where one was refused, 2 where a line could not be read.
+    pub status: u8,
+}
+
+/// The answer to an input.
+///
+/// Errors: want of memory.
+pub fn answer_to(alloc: Global, input: &[u8]) -> Result<Answer, AllocError>
+    ensures reply { IfOk result (λ answer. IsReply answer (answer_of input.now)) }
+    ensures small { IfOk result (λ answer. answer.status ≤ 2) }
+{
+    match read_script(alloc, input) {
+        Ok(script) => answer_to_script(alloc, &script),
+        Err(ReadError::Unreadable(line)) => unreadable(alloc, line),
+        Err(ReadError::Memory) => Err(AllocError),
+    }
+}
+
+/// The answer where a line can't be read.
+fn unreadable(alloc: Global, line: usize) -> Result<Answer, AllocError>
+    ensures { IfOk result (λ answer. IsReply answer (unreadable_reply line)) }
+{
+    Ok(Answer {
+        text: format!(in alloc; "line {line}: unreadable\n")?,
+        status: 2,
+    })
+}
+
+/// The answer where a step has a fault: 0 is the layout, and the steps after it count from 1.
+fn refused(alloc: Global, step: usize, fault: &ShapeError) -> Result<Answer, AllocError>
+    ensures { IfOk result (λ answer. IsReply answer (refusal step fault.now)) }
+{
+    Ok(Answer {
+        text: format!(in alloc; "step {step}: {fault}\n")?,
+        status: 1,
+    })
+}
+
+/// The strides, each as it is kept.
+fn unsigned_strides(alloc: Global, strides: &[isize]) -> Result<Vec<usize>, AllocError>
+    ensures bits { IfOk result (λ kept. kept.items ≡ map unsigned_bits strides.now) }
+    ensures back { IfOk result (λ kept. all_signed kept.items ≡ strides.now) }
+{
+    strides
+        .iter()
+        .map(|stride| unsigned(*stride))
+        .collect(alloc)
+}
+
+/// The answer to a script: the layout first, and then the steps.
+fn answer_to_script(alloc: Global, script: &Script) -> Result<Answer, AllocError>
+    ensures { IfOk result (λ answer. IsReply answer (reply_to_script (script_value script.now))) }
+{
+    let layout = &script.layout;
+    let dim = new_ixdyn(alloc, &layout.shape)?;
+    let strides = new_ixdyn(alloc, &unsigned_strides(alloc, &layout.strides)?)?;
+    match Strided::new(dim, strides, 1, layout.len, layout.mode) {
+        Ok(view) => answer_to_steps(alloc, view, &script.steps),
+        Err(fault) => refused(alloc, 0, &fault),
+    }
+}
+
+/// The answer to steps from a view.
+fn answer_to_steps(
+    alloc: Global,
+    view: Strided<IxDyn>,
+    steps: &[Step],
+) -> Result<Answer, AllocError>
+    ensures { IfOk result (λ answer. IsReply answer
+        (reply_to_steps 1 view (map step_value steps.now))) }
+{
+    let mut view = view;
+    for (at, step) in steps.iter().enumerate() {
+        match take_step(alloc, &view, step) {
+            Ok(next) => view = next,
+            Err(LayoutError::Shape(fault)) => return refused(alloc, at + 1, &fault),
+            Err(LayoutError::Memory(error)) => return Err(error),
+        }
+    }
+    list(alloc, &view)
+}
+
+/// The view after a step.
+fn take_step(
+    alloc: Global,
+    view: &Strided<IxDyn>,
+    step: &Step,
+) -> Result<Strided<IxDyn>, LayoutError>
+    ensures fault { shape_fault result ≡ step_fault view.now (step_value step.now) }
+    ensures view { IfOk result (λ next. next ≡ view_after view.now (step_value step.now)) }
+{
+    match step {
+        Step::Slice(elems) => view.slice(alloc, elems),
+    }
+}
+
+/// The strides, each read with its sign.
+fn signed_strides(alloc: Global, strides: &[usize]) -> Result<Vec<isize>, AllocError>
+    ensures { IfOk result (λ v. v.items ≡ all_signed strides.now) }
+{
+    strides.iter().map(|stride| signed(*stride)).collect(alloc)
+}
+
+/// The answer that lists a view.
+fn list(alloc: Global, view: &Strided<IxDyn>) -> Result<Answer, AllocError>
+    ensures { IfOk result (λ answer. IsReply answer (listing view.now)) }
+{
+    let strides = signed_strides(alloc, view.strides().slice())?;
+    let places = view.places(alloc, Order::RowMajor)?;
+    let mut text = String::new(alloc);
+    push_line(&mut text, "shape", ",", view.dim().slice())?;
+    push_line(&mut text, "strides", ",", strides.as_slice())?;
+    push_line(&mut text, "places", " ", places.as_slice())?;
+    Ok(Answer { text, status: 0 })
+}

@@ -1,0 +1,16 @@
+//! Reads a layout and the steps to take from it, and answers where the elements that are left lie.
+#![tactic(auto)]
+
+mod answer;
+mod data_line;
+mod elements;
+mod lists;
+mod over_devices;
+mod read_by_now;
+mod script;
+mod step_line;
+
+pub use data_line::Layout;
+pub use over_devices::session;
+pub use script::{ReadError, Script, read_script};
+pub use step_line::Step;

@@ -1,0 +1,11 @@
+//! Tests of the program's session and of what it stands on: scripts and watched devices.
+#![tactic(auto)]
+
+#[cfg(test)]
+mod fakes;
+#[cfg(test)]
+mod script;
+#[cfg(test)]
+mod session;
+#[cfg(test)]
+mod watched;

@@ -1,0 +1,60 @@
+//! What a script says, of inputs whose answers don't tell it.
+use nd_shape::CanIndexCheckMode;
+use ndl_session::{Layout, Step, read_script};
+use std::alloc::{AllocError, Global};
+use std::process::Abort;
+use std::test::Fail;
+
+/// Inputs, each with what it says: the length of the data, the mode, the shape, the strides and the
+/// steps. In an input `|` stands for a line feed.
+const READABLE: &str = "\
+data 4 owned 4 1|slice 1..;-2| => 4 owned [4] [1] ; [Slice([Slice { start: 1, end: None, step: -2 }])]
+data 4 owned 4 -9223372036854775808| => 4 owned [4] [-9223372036854775808] ; []
+data 18446744073709551615 read 1 1| => 18446744073709551615 read [1] [1] ; []
+data 1 owned 1 1\r| => 1 owned [1] [1] ; []
+data 4 owned 4 1|slice 0..04;01| => 4 owned [4] [1] ; [Slice([Slice { start: 0, end: Some(4), step: 1 }])]
+data 4 owned 4 1|slice -3..-1;2 => 4 owned [4] [1] ; [Slice([Slice { start: -3, end: Some(-1), step: 2 }])]
+data 4 owned 4 1|slice ..;0| => 4 owned [4] [1] ; [Slice([Slice { start: 0, end: None, step: 0 }])]
+data 4 owned 4 1|slice -| => 4 owned [4] [1] ; [Slice([])]
+  data   4  owned 4   1   => 4 owned [4] [1] ; []
+data 004 owned 04 01| => 4 owned [4] [1] ; []
+data 4 owned 4 -0| => 4 owned [4] [0] ; []
+data 6 owned 2,3 1| => 6 owned [2, 3] [1] ; []
+";
+
+/// A layout, in the words of a row.
+fn told_layout(alloc: Global, layout: &Layout) -> Result<String, AllocError> {
+    let mode = match layout.mode {
+        CanIndexCheckMode::OwnedMutable => "owned",
+        CanIndexCheckMode::ReadOnly => "read",
+    };
+    let (len, shape, strides) = (layout.len, &layout.shape, &layout.strides);
+    format!(in alloc; "{len} {mode} {shape:?} {strides:?}")
+}
+
+/// Steps, in the words of a row.
+fn told_steps(alloc: Global, steps: &[Step]) -> Result<String, AllocError> {
+    format!(in alloc; "{steps:?}")
+}
+
+/// A row: an input, the layout that it says, and the steps.
+fn says(rt: &impl Abort, alloc: Global, row: &str) -> Result<(), Fail> {
+    let row = row.replace(alloc, "|", "\n")?;
+    let (input, due) = row.as_str().split_once(" => ").expect(rt, "a layout");
+    let script = read_script(alloc, input.as_bytes())?;
+    let layout = told_layout(alloc, &script.layout)?;
+    let steps = told_steps(alloc, &script.steps)?;
+    assert_eq!(rt;
+        due.split_once(" ; "),
+        Some((layout.as_str(), steps.as_str()))
+    );
+    Ok(())
+}
+
+#[test]
+fn r1_grammar(rt: HostRuntime) -> Result<(), Fail> {
+    for row in READABLE.lines() {
+        says(&rt, rt.alloc(), row)?;
+    }
+    Ok(())
+}
