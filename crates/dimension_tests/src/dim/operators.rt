@@ -2,7 +2,7 @@
 ghost use Rattle.nd_base.specs.Entrywise.{SumsFit, DifferencesFit, ProductsFit, ScaledFit};
 
 use crate::dim::lists::made;
-use nd_dim::{Dimension, Ix3, IxDyn};
+use nd_dim::{Dimension, Ix2, Ix3, IxDyn};
 use std::alloc::Global;
 
 /// An operator on a shape and an index.
@@ -164,6 +164,11 @@ fn r2_rows_of_operators(rt: HostRuntime) {
             &[1, 1],
             [&[4, 6], &[2, 4], &[3, 5], &[6, 10]]
         )
+    );
+    let two: Results = [&[4, 7], &[2, 3], &[3, 10], &[6, 10]];
+    assert!(rt;
+        calculates(alloc, &[3, 5], &[1, 2], two)
+            && calculates_at::<Ix2>(alloc, &[3, 5], &[1, 2], two)
     );
 }
 
