@@ -1,8 +1,9 @@
 //! Tables of rows: a dimension type, a layout over data, a question and its answer.
 use crate::view::answer::{answer_at, expected, told};
 use crate::view::question::{fixed_count, read_layout, read_question};
+use CanIndexCheckMode::OwnedMutable;
 use nd_testing::{Row, rows};
-use ndarray_layout::{Dimension, LayoutError, Strided};
+use ndarray_layout::{CanIndexCheckMode, Dimension, LayoutError, SliceInfoElem, Strided};
 use std::alloc::Global;
 use std::process::Abort;
 
@@ -21,6 +22,20 @@ pub fn hold(rt: &impl Abort, alloc: Global, table: &str) {
     for line in rows(table) {
         holds(rt, alloc, line);
     }
+}
+
+/// A view in owned mode of elements of one byte. (What `Strided::new` ensures is dear where a type is given.)
+pub fn owned<D: Dimension>(dim: D, strides: D, len: usize) -> Result<Strided<D>, LayoutError> {
+    Ok(Strided::new(dim, strides, 1, len, OwnedMutable)?)
+}
+
+/// The slice of a view.
+pub fn sliced<D: Dimension, E: Dimension>(
+    alloc: Global,
+    view: &Strided<D>,
+    elems: &[SliceInfoElem],
+) -> Result<Strided<E>, LayoutError> {
+    view.slice(alloc, &elems)
 }
 
 /// Whether a call that makes a view answers so.

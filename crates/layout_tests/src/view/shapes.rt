@@ -1,5 +1,5 @@
 //! Views of shapes by their own strides or by given ones, their axes, and the same views once more.
-use crate::view::rows::is_told;
+use crate::view::rows::{is_told, owned};
 use CanIndexCheckMode::OwnedMutable;
 use nd_testing::grants;
 use ndarray_layout::{
@@ -152,7 +152,7 @@ const fn axis(number: usize, len: usize, stride: isize) -> Option<(Axis, usize, 
 #[test]
 fn r3_rows_of_axes(rt: HostRuntime) {
     let (dim, strides) = (new_ix3(2, 3, 4), new_ix3(12, unsigned(-4), 1));
-    let view = Strided::new(dim, strides, 1, 24, OwnedMutable).expect(&rt, "refused");
+    let view = owned(dim, strides, 24).expect(&rt, "refused");
     let told = [
         axis(0, 2, 12),
         axis(2, 4, 1),

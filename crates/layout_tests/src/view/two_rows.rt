@@ -1,17 +1,17 @@
 //! Two rows of three elements: slices as values of their type, and refused memory.
 //!
 //! Each test passes plain, and with the first or the second request of its run refused.
-use CanIndexCheckMode::OwnedMutable;
+use crate::view::rows::{owned, sliced};
 use Order::RowMajor;
 use SliceInfoElem::{Index, NewAxis, Slice};
 use nd_testing::grants;
-use ndarray_layout::{CanIndexCheckMode, Ix2, Order, SliceInfoElem, Strided, new_ix2};
+use ndarray_layout::{Ix2, Order, SliceInfoElem, Strided, new_ix2};
 use std::alloc::{AllocError, Global};
 use std::process::Abort;
 
 /// Two rows of three elements.
 fn two_rows(rt: &impl Abort) -> Strided<Ix2> {
-    Strided::new(new_ix2(2, 3), new_ix2(3, 1), 1, 6, OwnedMutable).expect(rt, "refused")
+    owned(new_ix2(2, 3), new_ix2(3, 1), 6).expect(rt, "refused")
 }
 
 /// A range up to the end of an axis.
@@ -25,9 +25,7 @@ const fn from(start: isize) -> SliceInfoElem {
 
 /// A slice has this shape, strides and start.
 fn leaves(rt: &impl Abort, alloc: Global, elems: &[SliceInfoElem], left: (Ix2, Ix2, usize)) {
-    let slice = two_rows(rt)
-        .slice::<Ix2, _>(alloc, &elems)
-        .expect(rt, "refused");
+    let slice: Strided<Ix2> = sliced(alloc, &two_rows(rt), elems).expect(rt, "refused");
     assert_eq!(rt; (*slice.dim(), *slice.strides(), slice.start()), left);
 }
 

@@ -3,9 +3,8 @@
 //!
 //! A row is a dimension type, a layout (size of an element, length and use of the data, shape,
 //! strides), a question and its answer.
-use crate::view::rows::{hold, is_told};
-use CanIndexCheckMode::OwnedMutable;
-use ndarray_layout::{CanIndexCheckMode, Ix0, LayoutError, Strided, new_ix0};
+use crate::view::rows::{hold, is_told, owned};
+use ndarray_layout::{Ix0, LayoutError, Strided, new_ix0};
 
 /// Views: shape, strides, start, places by rows and by columns; or the rule that refuses one.
 const ROWS: &str = "\
@@ -30,7 +29,7 @@ IxDyn 1 8 owned 2,1,2,1,2 3,7,2,7,1 view Unsupported";
 
 /// The view of no axes over `len` elements.
 fn without_axes(len: usize) -> Result<Strided<Ix0>, LayoutError> {
-    Ok(Strided::new(new_ix0(), new_ix0(), 1, len, OwnedMutable)?)
+    owned(new_ix0(), new_ix0(), len)
 }
 
 #[test]
