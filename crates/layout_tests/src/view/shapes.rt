@@ -9,12 +9,22 @@ use ndarray_layout::{
 use std::alloc::{AllocError, Global};
 use std::process::Abort;
 
+/// The view of a shape in owned mode.
+fn along<D: Dimension>(
+    alloc: Global,
+    shape: StrideShape<D>,
+    elem_size: usize,
+    len: usize,
+) -> Result<Strided<D>, LayoutError> {
+    Strided::from_shape(alloc, shape, elem_size, len, OwnedMutable)
+}
+
 // ---- shapes by their own strides
 
 /// The view of a shape in column-major order, over `len` elements of one byte.
 fn by_columns<D: Dimension>(alloc: Global, dim: D, len: usize) -> Result<Strided<D>, LayoutError> {
     let strides = Strides::F;
-    Strided::from_shape(alloc, StrideShape { dim, strides }, 1, len, OwnedMutable)
+    along(alloc, StrideShape { dim, strides }, 1, len)
 }
 
 /// Two axes, built in column-major order.
@@ -24,7 +34,7 @@ fn two(alloc: Global) -> Result<StrideShape<Ix2>, AllocError> {
 
 /// Their view.
 fn two_by_columns(alloc: Global, len: usize) -> Result<Strided<Ix2>, LayoutError> {
-    Strided::from_shape(alloc, two(alloc)?, 1, len, OwnedMutable)
+    along(alloc, two(alloc)?, 1, len)
 }
 
 /// Five axes.
@@ -53,7 +63,7 @@ fn r3_rows_of_five_axes(rt: HostRuntime) {
 /// Two rows of three elements, from the last row back.
 fn two_given(alloc: Global) -> Result<Strided<Ix2>, LayoutError> {
     let shape = (2, 3).strides(alloc, (unsigned(-3), 1))?;
-    Strided::from_shape(alloc, shape, 4, 6, OwnedMutable)
+    along(alloc, shape, 4, 6)
 }
 
 /// Five axes, of which the first leads back.
@@ -62,7 +72,7 @@ fn five_given(alloc: Global) -> Result<Strided<IxDyn>, LayoutError> {
     let shape = [2, 1, 3, 1, 2]
         .as_slice()
         .strides(alloc, strides.as_slice())?;
-    Strided::from_shape(alloc, shape, 4, 12, OwnedMutable)
+    along(alloc, shape, 4, 12)
 }
 
 /// A view once more.

@@ -5,7 +5,7 @@ use crate::view::rows::{owned, sliced};
 use Order::RowMajor;
 use SliceInfoElem::{Index, NewAxis, Slice};
 use nd_testing::grants;
-use ndarray_layout::{Ix2, Order, SliceInfoElem, Strided, new_ix2};
+use ndarray_layout::{Dimension, Ix2, Order, SliceInfoElem, Strided, new_ix2};
 use std::alloc::{AllocError, Global};
 use std::process::Abort;
 
@@ -41,6 +41,11 @@ fn memory_of_slice(rt: HostRuntime) {
     leaves(&rt, rt.alloc(), &[from(0), from(1)], left);
 }
 
+/// The places of a view.
+fn by_rows<D: Dimension>(alloc: Global, view: &Strided<D>) -> Result<Vec<usize>, AllocError> {
+    view.places(alloc, RowMajor)
+}
+
 /// The places of six elements, or that the request of a small one behind them was granted.
 fn lists_six_places(rt: &impl Abort, places: Result<Vec<usize>, AllocError>, granted: bool) {
     match places {
@@ -51,6 +56,6 @@ fn lists_six_places(rt: &impl Abort, places: Result<Vec<usize>, AllocError>, gra
 
 #[test]
 fn memory_of_places(rt: HostRuntime) {
-    let places = two_rows(&rt).places(rt.alloc(), RowMajor);
+    let places = by_rows(rt.alloc(), &two_rows(&rt));
     lists_six_places(&rt, places, grants(rt.alloc()));
 }
