@@ -1,29 +1,17 @@
 -- The step at one axis: the entries behind it are at their ends and become 0.
-use Rattle.std.proofs.Common.{◌≡◌, ℕ, zero, suc, ◌+◌, ◌-◌, ◌*◌, ◌<◌, ◌≤◌, true, List, [], ◌∷◌, ◌++◌, length, get_or, set, take, drop, replicate, reverse, refl, sym, ap, subst, ◌∙◌, arith, drop-cons, add-one, append_assoc}
+use Rattle.std.proofs.Common.{◌≡◌, ℕ, suc, ◌+◌, ◌-◌, ◌*◌, ◌<◌, ◌≤◌, true, List, [], ◌∷◌, ◌++◌, length, get_or, set, take, drop, replicate, reverse, refl, sym, ap, subst, ◌∙◌, arith, drop-cons, add-one, append_assoc}
 use Rattle.std.specs.Prelude.{nat_lt}
 use Rattle.std.proofs.Math.Seq.{get_or-append_seam, set-append_seam}
-use Rattle.std.proofs.lemmas.Bool.{and_from, and_parts, lt-ltb, ltb-true}
+use Rattle.std.proofs.lemmas.Bool.{and_from, and_parts, lt-ltb}
 use Rattle.std.proofs.lemmas.List.{append-nil, drop_all, length-drop, length-replicate, length-reverse, length-take-le, replicate-append-replicate, reverse-append, reverse-reverse, take-append-drop, take_all, take_more}
 use Rattle.nd_base.specs.declared.order.Order.TheVariants.{ColumnMajor}
 use Rattle.nd_base.specs.Indices.{is_index}
 use Rattle.nd_base.specs.Rank.{rank, rank_in, index_of_rank, index_of_rank_in}
 use Rattle.nd_base.specs.Size.{size}
-use Rattle.nd_base.proofs.laws.IsIndex.{entry_of_index, is_index-reverse, length_of_index}
+use Rattle.nd_base.proofs.laws.IsIndex.{entry_of_index, is_index-reverse, length_of_index, nonempty_from_index}
 use Rattle.nd_base.proofs.laws.Rank.{index_of_rank-rank, rank-lt-size}
 use Rattle.nd_base.proofs.laws.Size.{size-reverse, size_take_more}
-
--- ---- zeros
--- the first index of a shape that has one ranks 0
-is_index-zeros : (shape index : List ℕ) → is_index shape index ≡ true → is_index shape (replicate (length shape) 0) ≡ true
-is_index-zeros [] index h = refl
-is_index-zeros (len ∷ lens) [] h = absurd (cc)
-is_index-zeros (len ∷ lens) (i ∷ index) h =
-    let parts = and_parts (nat_lt i len) (is_index lens index) h in
-    and_from (nat_lt 0 len) (is_index lens (replicate (length lens) 0)) (lt-ltb 0 len (omega (arith, ltb-true i len parts.0))) (is_index-zeros lens index parts.1)
-
-rank-zeros : (shape : List ℕ) → rank shape (replicate (length shape) 0) ≡ 0
-rank-zeros [] = refl
-rank-zeros (len ∷ lens) = omega (arith, rank-zeros lens)
+use Rattle.nd_dim.proofs.laws.FirstIndex.{is_index-zeros, rank-zeros, reverse-zeros}
 
 -- ---- the step of one entry, where those behind it are at their ends
 record IsStepped (shape index stepped : List ℕ) : Type 0 where
@@ -36,7 +24,7 @@ stepped [] len back [] i rest e h full more =
     let first = rank-zeros back in
     let one : (i + 1) * size back ≡ i * size back + size back = omega arith in
     record {
-      within = and_from (nat_lt (i + 1) len) (is_index back (replicate (length back) 0)) (lt-ltb (i + 1) len more) (is_index-zeros back rest parts.1);
+      within = and_from (nat_lt (i + 1) len) (is_index back (replicate (length back) 0)) (lt-ltb (i + 1) len more) (is_index-zeros back (nonempty_from_index back rest parts.1));
       ranks = omega arith;
     }
 stepped [] len back (j ∷ index) i rest e h full more = absurd (omega arith)
@@ -219,14 +207,6 @@ columns_turned shape old index k h g last at =
           ∙ sym (size_take_more shape k h);
     }
 
-reverse_zeros : (n : ℕ) → reverse {A = ℕ} (replicate n 0) ≡ replicate n 0
-reverse_zeros zero = refl
-reverse_zeros (suc n) =
-    reverse-append (0 ∷ []) (replicate n 0)
-    ∙ ap (λ xs. xs ++ 0 ∷ []) (reverse_zeros n)
-    ∙ replicate-append-replicate n 1 0
-    ∙ ap (λ m. replicate m 0) (add-one n)
-
 reverse_parts : (front back : List ℕ) (entry : ℕ) → reverse (front ++ entry ∷ back) ≡ reverse back ++ entry ∷ reverse front
 reverse_parts front back entry =
     reverse-append front (entry ∷ back)
@@ -241,7 +221,7 @@ columns_stepped shape old index k is h g more at =
     let new = replicate k 0 ++ (get_or old k 0 + 1) ∷ drop (k + 1) old in
     let turned : reverse new ≡ reverse (drop (k + 1) old) ++ (get_or old k 0 + 1) ∷ replicate (length back) 0 =
     reverse_parts (replicate k 0) (drop (k + 1) old) (get_or old k 0 + 1)
-    ∙ ap (λ xs. reverse (drop (k + 1) old) ++ (get_or old k 0 + 1) ∷ xs) (reverse_zeros k ∙ ap (λ n. replicate n 0) (sym count)) in
+    ∙ ap (λ xs. reverse (drop (k + 1) old) ++ (get_or old k 0 + 1) ∷ xs) (reverse-zeros k ∙ ap (λ n. replicate n 0) (sym count)) in
     let axes : reverse shape ≡ front ++ get_or shape k 0 ∷ back = ap reverse (parts_of shape k h) ∙ reverse_parts (take k shape) (drop (k + 1) shape) (get_or shape k 0) in
     let entries : reverse old ≡ reverse (drop (k + 1) old) ++ get_or old k 0 ∷ reverse (take k old) = ap reverse (parts_of old k g) ∙ reverse_parts (take k old) (drop (k + 1) old) (get_or old k 0) in
     let counts : length (reverse (drop (k + 1) old)) ≡ length front =
