@@ -13,5 +13,6 @@ mod lists;
 mod memory;
 mod offsets;
 mod operators;
+mod steps;
 mod tables;
 mod told;

@@ -1,5 +1,6 @@
 pub mod Packed
 pub mod Products
+pub mod Stepped
 pub mod StrideAxes
 pub mod StrideOrder
 pub mod laws

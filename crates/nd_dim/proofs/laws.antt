@@ -1,1 +1,2 @@
+pub mod FirstIndex
 pub mod Strides

@@ -1,13 +1,16 @@
 //! What a shape and an index can do, whatever their type.
 ghost use Rattle.std.specs.List.{All};
 ghost use Rattle.std.specs.Option.{option_map};
-ghost use Rattle.std.specs.Prelude.{◌≡◌, ℕ, ◌+◌, ◌-◌, ◌<◌, ◌≤◌, ◌^◌, ◌↔◌, ◌⊎◌, length, insert, remove, replicate, slice_set, Some, None, SomeIff, IsTrue, IsOk, IfOk};
+ghost use Rattle.std.specs.Prelude.{◌≡◌, ℕ, ◌+◌, ◌-◌, ◌<◌, ◌≤◌, ◌^◌, ◌↔◌, ◌⊎◌, if◌then◌else◌, true, nat_lt, length, insert, remove, replicate, slice_set, Some, None, SomeIff, IsTrue, IsOk, IfOk};
+ghost use Rattle.nd_base.specs.declared.order.Order.TheVariants.{ColumnMajor};
 ghost use Rattle.nd_base.specs.Dim.{lengths};
+ghost use Rattle.nd_base.specs.Indices.{is_index};
 ghost use Rattle.nd_base.specs.Lengths.{IsCount, NeedsNoMemory, default_count};
 ghost use Rattle.nd_base.specs.Offset.{offset_of, checked_offset};
+ghost use Rattle.nd_base.specs.Rank.{rank, rank_in, index_of_rank, index_of_rank_in};
 ghost use Rattle.nd_base.specs.Reach.{farthest_offset};
 ghost use Rattle.nd_base.specs.Signed.{all_signed};
-ghost use Rattle.nd_base.specs.Size.{size, nonzero_size, limit};
+ghost use Rattle.nd_base.specs.Size.{size, nonzero_size, is_empty, limit};
 ghost use Rattle.nd_base.specs.ValidLayout.{IsValidLayout};
 ghost use Rattle.nd_dim.specs.AxisOrder.{IsLeastStrideAxis, IsGreatestStrideAxis, IsStrideOrder};
 ghost use Rattle.nd_dim.specs.Contiguous.{is_contiguous as is_contiguous_layout};
@@ -18,6 +21,7 @@ use crate::axis_edits::{insert_axis_into, last_len, remove_axis_into, set_last_l
 use crate::contiguous::is_contiguous;
 use crate::conversion::IntoDimension;
 use crate::sizes::{checked_size, product};
+use crate::steps::{step_by_columns, step_by_rows};
 use crate::stride_axes::{max_stride_axis, min_stride_axis};
 use crate::stride_order::fill_stride_order;
 use crate::strides::{are_equivalent, fill_default_strides, fill_fortran_strides};
@@ -112,6 +116,70 @@ pub trait Dimension: Lengths + Arithmetic + Scale {
         let mut strides = self.duplicate(alloc)?;
         fill_fortran_strides(self.slice(), strides.slice_mut());
         Ok(strides)
+    }
+
+    /// The first index of the shape, all 0, or `None` where a length is 0, so that there is no index.
+    /// Upstream's `first_index`.
+    ///
+    /// Errors: want of memory, and none where the type fixes the count, where there are at most 4
+    /// axes, or where a length is 0.
+    final fn first_index(&self, alloc: Global) -> Result<Option<Self>, AllocError>
+    where
+        Self: Sized,
+        ensures list { IfOk result (λ first. option_map Self.list first ≡
+            (if is_empty (Self.list self.now)
+            then None
+            else Some (replicate (length (Self.list self.now)) 0))) }
+        ensures memory { NeedsNoMemory Self.NDIM (length (Self.list self.now)) → IsOk result }
+        ensures no_index { is_empty (Self.list self.now) ≡ true → IsOk result }
+    {
+        let lens = self.slice();
+        if lens.contains(&0) {
+            return Ok(None);
+        }
+        Ok(Some(Self::zeros(alloc, lens.len())?))
+    }
+
+    /// The index behind one of the shape in row-major order, where the last axis moves fastest, or
+    /// `None` behind the last one. Upstream's `next_for`.
+    #[inline]
+    final fn next_for(&self, index: Self) -> Option<Self>
+    where
+        Self: Sized,
+        requires { is_index (Self.list self.now) (Self.list index) ≡ true }
+        ensures { option_map Self.list result ≡
+            (if nat_lt (rank (Self.list self.now) (Self.list index) + 1) (size (Self.list self.now))
+            then Some (index_of_rank
+            (Self.list self.now)
+            (rank (Self.list self.now) (Self.list index) + 1))
+            else None) }
+    {
+        let mut next = index;
+        if step_by_rows(self.slice(), next.slice_mut()) {
+            Some(next)
+        } else {
+            None
+        }
+    }
+
+    /// Moves an index of the shape to the one behind it in column-major order, where the first axis
+    /// moves fastest, and says that there is one; the last index becomes the first, all 0, with
+    /// `false`. Upstream's `next_for_f`.
+    #[inline]
+    final fn next_for_f(&self, index: &mut Self) -> bool
+        requires { is_index (Self.list self.now) (Self.list index.old) ≡ true }
+        ensures more { IsTrue result
+            ↔ (rank_in ColumnMajor (Self.list self.now) (Self.list index.old) + 1
+            < size (Self.list self.now)) }
+        ensures next { Self.list index.new ≡
+            (if result
+            then index_of_rank_in
+            ColumnMajor
+            (Self.list self.now)
+            (rank_in ColumnMajor (Self.list self.now) (Self.list index.old) + 1)
+            else replicate (length (Self.list self.now)) 0) }
+    {
+        step_by_columns(self.slice(), index.slice_mut())
     }
 
     /// Zeros, as many as the type fixes, or one where it fixes no count. In place of upstream's

@@ -10,6 +10,7 @@ mod error;
 mod remove_axis;
 mod shape_arg;
 mod sizes;
+mod steps;
 mod stride_axes;
 mod stride_order;
 mod strides;

@@ -1,0 +1,51 @@
+//! Steps from one index of a shape to the next.
+ghost use Rattle.std.specs.Prelude.{◌≡◌, ◌+◌, ◌<◌, ◌↔◌, if◌then◌else◌, true, length, replicate, IsTrue};
+ghost use Rattle.nd_base.specs.declared.order.Order.TheVariants.{ColumnMajor};
+ghost use Rattle.nd_base.specs.Indices.{is_index};
+ghost use Rattle.nd_base.specs.Rank.{rank, index_of_rank, rank_in, index_of_rank_in};
+ghost use Rattle.nd_base.specs.Size.{size};
+
+/// Moves an index of a shape to the next one in row-major order, where the last axis moves
+/// fastest, and says that there is one; the last index becomes the first, with `false`. The step
+/// of upstream's `next_for`.
+#[inline(always)]
+pub(crate) fn step_by_rows(shape: &[usize], index: &mut [usize]) -> bool
+    requires { is_index shape.now index.old ≡ true }
+    ensures more { IsTrue result ↔ (rank shape.now index.old + 1 < size shape.now) }
+    ensures next { index.new ≡ (if result
+        then index_of_rank shape.now (rank shape.now index.old + 1)
+        else replicate (length shape.now) 0) }
+{
+    for axis in (0..shape.len()).rev() {
+        let next = index[axis] + 1;
+        if next < shape[axis] {
+            index[axis] = next;
+            return true;
+        }
+        index[axis] = 0;
+    }
+    false
+}
+
+/// Moves an index of a shape to the next one in column-major order, where the first axis moves
+/// fastest, and says that there is one; the last index becomes the first, with `false`. The step
+/// of upstream's `next_for_f`.
+#[inline(always)]
+pub(crate) fn step_by_columns(shape: &[usize], index: &mut [usize]) -> bool
+    requires { is_index shape.now index.old ≡ true }
+    ensures more { IsTrue result
+        ↔ (rank_in ColumnMajor shape.now index.old + 1 < size shape.now) }
+    ensures next { index.new ≡ (if result
+        then index_of_rank_in ColumnMajor shape.now (rank_in ColumnMajor shape.now index.old + 1)
+        else replicate (length shape.now) 0) }
+{
+    for (axis, len) in shape.iter().enumerate() {
+        let next = index[axis] + 1;
+        if next < *len {
+            index[axis] = next;
+            return true;
+        }
+        index[axis] = 0;
+    }
+    false
+}
