@@ -47,17 +47,14 @@ impl IxDynImpl {
         })
     }
 
-    /// The lengths of a vector, whose memory is kept where they are more than four. Upstream's
-    /// `From<Vec<Ix>>`.
+    /// The lengths of a vector, whose memory is kept where it has room for more than four. Upstream's
+    /// `From<Vec<Ix>>`. It asks for no memory; `alloc` stands where every call of this kind has it.
     ///
     /// Errors: none.
-    pub fn from_vec(alloc: Global, lens: Vec<usize>) -> Result<Self, AllocError>
+    pub fn from_vec(_alloc: Global, lens: Vec<usize>) -> Result<Self, AllocError>
         ensures list { IfOk result (λ dim. dim ≡ lens.items) }
         ensures memory { IsOk result }
     {
-        if lens.len() <= 4 {
-            return Self::copy_from(alloc, &lens);
-        }
         Ok(IxDynImpl {
             lens: SmallVec::from_vec(lens),
         })
