@@ -8,10 +8,9 @@ use Rattle.nd_base.specs.declared.order.Order.TheVariants.{ColumnMajor}
 use Rattle.nd_base.specs.Indices.{is_index}
 use Rattle.nd_base.specs.Rank.{rank, rank_in, index_of_rank, index_of_rank_in}
 use Rattle.nd_base.specs.Size.{size}
-use Rattle.nd_base.proofs.laws.IsIndex.{entry_of_index, is_index-reverse, length_of_index, nonempty_from_index}
-use Rattle.nd_base.proofs.laws.Rank.{index_of_rank-rank, rank-lt-size}
+use Rattle.nd_base.proofs.laws.IsIndex.{entry_of_index, is_index-reverse, is_index-zeros, length_of_index, nonempty_from_index}
+use Rattle.nd_base.proofs.laws.Rank.{index_of_rank-rank, rank-lt-size, rank-zeros, reverse-zeros}
 use Rattle.nd_base.proofs.laws.Size.{size-reverse, size_take_more}
-use Rattle.nd_dim.proofs.laws.FirstIndex.{is_index-zeros, rank-zeros, reverse-zeros}
 
 -- ---- the step of one entry, where those behind it are at their ends
 record IsStepped (shape index stepped : List ℕ) : Type 0 where

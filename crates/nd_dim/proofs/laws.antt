@@ -1,2 +1,1 @@
-pub mod FirstIndex
 pub mod Strides

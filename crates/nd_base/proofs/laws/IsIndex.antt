@@ -1,7 +1,7 @@
 -- Laws of the test for an index of a shape.
-use Rattle.std.proofs.Common.{◌≡◌, ℕ, zero, suc, ◌<◌, Bool, true, false, eqb, List, [], ◌∷◌, ◌++◌, length, get_or, reverse, refl, sym, ap, ◌∙◌, arith}
+use Rattle.std.proofs.Common.{◌≡◌, ℕ, zero, suc, ◌<◌, Bool, true, false, eqb, List, [], ◌∷◌, ◌++◌, length, get_or, replicate, reverse, refl, sym, ap, ◌∙◌, arith, pos_of_ne-zero}
 use Rattle.std.specs.Prelude.{nat_lt, ◌&&◌}
-use Rattle.std.proofs.lemmas.Bool.{and_parts, and_right, ltb-true, ne_eqb, or_from}
+use Rattle.std.proofs.lemmas.Bool.{and_from, and_parts, and_right, eqb-false, lt-ltb, ltb-true, ne_eqb, or_from, or_parts}
 use Rattle.std.proofs.lemmas.List.{reverse-append}
 use Rattle.nd_base.specs.Indices.{is_index}
 use Rattle.nd_base.specs.Size.{is_empty}
@@ -31,6 +31,13 @@ nonempty_from_index (len ∷ lens) (i ∷ index) h =
     let parts = and_parts (nat_lt i len) (is_index lens index) h in
     let below : i < len = ltb-true i len parts.0 in
     or_from (eqb len 0) (is_empty lens) (ne_eqb len 0 (λ e. omega arith)) (nonempty_from_index lens index parts.1)
+
+-- zeros are an index of a shape without a zero length
+pub is_index-zeros : (shape : List ℕ) → is_empty shape ≡ false → is_index shape (replicate (length shape) 0) ≡ true
+is_index-zeros [] h = refl
+is_index-zeros (len ∷ lens) h =
+    let parts = or_parts (eqb len 0) (is_empty lens) h in
+    and_from (nat_lt 0 len) (is_index lens (replicate (length lens) 0)) (lt-ltb 0 len (pos_of_ne-zero (eqb-false len 0 parts.0))) (is_index-zeros lens parts.1)
 
 and_turned : (b : Bool) → (b && true) ≡ b
 and_turned true = refl

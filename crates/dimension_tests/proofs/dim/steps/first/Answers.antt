@@ -3,7 +3,7 @@ use Rattle.std.proofs.Common.{◌≡◌, ℕ, true, false, Bool, cond, List, len
 use Rattle.std.specs.Option.{option_map}
 use Rattle.nd_base.specs.Indices.{is_index}
 use Rattle.nd_base.specs.Size.{is_empty}
-use Rattle.nd_dim.proofs.laws.FirstIndex.{is_index-zeros}
+use Rattle.nd_base.proofs.laws.IsIndex.{is_index-zeros}
 use Rattle.dimension_tests.proofs.dim.steps.first.Goals as goal
 
 first_is : {X : Type 0} (list : X → List ℕ) (shape : List ℕ) (first : Option X) → option_map list first ≡ cond (is_empty shape) None (Some (replicate (length shape) 0)) → IfSome first (λ x. is_index shape (list x) ≡ true)

@@ -5,9 +5,8 @@ use Rattle.nd_base.specs.declared.order.Order.TheVariants.{ColumnMajor}
 use Rattle.nd_base.specs.Indices.{is_index}
 use Rattle.nd_base.specs.Rank.{rank_in, index_of_rank_in}
 use Rattle.nd_base.specs.Size.{size}
-use Rattle.nd_base.proofs.laws.IsIndex.{nonempty_from_index}
+use Rattle.nd_base.proofs.laws.IsIndex.{is_index-zeros, nonempty_from_index}
 use Rattle.nd_base.proofs.laws.Rank.{is_index-index_of_rank_in}
-use Rattle.nd_dim.proofs.laws.FirstIndex.{is_index-zeros}
 use Rattle.dimension_tests.proofs.dim.steps.goes_on.Goals as goal
 
 next_is : (shape old new : List ℕ) (r : ℕ) (more : Bool) → is_index shape old ≡ true → (IsTrue more ↔ (r < size shape)) → new ≡ cond more (index_of_rank_in ColumnMajor shape r) (replicate (length shape) 0) → is_index shape new ≡ true
