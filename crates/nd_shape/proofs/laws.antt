@@ -1,5 +1,6 @@
 pub mod Acceptance
 pub mod Axes
+pub mod CommonShape
 pub mod DefaultStrides
 pub mod DistinctOffsets
 pub mod Inside

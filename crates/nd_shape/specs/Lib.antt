@@ -1,5 +1,6 @@
 pub mod Acceptance
 pub mod Axes
+pub mod CommonShape
 pub mod DistinctOffsets
 pub mod Inside
 pub mod OwnedRule

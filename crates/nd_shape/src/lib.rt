@@ -2,6 +2,7 @@
 #![tactic(auto)]
 
 mod axes;
+mod broadcast;
 mod checks;
 mod limits;
 mod ndindex;
@@ -10,6 +11,7 @@ mod overlap;
 mod shape_builder;
 
 pub use axes::{Axes, AxisDescription, axes_of};
+pub use broadcast::co_broadcast;
 pub use checks::{
     CanIndexCheckMode, can_index_slice, can_index_slice_not_custom, can_index_slice_with_strides,
     max_abs_offset_check_overflow, size_of_shape_checked, strides_non_negative,

@@ -1,0 +1,112 @@
+//! The shape that two shapes have in common.
+ghost use Rattle.std.specs.Prelude.{◌≡◌, ◌≤◌, max, true, length, Some, None, is_some, IsOk, IfOk};
+ghost use Rattle.nd_base.specs.Lengths.{IsCount, NeedsNoMemory};
+ghost use Rattle.nd_shape.specs.CommonShape.{common_length, common_shape, common_shape_fault, shape_fault};
+
+use nd_dim::{Dimension, ErrorKind, LayoutError, from_kind};
+use std::alloc::Global;
+
+/// Whether two lengths of one axis are equal, or one of them is 1.
+#[inline(always)]
+fn go_together(len: usize, other: usize) -> bool
+    ensures { result ≡ is_some (common_length len other) }
+{
+    len == other || len == 1 || other == 1
+}
+
+/// Whether each axis of the shorter list goes together with the axis of the longer one that lies as
+/// far from the last.
+#[inline(always)]
+fn have_common_shape(longer: &[usize], shorter: &[usize]) -> bool
+    requires { length shorter.now ≤ length longer.now }
+    ensures { result ≡ is_some (common_shape longer.now shorter.now) }
+{
+    let first = longer.len() - shorter.len();
+    for axis in 0..shorter.len() {
+        if !go_together(longer[first + axis], shorter[axis]) {
+            return false;
+        }
+    }
+    true
+}
+
+/// The length of an axis, which is the other one where it is 1.
+#[inline(always)]
+fn stretched(len: usize, other: usize) -> usize
+    requires { is_some (common_length len other) ≡ true }
+    ensures { common_length len other ≡ Some result }
+{
+    if len == 1 { other } else { len }
+}
+
+/// Writes the common shape of two shapes that have one.
+#[inline(always)]
+fn fill_common_shape(longer: &[usize], shorter: &[usize], common: &mut [usize])
+    requires shorter { length shorter.now ≤ length longer.now }
+    requires room { length common.old ≡ length longer.now }
+    requires fits { is_some (common_shape longer.now shorter.now) ≡ true }
+    ensures { common_shape longer.now shorter.now ≡ Some common.new }
+{
+    let first = longer.len() - shorter.len();
+    common[..first].copy_from_slice(&longer[..first]);
+    for axis in 0..shorter.len() {
+        common[first + axis] = stretched(longer[first + axis], shorter[axis]);
+    }
+}
+
+/// The common shape of a list of lengths and one that is no longer.
+#[inline(always)]
+fn common_of<Output: Dimension>(
+    alloc: Global,
+    longer: &[usize],
+    shorter: &[usize],
+) -> Result<Output, LayoutError>
+    requires shorter { length shorter.now ≤ length longer.now }
+    requires count { IsCount Output.NDIM (length longer.now) }
+    ensures refusal { shape_fault result ≡ common_shape_fault longer.now shorter.now }
+    ensures common { IfOk result (λ common.
+        common_shape longer.now shorter.now ≡ Some (Output.list common)) }
+    ensures memory { common_shape_fault longer.now shorter.now ≡ None →
+        NeedsNoMemory Output.NDIM (length longer.now) → IsOk result }
+{
+    if !have_common_shape(longer, shorter) {
+        return Err(from_kind(ErrorKind::IncompatibleShape).into());
+    }
+    let mut common = Output::zeros(alloc, longer.len())?;
+    fill_common_shape(longer, shorter, common.slice_mut());
+    Ok(common)
+}
+
+/// The shape that two shapes have in common, so that arrays of both can be read as arrays of it.
+///
+/// The rule is NumPy's: the shapes are set side by side at their last axes, and axes that only one
+/// of them has count as axes of length 1. On each axis equal lengths stay, and a length of 1 gives
+/// way to the other one, to 0 as well. So the order of the shapes doesn't matter, and of several
+/// shapes it doesn't matter which two are taken first. `Output` has as many axes as the shape of
+/// the greater count. The size of the common shape may pass any limit.
+///
+/// Refused with `IncompatibleShape` where two unequal lengths meet of which neither is 1, and then
+/// for want of memory, but not where `Output` fixes its count of axes or there are at most 4.
+/// Upstream's `co_broadcast`.
+#[inline]
+pub fn co_broadcast<D1: Dimension, D2: Dimension, Output: Dimension>(
+    alloc: Global,
+    shape1: &D1,
+    shape2: &D2,
+) -> Result<Output, LayoutError>
+    requires { IsCount Output.NDIM (max (length (D1.list shape1.now)) (length (D2.list shape2.now))) }
+    ensures refusal { shape_fault result ≡
+        common_shape_fault (D1.list shape1.now) (D2.list shape2.now) }
+    ensures common { IfOk result (λ common.
+        common_shape (D1.list shape1.now) (D2.list shape2.now) ≡ Some (Output.list common)) }
+    ensures memory { common_shape_fault (D1.list shape1.now) (D2.list shape2.now) ≡ None →
+        NeedsNoMemory Output.NDIM (max (length (D1.list shape1.now)) (length (D2.list shape2.now)))
+        → IsOk result }
+{
+    let (lens, others) = (shape1.slice(), shape2.slice());
+    if lens.len() < others.len() {
+        common_of(alloc, others, lens)
+    } else {
+        common_of(alloc, lens, others)
+    }
+}
