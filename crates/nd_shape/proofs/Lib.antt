@@ -1,6 +1,7 @@
 pub mod Answered
 pub mod AxesWalk
 pub mod CommonShape
+pub mod MergedStride
 pub mod OwnedRule
 pub mod SumLoop
 pub mod WalkOrder

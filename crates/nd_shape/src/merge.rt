@@ -1,0 +1,120 @@
+//! Two axes as one.
+ghost use Rattle.std.specs.Bool.{OnTrue};
+ghost use Rattle.std.specs.Prelude.{◌≡◌, ◌≢◌, ◌<◌, ◌↔◌, pos, ◌*ℤ◌, if◌then◌else◌, IsTrue, IfSome, IsSome, Some, length, slice_index};
+ghost use Rattle.nd_base.specs.Signed.{signed as signed_reading, all_signed};
+ghost use Rattle.nd_base.specs.ValidLayout.{IsValidLayout};
+ghost use Rattle.nd_shape.specs.Merge.{IsMergedStride, MergeFits, merged_stride as stride_of_both, merged_shape, merged_strides};
+
+use nd_dim::{Axis, Dimension, signed};
+
+/// Whether a stride is as long as that many steps of another.
+#[inline(always)]
+fn is_multiple(stride: usize, count: usize, step: usize) -> bool
+    ensures { IsTrue result ↔ (signed_reading stride ≡ pos count *ℤ signed_reading step) }
+{
+    signed(stride) as i128 == count as i128 * signed(step) as i128
+}
+
+/// The stride of both axes as one, where some stride serves.
+#[inline(always)]
+fn merged_stride(
+    take_len: usize,
+    take_stride: usize,
+    into_len: usize,
+    into_stride: usize,
+) -> Option<usize>
+    ensures fits { IsSome result ↔ MergeFits
+        take_len
+        (signed_reading take_stride)
+        into_len
+        (signed_reading into_stride) }
+    ensures stride { IfSome result (λ stride.
+        stride ≡ stride_of_both take_len take_stride into_len into_stride) }
+    ensures serves { IfSome result (λ stride.
+        IsMergedStride
+        take_len
+        (signed_reading take_stride)
+        into_len
+        (signed_reading into_stride)
+        (signed_reading stride)) }
+{
+    if take_len <= 1 {
+        Some(into_stride)
+    } else if into_len <= 1 {
+        Some(take_stride)
+    } else if is_multiple(take_stride, into_len, into_stride) {
+        Some(into_stride)
+    } else {
+        None
+    }
+}
+
+/// Merges an axis into another where that fits.
+#[inline(always)]
+fn merge_fitting(shape: &mut [usize], strides: &mut [usize], take: usize, into: usize) -> bool
+    requires valid { IsValidLayout shape.old (all_signed strides.old) }
+    requires take { take < length shape.old }
+    requires into { into < length shape.old }
+    requires apart { take ≢ into }
+    ensures fits { IsTrue result ↔ MergeFits
+        (slice_index shape.old take)
+        (signed_reading (slice_index strides.old take))
+        (slice_index shape.old into)
+        (signed_reading (slice_index strides.old into)) }
+    ensures shape { shape.new ≡ (if result then merged_shape take into shape.old else shape.old) }
+    ensures strides { strides.new ≡
+        (if result then merged_strides take into shape.old strides.old else strides.old) }
+    ensures serves { OnTrue result (IsMergedStride
+        (slice_index shape.old take)
+        (signed_reading (slice_index strides.old take))
+        (slice_index shape.old into)
+        (signed_reading (slice_index strides.old into))
+        (signed_reading (slice_index strides.new into))) }
+{
+    let (take_len, into_len) = (shape[take], shape[into]);
+    let Some(stride) = merged_stride(take_len, strides[take], into_len, strides[into]) else {
+        return false;
+    };
+    let merged_len = into_len * take_len;
+    shape[into] = merged_len;
+    shape[take] = if merged_len == 0 { 0 } else { 1 };
+    strides[into] = stride;
+    true
+}
+
+/// Merges the axis `take` into the axis `into` where one stride serves for the entries of both:
+/// then the axis `into` has them all, that of `take` moving slowest among them, and `take` keeps one
+/// entry, or none where there are none. Answers whether it did; else nothing changes.
+///
+/// The layout is valid, and the axes are two different ones that it has. Upstream's `merge_axes`.
+#[inline]
+pub fn merge_axes<D: Dimension>(dim: &mut D, strides: &mut D, take: Axis, into: Axis) -> bool
+    requires valid { IsValidLayout (D.list dim.old) (all_signed (D.list strides.old)) }
+    requires take { take.0 < length (D.list dim.old) }
+    requires into { into.0 < length (D.list dim.old) }
+    requires apart { take.0 ≢ into.0 }
+    ensures fits { IsTrue result ↔ MergeFits
+        (slice_index (D.list dim.old) take.0)
+        (signed_reading (slice_index (D.list strides.old) take.0))
+        (slice_index (D.list dim.old) into.0)
+        (signed_reading (slice_index (D.list strides.old) into.0)) }
+    ensures shape { D.list dim.new ≡
+        (if result then merged_shape take.0 into.0 (D.list dim.old) else D.list dim.old) }
+    ensures strides { D.list strides.new ≡
+        (if result
+        then merged_strides take.0 into.0 (D.list dim.old) (D.list strides.old)
+        else D.list strides.old) }
+    ensures serves { OnTrue result (IsMergedStride
+        (slice_index (D.list dim.old) take.0)
+        (signed_reading (slice_index (D.list strides.old) take.0))
+        (slice_index (D.list dim.old) into.0)
+        (signed_reading (slice_index (D.list strides.old) into.0))
+        (signed_reading (slice_index (D.list strides.new) into.0))) }
+{
+    merge_fitting(
+        dim.slice_mut(),
+        strides.slice_mut(),
+        take.index(),
+        into.index(),
+    )
+}
