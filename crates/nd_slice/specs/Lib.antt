@@ -5,3 +5,4 @@ pub mod Selected
 pub mod Kinds
 pub mod Ranges
 pub mod Text
+pub mod Counts
