@@ -14,6 +14,15 @@ pub trait SliceElems {
         ensures { result.now ≡ list self.now };
 }
 
+impl<const N: usize> SliceElems for [SliceInfoElem; N] {
+    ghost list = { λ elems. elems };
+
+    #[inline]
+    fn elems(&self) -> &[SliceInfoElem] {
+        self
+    }
+}
+
 impl SliceElems for &[SliceInfoElem] {
     ghost list = { λ s. s.now };
 

@@ -1,12 +1,16 @@
 //! What a slice argument picks of each axis.
 #![tactic(auto)]
 
+mod arg;
 mod axis_slice;
 mod checks;
 mod elems;
+mod info;
 mod slice;
 
+pub use arg::SliceArg;
 pub use axis_slice::{abs_index, do_slice, to_abs_slice};
 pub use checks::{check_elems, check_slice, in_ndim_of, out_ndim_of};
 pub use elems::SliceElems;
+pub use info::SliceInfo;
 pub use slice::{NewAxis, Slice, SliceInfoElem};

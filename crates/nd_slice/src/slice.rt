@@ -1,5 +1,11 @@
 //! Slices of one axis, and the elements of a whole slice argument.
-ghost use Rattle.std.specs.Prelude.{◌≡◌, ◌≢◌, pos};
+ghost use Rattle.std.specs.Prelude.{◌≡◌, ◌≢◌, pos, ◌*ℤ◌, FitsSigned};
+ghost use Rattle.std.specs.Int.{w64};
+ghost use Rattle.nd_slice.specs.Kinds.{is_slice, is_index, is_new_axis};
+
+mod builders;
+mod display;
+mod from;
 
 /// A range of an axis with a step. A negative bound counts from the end of the axis, no end is the
 /// end of the axis, and a negative step begins at the back of the range. Upstream's `Slice`.
@@ -24,6 +30,20 @@ impl Slice {
     {
         Slice { start, end, step }
     }
+
+    /// The same range with its step multiplied by `step`: of what it picked, every `step`-th entry.
+    /// `step` is not 0, and the product fits. Upstream's `Slice::step_by`.
+    #[inline]
+    pub fn step_by(self, step: isize) -> Self
+        requires moves { step ≢ pos 0 }
+        requires fits { FitsSigned w64 (self.step *ℤ step) }
+        ensures { result ≡ record { start = self.start; end = self.end; step = self.step *ℤ step } }
+    {
+        Slice {
+            step: self.step * step,
+            ..self
+        }
+    }
 }
 
 /// A new axis of length 1. Upstream's `NewAxis`.
@@ -46,4 +66,30 @@ pub enum SliceInfoElem {
     Index(isize),
     /// A new axis of length 1.
     NewAxis,
+}
+
+impl SliceInfoElem {
+    /// Whether it is a range with a step. Upstream's `SliceInfoElem::is_slice`.
+    #[inline]
+    pub fn is_slice(&self) -> bool
+        ensures { result ≡ is_slice self.now }
+    {
+        matches!(self, SliceInfoElem::Slice { .. })
+    }
+
+    /// Whether it is one entry. Upstream's `SliceInfoElem::is_index`.
+    #[inline]
+    pub fn is_index(&self) -> bool
+        ensures { result ≡ is_index self.now }
+    {
+        matches!(self, SliceInfoElem::Index(_))
+    }
+
+    /// Whether it is a new axis. Upstream's `SliceInfoElem::is_new_axis`.
+    #[inline]
+    pub fn is_new_axis(&self) -> bool
+        ensures { result ≡ is_new_axis self.now }
+    {
+        matches!(self, SliceInfoElem::NewAxis)
+    }
 }

@@ -1,0 +1,18 @@
+-- Which slice arguments are for a type of as many axes as they have, and leave one of as many.
+use Rattle.std.specs.Prelude.{ℕ, pos, negsuc, Option, Some, None, List, [], ◌∷◌, refl}
+use Rattle.nd_base.specs.Lengths.{IsCount}
+use Rattle.nd_slice.specs.declared.slice.SliceInfoElem.{SliceInfoElem}
+use Rattle.nd_slice.specs.declared.slice.SliceInfoElem.TheVariants as elem
+use Rattle.nd_slice.specs.SliceFault.{in_count, out_count}
+
+-- the counts of axes before and after, where types fix them
+pub record HasCounts (before after : Option ℕ) (elems : List SliceInfoElem) : Type 0 where
+  pub in_fits : IsCount before (in_count elems)
+  pub out_fits : IsCount after (out_count elems)
+
+-- examples
+row_of_a_matrix : HasCounts (Some 2) (Some 1) (elem.Index (pos 0) ∷ elem.Slice (pos 1) None (pos 1) ∷ [])
+row_of_a_matrix = record { in_fits = refl; out_fits = refl }
+
+any_count : HasCounts None (Some 2) (elem.NewAxis ∷ elem.Slice (pos 0) None (negsuc 0) ∷ [])
+any_count = record { in_fits = tt; out_fits = refl }

@@ -1,0 +1,17 @@
+-- What a range of an axis says of its end.
+use Rattle.std.specs.Prelude.{◌≡◌, zero, ℤ, pos, negsuc, ◌+ℤ◌, Option, Some, None, refl}
+
+-- the number that a range stops before, if its last entry is given: none behind the last entry of the axis
+abbrev pub end_after : ℤ → Option ℤ
+end_after (negsuc zero) = None
+end_after last = Some (last +ℤ pos 1)
+
+-- examples
+last_of_the_axis : end_after (negsuc 0) ≡ None
+last_of_the_axis = refl
+
+last_but_one : end_after (negsuc 1) ≡ Some (negsuc 0)
+last_but_one = refl
+
+counted_from_the_front : end_after (pos 4) ≡ Some (pos 5)
+counted_from_the_front = refl

@@ -1,0 +1,54 @@
+//! Slice arguments whose type tells which shapes they are for.
+ghost use Rattle.std.specs.Prelude.{◌≡◌};
+ghost use Rattle.nd_base.specs.Lengths.{IsCount};
+ghost use Rattle.nd_slice.specs.SliceFault.{in_count, out_count};
+
+use crate::elems::SliceElems;
+use crate::info::SliceInfo;
+use nd_base::{Dim, FixedCount, IxDyn};
+use nd_dim::Dimension;
+
+/// A slice argument for shapes of the type `D`. Upstream's `SliceArg`.
+pub trait SliceArg<D: FixedCount>: SliceElems {
+    /// The type of the shapes that it leaves.
+    type OutDim: Dimension;
+
+    /// How many axes of a shape it is for. Upstream's `in_ndim`.
+    fn in_ndim(&self) -> usize
+        ensures count { result ≡ in_count (Self.list self.now) }
+        ensures fixed { IsCount D.NDIM result };
+
+    /// How many axes it leaves. Upstream's `out_ndim`.
+    fn out_ndim(&self) -> usize
+        ensures count { result ≡ out_count (Self.list self.now) }
+        ensures fixed { IsCount Self.OutDim.NDIM result };
+}
+
+impl<T: SliceElems, Dout: Dimension, const N: usize> SliceArg<Dim<[usize; N]>>
+    for SliceInfo<T, Dim<[usize; N]>, Dout> {
+    type OutDim = Dout;
+
+    #[inline]
+    fn in_ndim(&self) -> usize {
+        SliceInfo::in_ndim(self)
+    }
+
+    #[inline]
+    fn out_ndim(&self) -> usize {
+        SliceInfo::out_ndim(self)
+    }
+}
+
+impl<T: SliceElems, Din: FixedCount, Dout: Dimension> SliceArg<IxDyn> for SliceInfo<T, Din, Dout> {
+    type OutDim = Dout;
+
+    #[inline]
+    fn in_ndim(&self) -> usize {
+        SliceInfo::in_ndim(self)
+    }
+
+    #[inline]
+    fn out_ndim(&self) -> usize {
+        SliceInfo::out_ndim(self)
+    }
+}
