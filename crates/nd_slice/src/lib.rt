@@ -4,9 +4,11 @@
 mod axis_slice;
 mod checks;
 mod elems;
+mod fit;
 mod slice;
 
 pub use axis_slice::{abs_index, do_slice, to_abs_slice};
 pub use checks::{check_elems, check_slice, in_ndim_of, out_ndim_of};
 pub use elems::SliceElems;
+pub use fit::Fit;
 pub use slice::{NewAxis, Slice, SliceInfoElem};
