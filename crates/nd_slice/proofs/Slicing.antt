@@ -10,6 +10,7 @@ use Rattle.std.specs.Int.{w64, div_ceil}
 use Rattle.nd_base.specs.Signed.{magnitude}
 use Rattle.nd_base.specs.Size.{limit}
 use Rattle.nd_base.specs.Span.{reach}
+use Rattle.nd_slice.specs.declared.fit.Fit.{Fit}
 use Rattle.nd_slice.specs.declared.slice.Slice.{Slice}
 use Rattle.nd_slice.specs.Picks.{every, directed, start_meaning, end_meaning, picks}
 use Rattle.nd_slice.specs.SliceFault.{slice_fault}
@@ -18,17 +19,17 @@ use Rattle.nd_slice.proofs.laws.SliceFault.{fits_of_no_fault, step_moves}
 use Rattle.nd_slice.proofs.Axis.{between, between_steps, between_below, between_within, length-between, pick_down}
 
 -- the picks of a slice, by the bounds that it means
-pub picks_between : (len : ℕ) (slice : Slice) (start end : ℕ) → pos start ≡ start_meaning len slice → end ≡ max start (magnitude (end_meaning len slice)) → picks len slice ≡ between slice.step start end
-picks_between len slice start end s e =
-    let from = magnitude (start_meaning len slice) in
-    let to = magnitude (end_meaning len slice) in
+pub picks_between : (fit : Fit) (len : ℕ) (slice : Slice) (start end : ℕ) → pos start ≡ start_meaning fit len slice → end ≡ max start (magnitude (end_meaning fit len slice)) → picks fit len slice ≡ between slice.step start end
+picks_between fit len slice start end s e =
+    let from = magnitude (start_meaning fit len slice) in
+    let to = magnitude (end_meaning fit len slice) in
     let first : from ≡ start = sym (ap magnitude s) in
     let count : to - from ≡ end - start = omega arith in
     ap (λ (xs : List ℕ). every (magnitude slice.step) (directed slice.step xs)) (ap (λ n. range_with_len n (to - from)) first ∙ ap (λ n. range_with_len start n) count)
 
 -- a slice that fits has a step
-pub moves : (len : ℕ) (slice : Slice) (step : ℤ) → None ≡ slice_fault len slice → step ≡ slice.step → 0 < magnitude step
-moves len slice step e same = subst (λ z. 0 < magnitude z) (sym same) (step_moves len slice (fits_of_no_fault len slice (sym e)))
+pub moves : (fit : Fit) (len : ℕ) (slice : Slice) (step : ℤ) → None ≡ slice_fault fit len slice → step ≡ slice.step → 0 < magnitude step
+moves fit len slice step e same = subst (λ z. 0 < magnitude z) (sym same) (step_moves fit len slice (fits_of_no_fault fit len slice (sym e)))
 
 -- a count rounded up
 count_of_some : (n k c : ℕ) → n ≤ c * k → 0 < n → 0 < c

@@ -1,5 +1,7 @@
 -- The shape, strides and offset that a slice argument gives.
-use Rattle.std.specs.Prelude.{◌≡◌, ℕ, ℤ, pos, negsuc, ◌+ℤ◌, ◌*ℤ◌, nat_le, if◌then◌else◌, None, List, [], ◌∷◌, length, refl}
+use Rattle.std.specs.Prelude.{◌≡◌, ℕ, ℤ, pos, negsuc, ◌+ℤ◌, ◌*ℤ◌, nat_le, if◌then◌else◌, Some, None, List, [], ◌∷◌, length, refl}
+use Rattle.nd_slice.specs.declared.fit.Fit.{Fit}
+use Rattle.nd_slice.specs.declared.fit.Fit.TheVariants.{Strict, Clamp}
 use Rattle.nd_slice.specs.declared.slice.SliceInfoElem.{SliceInfoElem}
 use Rattle.nd_slice.specs.declared.slice.SliceInfoElem.TheVariants as elem
 use Rattle.nd_slice.specs.Picks.{slice_with, meaning, picks}
@@ -14,44 +16,47 @@ first_offset [] stride = pos 0
 first_offset (pick ∷ others) stride = pos pick *ℤ stride
 
 -- the lengths that are left
-abbrev pub sliced_shape : List SliceInfoElem → List ℕ → List ℕ
-sliced_shape [] shape = []
-sliced_shape (elem.NewAxis ∷ elems) shape = 1 ∷ sliced_shape elems shape
-sliced_shape (elem.Slice start end step ∷ elems) [] = []
-sliced_shape (elem.Slice start end step ∷ elems) (len ∷ shape) = length (picks len (slice_with start end step)) ∷ sliced_shape elems shape
-sliced_shape (elem.Index index ∷ elems) [] = []
-sliced_shape (elem.Index index ∷ elems) (len ∷ shape) = sliced_shape elems shape
+abbrev pub sliced_shape : Fit → List SliceInfoElem → List ℕ → List ℕ
+sliced_shape fit [] shape = []
+sliced_shape fit (elem.NewAxis ∷ elems) shape = 1 ∷ sliced_shape fit elems shape
+sliced_shape fit (elem.Slice start end step ∷ elems) [] = []
+sliced_shape fit (elem.Slice start end step ∷ elems) (len ∷ shape) = length (picks fit len (slice_with start end step)) ∷ sliced_shape fit elems shape
+sliced_shape fit (elem.Index index ∷ elems) [] = []
+sliced_shape fit (elem.Index index ∷ elems) (len ∷ shape) = sliced_shape fit elems shape
 
 -- their strides
-abbrev pub sliced_strides : List SliceInfoElem → List ℕ → List ℤ → List ℤ
-sliced_strides [] shape strides = []
-sliced_strides (elem.NewAxis ∷ elems) shape strides = pos 0 ∷ sliced_strides elems shape strides
-sliced_strides (elem.Slice start end step ∷ elems) (len ∷ shape) (stride ∷ strides) = picked_stride (length (picks len (slice_with start end step))) stride step ∷ sliced_strides elems shape strides
-sliced_strides (elem.Index index ∷ elems) (len ∷ shape) (stride ∷ strides) = sliced_strides elems shape strides
-sliced_strides (elem.Slice start end step ∷ elems) shape strides = []
-sliced_strides (elem.Index index ∷ elems) shape strides = []
+abbrev pub sliced_strides : Fit → List SliceInfoElem → List ℕ → List ℤ → List ℤ
+sliced_strides fit [] shape strides = []
+sliced_strides fit (elem.NewAxis ∷ elems) shape strides = pos 0 ∷ sliced_strides fit elems shape strides
+sliced_strides fit (elem.Slice start end step ∷ elems) (len ∷ shape) (stride ∷ strides) = picked_stride (length (picks fit len (slice_with start end step))) stride step ∷ sliced_strides fit elems shape strides
+sliced_strides fit (elem.Index index ∷ elems) (len ∷ shape) (stride ∷ strides) = sliced_strides fit elems shape strides
+sliced_strides fit (elem.Slice start end step ∷ elems) shape strides = []
+sliced_strides fit (elem.Index index ∷ elems) shape strides = []
 
 -- how far the first index moves
-abbrev pub sliced_offset : List SliceInfoElem → List ℕ → List ℤ → ℤ
-sliced_offset [] shape strides = pos 0
-sliced_offset (elem.NewAxis ∷ elems) shape strides = sliced_offset elems shape strides
-sliced_offset (elem.Slice start end step ∷ elems) (len ∷ shape) (stride ∷ strides) = first_offset (picks len (slice_with start end step)) stride +ℤ sliced_offset elems shape strides
-sliced_offset (elem.Index index ∷ elems) (len ∷ shape) (stride ∷ strides) = (meaning len index *ℤ stride) +ℤ sliced_offset elems shape strides
-sliced_offset (elem.Slice start end step ∷ elems) shape strides = pos 0
-sliced_offset (elem.Index index ∷ elems) shape strides = pos 0
+abbrev pub sliced_offset : Fit → List SliceInfoElem → List ℕ → List ℤ → ℤ
+sliced_offset fit [] shape strides = pos 0
+sliced_offset fit (elem.NewAxis ∷ elems) shape strides = sliced_offset fit elems shape strides
+sliced_offset fit (elem.Slice start end step ∷ elems) (len ∷ shape) (stride ∷ strides) = first_offset (picks fit len (slice_with start end step)) stride +ℤ sliced_offset fit elems shape strides
+sliced_offset fit (elem.Index index ∷ elems) (len ∷ shape) (stride ∷ strides) = (meaning len index *ℤ stride) +ℤ sliced_offset fit elems shape strides
+sliced_offset fit (elem.Slice start end step ∷ elems) shape strides = pos 0
+sliced_offset fit (elem.Index index ∷ elems) shape strides = pos 0
 
 -- examples
-back_by_two : sliced_shape (elem.Slice (pos 1) None (negsuc 1) ∷ []) (4 ∷ []) ≡ 2 ∷ []
+back_by_two : sliced_shape Strict (elem.Slice (pos 1) None (negsuc 1) ∷ []) (4 ∷ []) ≡ 2 ∷ []
 back_by_two = refl
 
-back_by_two_strides : sliced_strides (elem.Slice (pos 1) None (negsuc 1) ∷ []) (4 ∷ []) (pos 1 ∷ []) ≡ negsuc 1 ∷ []
+back_by_two_strides : sliced_strides Strict (elem.Slice (pos 1) None (negsuc 1) ∷ []) (4 ∷ []) (pos 1 ∷ []) ≡ negsuc 1 ∷ []
 back_by_two_strides = refl
 
-back_by_two_offset : sliced_offset (elem.Slice (pos 1) None (negsuc 1) ∷ []) (4 ∷ []) (pos 1 ∷ []) ≡ pos 3
+back_by_two_offset : sliced_offset Strict (elem.Slice (pos 1) None (negsuc 1) ∷ []) (4 ∷ []) (pos 1 ∷ []) ≡ pos 3
 back_by_two_offset = refl
 
-row_with_new_axis : sliced_shape (elem.Index (pos 1) ∷ elem.NewAxis ∷ elem.Slice (pos 0) None (pos 1) ∷ []) (2 ∷ 3 ∷ []) ≡ 1 ∷ 3 ∷ []
+clamped_offset : sliced_offset Clamp (elem.Slice (pos 3) (Some (pos 9)) (pos 1) ∷ []) (4 ∷ []) (pos 1 ∷ []) ≡ pos 3
+clamped_offset = refl
+
+row_with_new_axis : sliced_shape Strict (elem.Index (pos 1) ∷ elem.NewAxis ∷ elem.Slice (pos 0) None (pos 1) ∷ []) (2 ∷ 3 ∷ []) ≡ 1 ∷ 3 ∷ []
 row_with_new_axis = refl
 
-row_with_new_axis_strides : sliced_strides (elem.Index (pos 1) ∷ elem.NewAxis ∷ elem.Slice (pos 0) None (pos 1) ∷ []) (2 ∷ 3 ∷ []) (pos 3 ∷ pos 1 ∷ []) ≡ pos 0 ∷ pos 1 ∷ []
+row_with_new_axis_strides : sliced_strides Strict (elem.Index (pos 1) ∷ elem.NewAxis ∷ elem.Slice (pos 0) None (pos 1) ∷ []) (2 ∷ 3 ∷ []) (pos 3 ∷ pos 1 ∷ []) ≡ pos 0 ∷ pos 1 ∷ []
 row_with_new_axis_strides = refl

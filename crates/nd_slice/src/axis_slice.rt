@@ -5,12 +5,14 @@ ghost use Rattle.std.specs.Result.{result_err};
 ghost use Rattle.nd_base.specs.Signed.{magnitude, signed as signed_reading};
 ghost use Rattle.nd_base.specs.Size.{limit};
 ghost use Rattle.nd_base.specs.Span.{reach};
-ghost use Rattle.nd_slice.specs.Picks.{meaning, is_bound, start_meaning, end_meaning, range, directed, every, picks};
+ghost use Rattle.nd_slice.specs.Picks.{meaning, is_bound, bound_meaning, start_meaning, end_meaning, range, directed, every, picks};
 ghost use Rattle.nd_slice.specs.SliceFault.{slice_fault, SliceFits};
 ghost use Rattle.nd_slice.specs.Sliced.{picked_stride, first_offset};
 
+use crate::fit::Fit;
 use crate::slice::Slice;
 use nd_base::{ErrorKind, ShapeError, from_kind, signed, stride_offset, unsigned};
+use num_traits::clamp;
 
 /// The entry that an index means on an axis of `len` entries: itself, or `len + index` where it is
 /// negative. Upstream's `abs_index`.
@@ -23,13 +25,17 @@ pub fn abs_index(len: usize, index: isize) -> usize
     if index < 0 { len - distance } else { distance }
 }
 
-/// The entry that a bound of a range means, from 0 to `len`; any other is `OutOfBounds`.
-fn abs_bound(len: usize, bound: isize) -> Result<usize, ShapeError>
-    ensures value { OkIff result (IsTrue (is_bound len (meaning len bound)))
-        (magnitude (meaning len bound)) }
+/// The entry that a bound of a range means, from 0 to `len`. Any other is `OutOfBounds`, or is moved
+/// to the nearer end of the axis.
+fn abs_bound(len: usize, bound: isize, fit: Fit) -> Result<usize, ShapeError>
+    ensures value { OkIff result (IsTrue (is_bound len (bound_meaning fit len bound)))
+        (magnitude (bound_meaning fit len bound)) }
     ensures fault { IsOkUnless result ErrorKind.OutOfBounds }
 {
-    let distance = bound.unsigned_abs();
+    let distance = match fit {
+        Fit::Strict => bound.unsigned_abs(),
+        Fit::Clamp => clamp(bound.unsigned_abs(), 0, len),
+    };
     if distance > len {
         Err(from_kind(ErrorKind::OutOfBounds))
     } else if bound < 0 {
@@ -41,20 +47,21 @@ fn abs_bound(len: usize, bound: isize) -> Result<usize, ShapeError>
 
 /// The start, the end and the step of a slice on an axis of `len` entries, with the bounds counted
 /// from the first entry. An end before the start becomes the start. Refused where a bound is not
-/// from 0 to `len` (`OutOfBounds`), then for a step of 0 (`Unsupported`). Upstream's `to_abs_slice`.
-pub fn to_abs_slice(len: usize, slice: Slice) -> Result<(usize, usize, isize), ShapeError>
-    ensures fault { result_err result ≡ slice_fault len slice }
-    ensures fits { IsOk result ↔ SliceFits len slice }
-    ensures start { IfOk result (λ (start, end, step). pos start ≡ start_meaning len slice) }
+/// from 0 to `len` and is not to be clamped (`OutOfBounds`), then for a step of 0 (`Unsupported`).
+/// Upstream's `to_abs_slice`.
+pub fn to_abs_slice(len: usize, slice: Slice, fit: Fit) -> Result<(usize, usize, isize), ShapeError>
+    ensures fault { result_err result ≡ slice_fault fit len slice }
+    ensures fits { IsOk result ↔ SliceFits fit len slice }
+    ensures start { IfOk result (λ (start, end, step). pos start ≡ start_meaning fit len slice) }
     ensures end { IfOk result (λ (start, end, step).
-        end ≡ max start (magnitude (end_meaning len slice))) }
+        end ≡ max start (magnitude (end_meaning fit len slice))) }
     ensures order { IfOk result (λ (start, end, step). start ≤ end) }
     ensures within { IfOk result (λ (start, end, step). end ≤ len) }
     ensures step { IfOk result (λ (start, end, step). step ≡ slice.step) }
 {
-    let start = abs_bound(len, slice.start)?;
+    let start = abs_bound(len, slice.start, fit)?;
     let end = match slice.end {
-        Some(end) => abs_bound(len, end)?,
+        Some(end) => abs_bound(len, end, fit)?,
         None => len,
     };
     if slice.step == 0 {
@@ -98,23 +105,28 @@ fn stepped_stride(count: usize, stride: usize, step: isize) -> usize
 /// distance in elements from one of them to the next, 0 where there is at most one. Answers how many
 /// elements the first of them lies behind the first entry, with its sign; 0 where there is none.
 /// Refused as `to_abs_slice` is, and then the length and the stride stay. Upstream's `do_slice`.
-pub fn do_slice(dim: &mut usize, stride: &mut usize, slice: Slice) -> Result<isize, ShapeError>
+pub fn do_slice(
+    dim: &mut usize,
+    stride: &mut usize,
+    slice: Slice,
+    fit: Fit,
+) -> Result<isize, ShapeError>
     requires len_fits { dim.old < 2 ^ 63 }
     requires span_fits { reach dim.old (signed_reading stride.old) ≤ limit }
-    ensures fault { result_err result ≡ slice_fault dim.old slice }
-    ensures len { OnOk result (dim.new ≡ length (picks dim.old slice)) }
+    ensures fault { result_err result ≡ slice_fault fit dim.old slice }
+    ensures len { OnOk result (dim.new ≡ length (picks fit dim.old slice)) }
     ensures stride { OnOk result (signed_reading stride.new
-        ≡ picked_stride (length (picks dim.old slice)) (signed_reading stride.old) slice.step) }
+        ≡ picked_stride (length (picks fit dim.old slice)) (signed_reading stride.old) slice.step) }
     ensures offset { IfOk result (λ offset.
-        offset ≡ first_offset (picks dim.old slice) (signed_reading stride.old)) }
+        offset ≡ first_offset (picks fit dim.old slice) (signed_reading stride.old)) }
     ensures steps { IfOk result (λ offset. (j : ℕ) → j < dim.new →
-        pos (slice_index (picks dim.old slice) j) *ℤ signed_reading stride.old
+        pos (slice_index (picks fit dim.old slice) j) *ℤ signed_reading stride.old
         ≡ offset +ℤ (pos j *ℤ signed_reading stride.new)) }
     ensures within { OnOk result ((j : ℕ) → j < dim.new →
-        slice_index (picks dim.old slice) j < dim.old) }
+        slice_index (picks fit dim.old slice) j < dim.old) }
     ensures refusal { OnErr result ((dim.new ≡ dim.old) × (stride.new ≡ stride.old)) }
 {
-    let (start, end, step) = to_abs_slice(*dim, slice)?;
+    let (start, end, step) = to_abs_slice(*dim, slice, fit)?;
     let offset = if start < end {
         stride_offset(first_pick(start, end, step), *stride)
     } else {

@@ -5,6 +5,7 @@ ghost use Rattle.nd_slice.specs.SliceFault.{argument_fault, index_fault, in_coun
 
 use crate::axis_slice::to_abs_slice;
 use crate::elems::SliceElems;
+use crate::fit::Fit;
 use crate::slice::{Slice, SliceInfoElem};
 use nd_base::{ErrorKind, Lengths, ShapeError, from_kind};
 use nd_dim::Dimension;
@@ -44,10 +45,10 @@ fn check_index(len: usize, index: isize) -> Result<(), ShapeError>
 
 /// Whether the elements of a slice argument fit the lengths of a shape. Refused with
 /// `IncompatibleShape` where they are for more axes or fewer; otherwise as the first element at fault
-/// is: with `OutOfBounds` for a bound or an index that is not on its axis, then with `Unsupported`
-/// for a step of 0. For the panics of upstream's `slice_collapse`.
-pub fn check_elems(shape: &[usize], elems: &[SliceInfoElem]) -> Result<(), ShapeError>
-    ensures { result_err result ≡ argument_fault shape.now elems.now }
+/// is: with `OutOfBounds` for an index that is not on its axis, or a bound that is not and is not to
+/// be clamped, then with `Unsupported` for a step of 0. For the panics of upstream's `slice_collapse`.
+pub fn check_elems(shape: &[usize], elems: &[SliceInfoElem], fit: Fit) -> Result<(), ShapeError>
+    ensures { result_err result ≡ argument_fault fit shape.now elems.now }
 {
     if in_ndim_of(elems) != shape.len() {
         return Err(from_kind(ErrorKind::IncompatibleShape));
@@ -56,7 +57,7 @@ pub fn check_elems(shape: &[usize], elems: &[SliceInfoElem]) -> Result<(), Shape
     for elem in elems {
         match *elem {
             SliceInfoElem::Slice { start, end, step } => {
-                to_abs_slice(shape[axis], Slice { start, end, step })?;
+                to_abs_slice(shape[axis], Slice { start, end, step }, fit)?;
                 axis += 1;
             }
             SliceInfoElem::Index(index) => {
@@ -72,8 +73,12 @@ pub fn check_elems(shape: &[usize], elems: &[SliceInfoElem]) -> Result<(), Shape
 /// Whether a slice argument fits a shape; refused as `check_elems` is, with the count of axes before
 /// any element. For the panics of upstream's `slice_move`.
 #[inline]
-pub fn check_slice<D: Dimension, S: SliceElems>(dim: &D, slices: &S) -> Result<(), ShapeError>
-    ensures { result_err result ≡ argument_fault (D.list dim.now) (S.list slices.now) }
+pub fn check_slice<D: Dimension, S: SliceElems>(
+    dim: &D,
+    slices: &S,
+    fit: Fit,
+) -> Result<(), ShapeError>
+    ensures { result_err result ≡ argument_fault fit (D.list dim.now) (S.list slices.now) }
 {
-    check_elems(dim.slice(), slices.elems())
+    check_elems(dim.slice(), slices.elems(), fit)
 }

@@ -1,5 +1,6 @@
 -- The picks of a slice that fits lie within the axis.
 use Rattle.std.proofs.Common.{◌≡◌, ℕ, None}
+use Rattle.nd_slice.specs.declared.fit.Fit.{Fit}
 use Rattle.nd_slice.specs.declared.slice.Slice.{Slice}
 use Rattle.nd_slice.specs.Picks.{picks}
 use Rattle.nd_slice.specs.SliceFault.{slice_fault}
@@ -7,11 +8,11 @@ use Rattle.nd_slice.proofs.laws.Picks.{length-picks_le, pick_below, pick_steps}
 use Rattle.nd_slice.proofs.laws.SliceFault.{fits_of_no_fault}
 use Rattle.ndarray_layout.proofs.Picked.{PicksFit}
 
-pub picks_fit : (len : ℕ) (slice : Slice) → slice_fault len slice ≡ None → PicksFit len slice.step (picks len slice)
-picks_fit len slice none =
-    let fits = fits_of_no_fault len slice none in
+pub picks_fit : (fit : Fit) (len : ℕ) (slice : Slice) → slice_fault fit len slice ≡ None → PicksFit len slice.step (picks fit len slice)
+picks_fit fit len slice none =
+    let fits = fits_of_no_fault fit len slice none in
     record {
-      few = length-picks_le len slice fits;
-      within = λ j below. pick_below len slice j fits below;
-      spaced = λ j stride below. pick_steps len slice j stride below;
+      few = length-picks_le fit len slice fits;
+      within = λ j below. pick_below fit len slice j fits below;
+      spaced = λ j stride below. pick_steps fit len slice j stride below;
     }

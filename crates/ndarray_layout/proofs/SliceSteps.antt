@@ -11,6 +11,7 @@ use Rattle.nd_base.specs.Signed.{magnitude, signed, all_signed}
 use Rattle.nd_base.specs.Size.{limit, nonzero_size}
 use Rattle.nd_base.specs.Span.{reach, reach_down, reach_up, low_span, high_span, span}
 use Rattle.nd_base.specs.ValidLayout.{IsValidLayout}
+use Rattle.nd_slice.specs.declared.fit.Fit.{Fit}
 use Rattle.nd_slice.specs.declared.slice.Slice.{Slice}
 use Rattle.nd_slice.specs.declared.slice.SliceInfoElem.{SliceInfoElem}
 use Rattle.nd_slice.specs.declared.slice.SliceInfoElem.TheVariants as elem
@@ -25,32 +26,32 @@ use Rattle.nd_base.proofs.laws.NonzeroSize.{nonzero_size_pos}
 use Rattle.nd_base.proofs.laws.Span.{low_high_span, reach_parts}
 
 -- rest, lens and steps are the elements, the lengths and the strides still to come
-pub record SlicedSoFar (elems : List SliceInfoElem) (shape : List ℕ) (strides : List ℤ) (rest : List SliceInfoElem) (lens : List ℕ) (steps : List ℤ) (new : ℕ) (new_shape new_strides : List ℕ) (offset : ℤ) : Type 0 where
+pub record SlicedSoFar (fit : Fit) (elems : List SliceInfoElem) (shape : List ℕ) (strides : List ℤ) (rest : List SliceInfoElem) (lens : List ℕ) (steps : List ℤ) (new : ℕ) (new_shape new_strides : List ℕ) (offset : ℤ) : Type 0 where
   pub same_count : length lens ≡ length steps
   pub counts : in_count rest ≡ length lens
   pub room : new + out_count rest ≡ length new_shape
   pub same_room : length new_strides ≡ length new_shape
-  pub fits : first_fault lens rest ≡ None
-  pub shape_is : take new new_shape ++ sliced_shape rest lens ≡ sliced_shape elems shape
-  pub strides_is : all_signed (take new new_strides) ++ sliced_strides rest lens steps ≡ sliced_strides elems shape strides
-  pub offset_is : offset +ℤ sliced_offset rest lens steps ≡ sliced_offset elems shape strides
+  pub fits : first_fault fit lens rest ≡ None
+  pub shape_is : take new new_shape ++ sliced_shape fit rest lens ≡ sliced_shape fit elems shape
+  pub strides_is : all_signed (take new new_strides) ++ sliced_strides fit rest lens steps ≡ sliced_strides fit elems shape strides
+  pub offset_is : offset +ℤ sliced_offset fit rest lens steps ≡ sliced_offset fit elems shape strides
   pub low : pos (low_span lens steps) ≤ℤ (pos (low_span shape strides) +ℤ offset)
   pub high : (offset +ℤ pos (high_span lens steps)) ≤ℤ pos (high_span shape strides)
 
 -- ---- the next element and the next axis
-pub at_elem : (elems : List SliceInfoElem) (shape : List ℕ) (strides : List ℤ) (k : ℕ) (lens : List ℕ) (steps : List ℤ) (new : ℕ) (ns nt : List ℕ) (offset : ℤ) (one other : SliceInfoElem) → k < length elems → get_or elems k other ≡ one → SlicedSoFar elems shape strides (drop k elems) lens steps new ns nt offset → SlicedSoFar elems shape strides (one ∷ drop (k + 1) elems) lens steps new ns nt offset
-at_elem elems shape strides k lens steps new ns nt offset one other h e s =
-    let P = λ (rest : List SliceInfoElem). SlicedSoFar elems shape strides rest lens steps new ns nt offset in
+pub at_elem : (fit : Fit) (elems : List SliceInfoElem) (shape : List ℕ) (strides : List ℤ) (k : ℕ) (lens : List ℕ) (steps : List ℤ) (new : ℕ) (ns nt : List ℕ) (offset : ℤ) (one other : SliceInfoElem) → k < length elems → get_or elems k other ≡ one → SlicedSoFar fit elems shape strides (drop k elems) lens steps new ns nt offset → SlicedSoFar fit elems shape strides (one ∷ drop (k + 1) elems) lens steps new ns nt offset
+at_elem fit elems shape strides k lens steps new ns nt offset one other h e s =
+    let P = λ (rest : List SliceInfoElem). SlicedSoFar fit elems shape strides rest lens steps new ns nt offset in
     subst P (drop_more elems k other h ∙ ap (λ x. x ∷ drop (k + 1) elems) e) s
 
-pub axis_below : (elems : List SliceInfoElem) (shape : List ℕ) (strides : List ℤ) (rest : List SliceInfoElem) (k : ℕ) (steps : List ℤ) (new : ℕ) (ns nt : List ℕ) (offset : ℤ) → 0 < in_count rest → SlicedSoFar elems shape strides rest (drop k shape) steps new ns nt offset → k < length shape
-axis_below elems shape strides rest k steps new ns nt offset h s = omega (arith, s.counts, length-drop k shape)
+pub axis_below : (fit : Fit) (elems : List SliceInfoElem) (shape : List ℕ) (strides : List ℤ) (rest : List SliceInfoElem) (k : ℕ) (steps : List ℤ) (new : ℕ) (ns nt : List ℕ) (offset : ℤ) → 0 < in_count rest → SlicedSoFar fit elems shape strides rest (drop k shape) steps new ns nt offset → k < length shape
+axis_below fit elems shape strides rest k steps new ns nt offset h s = omega (arith, s.counts, length-drop k shape)
 
-pub at_axis : (elems : List SliceInfoElem) (shape : List ℕ) (strides : List ℤ) (rest : List SliceInfoElem) (k : ℕ) (new : ℕ) (ns nt : List ℕ) (offset : ℤ) → length shape ≡ length strides → 0 < in_count rest → SlicedSoFar elems shape strides rest (drop k shape) (drop k strides) new ns nt offset → SlicedSoFar elems shape strides rest (get_or shape k 0 ∷ drop (k + 1) shape) (get_or strides k (pos 0) ∷ drop (k + 1) strides) new ns nt offset
-at_axis elems shape strides rest k new ns nt offset same h s =
-    let below = axis_below elems shape strides rest k (drop k strides) new ns nt offset h s in
-    let P = λ (lens : List ℕ). SlicedSoFar elems shape strides rest lens (drop k strides) new ns nt offset in
-    let Q = λ (steps : List ℤ). SlicedSoFar elems shape strides rest (get_or shape k 0 ∷ drop (k + 1) shape) steps new ns nt offset in
+pub at_axis : (fit : Fit) (elems : List SliceInfoElem) (shape : List ℕ) (strides : List ℤ) (rest : List SliceInfoElem) (k : ℕ) (new : ℕ) (ns nt : List ℕ) (offset : ℤ) → length shape ≡ length strides → 0 < in_count rest → SlicedSoFar fit elems shape strides rest (drop k shape) (drop k strides) new ns nt offset → SlicedSoFar fit elems shape strides rest (get_or shape k 0 ∷ drop (k + 1) shape) (get_or strides k (pos 0) ∷ drop (k + 1) strides) new ns nt offset
+at_axis fit elems shape strides rest k new ns nt offset same h s =
+    let below = axis_below fit elems shape strides rest k (drop k strides) new ns nt offset h s in
+    let P = λ (lens : List ℕ). SlicedSoFar fit elems shape strides rest lens (drop k strides) new ns nt offset in
+    let Q = λ (steps : List ℤ). SlicedSoFar fit elems shape strides rest (get_or shape k 0 ∷ drop (k + 1) shape) steps new ns nt offset in
     subst Q (drop_more strides k (pos 0) (omega arith)) (subst P (drop_more shape k 0 below) s)
 
 -- ---- what is written
@@ -65,11 +66,11 @@ wrote_stride new v z nt out whole h s e =
     ∙ ap (λ x. all_signed (take new nt) ++ (x ∷ out)) s ∙ e
 
 -- ---- the steps
-pub slice_step : (elems : List SliceInfoElem) (shape : List ℕ) (strides : List ℤ) (rest : List SliceInfoElem) (lens : List ℕ) (steps : List ℤ) (new : ℕ) (ns nt : List ℕ) (offset : ℤ) (slice : Slice) (len : ℕ) (stride : ℤ) (count kept : ℕ) (moved : ℤ) → count ≡ length (picks len slice) → signed kept ≡ picked_stride (length (picks len slice)) stride slice.step → moved ≡ first_offset (picks len slice) stride → SlicedSoFar elems shape strides (elem.Slice slice.start slice.end slice.step ∷ rest) (len ∷ lens) (stride ∷ steps) new ns nt offset → SlicedSoFar elems shape strides rest lens steps (new + 1) (set ns new count) (set nt new kept) (offset +ℤ moved)
-slice_step elems shape strides rest lens steps new ns nt offset slice len stride count kept moved n t m s =
-    let none = or_none (slice_fault len slice) (first_fault lens rest) s.fits in
-    let axis = slice_kept len stride slice.step (picks len slice) (picks_fit len slice none.0) in
-    let shape_is : take new ns ++ (count ∷ sliced_shape rest lens) ≡ sliced_shape elems shape = rw n s.shape_is in
+pub slice_step : (fit : Fit) (elems : List SliceInfoElem) (shape : List ℕ) (strides : List ℤ) (rest : List SliceInfoElem) (lens : List ℕ) (steps : List ℤ) (new : ℕ) (ns nt : List ℕ) (offset : ℤ) (slice : Slice) (len : ℕ) (stride : ℤ) (count kept : ℕ) (moved : ℤ) → count ≡ length (picks fit len slice) → signed kept ≡ picked_stride (length (picks fit len slice)) stride slice.step → moved ≡ first_offset (picks fit len slice) stride → SlicedSoFar fit elems shape strides (elem.Slice slice.start slice.end slice.step ∷ rest) (len ∷ lens) (stride ∷ steps) new ns nt offset → SlicedSoFar fit elems shape strides rest lens steps (new + 1) (set ns new count) (set nt new kept) (offset +ℤ moved)
+slice_step fit elems shape strides rest lens steps new ns nt offset slice len stride count kept moved n t m s =
+    let none = or_none (slice_fault fit len slice) (first_fault fit lens rest) s.fits in
+    let axis = slice_kept len stride slice.step (picks fit len slice) (picks_fit fit len slice none.0) in
+    let shape_is : take new ns ++ (count ∷ sliced_shape fit rest lens) ≡ sliced_shape fit elems shape = rw n s.shape_is in
     let strides_is = s.strides_is in
     record {
       same_count = omega (arith, s.same_count);
@@ -77,16 +78,16 @@ slice_step elems shape strides rest lens steps new ns nt offset slice len stride
       room = omega (arith, s.room, length-set ns new count);
       same_room = omega (arith, s.same_room, length-set ns new count, length-set nt new kept);
       fits = none.1;
-      shape_is = wrote_len new count ns (sliced_shape rest lens) (sliced_shape elems shape) (omega (arith, s.room)) shape_is;
-      strides_is = wrote_stride new kept _ nt (sliced_strides rest lens steps) (sliced_strides elems shape strides) (omega (arith, s.room, s.same_room)) t strides_is;
+      shape_is = wrote_len new count ns (sliced_shape fit rest lens) (sliced_shape fit elems shape) (omega (arith, s.room)) shape_is;
+      strides_is = wrote_stride new kept _ nt (sliced_strides fit rest lens steps) (sliced_strides fit elems shape strides) (omega (arith, s.room, s.same_room)) t strides_is;
       offset_is = rw m (omega (arith, ints, s.offset_is));
       low = rw m (omega (arith, ints, s.low, axis.low));
       high = rw m (omega (arith, ints, s.high, axis.high));
     }
 
-pub index_step : (elems : List SliceInfoElem) (shape : List ℕ) (strides : List ℤ) (rest : List SliceInfoElem) (lens : List ℕ) (steps : List ℤ) (new : ℕ) (ns nt : List ℕ) (offset : ℤ) (index : ℤ) (len : ℕ) (stride : ℤ) (moved : ℤ) → moved ≡ meaning len index *ℤ stride → SlicedSoFar elems shape strides (elem.Index index ∷ rest) (len ∷ lens) (stride ∷ steps) new ns nt offset → SlicedSoFar elems shape strides rest lens steps new ns nt (offset +ℤ moved)
-index_step elems shape strides rest lens steps new ns nt offset index len stride moved m s =
-    let none = or_none (index_fault len index) (first_fault lens rest) s.fits in
+pub index_step : (fit : Fit) (elems : List SliceInfoElem) (shape : List ℕ) (strides : List ℤ) (rest : List SliceInfoElem) (lens : List ℕ) (steps : List ℤ) (new : ℕ) (ns nt : List ℕ) (offset : ℤ) (index : ℤ) (len : ℕ) (stride : ℤ) (moved : ℤ) → moved ≡ meaning len index *ℤ stride → SlicedSoFar fit elems shape strides (elem.Index index ∷ rest) (len ∷ lens) (stride ∷ steps) new ns nt offset → SlicedSoFar fit elems shape strides rest lens steps new ns nt (offset +ℤ moved)
+index_step fit elems shape strides rest lens steps new ns nt offset index len stride moved m s =
+    let none = or_none (index_fault len index) (first_fault fit lens rest) s.fits in
     let entry = index_entry len index none.0 in
     let axis : Within (reach_down len stride) (reach_up len stride) (meaning len index *ℤ stride) = rw entry.0 (axis_within len (magnitude (meaning len index)) stride entry.1) in
     record {
@@ -102,23 +103,23 @@ index_step elems shape strides rest lens steps new ns nt offset index len stride
       high = rw m (omega (arith, ints, s.high, axis.below));
     }
 
-pub new_axis_step : (elems : List SliceInfoElem) (shape : List ℕ) (strides : List ℤ) (rest : List SliceInfoElem) (lens : List ℕ) (steps : List ℤ) (new : ℕ) (ns nt : List ℕ) (offset : ℤ) → SlicedSoFar elems shape strides (elem.NewAxis ∷ rest) lens steps new ns nt offset → SlicedSoFar elems shape strides rest lens steps (new + 1) (set ns new 1) (set nt new 0) offset
-new_axis_step elems shape strides rest lens steps new ns nt offset s = record {
+pub new_axis_step : (fit : Fit) (elems : List SliceInfoElem) (shape : List ℕ) (strides : List ℤ) (rest : List SliceInfoElem) (lens : List ℕ) (steps : List ℤ) (new : ℕ) (ns nt : List ℕ) (offset : ℤ) → SlicedSoFar fit elems shape strides (elem.NewAxis ∷ rest) lens steps new ns nt offset → SlicedSoFar fit elems shape strides rest lens steps (new + 1) (set ns new 1) (set nt new 0) offset
+new_axis_step fit elems shape strides rest lens steps new ns nt offset s = record {
   same_count = s.same_count;
   counts = s.counts;
   room = omega (arith, s.room, length-set ns new 1);
   same_room = omega (arith, s.same_room, length-set ns new 1, length-set nt new 0);
   fits = s.fits;
-  shape_is = wrote_len new 1 ns (sliced_shape rest lens) (sliced_shape elems shape) (omega (arith, s.room)) s.shape_is;
-  strides_is = wrote_stride new 0 (pos 0) nt (sliced_strides rest lens steps) (sliced_strides elems shape strides) (omega (arith, s.room, s.same_room)) refl s.strides_is;
+  shape_is = wrote_len new 1 ns (sliced_shape fit rest lens) (sliced_shape fit elems shape) (omega (arith, s.room)) s.shape_is;
+  strides_is = wrote_stride new 0 (pos 0) nt (sliced_strides fit rest lens steps) (sliced_strides fit elems shape strides) (omega (arith, s.room, s.same_room)) refl s.strides_is;
   offset_is = s.offset_is;
   low = s.low;
   high = s.high;
 }
 
 -- ---- what fits
-pub offset_fits : (elems : List SliceInfoElem) (shape : List ℕ) (strides : List ℤ) (rest : List SliceInfoElem) (lens : List ℕ) (steps : List ℤ) (new : ℕ) (ns nt : List ℕ) (offset : ℤ) → IsValidLayout shape strides → SlicedSoFar elems shape strides rest lens steps new ns nt offset → FitsSigned w64 offset
-offset_fits elems shape strides rest lens steps new ns nt offset valid s = omega (arith, ints, s.low, s.high, low_high_span shape strides, valid.span_fits)
+pub offset_fits : (fit : Fit) (elems : List SliceInfoElem) (shape : List ℕ) (strides : List ℤ) (rest : List SliceInfoElem) (lens : List ℕ) (steps : List ℤ) (new : ℕ) (ns nt : List ℕ) (offset : ℤ) → IsValidLayout shape strides → SlicedSoFar fit elems shape strides rest lens steps new ns nt offset → FitsSigned w64 offset
+offset_fits fit elems shape strides rest lens steps new ns nt offset valid s = omega (arith, ints, s.low, s.high, low_high_span shape strides, valid.span_fits)
 
 -- a length is at most the product of those that are not 0
 len_of_product : (len rest : ℕ) → 1 ≤ rest → len ≤ cond (eqb len 0) rest (len * rest)
@@ -150,44 +151,44 @@ reach_small (len ∷ shape) (stride ∷ strides) zero h e = omega arith
 reach_small (len ∷ shape) (stride ∷ strides) (suc k) h e = omega (arith, reach_small shape strides k (omega arith) (omega arith))
 
 -- what is known at an element that is for an axis
-pub record AtAxis (elems : List SliceInfoElem) (shape strides : List ℕ) (one : SliceInfoElem) (k axis : ℕ) (new : ℕ) (ns nt : List ℕ) (offset : ℤ) : Type 0 where
-  pub so_far : SlicedSoFar elems shape (all_signed strides) (one ∷ drop (k + 1) elems) (get_or shape axis 0 ∷ drop (axis + 1) shape) (signed (get_or strides axis 0) ∷ drop (axis + 1) (all_signed strides)) new ns nt offset
+pub record AtAxis (fit : Fit) (elems : List SliceInfoElem) (shape strides : List ℕ) (one : SliceInfoElem) (k axis : ℕ) (new : ℕ) (ns nt : List ℕ) (offset : ℤ) : Type 0 where
+  pub so_far : SlicedSoFar fit elems shape (all_signed strides) (one ∷ drop (k + 1) elems) (get_or shape axis 0 ∷ drop (axis + 1) shape) (signed (get_or strides axis 0) ∷ drop (axis + 1) (all_signed strides)) new ns nt offset
   pub len_fits : get_or shape axis 0 ≤ limit
   pub reach_fits : reach (get_or shape axis 0) (signed (get_or strides axis 0)) ≤ limit
 
-pub at_both : (elems : List SliceInfoElem) (shape strides : List ℕ) (one other : SliceInfoElem) (k axis : ℕ) (new : ℕ) (ns nt : List ℕ) (offset : ℤ) → IsValidLayout shape (all_signed strides) → k < length elems → get_or elems k other ≡ one → 0 < in_count (one ∷ drop (k + 1) elems) → SlicedSoFar elems shape (all_signed strides) (drop k elems) (drop axis shape) (drop axis (all_signed strides)) new ns nt offset → AtAxis elems shape strides one k axis new ns nt offset
-at_both elems shape strides one other k axis new ns nt offset valid h e some s =
+pub at_both : (fit : Fit) (elems : List SliceInfoElem) (shape strides : List ℕ) (one other : SliceInfoElem) (k axis : ℕ) (new : ℕ) (ns nt : List ℕ) (offset : ℤ) → IsValidLayout shape (all_signed strides) → k < length elems → get_or elems k other ≡ one → 0 < in_count (one ∷ drop (k + 1) elems) → SlicedSoFar fit elems shape (all_signed strides) (drop k elems) (drop axis shape) (drop axis (all_signed strides)) new ns nt offset → AtAxis fit elems shape strides one k axis new ns nt offset
+at_both fit elems shape strides one other k axis new ns nt offset valid h e some s =
     let rest = one ∷ drop (k + 1) elems in
-    let here = at_elem elems shape (all_signed strides) k (drop axis shape) (drop axis (all_signed strides)) new ns nt offset one other h e s in
-    let below = axis_below elems shape (all_signed strides) rest axis (drop axis (all_signed strides)) new ns nt offset some here in
-    let there = at_axis elems shape (all_signed strides) rest axis new ns nt offset valid.same_count some here in
+    let here = at_elem fit elems shape (all_signed strides) k (drop axis shape) (drop axis (all_signed strides)) new ns nt offset one other h e s in
+    let below = axis_below fit elems shape (all_signed strides) rest axis (drop axis (all_signed strides)) new ns nt offset some here in
+    let there = at_axis fit elems shape (all_signed strides) rest axis new ns nt offset valid.same_count some here in
     let same : get_or (all_signed strides) axis (pos 0) ≡ signed (get_or strides axis 0) = get_or-map signed strides axis 0 in
     record {
-      so_far = subst (λ (z : ℤ). SlicedSoFar elems shape (all_signed strides) rest (get_or shape axis 0 ∷ drop (axis + 1) shape) (z ∷ drop (axis + 1) (all_signed strides)) new ns nt offset) same there;
+      so_far = subst (λ (z : ℤ). SlicedSoFar fit elems shape (all_signed strides) rest (get_or shape axis 0 ∷ drop (axis + 1) shape) (z ∷ drop (axis + 1) (all_signed strides)) new ns nt offset) same there;
       len_fits = omega (arith, len_small shape axis, valid.size_fits);
       reach_fits = omega (arith, ap (reach (get_or shape axis 0)) same, reach_small shape (all_signed strides) axis below valid.same_count, valid.span_fits);
     }
 
 -- ---- the arms of the loop
 -- the state after an element, and that the new offset fits
-pub record Stepped (elems : List SliceInfoElem) (shape strides : List ℕ) (k axis new : ℕ) (ns nt : List ℕ) (offset : ℤ) : Type 0 where
+pub record Stepped (fit : Fit) (elems : List SliceInfoElem) (shape strides : List ℕ) (k axis new : ℕ) (ns nt : List ℕ) (offset : ℤ) : Type 0 where
   pub fits : FitsSigned w64 offset
-  pub next : SlicedSoFar elems shape (all_signed strides) (drop (k + 1) elems) (drop axis shape) (drop axis (all_signed strides)) new ns nt (to_z w64 (of_z w64 offset))
+  pub next : SlicedSoFar fit elems shape (all_signed strides) (drop (k + 1) elems) (drop axis shape) (drop axis (all_signed strides)) new ns nt (to_z w64 (of_z w64 offset))
 
-stepped : (elems : List SliceInfoElem) (shape strides : List ℕ) (k axis new : ℕ) (ns nt : List ℕ) (offset : ℤ) → IsValidLayout shape (all_signed strides) → SlicedSoFar elems shape (all_signed strides) (drop (k + 1) elems) (drop axis shape) (drop axis (all_signed strides)) new ns nt offset → Stepped elems shape strides k axis new ns nt offset
-stepped elems shape strides k axis new ns nt offset valid s =
-    let f = offset_fits elems shape (all_signed strides) (drop (k + 1) elems) (drop axis shape) (drop axis (all_signed strides)) new ns nt offset valid s in
+stepped : (fit : Fit) (elems : List SliceInfoElem) (shape strides : List ℕ) (k axis new : ℕ) (ns nt : List ℕ) (offset : ℤ) → IsValidLayout shape (all_signed strides) → SlicedSoFar fit elems shape (all_signed strides) (drop (k + 1) elems) (drop axis shape) (drop axis (all_signed strides)) new ns nt offset → Stepped fit elems shape strides k axis new ns nt offset
+stepped fit elems shape strides k axis new ns nt offset valid s =
+    let f = offset_fits fit elems shape (all_signed strides) (drop (k + 1) elems) (drop axis shape) (drop axis (all_signed strides)) new ns nt offset valid s in
     record { fits = f; next = rw (to_z-of_z w64 offset f) s }
 
-pub slice_arm : (elems : List SliceInfoElem) (shape strides : List ℕ) (slice : Slice) (k axis new : ℕ) (ns nt : List ℕ) (offset : ℤ) (count kept : ℕ) (moved : ℤ) → IsValidLayout shape (all_signed strides) → AtAxis elems shape strides (elem.Slice slice.start slice.end slice.step) k axis new ns nt offset → count ≡ length (picks (get_or shape axis 0) slice) → signed kept ≡ picked_stride (length (picks (get_or shape axis 0) slice)) (signed (get_or strides axis 0)) slice.step → moved ≡ first_offset (picks (get_or shape axis 0) slice) (signed (get_or strides axis 0)) → Stepped elems shape strides k (axis + 1) (new + 1) (set ns new count) (set nt new kept) (offset +ℤ moved)
-slice_arm elems shape strides slice k axis new ns nt offset count kept moved valid at n t m =
-    stepped elems shape strides k (axis + 1) (new + 1) (set ns new count) (set nt new kept) (offset +ℤ moved) valid
-    (slice_step elems shape (all_signed strides) (drop (k + 1) elems) (drop (axis + 1) shape) (drop (axis + 1) (all_signed strides)) new ns nt offset slice (get_or shape axis 0) (signed (get_or strides axis 0)) count kept moved n t m at.so_far)
+pub slice_arm : (fit : Fit) (elems : List SliceInfoElem) (shape strides : List ℕ) (slice : Slice) (k axis new : ℕ) (ns nt : List ℕ) (offset : ℤ) (count kept : ℕ) (moved : ℤ) → IsValidLayout shape (all_signed strides) → AtAxis fit elems shape strides (elem.Slice slice.start slice.end slice.step) k axis new ns nt offset → count ≡ length (picks fit (get_or shape axis 0) slice) → signed kept ≡ picked_stride (length (picks fit (get_or shape axis 0) slice)) (signed (get_or strides axis 0)) slice.step → moved ≡ first_offset (picks fit (get_or shape axis 0) slice) (signed (get_or strides axis 0)) → Stepped fit elems shape strides k (axis + 1) (new + 1) (set ns new count) (set nt new kept) (offset +ℤ moved)
+slice_arm fit elems shape strides slice k axis new ns nt offset count kept moved valid at n t m =
+    stepped fit elems shape strides k (axis + 1) (new + 1) (set ns new count) (set nt new kept) (offset +ℤ moved) valid
+    (slice_step fit elems shape (all_signed strides) (drop (k + 1) elems) (drop (axis + 1) shape) (drop (axis + 1) (all_signed strides)) new ns nt offset slice (get_or shape axis 0) (signed (get_or strides axis 0)) count kept moved n t m at.so_far)
 
-pub index_arm : (elems : List SliceInfoElem) (shape strides : List ℕ) (index : ℤ) (k axis new : ℕ) (ns nt : List ℕ) (offset : ℤ) (moved : ℤ) → IsValidLayout shape (all_signed strides) → AtAxis elems shape strides (elem.Index index) k axis new ns nt offset → moved ≡ meaning (get_or shape axis 0) index *ℤ signed (get_or strides axis 0) → Stepped elems shape strides k (axis + 1) new ns nt (offset +ℤ moved)
-index_arm elems shape strides index k axis new ns nt offset moved valid at m =
-    stepped elems shape strides k (axis + 1) new ns nt (offset +ℤ moved) valid
-    (index_step elems shape (all_signed strides) (drop (k + 1) elems) (drop (axis + 1) shape) (drop (axis + 1) (all_signed strides)) new ns nt offset index (get_or shape axis 0) (signed (get_or strides axis 0)) moved m at.so_far)
+pub index_arm : (fit : Fit) (elems : List SliceInfoElem) (shape strides : List ℕ) (index : ℤ) (k axis new : ℕ) (ns nt : List ℕ) (offset : ℤ) (moved : ℤ) → IsValidLayout shape (all_signed strides) → AtAxis fit elems shape strides (elem.Index index) k axis new ns nt offset → moved ≡ meaning (get_or shape axis 0) index *ℤ signed (get_or strides axis 0) → Stepped fit elems shape strides k (axis + 1) new ns nt (offset +ℤ moved)
+index_arm fit elems shape strides index k axis new ns nt offset moved valid at m =
+    stepped fit elems shape strides k (axis + 1) new ns nt (offset +ℤ moved) valid
+    (index_step fit elems shape (all_signed strides) (drop (k + 1) elems) (drop (axis + 1) shape) (drop (axis + 1) (all_signed strides)) new ns nt offset index (get_or shape axis 0) (signed (get_or strides axis 0)) moved m at.so_far)
 
 -- what an index means, and where it lies
 pub record IsEntryAt (len : ℕ) (stride : ℤ) (index : ℤ) : Type 0 where
@@ -195,11 +196,11 @@ pub record IsEntryAt (len : ℕ) (stride : ℤ) (index : ℤ) : Type 0 where
   pub small : (n : ℕ) → pos n ≡ meaning len index → n ≤ limit
   pub offset_fits : (n : ℕ) → pos n ≡ meaning len index → FitsSigned w64 (pos n *ℤ stride)
 
-pub index_within : (elems : List SliceInfoElem) (shape strides : List ℕ) (index : ℤ) (k axis new : ℕ) (ns nt : List ℕ) (offset : ℤ) → AtAxis elems shape strides (elem.Index index) k axis new ns nt offset → IsEntryAt (get_or shape axis 0) (signed (get_or strides axis 0)) index
-index_within elems shape strides index k axis new ns nt offset at =
+pub index_within : (fit : Fit) (elems : List SliceInfoElem) (shape strides : List ℕ) (index : ℤ) (k axis new : ℕ) (ns nt : List ℕ) (offset : ℤ) → AtAxis fit elems shape strides (elem.Index index) k axis new ns nt offset → IsEntryAt (get_or shape axis 0) (signed (get_or strides axis 0)) index
+index_within fit elems shape strides index k axis new ns nt offset at =
     let len = get_or shape axis 0 in
     let stride = signed (get_or strides axis 0) in
-    let none = or_none (index_fault len index) (first_fault (drop (axis + 1) shape) (drop (k + 1) elems)) at.so_far.fits in
+    let none = or_none (index_fault len index) (first_fault fit (drop (axis + 1) shape) (drop (k + 1) elems)) at.so_far.fits in
     let entry = index_entry len index none.0 in
     let fits = at.len_fits in
     let reaches = at.reach_fits in

@@ -11,6 +11,7 @@ use Rattle.nd_base.specs.Offset.{offset_of}
 use Rattle.nd_base.specs.Signed.{magnitude}
 use Rattle.nd_base.specs.Size.{nonzero_size}
 use Rattle.nd_base.specs.Span.{reach_down, reach_up, low_span, high_span}
+use Rattle.nd_slice.specs.declared.fit.Fit.{Fit}
 use Rattle.nd_slice.specs.declared.slice.Slice.{Slice}
 use Rattle.nd_slice.specs.declared.slice.SliceInfoElem.{SliceInfoElem}
 use Rattle.nd_slice.specs.declared.slice.SliceInfoElem.TheVariants as elem
@@ -51,81 +52,81 @@ nonzero_more a b x y h g = by (eqb a 0) (eqb b 0) refl refl
     by false false p q = mul-le-mul h g
 
 -- what a slice leaves reaches no further than the layout, and is no larger
-pub record SliceKept (elems : List SliceInfoElem) (shape : List ℕ) (strides : List ℤ) : Type 0 where
-  pub counts : length (sliced_shape elems shape) ≡ length (sliced_strides elems shape strides)
-  pub size : nonzero_size (sliced_shape elems shape) ≤ nonzero_size shape
-  pub low : pos (low_span (sliced_shape elems shape) (sliced_strides elems shape strides)) ≤ℤ (pos (low_span shape strides) +ℤ sliced_offset elems shape strides)
-  pub high : (sliced_offset elems shape strides +ℤ pos (high_span (sliced_shape elems shape) (sliced_strides elems shape strides))) ≤ℤ pos (high_span shape strides)
+pub record SliceKept (fit : Fit) (elems : List SliceInfoElem) (shape : List ℕ) (strides : List ℤ) : Type 0 where
+  pub counts : length (sliced_shape fit elems shape) ≡ length (sliced_strides fit elems shape strides)
+  pub size : nonzero_size (sliced_shape fit elems shape) ≤ nonzero_size shape
+  pub low : pos (low_span (sliced_shape fit elems shape) (sliced_strides fit elems shape strides)) ≤ℤ (pos (low_span shape strides) +ℤ sliced_offset fit elems shape strides)
+  pub high : (sliced_offset fit elems shape strides +ℤ pos (high_span (sliced_shape fit elems shape) (sliced_strides fit elems shape strides))) ≤ℤ pos (high_span shape strides)
 
-pub slices_kept : (elems : List SliceInfoElem) (shape : List ℕ) (strides : List ℤ) → length shape ≡ length strides → in_count elems ≡ length shape → first_fault shape elems ≡ None → SliceKept elems shape strides
-slices_kept [] [] strides e i f = record { counts = refl; size = omega arith; low = omega (arith, ints); high = omega (arith, ints) }
-slices_kept [] (len ∷ shape) strides e i f = absurd (omega arith)
-slices_kept (elem.NewAxis ∷ elems) shape strides e i f =
-    let rest = slices_kept elems shape strides e i f in
+pub slices_kept : (fit : Fit) (elems : List SliceInfoElem) (shape : List ℕ) (strides : List ℤ) → length shape ≡ length strides → in_count elems ≡ length shape → first_fault fit shape elems ≡ None → SliceKept fit elems shape strides
+slices_kept fit [] [] strides e i f = record { counts = refl; size = omega arith; low = omega (arith, ints); high = omega (arith, ints) }
+slices_kept fit [] (len ∷ shape) strides e i f = absurd (omega arith)
+slices_kept fit (elem.NewAxis ∷ elems) shape strides e i f =
+    let rest = slices_kept fit elems shape strides e i f in
     record { counts = omega (arith, rest.counts); size = omega (arith, rest.size); low = omega (arith, ints, rest.low); high = omega (arith, ints, rest.high) }
-slices_kept (elem.Slice start end step ∷ elems) [] strides e i f = absurd (omega arith)
-slices_kept (elem.Slice start end step ∷ elems) (len ∷ shape) [] e i f = absurd (omega arith)
-slices_kept (elem.Slice start end step ∷ elems) (len ∷ shape) (stride ∷ strides) e i f =
+slices_kept fit (elem.Slice start end step ∷ elems) [] strides e i f = absurd (omega arith)
+slices_kept fit (elem.Slice start end step ∷ elems) (len ∷ shape) [] e i f = absurd (omega arith)
+slices_kept fit (elem.Slice start end step ∷ elems) (len ∷ shape) (stride ∷ strides) e i f =
     let slice : Slice = record { start = start; end = end; step = step } in
-    let none = or_none (slice_fault len slice) (first_fault shape elems) f in
-    let rest = slices_kept elems shape strides (omega arith) (omega arith) none.1 in
-    let axis = slice_kept len stride step (picks len slice) (picks_fit len slice none.0) in
+    let none = or_none (slice_fault fit len slice) (first_fault fit shape elems) f in
+    let rest = slices_kept fit elems shape strides (omega arith) (omega arith) none.1 in
+    let axis = slice_kept len stride step (picks fit len slice) (picks_fit fit len slice none.0) in
     record {
       counts = omega (arith, rest.counts);
-      size = nonzero_more (length (picks len slice)) len (nonzero_size (sliced_shape elems shape)) (nonzero_size shape) axis.few rest.size;
+      size = nonzero_more (length (picks fit len slice)) len (nonzero_size (sliced_shape fit elems shape)) (nonzero_size shape) axis.few rest.size;
       low = omega (arith, ints, rest.low, axis.low);
       high = omega (arith, ints, rest.high, axis.high);
     }
-slices_kept (elem.Index index ∷ elems) [] strides e i f = absurd (omega arith)
-slices_kept (elem.Index index ∷ elems) (len ∷ shape) [] e i f = absurd (omega arith)
-slices_kept (elem.Index index ∷ elems) (len ∷ shape) (stride ∷ strides) e i f =
-    let none = or_none (index_fault len index) (first_fault shape elems) f in
-    let rest = slices_kept elems shape strides (omega arith) (omega arith) none.1 in
+slices_kept fit (elem.Index index ∷ elems) [] strides e i f = absurd (omega arith)
+slices_kept fit (elem.Index index ∷ elems) (len ∷ shape) [] e i f = absurd (omega arith)
+slices_kept fit (elem.Index index ∷ elems) (len ∷ shape) (stride ∷ strides) e i f =
+    let none = or_none (index_fault len index) (first_fault fit shape elems) f in
+    let rest = slices_kept fit elems shape strides (omega arith) (omega arith) none.1 in
     let entry = index_entry len index none.0 in
     let axis : Within (reach_down len stride) (reach_up len stride) (meaning len index *ℤ stride) = rw (entry.0) (axis_within len (magnitude (meaning len index)) stride entry.1) in
     record {
       counts = rest.counts;
-      size = omega (arith, nonzero_more 1 len (nonzero_size (sliced_shape elems shape)) (nonzero_size shape) (omega arith) rest.size);
+      size = omega (arith, nonzero_more 1 len (nonzero_size (sliced_shape fit elems shape)) (nonzero_size shape) (omega arith) rest.size);
       low = omega (arith, ints, rest.low, axis.above);
       high = omega (arith, ints, rest.high, axis.below);
     }
 
 -- the index that an index of the slice stands for is one of the shape, and lies where it does
-pub record PlacesKept (elems : List SliceInfoElem) (shape : List ℕ) (strides : List ℤ) (index : List ℕ) : Type 0 where
-  pub within : is_index shape (selected elems shape index) ≡ true
-  pub offset : offset_of strides (selected elems shape index) ≡ sliced_offset elems shape strides +ℤ offset_of (sliced_strides elems shape strides) index
+pub record PlacesKept (fit : Fit) (elems : List SliceInfoElem) (shape : List ℕ) (strides : List ℤ) (index : List ℕ) : Type 0 where
+  pub within : is_index shape (selected fit elems shape index) ≡ true
+  pub offset : offset_of strides (selected fit elems shape index) ≡ sliced_offset fit elems shape strides +ℤ offset_of (sliced_strides fit elems shape strides) index
 
-pub places_kept : (elems : List SliceInfoElem) (shape : List ℕ) (strides : List ℤ) (index : List ℕ) → length shape ≡ length strides → in_count elems ≡ length shape → first_fault shape elems ≡ None → is_index (sliced_shape elems shape) index ≡ true → PlacesKept elems shape strides index
-places_kept [] [] strides [] e i f h = record { within = refl; offset = refl }
-places_kept [] [] strides (j ∷ index) e i f h = absurd (cc)
-places_kept [] (len ∷ shape) strides index e i f h = absurd (omega arith)
-places_kept (elem.NewAxis ∷ elems) shape strides [] e i f h = absurd (cc)
-places_kept (elem.NewAxis ∷ elems) shape strides (j ∷ index) e i f h =
-    let rest = places_kept elems shape strides index e i f (and_parts (nat_lt j 1) (is_index (sliced_shape elems shape) index) h).1 in
+pub places_kept : (fit : Fit) (elems : List SliceInfoElem) (shape : List ℕ) (strides : List ℤ) (index : List ℕ) → length shape ≡ length strides → in_count elems ≡ length shape → first_fault fit shape elems ≡ None → is_index (sliced_shape fit elems shape) index ≡ true → PlacesKept fit elems shape strides index
+places_kept fit [] [] strides [] e i f h = record { within = refl; offset = refl }
+places_kept fit [] [] strides (j ∷ index) e i f h = absurd (cc)
+places_kept fit [] (len ∷ shape) strides index e i f h = absurd (omega arith)
+places_kept fit (elem.NewAxis ∷ elems) shape strides [] e i f h = absurd (cc)
+places_kept fit (elem.NewAxis ∷ elems) shape strides (j ∷ index) e i f h =
+    let rest = places_kept fit elems shape strides index e i f (and_parts (nat_lt j 1) (is_index (sliced_shape fit elems shape) index) h).1 in
     record { within = rest.within; offset = omega (arith, ints, rest.offset) }
-places_kept (elem.Slice start end step ∷ elems) [] strides index e i f h = absurd (omega arith)
-places_kept (elem.Slice start end step ∷ elems) (len ∷ shape) [] index e i f h = absurd (omega arith)
-places_kept (elem.Slice start end step ∷ elems) (len ∷ shape) (stride ∷ strides) [] e i f h = absurd (cc)
-places_kept (elem.Slice start end step ∷ elems) (len ∷ shape) (stride ∷ strides) (j ∷ index) e i f h =
+places_kept fit (elem.Slice start end step ∷ elems) [] strides index e i f h = absurd (omega arith)
+places_kept fit (elem.Slice start end step ∷ elems) (len ∷ shape) [] index e i f h = absurd (omega arith)
+places_kept fit (elem.Slice start end step ∷ elems) (len ∷ shape) (stride ∷ strides) [] e i f h = absurd (cc)
+places_kept fit (elem.Slice start end step ∷ elems) (len ∷ shape) (stride ∷ strides) (j ∷ index) e i f h =
     let slice : Slice = record { start = start; end = end; step = step } in
-    let none = or_none (slice_fault len slice) (first_fault shape elems) f in
-    let fit = picks_fit len slice none.0 in
-    let parts = and_parts (nat_lt j (length (picks len slice))) (is_index (sliced_shape elems shape) index) h in
-    let below = ltb-true j (length (picks len slice)) parts.0 in
-    let rest = places_kept elems shape strides index (omega arith) (omega arith) none.1 parts.1 in
-    let pick = get_or (picks len slice) j 0 in
+    let none = or_none (slice_fault fit len slice) (first_fault fit shape elems) f in
+    let inside = picks_fit fit len slice none.0 in
+    let parts = and_parts (nat_lt j (length (picks fit len slice))) (is_index (sliced_shape fit elems shape) index) h in
+    let below = ltb-true j (length (picks fit len slice)) parts.0 in
+    let rest = places_kept fit elems shape strides index (omega arith) (omega arith) none.1 parts.1 in
+    let pick = get_or (picks fit len slice) j 0 in
     record {
-      within = and_from (nat_lt pick len) (is_index shape (selected elems shape index)) (lt-ltb pick len (fit.within j below)) rest.within;
-      offset = omega (arith, ints, rest.offset, pick_offset len stride step (picks len slice) j fit below);
+      within = and_from (nat_lt pick len) (is_index shape (selected fit elems shape index)) (lt-ltb pick len (inside.within j below)) rest.within;
+      offset = omega (arith, ints, rest.offset, pick_offset len stride step (picks fit len slice) j inside below);
     }
-places_kept (elem.Index n ∷ elems) [] strides index e i f h = absurd (omega arith)
-places_kept (elem.Index n ∷ elems) (len ∷ shape) [] index e i f h = absurd (omega arith)
-places_kept (elem.Index n ∷ elems) (len ∷ shape) (stride ∷ strides) index e i f h =
-    let none = or_none (index_fault len n) (first_fault shape elems) f in
-    let rest = places_kept elems shape strides index (omega arith) (omega arith) none.1 h in
+places_kept fit (elem.Index n ∷ elems) [] strides index e i f h = absurd (omega arith)
+places_kept fit (elem.Index n ∷ elems) (len ∷ shape) [] index e i f h = absurd (omega arith)
+places_kept fit (elem.Index n ∷ elems) (len ∷ shape) (stride ∷ strides) index e i f h =
+    let none = or_none (index_fault len n) (first_fault fit shape elems) f in
+    let rest = places_kept fit elems shape strides index (omega arith) (omega arith) none.1 h in
     let entry = index_entry len n none.0 in
     let m = magnitude (meaning len n) in
     record {
-      within = and_from (nat_lt m len) (is_index shape (selected elems shape index)) (lt-ltb m len entry.1) rest.within;
+      within = and_from (nat_lt m len) (is_index shape (selected fit elems shape index)) (lt-ltb m len entry.1) rest.within;
       offset = rw (← entry.0) (omega (arith, ints, rest.offset));
     }

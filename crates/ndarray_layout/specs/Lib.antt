@@ -1,4 +1,5 @@
 pub mod DistinctPlaces
+pub mod KeepsPlaces
 pub mod SlicedView
 pub mod View
 pub mod Walk

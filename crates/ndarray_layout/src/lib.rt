@@ -19,7 +19,7 @@ pub use nd_shape::{
     size_of_shape_checked, strides_non_negative,
 };
 pub use nd_slice::{
-    NewAxis, Slice, SliceArg, SliceElems, SliceInfo, SliceInfoElem, abs_index, check_elems,
+    Fit, NewAxis, Slice, SliceArg, SliceElems, SliceInfo, SliceInfoElem, abs_index, check_elems,
     check_slice, do_slice, in_ndim_of, out_ndim_of, to_abs_slice,
 };
 pub use strided::Strided;

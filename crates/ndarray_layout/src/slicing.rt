@@ -12,7 +12,7 @@ ghost use Rattle.nd_slice.specs.Sliced.{sliced_shape, sliced_strides, sliced_off
 ghost use Rattle.ndarray_layout.specs.SlicedView.{slice_refusal};
 
 use nd_base::{ErrorKind, ShapeError, from_kind, stride_offset};
-use nd_slice::{Slice, SliceInfoElem, abs_index, check_elems, do_slice, out_ndim_of};
+use nd_slice::{Fit, Slice, SliceInfoElem, abs_index, check_elems, do_slice, out_ndim_of};
 
 /// Whether a slice argument fits the lengths of a shape and leaves as many axes as a type fixes, if
 /// it fixes a count. Refused with `IncompatibleShape` where either count of axes differs, and then
@@ -21,30 +21,31 @@ pub fn check_counts_and_elems(
     fixed: Option<usize>,
     shape: &[usize],
     elems: &[SliceInfoElem],
+    fit: Fit,
 ) -> Result<(), ShapeError>
-    ensures { result_err result ≡ slice_refusal fixed shape.now elems.now }
+    ensures { result_err result ≡ slice_refusal fit fixed shape.now elems.now }
 {
     if let Some(ndim) = fixed
         && ndim != out_ndim_of(elems)
     {
         return Err(from_kind(ErrorKind::IncompatibleShape));
     }
-    check_elems(shape, elems)
+    check_elems(shape, elems, fit)
 }
 
 /// Slices one axis with a slice that fits it: the length and the stride that are left, and how many
 /// elements the first pick lies behind the first entry.
-fn slice_axis(len: usize, stride: usize, slice: Slice) -> (usize, usize, isize)
+fn slice_axis(len: usize, stride: usize, slice: Slice, fit: Fit) -> (usize, usize, isize)
     requires len_fits { len < 2 ^ 63 }
     requires span_fits { reach len (signed_reading stride) ≤ limit }
-    requires fits { slice_fault len slice ≡ None }
-    ensures len { result.0 ≡ length (picks len slice) }
+    requires fits { slice_fault fit len slice ≡ None }
+    ensures len { result.0 ≡ length (picks fit len slice) }
     ensures stride { signed_reading result.1 ≡
-        picked_stride (length (picks len slice)) (signed_reading stride) slice.step }
-    ensures offset { result.2 ≡ first_offset (picks len slice) (signed_reading stride) }
+        picked_stride (length (picks fit len slice)) (signed_reading stride) slice.step }
+    ensures offset { result.2 ≡ first_offset (picks fit len slice) (signed_reading stride) }
 {
     let (mut len, mut stride) = (len, stride);
-    let offset = do_slice(&mut len, &mut stride, slice).unwrap();
+    let offset = do_slice(&mut len, &mut stride, slice, fit).unwrap();
     (len, stride, offset)
 }
 
@@ -56,15 +57,16 @@ pub fn slice_axes(
     strides: &[usize],
     new_shape: &mut [usize],
     new_strides: &mut [usize],
+    fit: Fit,
 ) -> isize
     requires valid { IsValidLayout shape.now (all_signed strides.now) }
-    requires fits { argument_fault shape.now elems.now ≡ None }
+    requires fits { argument_fault fit shape.now elems.now ≡ None }
     requires shape_room { length new_shape.old ≡ out_count elems.now }
     requires strides_room { length new_strides.old ≡ out_count elems.now }
-    ensures shape { new_shape.new ≡ sliced_shape elems.now shape.now }
+    ensures shape { new_shape.new ≡ sliced_shape fit elems.now shape.now }
     ensures strides { all_signed new_strides.new ≡
-        sliced_strides elems.now shape.now (all_signed strides.now) }
-    ensures offset { result ≡ sliced_offset elems.now shape.now (all_signed strides.now) }
+        sliced_strides fit elems.now shape.now (all_signed strides.now) }
+    ensures offset { result ≡ sliced_offset fit elems.now shape.now (all_signed strides.now) }
 {
     let mut old_axis = 0usize;
     let mut new_axis = 0usize;
@@ -73,7 +75,12 @@ pub fn slice_axes(
         match *elem {
             SliceInfoElem::Slice { start, end, step } => {
                 let slice = Slice { start, end, step };
-                let (len, stride, moved) = slice_axis(shape[old_axis], strides[old_axis], slice);
+                let (len, stride, moved) = slice_axis(
+                    shape[old_axis],
+                    strides[old_axis],
+                    slice,
+                    fit,
+                );
                 new_shape[new_axis] = len;
                 new_strides[new_axis] = stride;
                 offset += moved;

@@ -15,8 +15,10 @@ ghost use Rattle.nd_base.specs.Rank.{index_of_rank_in};
 ghost use Rattle.nd_base.specs.Size.{size};
 ghost use Rattle.nd_base.specs.Span.{low_span};
 ghost use Rattle.nd_slice.specs.SliceFault.{out_count};
+ghost use Rattle.nd_slice.specs.Selected.{selected};
 ghost use Rattle.ndarray_layout.specs.DistinctPlaces.{HasDistinctPlaces};
-ghost use Rattle.ndarray_layout.specs.SlicedView.{IsSliceOf, KeepsPlaces};
+ghost use Rattle.ndarray_layout.specs.KeepsPlaces.{KeepsPlaces};
+ghost use Rattle.ndarray_layout.specs.SlicedView.{IsSliceOf};
 ghost use Rattle.ndarray_layout.specs.SlicedView.{shape_fault, slice_refusal};
 ghost use Rattle.ndarray_layout.specs.View.{IsView, LiesWithin};
 ghost use Rattle.ndarray_layout.specs.View.{view_of, checked_place, place_at, view_places};
@@ -28,7 +30,7 @@ use nd_shape::{
     Axes, CanIndexCheckMode, NdIndex, StrideShape, axes_of, can_index_slice,
     can_index_slice_with_strides, offset_from_low_addr_ptr_to_logical_ptr,
 };
-use nd_slice::{SliceElems, SliceInfoElem, out_ndim_of};
+use nd_slice::{Fit, SliceElems, SliceInfoElem, out_ndim_of};
 use std::alloc::{AllocError, Global};
 use std::marker::Model;
 
@@ -203,27 +205,29 @@ impl<D: Dimension> Strided<D> {
 
     /// The view of the same data that a slice argument leaves. Refused with `IncompatibleShape`
     /// where the argument is for more axes or fewer, or leaves more or fewer than the type `E`
-    /// fixes; then as the first element at fault is: with `OutOfBounds` for a bound or an index that
-    /// is not on its axis, with `Unsupported` for a step of 0; and then for want of memory.
+    /// fixes; then as the first element at fault is: with `OutOfBounds` for an index that is not on its
+    /// axis, or a bound that is not and is not to be clamped, with `Unsupported` for a step of 0; and
+    /// then for want of memory.
     /// Upstream's `slice` and `slice_collapse`.
     pub fn slice<E: Dimension, S: SliceElems>(
         &self,
         alloc: Global,
         slices: &S,
+        fit: Fit,
     ) -> Result<Strided<E>, LayoutError>
         ensures refusal { shape_fault result ≡
-            slice_refusal E.NDIM self.now.shape (S.list slices.now) }
-        ensures memory { slice_refusal E.NDIM self.now.shape (S.list slices.now) ≡ None →
+            slice_refusal fit E.NDIM self.now.shape (S.list slices.now) }
+        ensures memory { slice_refusal fit E.NDIM self.now.shape (S.list slices.now) ≡ None →
             NeedsNoMemory E.NDIM (out_count (S.list slices.now)) → IsOk result }
-        ensures sliced { IfOk result (λ v. IsSliceOf (S.list slices.now) self.now v) }
+        ensures sliced { IfOk result (λ v. IsSliceOf fit (S.list slices.now) self.now v) }
         ensures is_view { IfOk result (λ v. IsView v) }
-        ensures places { IfOk result (λ v. KeepsPlaces (S.list slices.now) self.now v) }
+        ensures places { IfOk result (λ v. KeepsPlaces (selected fit (S.list slices.now) self.now.shape) self.now v) }
         ensures inside { IfOk result (λ v. (len : ℕ) → LiesWithin len self.now → LiesWithin len v) }
         ensures distinct { IfOk result (λ v. HasDistinctPlaces self.now → HasDistinctPlaces v) }
     {
         let elems = slices.elems();
-        check_counts_and_elems(E::NDIM, self.dim.slice(), elems)?;
-        Ok(self.fitting_slice(alloc, elems)?)
+        check_counts_and_elems(E::NDIM, self.dim.slice(), elems, fit)?;
+        Ok(self.fitting_slice(alloc, elems, fit)?)
     }
 
     /// The slice by an argument that fits.
@@ -231,12 +235,13 @@ impl<D: Dimension> Strided<D> {
         &self,
         alloc: Global,
         elems: &[SliceInfoElem],
+        fit: Fit,
     ) -> Result<Strided<E>, AllocError>
-        requires { slice_refusal E.NDIM self.now.shape elems.now ≡ None }
+        requires { slice_refusal fit E.NDIM self.now.shape elems.now ≡ None }
         ensures memory { NeedsNoMemory E.NDIM (out_count elems.now) → IsOk result }
-        ensures sliced { IfOk result (λ v. IsSliceOf elems.now self.now v) }
+        ensures sliced { IfOk result (λ v. IsSliceOf fit elems.now self.now v) }
         ensures is_view { IfOk result (λ v. IsView v) }
-        ensures places { IfOk result (λ v. KeepsPlaces elems.now self.now v) }
+        ensures places { IfOk result (λ v. KeepsPlaces (selected fit elems.now self.now.shape) self.now v) }
         ensures inside { IfOk result (λ v. (len : ℕ) → LiesWithin len self.now → LiesWithin len v) }
         ensures distinct { IfOk result (λ v. HasDistinctPlaces self.now → HasDistinctPlaces v) }
     {
@@ -249,6 +254,7 @@ impl<D: Dimension> Strided<D> {
             self.strides.slice(),
             dim.slice_mut(),
             strides.slice_mut(),
+            fit,
         );
         let start = offset_place(self.start, offset);
         Ok(Strided {

@@ -7,6 +7,7 @@ use Rattle.nd_base.specs.ErrorText.{shape_error_text}
 use Rattle.nd_base.specs.Signed.{magnitude, unsigned}
 use Rattle.nd_base.specs.Span.{low_span}
 use Rattle.nd_shape.specs.Acceptance.{acceptance}
+use Rattle.nd_slice.specs.declared.fit.Fit.TheVariants.{Strict}
 use Rattle.nd_slice.specs.Sliced.{sliced_shape, sliced_strides}
 use Rattle.ndarray_layout.specs.SlicedView.{sliced_start, slice_refusal}
 use Rattle.ndarray_layout.specs.View.{View, view_of, view_places}
@@ -49,14 +50,14 @@ view_of_layout layout = view_of (low_span layout.shape layout.strides) layout.sh
 
 -- the fault of a step from a view
 abbrev pub step_fault : View → StepValue → Option ErrorKind
-step_fault view (SliceBy elems) = slice_refusal None view.shape elems
+step_fault view (SliceBy elems) = slice_refusal Strict None view.shape elems
 
 -- the view after a step
 abbrev pub view_after : View → StepValue → View
 view_after view (SliceBy elems) = record {
-  start = magnitude (sliced_start elems view);
-  shape = sliced_shape elems view.shape;
-  strides = sliced_strides elems view.shape view.strides;
+  start = magnitude (sliced_start Strict elems view);
+  shape = sliced_shape Strict elems view.shape;
+  strides = sliced_strides Strict elems view.shape view.strides;
 }
 
 -- the reply to steps from a view, of which the first has this number

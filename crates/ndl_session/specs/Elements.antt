@@ -1,6 +1,7 @@
 -- The slice arguments that words spell.
-use Rattle.std.specs.Prelude.{◌≡◌, ℕ, ℤ, pos, negsuc, Option, Some, None, List, [], ◌∷◌, codes, refl}
-use Rattle.std.specs.Option.{option_map}
+use Rattle.std.specs.Prelude.{◌≡◌, ℕ, ℤ, pos, negsuc, Option, Some, None, if◌then◌else◌, List, [], ◌∷◌, codes, refl}
+use Rattle.std.specs.Option.{option_map, option_or}
+use Rattle.std.specs.Str.{bytes_eq}
 use Rattle.nd_slice.specs.declared.slice.SliceInfoElem.{SliceInfoElem}
 use Rattle.nd_slice.specs.declared.slice.SliceInfoElem.TheVariants as elem
 use Rattle.ndl_text.specs.Bytes.{dot, semicolon}
@@ -35,9 +36,15 @@ slice_of_parts (range ∷ step ∷ []) = do
   slice_of_bounds step (parts dot range)
 slice_of_parts _ = None
 
--- one element of a slice argument
+-- a range with an optional step
+abbrev pub range_of : List ℕ → Option SliceInfoElem
+range_of text = slice_of_parts (parts semicolon text)
+
+-- one element of a slice argument: a new axis by its name, an index by its number, or a range
 abbrev pub element_of : List ℕ → Option SliceInfoElem
-element_of text = slice_of_parts (parts semicolon text)
+element_of text =
+    if bytes_eq text (codes "NewAxis") then Some elem.NewAxis
+    else option_or (option_map elem.Index (signed_number_of text)) (range_of text)
 
 abbrev pub elements_of : List ℕ → Option (List SliceInfoElem)
 elements_of word = list_of element_of word
@@ -58,11 +65,35 @@ from_the_end = refl
 zero_step : element_of (codes "..;0") ≡ Some (elem.Slice (pos 0) None (pos 0))
 zero_step = refl
 
+an_index : element_of (codes "1") ≡ Some (elem.Index (pos 1))
+an_index = refl
+
+last_index : element_of (codes "-01") ≡ Some (elem.Index (negsuc 0))
+last_index = refl
+
+new_axis : element_of (codes "NewAxis") ≡ Some elem.NewAxis
+new_axis = refl
+
+new_axis_in_small : element_of (codes "newaxis") ≡ None
+new_axis_in_small = refl
+
+new_axis_with_step : element_of (codes "NewAxis;2") ≡ None
+new_axis_with_step = refl
+
+index_with_step : element_of (codes "1;2") ≡ None
+index_with_step = refl
+
+past_greatest_index : element_of (codes "9223372036854775808") ≡ None
+past_greatest_index = refl
+
 no_step : element_of (codes "1..;") ≡ None
 no_step = refl
 
 plus : element_of (codes "+1..") ≡ None
 plus = refl
+
+index_with_plus : element_of (codes "+1") ≡ None
+index_with_plus = refl
 
 three_dots : element_of (codes "1...2") ≡ None
 three_dots = refl
@@ -76,8 +107,8 @@ two_steps = refl
 no_element : element_of [] ≡ None
 no_element = refl
 
-two_elements : elements_of (codes "..,2..") ≡ Some (elem.Slice (pos 0) None (pos 1) ∷ elem.Slice (pos 2) None (pos 1) ∷ [])
-two_elements = refl
+of_each_kind : elements_of (codes "1,NewAxis,..") ≡ Some (elem.Index (pos 1) ∷ elem.NewAxis ∷ elem.Slice (pos 0) None (pos 1) ∷ [])
+of_each_kind = refl
 
 no_elements : elements_of (codes "-") ≡ Some []
 no_elements = refl

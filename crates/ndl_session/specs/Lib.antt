@@ -2,7 +2,6 @@ pub mod Answer
 pub mod DataLine
 pub mod Elements
 pub mod Lists
-pub mod ReadByNow
 pub mod Reading
 pub mod Script
 pub mod Session

@@ -11,7 +11,6 @@ use Rattle.ndl_session.specs.Reading.{both}
 use Rattle.ndl_text.specs.Lines.{NumberedLine, lines_from}
 use Rattle.ndl_session.specs.DataLine.{LayoutValue, layout_value, layout_of}
 use Rattle.ndl_session.specs.StepLine.{StepValue, SliceBy, step_value, step_of}
-use Rattle.ndl_session.specs.ReadByNow.{lines_read_by_now}
 
 -- a layout, and the steps to take from it, in order
 pub record ScriptValue : Type 0 where
@@ -46,7 +45,7 @@ script_of_lines (line ∷ lines) = both (λ layout steps. record { layout = layo
 
 -- what an input asks for, or the number of its first unreadable line
 abbrev pub script_of : List ℕ → Result ScriptValue ℕ
-script_of input = script_of_lines (lines_read_by_now (lines_from 1 input))
+script_of input = script_of_lines (lines_from 1 input)
 
 -- examples
 abbrev four : LayoutValue
@@ -61,7 +60,7 @@ with_a_step = refl
 without_a_step : script_of (codes "data 4 owned 4 1") ≡ Ok (record { layout = four; steps = [] })
 without_a_step = refl
 
-with_two_steps : script_of_lines (lines_from 1 (codes "data 4 owned 4 1\nslice 1..;-2\nslice 1..;-2\n")) ≡ Ok (record { layout = four; steps = two_of_four ∷ two_of_four ∷ [] })
+with_two_steps : script_of (codes "data 4 owned 4 1\nslice 1..;-2\n\nslice 1..;-2\n") ≡ Ok (record { layout = four; steps = two_of_four ∷ two_of_four ∷ [] })
 with_two_steps = refl
 
 nothing : script_of [] ≡ Err 1
@@ -79,10 +78,10 @@ first_of_two = refl
 two_layouts : script_of (codes "data 4 owned 4 1\ndata 4 owned 4 1\n") ≡ Err 2
 two_layouts = refl
 
-two_steps : script_of (codes "data 4 owned 4 1\nslice ..\n\nslice ..\n") ≡ Err 4
-two_steps = refl
+past_a_step : script_of (codes "data 4 owned 4 1\nslice ..\n\nslise ..\n") ≡ Err 4
+past_a_step = refl
 
-three_axes : script_of (codes "data 8 owned 2,2,2 4,2,1\nslise ..\n") ≡ Err 1
+three_axes : script_of (codes "data 8 owned 2,2,2 4,2,1\n") ≡ Ok (record { layout = record { len = 8; mode = OwnedMutable; shape = 2 ∷ 2 ∷ 2 ∷ []; strides = pos 4 ∷ pos 2 ∷ pos 1 ∷ [] }; steps = [] })
 three_axes = refl
 
 unended_carriage_return : script_of (codes "data 1 owned 1 1" ++ carriage_return ∷ []) ≡ Err 1

@@ -2,7 +2,7 @@
 ghost use Rattle.std.specs.Prelude.{◌≡◌};
 ghost use Rattle.ndl_text.specs.Bytes.{dot};
 ghost use Rattle.ndl_text.specs.Lines.{parts};
-ghost use Rattle.ndl_session.specs.Elements.{element_of, slice_of_bounds, start_of, end_of};
+ghost use Rattle.ndl_session.specs.Elements.{element_of, end_of, range_of, slice_of_bounds, start_of};
 
 use crate::lists::Entry;
 use nd_slice::SliceInfoElem;
@@ -41,14 +41,27 @@ fn slice(range: &[u8], step: isize) -> Option<SliceInfoElem>
     })
 }
 
+/// A range, with an optional step behind a semicolon.
+fn range(text: &[u8]) -> Option<SliceInfoElem>
+    ensures { result ≡ range_of text.now }
+{
+    match split_once(text, b';') {
+        Some((bounds, step)) => slice(bounds, signed_number(step)?),
+        None => slice(text, 1),
+    }
+}
+
 impl Entry for SliceInfoElem {
     ghost entry_of = { element_of };
 
-    /// A range, with an optional step behind a semicolon.
+    /// A new axis by its name, an index by its number, or a range.
     fn read(text: &[u8]) -> Option<SliceInfoElem> {
-        match split_once(text, b';') {
-            Some((range, step)) => slice(range, signed_number(step)?),
-            None => slice(text, 1),
+        if text == b"NewAxis".as_slice() {
+            return Some(SliceInfoElem::NewAxis);
+        }
+        match signed_number(text) {
+            Some(index) => Some(SliceInfoElem::Index(index)),
+            None => range(text),
         }
     }
 }

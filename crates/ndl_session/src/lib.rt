@@ -6,7 +6,6 @@ mod data_line;
 mod elements;
 mod lists;
 mod over_devices;
-mod read_by_now;
 mod script;
 mod step_line;
 

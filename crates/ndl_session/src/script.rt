@@ -1,12 +1,10 @@
 //! Reads a whole script.
 ghost use Rattle.std.specs.Prelude.{◌≡◌, ◌+◌, ◌<◌, ◌^◌, length, map};
 ghost use Rattle.ndl_text.specs.Lines.{lines_from};
-ghost use Rattle.ndl_session.specs.ReadByNow.{step_lines_read_by_now};
 ghost use Rattle.ndl_session.specs.Script.{Gives, script_of, script_value, steps_of_lines};
 ghost use Rattle.ndl_session.specs.StepLine.{step_value};
 
 use crate::data_line::{Layout, read_layout};
-use crate::read_by_now::words_read_by_now;
 use crate::step_line::{Step, read_step};
 use ndl_text::next_line;
 use std::alloc::{AllocError, AllocFailed, Global};
@@ -53,14 +51,13 @@ impl<T: Drop> From<AllocFailed<T>> for ReadError {
 fn read_steps(alloc: Global, text: &[u8], number: usize) -> Result<Vec<Step>, ReadError>
     requires { number + length text.now < 2 ^ 64 }
     ensures { Gives (λ v. map step_value v.items) result
-        (steps_of_lines (step_lines_read_by_now 0 (lines_from number text.now))) }
+        (steps_of_lines (lines_from number text.now)) }
 {
     let mut steps = Vec::new(alloc);
     let mut rest = text;
     let mut number = number;
     while let Some(line) = next_line(alloc, rest, number)? {
-        let words = words_read_by_now(steps.len(), &line.words);
-        let Some(step) = read_step(alloc, words)? else {
+        let Some(step) = read_step(alloc, &line.words)? else {
             return Err(ReadError::Unreadable(line.number));
         };
         steps.push(step)?;
@@ -78,8 +75,7 @@ pub fn read_script(alloc: Global, input: &[u8]) -> Result<Script, ReadError>
     let Some(line) = next_line(alloc, input, 1)? else {
         return Err(ReadError::Unreadable(1));
     };
-    let words = words_read_by_now(0, &line.words);
-    let Some(layout) = read_layout(alloc, words)? else {
+    let Some(layout) = read_layout(alloc, &line.words)? else {
         return Err(ReadError::Unreadable(line.number));
     };
     let steps = read_steps(alloc, line.rest, line.number + 1)?;

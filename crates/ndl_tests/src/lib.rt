@@ -8,4 +8,6 @@ mod script;
 #[cfg(test)]
 mod session;
 #[cfg(test)]
+mod slices;
+#[cfg(test)]
 mod watched;

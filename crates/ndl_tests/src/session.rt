@@ -27,7 +27,7 @@ fn row_holds(alloc: Global, row: &str, status: u8) -> bool {
 }
 
 /// The first line that doesn't hold, of a table whose answers have one status.
-fn wrong_row(alloc: Global, table: &str, status: u8) -> Option<&str> {
+pub fn wrong_row(alloc: Global, table: &str, status: u8) -> Option<&str> {
     for row in table.lines() {
         if !row_holds(alloc, row, status) {
             return Some(row);
@@ -81,26 +81,33 @@ data 4 owned 4 => line 1: unreadable|
  => line 1: unreadable|
 |  | => line 1: unreadable|
 d\u{e4}ta 4 owned 4 1| => line 1: unreadable|
-data 8 owned 2,2,2 4,2,1| => line 1: unreadable|
-data 1 owned - -| => line 1: unreadable|
+data 1 owned - -\r => line 1: unreadable|
+data 1 owned -,- -| => line 1: unreadable|
 data 4 Owned 4 1| => line 1: unreadable|
 data 18446744073709551616 read 1 1| => line 1: unreadable|
 data 4 owned 4 9223372036854775808| => line 1: unreadable|
 data 4 owned 4 1 1| => line 1: unreadable|
 data 4 owned 4 1 1 1 1| => line 1: unreadable|
-data 9 owned 1,1,1,1,1 1,1,1,1,1| => line 1: unreadable|
-data 9 owned 1,1 1,1,1,1,1| => line 1: unreadable|
 slice ..|data 4 owned 4 1| => line 1: unreadable|
 data 4 owned 4 1|slice 1..;| => line 2: unreadable|
 data 4 owned 4 1|slice +1..| => line 2: unreadable|
 data 4 owned 4 1|slice 1,,2| => line 2: unreadable|
-data 4 owned 4 1|slice 1| => line 2: unreadable|
+data 4 owned 4 1|slice 1;2| => line 2: unreadable|
+data 4 owned 4 1|slice +1| => line 2: unreadable|
+data 4 owned 4 1|slice 1.| => line 2: unreadable|
+data 4 owned 4 1|slice newaxis| => line 2: unreadable|
+data 4 owned 4 1|slice NewAxis;2,..| => line 2: unreadable|
+data 4 owned 4 1|slice NewAxi,..| => line 2: unreadable|
+data 4 owned 4 1|slice 9223372036854775808| => line 2: unreadable|
+data 4 owned 4 1|slice -,-| => line 2: unreadable|
+data 4 owned 4 1|slice| => line 2: unreadable|
 data 4 owned 4 1|slice 1...2| => line 2: unreadable|
 data 4 owned 4 1|slice .. .. .. .. .. ..| => line 2: unreadable|
 data 4 owned 4 1|merge 0| => line 2: unreadable|
-data 4 owned 4 1|reshape C 4| => line 2: unreadable|
+data 4 owned 4 1|reshape c 4| => line 2: unreadable|
+data 4 owned 4 1|reshape C 18446744073709551616| => line 2: unreadable|
 data 4 owned 4 1|data 4 owned 4 1| => line 2: unreadable|
-data 4 owned 4 1|slice ..|slice ..| => line 3: unreadable|
+data 4 owned 4 1|slice 9|data 4 owned 4 1| => line 3: unreadable|
 data 6 owned 2,3 3,1|slice ..,..|slise ..| => line 3: unreadable|
 data 6 owned 2,3 1|slise ..| => line 2: unreadable|
 |data 4 owned 4 1|slise ..| => line 3: unreadable|

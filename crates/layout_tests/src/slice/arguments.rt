@@ -1,9 +1,10 @@
 //! Which slice arguments fit a shape, and the first fault of any other, however the elements are kept.
 use ErrorKind::{IncompatibleShape, OutOfBounds, Unsupported};
+use Fit::Strict;
 use SliceInfoElem::{Index, NewAxis};
 use nd_base::{ErrorKind, Ix1, Ix2, Ix3, Ix6, new_ix1, new_ix2, new_ix3, new_ix6, new_ixdyn};
 use nd_dim::Dimension;
-use nd_slice::{SliceInfoElem, check_elems, check_slice, in_ndim_of, out_ndim_of};
+use nd_slice::{Fit, SliceInfoElem, check_elems, check_slice, in_ndim_of, out_ndim_of};
 use nd_testing::fault_of;
 use std::alloc::Global;
 
@@ -27,12 +28,12 @@ const fn from(start: isize, step: isize) -> SliceInfoElem {
 type Row<'a> = (&'a [SliceInfoElem], Option<ErrorKind>);
 
 /// Whether an argument has this fault, or none, with its elements in a slice and in a vector.
-fn has_fault<D: Dimension>(alloc: Global, dim: &D, row: Row) -> bool {
+fn has_fault<D: Dimension>(alloc: Global, dim: &D, row: Row, fit: Fit) -> bool {
     let (elems, fault) = row;
     match elems.to_vec(alloc) {
         Ok(kept) => {
-            fault_of(check_slice(dim, &elems)) == fault
-                && fault_of(check_slice(dim, &kept)) == fault
+            fault_of(check_slice(dim, &elems, fit)) == fault
+                && fault_of(check_slice(dim, &kept, fit)) == fault
         }
         Err(_) => false,
     }
@@ -43,16 +44,16 @@ const WHOLE: [SliceInfoElem; 7] = [ALL; 7];
 
 /// Whether arguments have these faults on a shape, and one of whole axes fits it if it is of as many
 /// axes.
-fn have_faults<D: Dimension>(alloc: Global, dim: &D, rows: &[Row]) -> bool {
+fn have_faults<D: Dimension>(alloc: Global, dim: &D, rows: &[Row], fit: Fit) -> bool {
     for row in rows {
-        if !has_fault(alloc, dim, *row) {
+        if !has_fault(alloc, dim, *row, fit) {
             return false;
         }
     }
     for count in 0..=WHOLE.len() {
         let fits = dim.ndim() == count;
         let fault = if fits { None } else { Some(IncompatibleShape) };
-        if !has_fault(alloc, dim, (&WHOLE[..count], fault)) {
+        if !has_fault(alloc, dim, (&WHOLE[..count], fault), fit) {
             return false;
         }
     }
@@ -62,7 +63,10 @@ fn have_faults<D: Dimension>(alloc: Global, dim: &D, rows: &[Row]) -> bool {
 #[test]
 fn row_with_new_axis(rt: HostRuntime) {
     let elems = [Index(-1), NewAxis, ALL];
-    let (fits, outside) = (check_elems(&[2, 3], &elems), check_elems(&[0, 3], &elems));
+    let (fits, outside) = (
+        check_elems(&[2, 3], &elems, Strict),
+        check_elems(&[0, 3], &elems, Strict),
+    );
     assert!(rt;
         in_ndim_of(&elems) == 2
             && out_ndim_of(&elems) == 2
@@ -85,7 +89,7 @@ fn counts_by_kind(rt: HostRuntime) {
 
 /// The same at one axis, and at each other count below.
 fn one_has_faults(alloc: Global, dim: &Ix1, rows: &[Row]) -> bool {
-    have_faults(alloc, dim, rows)
+    have_faults(alloc, dim, rows, Strict)
 }
 
 #[test]
@@ -99,7 +103,7 @@ fn one_axis(rt: HostRuntime) {
 }
 
 fn two_have_faults(alloc: Global, dim: &Ix2, rows: &[Row]) -> bool {
-    have_faults(alloc, dim, rows)
+    have_faults(alloc, dim, rows, Strict)
 }
 
 #[test]
@@ -117,7 +121,7 @@ fn r1_rows(rt: HostRuntime) {
 }
 
 fn three_have_faults(alloc: Global, dim: &Ix3, rows: &[Row]) -> bool {
-    have_faults(alloc, dim, rows)
+    have_faults(alloc, dim, rows, Strict)
 }
 
 #[test]
@@ -134,7 +138,7 @@ fn three_axes(rt: HostRuntime) {
 }
 
 fn six_have_faults(alloc: Global, dim: &Ix6, rows: &[Row]) -> bool {
-    have_faults(alloc, dim, rows)
+    have_faults(alloc, dim, rows, Strict)
 }
 
 #[test]
@@ -152,7 +156,7 @@ fn six_axes(rt: HostRuntime) {
 
 fn any_have_faults(alloc: Global, lens: &[usize], rows: &[Row]) -> bool {
     match new_ixdyn(alloc, lens) {
-        Ok(dim) => have_faults(alloc, &dim, rows),
+        Ok(dim) => have_faults(alloc, &dim, rows, Strict),
         Err(_) => false,
     }
 }

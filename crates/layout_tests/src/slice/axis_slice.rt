@@ -3,8 +3,9 @@ ghost use Rattle.std.specs.Prelude.{◌<◌, ◌≤◌, ◌^◌};
 ghost use Rattle.nd_base.specs.Size.{limit};
 ghost use Rattle.nd_base.specs.Span.{reach};
 
+use Fit::Strict;
 use nd_base::{ErrorKind, signed, unsigned};
-use nd_slice::{Slice, abs_index, do_slice, to_abs_slice};
+use nd_slice::{Fit, Slice, abs_index, do_slice, to_abs_slice};
 use nd_testing::or_fault;
 
 /// One axis, a slice of it, and what it gives: the answer, the length and the stride afterwards.
@@ -15,6 +16,7 @@ struct Row {
     slice: Slice,
     answer: Result<isize, ErrorKind>,
     after: (usize, isize),
+    fit: Fit,
     ghost len_fits: { len < 2 ^ 63 },
     ghost span_fits: { reach len stride ≤ limit },
 }
@@ -25,6 +27,7 @@ impl Row {
         slice: (isize, Option<isize>, isize),
         answer: Result<isize, ErrorKind>,
         after: (usize, isize),
+        fit: Fit,
     ) -> Row
         requires len_fits { axis.0 < 2 ^ 63 }
         requires span_fits { reach axis.0 axis.1 ≤ limit }
@@ -36,20 +39,21 @@ impl Row {
             slice: Slice { start, end, step },
             answer,
             after,
+            fit,
         }
     }
 
     /// Whether the call answers so, and leaves this length and stride.
     fn holds(&self) -> bool {
         let (mut len, mut stride) = (self.len, unsigned(self.stride));
-        let answer = or_fault(do_slice(&mut len, &mut stride, self.slice));
+        let answer = or_fault(do_slice(&mut len, &mut stride, self.slice, self.fit));
         answer == self.answer && len == self.after.0 && signed(stride) == self.after.1
     }
 }
 
 #[test]
 fn counts_from_the_end(rt: HostRuntime) {
-    let bounds = or_fault(to_abs_slice(10, Slice::new(-9, Some(-2), -3)));
+    let bounds = or_fault(to_abs_slice(10, Slice::new(-9, Some(-2), -3), Strict));
     assert!(rt; abs_index(10, 7) == 7 && abs_index(10, -3) == 7 && bounds == Ok((1, 8, -3)));
 }
 
@@ -60,15 +64,21 @@ fn r1_rows(rt: HostRuntime) {
     const MIN: isize = isize::MIN;
     let outside = Err(ErrorKind::OutOfBounds);
     let rows = [
-        Row::new((4, 1), (3, Some(1), 1), Ok(0), (0, 0)),
-        Row::new((4, 1), (5, Some(2), 1), outside, (4, 1)),
-        Row::new((4, 1), (0, Some(0), 0), Err(ErrorKind::Unsupported), (4, 1)),
-        Row::new((4, 1), (9, Some(0), 0), outside, (4, 1)),
-        Row::new((4, 1), (1, None, -2), Ok(3), (2, -2)),
-        Row::new((MAX, 1), (0, None, MIN), Ok(LAST), (1, 0)),
-        Row::new((MAX, 1), (0, None, LAST), Ok(0), (2, LAST)),
-        Row::new((MAX, 1), (MIN, None, 1), outside, (MAX, 1)),
-        Row::new((1, MIN), (0, None, -1), Ok(0), (1, 0)),
+        Row::new((4, 1), (3, Some(1), 1), Ok(0), (0, 0), Strict),
+        Row::new((4, 1), (5, Some(2), 1), outside, (4, 1), Strict),
+        Row::new(
+            (4, 1),
+            (0, Some(0), 0),
+            Err(ErrorKind::Unsupported),
+            (4, 1),
+            Strict,
+        ),
+        Row::new((4, 1), (9, Some(0), 0), outside, (4, 1), Strict),
+        Row::new((4, 1), (1, None, -2), Ok(3), (2, -2), Strict),
+        Row::new((MAX, 1), (0, None, MIN), Ok(LAST), (1, 0), Strict),
+        Row::new((MAX, 1), (0, None, LAST), Ok(0), (2, LAST), Strict),
+        Row::new((MAX, 1), (MIN, None, 1), outside, (MAX, 1), Strict),
+        Row::new((1, MIN), (0, None, -1), Ok(0), (1, 0), Strict),
     ];
     for row in &rows {
         assert!(rt; row.holds());

@@ -1,11 +1,11 @@
 //! What views answer, at any dimension type.
-use crate::view::question::{Asked, Question, lens, strides};
+use crate::view::question::{Argument, Asked, Question, lens, strides};
 use ErrorKind::{IncompatibleShape, OutOfBounds, Unsupported};
 use Order::{ColumnMajor, RowMajor};
 use nd_testing::Row;
 use ndarray_layout::{
-    Dimension, ErrorKind, Ix1, Ix2, Ix3, Ix5, Ix6, IxDyn, LayoutError, Lengths, Order,
-    SliceInfoElem, Strided, max_abs_offset_check_overflow, new_ixdyn,
+    Dimension, ErrorKind, Ix1, Ix2, Ix3, Ix5, Ix6, IxDyn, LayoutError, Lengths, Order, Strided,
+    max_abs_offset_check_overflow, new_ixdyn,
 };
 use std::alloc::Global;
 use std::process::Abort;
@@ -121,26 +121,25 @@ fn told_of_slice<D: Dimension, E: Dimension>(
     rt: &impl Abort,
     alloc: Global,
     view: &Strided<D>,
-    elems: &[SliceInfoElem],
+    argument: &Argument,
 ) -> Answer {
-    told::<E>(rt, alloc, view.slice(alloc, &elems))
+    told::<E>(rt, alloc, view.slice(alloc, &argument.elems, argument.fit))
 }
 
-/// The slice of a view, into the type of so many axes.
+/// The slice of a view, into the type that its argument asks for.
 fn slice<D: Dimension>(
     rt: &impl Abort,
     alloc: Global,
     view: &Strided<D>,
-    ndim: Option<usize>,
-    elems: &[SliceInfoElem],
+    argument: &Argument,
 ) -> Answer {
-    match ndim {
-        Some(1) => told_of_slice::<D, Ix1>(rt, alloc, view, elems),
-        Some(2) => told_of_slice::<D, Ix2>(rt, alloc, view, elems),
-        Some(3) => told_of_slice::<D, Ix3>(rt, alloc, view, elems),
-        Some(5) => told_of_slice::<D, Ix5>(rt, alloc, view, elems),
-        Some(6) => told_of_slice::<D, Ix6>(rt, alloc, view, elems),
-        _ => told_of_slice::<D, IxDyn>(rt, alloc, view, elems),
+    match argument.ndim {
+        Some(1) => told_of_slice::<D, Ix1>(rt, alloc, view, argument),
+        Some(2) => told_of_slice::<D, Ix2>(rt, alloc, view, argument),
+        Some(3) => told_of_slice::<D, Ix3>(rt, alloc, view, argument),
+        Some(5) => told_of_slice::<D, Ix5>(rt, alloc, view, argument),
+        Some(6) => told_of_slice::<D, Ix6>(rt, alloc, view, argument),
+        _ => told_of_slice::<D, IxDyn>(rt, alloc, view, argument),
     }
 }
 
@@ -149,11 +148,10 @@ fn slice_of_layout<D: Dimension>(
     rt: &impl Abort,
     alloc: Global,
     layout: &Asked,
-    ndim: Option<usize>,
-    elems: &[SliceInfoElem],
+    argument: &Argument,
 ) -> Answer {
     let view = view::<D>(rt, alloc, layout).expect(rt, "refused");
-    slice(rt, alloc, &view, ndim, elems)
+    slice(rt, alloc, &view, argument)
 }
 
 /// The answer of a layout at a dimension type.
@@ -169,9 +167,7 @@ fn ask<D: Dimension>(
         Question::Place(index) => {
             Answer::Number(place::<D>(rt, alloc, layout, index.as_slice()))
         },
-        Question::Slice(ndim, elems) => {
-            slice_of_layout::<D>(rt, alloc, layout, *ndim, elems.as_slice())
-        },
+        Question::Slice(argument) => slice_of_layout::<D>(rt, alloc, layout, argument),
     }
 }
 

@@ -1,8 +1,9 @@
 //! Layouts and what is asked of them, as rows of tables tell it.
 use crate::view::elems::elems;
 use CanIndexCheckMode::{OwnedMutable, ReadOnly};
+use Fit::{Clamp, Strict};
 use nd_testing::Row;
-use ndarray_layout::{CanIndexCheckMode, SliceInfoElem, unsigned};
+use ndarray_layout::{CanIndexCheckMode, Fit, SliceInfoElem, unsigned};
 use std::alloc::Global;
 use std::process::Abort;
 
@@ -16,6 +17,15 @@ pub struct Asked {
     pub strides: Vec<usize>,
 }
 
+/// A slice argument, the count of axes that the type of its slice fixes, and what becomes of bounds
+/// that lie outside their axis.
+#[derive(Drop)]
+pub struct Argument {
+    pub ndim: Option<usize>,
+    pub elems: Vec<SliceInfoElem>,
+    pub fit: Fit,
+}
+
 /// What is asked of a layout.
 #[derive(Drop)]
 pub enum Question {
@@ -26,7 +36,7 @@ pub enum Question {
     /// The place of an index.
     Place(Vec<usize>),
     /// The slice into the type of so many axes.
-    Slice(Option<usize>, Vec<SliceInfoElem>),
+    Slice(Argument),
 }
 
 /// The next word of a row as lengths.
@@ -69,12 +79,22 @@ pub fn fixed_count(rt: &impl Abort, row: &mut Row<'_>) -> Option<usize> {
     name.strip_prefix("Ix")?.parse().ok()
 }
 
+/// The next words of a row: the dimension type of a slice, and its elements.
+fn read_argument(rt: &impl Abort, alloc: Global, row: &mut Row<'_>, fit: Fit) -> Argument {
+    Argument {
+        ndim: fixed_count(rt, row),
+        elems: elems(rt, alloc, row),
+        fit,
+    }
+}
+
 /// The next words of a row as a question.
 pub fn read_question(rt: &impl Abort, alloc: Global, row: &mut Row<'_>) -> Question {
     match row.word().expect(rt, "a question") {
         "view" => Question::View,
         "span" => Question::Span,
         "at" => Question::Place(lens(rt, alloc, row)),
-        _ => Question::Slice(fixed_count(rt, row), elems(rt, alloc, row)),
+        "clamp" => Question::Slice(read_argument(rt, alloc, row, Clamp)),
+        _ => Question::Slice(read_argument(rt, alloc, row, Strict)),
     }
 }

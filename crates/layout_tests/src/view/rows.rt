@@ -3,7 +3,7 @@ use crate::view::answer::{answer_at, expected, told};
 use crate::view::question::{fixed_count, read_layout, read_question};
 use CanIndexCheckMode::OwnedMutable;
 use nd_testing::{Row, rows};
-use ndarray_layout::{CanIndexCheckMode, Dimension, LayoutError, SliceInfoElem, Strided};
+use ndarray_layout::{CanIndexCheckMode, Dimension, Fit, LayoutError, SliceInfoElem, Strided};
 use std::alloc::Global;
 use std::process::Abort;
 
@@ -34,8 +34,9 @@ pub fn sliced<D: Dimension, E: Dimension>(
     alloc: Global,
     view: &Strided<D>,
     elems: &[SliceInfoElem],
+    fit: Fit,
 ) -> Result<Strided<E>, LayoutError> {
-    view.slice(alloc, &elems)
+    view.slice(alloc, &elems, fit)
 }
 
 /// Whether a call that makes a view answers so.

@@ -2,10 +2,11 @@
 //!
 //! Each test passes plain, and with the first or the second request of its run refused.
 use crate::view::rows::{owned, sliced};
+use Fit::Strict;
 use Order::RowMajor;
 use SliceInfoElem::{Index, NewAxis, Slice};
 use nd_testing::grants;
-use ndarray_layout::{Dimension, Ix2, Order, SliceInfoElem, Strided, new_ix2};
+use ndarray_layout::{Dimension, Fit, Ix2, Order, SliceInfoElem, Strided, new_ix2};
 use std::alloc::{AllocError, Global};
 use std::process::Abort;
 
@@ -25,7 +26,7 @@ const fn from(start: isize) -> SliceInfoElem {
 
 /// A slice has this shape, strides and start.
 fn leaves(rt: &impl Abort, alloc: Global, elems: &[SliceInfoElem], left: (Ix2, Ix2, usize)) {
-    let slice: Strided<Ix2> = sliced(alloc, &two_rows(rt), elems).expect(rt, "refused");
+    let slice: Strided<Ix2> = sliced(alloc, &two_rows(rt), elems, Strict).expect(rt, "refused");
     assert_eq!(rt; (*slice.dim(), *slice.strides(), slice.start()), left);
 }
 

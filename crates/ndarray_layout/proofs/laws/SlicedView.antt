@@ -7,6 +7,7 @@ use Rattle.nd_base.specs.Signed.{magnitude}
 use Rattle.nd_base.specs.Size.{limit}
 use Rattle.nd_base.proofs.laws.Span.{low_high_span}
 use Rattle.nd_shape.specs.Inside.{IsInside}
+use Rattle.nd_slice.specs.declared.fit.Fit.{Fit}
 use Rattle.nd_slice.specs.declared.slice.SliceInfoElem.{SliceInfoElem}
 use Rattle.nd_slice.specs.SliceFault.{in_count, out_count, first_fault, argument_fault}
 use Rattle.nd_slice.specs.Sliced.{sliced_shape, sliced_strides}
@@ -14,44 +15,45 @@ use Rattle.nd_slice.specs.Selected.{selected}
 use Rattle.nd_slice.proofs.laws.Selected.{selected_injective}
 use Rattle.nd_slice.proofs.laws.SliceFault.{elements_of_no_fault}
 use Rattle.ndarray_layout.specs.DistinctPlaces.{HasDistinctPlaces}
-use Rattle.ndarray_layout.specs.SlicedView.{KeepsPlaces, slice_of, sliced_start, slice_refusal}
+use Rattle.ndarray_layout.specs.KeepsPlaces.{KeepsPlaces}
+use Rattle.ndarray_layout.specs.SlicedView.{slice_of, sliced_start, slice_refusal}
 use Rattle.ndarray_layout.specs.View.{View, IsView, LiesWithin}
 use Rattle.ndarray_layout.proofs.Slices.{SliceKept, slices_kept, places_kept}
 
 -- an argument that is not refused fits the shape
-pub fits_of_no_refusal : (fixed : Option ℕ) (shape : List ℕ) (elems : List SliceInfoElem) → slice_refusal fixed shape elems ≡ None → argument_fault shape elems ≡ None
-fits_of_no_refusal fixed shape elems = by (eqb (in_count elems) (length shape)) (option_map_or (λ count. eqb (out_count elems) count) fixed true)
+pub fits_of_no_refusal : (fit : Fit) (fixed : Option ℕ) (shape : List ℕ) (elems : List SliceInfoElem) → slice_refusal fit fixed shape elems ≡ None → argument_fault fit shape elems ≡ None
+fits_of_no_refusal fit fixed shape elems = by (eqb (in_count elems) (length shape)) (option_map_or (λ count. eqb (out_count elems) count) fixed true)
   where
-    by : (t u : Bool) → cond (not t || not u) (Some IncompatibleShape) (first_fault shape elems) ≡ None → cond t (first_fault shape elems) (Some IncompatibleShape) ≡ None
+    by : (t u : Bool) → cond (not t || not u) (Some IncompatibleShape) (first_fault fit shape elems) ≡ None → cond t (first_fault fit shape elems) (Some IncompatibleShape) ≡ None
     by true true none = none
     by true false none = absurd (cc)
     by false true none = absurd (cc)
     by false false none = absurd (cc)
 
-kept : (elems : List SliceInfoElem) (view : View) → IsView view → argument_fault view.shape elems ≡ None → SliceKept elems view.shape view.strides
-kept elems view v none =
-    let fits = elements_of_no_fault view.shape elems none in
-    slices_kept elems view.shape view.strides v.valid.same_count fits.0 fits.1
+kept : (fit : Fit) (elems : List SliceInfoElem) (view : View) → IsView view → argument_fault fit view.shape elems ≡ None → SliceKept fit elems view.shape view.strides
+kept fit elems view v none =
+    let fits = elements_of_no_fault fit view.shape elems none in
+    slices_kept fit elems view.shape view.strides v.valid.same_count fits.0 fits.1
 
 -- the slice begins at a place
-pub sliced_start_within : (elems : List SliceInfoElem) (view : View) → IsView view → argument_fault view.shape elems ≡ None → (pos 0 ≤ℤ sliced_start elems view) × (sliced_start elems view ≤ℤ pos limit)
-sliced_start_within elems view v none =
-    let part = kept elems view v none in
+pub sliced_start_within : (fit : Fit) (elems : List SliceInfoElem) (view : View) → IsView view → argument_fault fit view.shape elems ≡ None → (pos 0 ≤ℤ sliced_start fit elems view) × (sliced_start fit elems view ≤ℤ pos limit)
+sliced_start_within fit elems view v none =
+    let part = kept fit elems view v none in
     (omega (arith, ints, part.low, v.low), omega (arith, ints, part.high, v.high))
 
 magnitude_from : (z : ℤ) → pos 0 ≤ℤ z → pos (magnitude z) ≡ z
 magnitude_from (pos n) low = refl
 magnitude_from (negsuc n) low = absurd (omega (arith, ints))
 
-pub start-slice_of : (elems : List SliceInfoElem) (view : View) → IsView view → argument_fault view.shape elems ≡ None → pos (slice_of elems view).start ≡ sliced_start elems view
-start-slice_of elems view v none = magnitude_from (sliced_start elems view) (sliced_start_within elems view v none).0
+pub start-slice_of : (fit : Fit) (elems : List SliceInfoElem) (view : View) → IsView view → argument_fault fit view.shape elems ≡ None → pos (slice_of fit elems view).start ≡ sliced_start fit elems view
+start-slice_of fit elems view v none = magnitude_from (sliced_start fit elems view) (sliced_start_within fit elems view v none).0
 
 -- a slice of a view is a view
-pub IsView-slice_of : (elems : List SliceInfoElem) (view : View) → IsView view → argument_fault view.shape elems ≡ None → IsView (slice_of elems view)
-IsView-slice_of elems view v none =
-    let part = kept elems view v none in
-    let start = start-slice_of elems view v none in
-    let spans = low_high_span (sliced_shape elems view.shape) (sliced_strides elems view.shape view.strides) in
+pub IsView-slice_of : (fit : Fit) (elems : List SliceInfoElem) (view : View) → IsView view → argument_fault fit view.shape elems ≡ None → IsView (slice_of fit elems view)
+IsView-slice_of fit elems view v none =
+    let part = kept fit elems view v none in
+    let start = start-slice_of fit elems view v none in
+    let spans = low_high_span (sliced_shape fit elems view.shape) (sliced_strides fit elems view.shape view.strides) in
     let whole = low_high_span view.shape view.strides in
     record {
       valid = record {
@@ -64,21 +66,21 @@ IsView-slice_of elems view v none =
     }
 
 -- its indices lie where those that they stand for do
-pub KeepsPlaces-slice_of : (elems : List SliceInfoElem) (view : View) → IsView view → argument_fault view.shape elems ≡ None → KeepsPlaces elems view (slice_of elems view)
-KeepsPlaces-slice_of elems view v none = λ index here.
-    let fits = elements_of_no_fault view.shape elems none in
-    let stays = places_kept elems view.shape view.strides index v.valid.same_count fits.0 fits.1 here in
-    (stays.within, omega (arith, ints, start-slice_of elems view v none, stays.offset))
+pub KeepsPlaces-slice_of : (fit : Fit) (elems : List SliceInfoElem) (view : View) → IsView view → argument_fault fit view.shape elems ≡ None → KeepsPlaces (selected fit elems view.shape) view (slice_of fit elems view)
+KeepsPlaces-slice_of fit elems view v none = λ index here.
+    let fits = elements_of_no_fault fit view.shape elems none in
+    let stays = places_kept fit elems view.shape view.strides index v.valid.same_count fits.0 fits.1 here in
+    (stays.within, omega (arith, ints, start-slice_of fit elems view v none, stays.offset))
 
 -- it lies within the data that the view lies within
-pub LiesWithin-slice_of : (len : ℕ) (elems : List SliceInfoElem) (view : View) → IsView view → argument_fault view.shape elems ≡ None → LiesWithin len view → LiesWithin len (slice_of elems view)
-LiesWithin-slice_of len elems view v none within = λ index here.
-    let stays = KeepsPlaces-slice_of elems view v none index here in
-    subst (IsInside len) (sym stays.1) (within (selected elems view.shape index) stays.0)
+pub LiesWithin-slice_of : (fit : Fit) (len : ℕ) (elems : List SliceInfoElem) (view : View) → IsView view → argument_fault fit view.shape elems ≡ None → LiesWithin len view → LiesWithin len (slice_of fit elems view)
+LiesWithin-slice_of fit len elems view v none within = λ index here.
+    let stays = KeepsPlaces-slice_of fit elems view v none index here in
+    subst (IsInside len) (sym stays.1) (within (selected fit elems view.shape index) stays.0)
 
 -- and where no two indices of the view share a place, no two of the slice do
-pub HasDistinctPlaces-slice_of : (elems : List SliceInfoElem) (view : View) → IsView view → argument_fault view.shape elems ≡ None → HasDistinctPlaces view → HasDistinctPlaces (slice_of elems view)
-HasDistinctPlaces-slice_of elems view v none distinct = λ index other here there same.
-    let first = KeepsPlaces-slice_of elems view v none index here in
-    let second = KeepsPlaces-slice_of elems view v none other there in
-    selected_injective elems view.shape index other here there (distinct (selected elems view.shape index) (selected elems view.shape other) first.0 second.0 (sym first.1 ∙ same ∙ second.1))
+pub HasDistinctPlaces-slice_of : (fit : Fit) (elems : List SliceInfoElem) (view : View) → IsView view → argument_fault fit view.shape elems ≡ None → HasDistinctPlaces view → HasDistinctPlaces (slice_of fit elems view)
+HasDistinctPlaces-slice_of fit elems view v none distinct = λ index other here there same.
+    let first = KeepsPlaces-slice_of fit elems view v none index here in
+    let second = KeepsPlaces-slice_of fit elems view v none other there in
+    selected_injective fit elems view.shape index other here there (distinct (selected fit elems view.shape index) (selected fit elems view.shape other) first.0 second.0 (sym first.1 ∙ same ∙ second.1))

@@ -14,7 +14,7 @@ stride_offset-offset-requires-clause-small c =
     let x = c.in_ok-start in
     let step : ℤ = to_z w64 (of_z w64 x.step) in
     let same : step ≡ c.args.slice.step = to_z-of_z w64 x.step (search rules) ∙ x.ensures.step in
-    let p : 0 < magnitude step = moves c.args.dim.now c.args.slice step x.ensures.fault same in
+    let p : 0 < magnitude step = moves c.args.fit c.args.dim.now c.args.slice step x.ensures.fault same in
     let below : c.first_pick.result < x.end = first_below step x.start x.end c.first_pick.result p c.if-start-end.true c.first_pick.ensures in
     omega (arith, x.ensures.within)
 
@@ -23,7 +23,7 @@ stride_offset-offset-requires-clause-fits c =
     let x = c.in_ok-start in
     let step : ℤ = to_z w64 (of_z w64 x.step) in
     let same : step ≡ c.args.slice.step = to_z-of_z w64 x.step (search rules) ∙ x.ensures.step in
-    let p : 0 < magnitude step = moves c.args.dim.now c.args.slice step x.ensures.fault same in
+    let p : 0 < magnitude step = moves c.args.fit c.args.dim.now c.args.slice step x.ensures.fault same in
     let below : c.first_pick.result < x.end = first_below step x.start x.end c.first_pick.result p c.if-start-end.true c.first_pick.ensures in
     offset_fits c.args.dim.now c.first_pick.result (signed c.args.stride.now) (omega (arith, x.ensures.within)) c.requires.span_fits
 
@@ -32,7 +32,7 @@ stepped_stride-requires c =
     let x = c.in_ok-start in
     let step : ℤ = to_z w64 (of_z w64 x.step) in
     let same : step ≡ c.args.slice.step = to_z-of_z w64 x.step (search rules) ∙ x.ensures.step in
-    let p : 0 < magnitude step = moves c.args.dim.now c.args.slice step x.ensures.fault same in
+    let p : 0 < magnitude step = moves c.args.fit c.args.dim.now c.args.slice step x.ensures.fault same in
     λ many. stride_fits c.args.dim.now x.start x.end (signed c.args.stride.now) step p x.ensures.within c.requires.span_fits (omega (arith, c.pick_count.ensures))
 
 pub returns-clause-steps : goal.returns-clause-steps
@@ -41,8 +41,8 @@ returns-clause-steps c j below =
     let step : ℤ = to_z w64 (of_z w64 x.step) in
     let s : ℤ = signed c.args.stride.now in
     let same : step ≡ c.args.slice.step = to_z-of_z w64 x.step (search rules) ∙ x.ensures.step in
-    let p : 0 < magnitude step = moves c.args.dim.now c.args.slice step x.ensures.fault same in
-    let are : picks c.args.dim.now c.args.slice ≡ between step x.start x.end = picks_between c.args.dim.now c.args.slice x.start x.end x.ensures.start x.ensures.end ∙ ap (λ z. between z x.start x.end) (sym same) in
+    let p : 0 < magnitude step = moves c.args.fit c.args.dim.now c.args.slice step x.ensures.fault same in
+    let are : picks c.args.fit c.args.dim.now c.args.slice ≡ between step x.start x.end = picks_between c.args.fit c.args.dim.now c.args.slice x.start x.end x.ensures.start x.ensures.end ∙ ap (λ z. between z x.start x.end) (sym same) in
     let at : ℤ = to_z w64 c.if-start-end.offset-bits in
     let offset : at ≡ first_offset (between step x.start x.end) s = elim c.if-start-end.branch [
       | then-start-end w ↦
@@ -60,6 +60,6 @@ returns-clause-within c j below =
     let x = c.in_ok-start in
     let step : ℤ = to_z w64 (of_z w64 x.step) in
     let same : step ≡ c.args.slice.step = to_z-of_z w64 x.step (search rules) ∙ x.ensures.step in
-    let p : 0 < magnitude step = moves c.args.dim.now c.args.slice step x.ensures.fault same in
-    let are : picks c.args.dim.now c.args.slice ≡ between step x.start x.end = picks_between c.args.dim.now c.args.slice x.start x.end x.ensures.start x.ensures.end ∙ ap (λ z. between z x.start x.end) (sym same) in
+    let p : 0 < magnitude step = moves c.args.fit c.args.dim.now c.args.slice step x.ensures.fault same in
+    let are : picks c.args.fit c.args.dim.now c.args.slice ≡ between step x.start x.end = picks_between c.args.fit c.args.dim.now c.args.slice x.start x.end x.ensures.start x.ensures.end ∙ ap (λ z. between z x.start x.end) (sym same) in
     omega (arith, ap (λ xs. get_or xs j 0) are, between_below step x.start x.end j p (omega (arith, c.pick_count.ensures)), x.ensures.within)

@@ -1,7 +1,6 @@
 -- With the steps that were read before, those of the rest are those of all lines.
-use Rattle.std.proofs.Common.{◌≡◌, ◌+◌, ◌<◌, ◌^◌, length, map, vec_len}
+use Rattle.std.proofs.Common.{◌≡◌, ◌+◌, ◌<◌, ◌^◌, length, map}
 use Rattle.ndl_text.specs.Lines.{lines_from}
-use Rattle.ndl_session.specs.ReadByNow.{step_lines_read_by_now}
 use Rattle.ndl_session.specs.Script.{steps_of_lines}
 use Rattle.ndl_session.specs.StepLine.{step_value}
 use Rattle.ndl_session.proofs.Entries.{with_front_lines}
@@ -9,8 +8,8 @@ use Rattle.ndl_session.proofs.script.read_steps.Given as goal
 
 abbrev pub invariant-loop-steps : goal.invariant-loop-steps
 invariant-loop-steps l = record {
-  steps : with_front_lines (map step_value l.steps.items) (steps_of_lines (step_lines_read_by_now (vec_len l.steps) (lines_from l.number l.rest)))
-      ≡ steps_of_lines (step_lines_read_by_now 0 (lines_from l.fn.number l.text));
+  steps : with_front_lines (map step_value l.steps.items) (steps_of_lines (lines_from l.number l.rest))
+      ≡ steps_of_lines (lines_from l.fn.number l.text);
   counted : l.number + length l.rest < 2 ^ 64;
 }
 
