@@ -5,33 +5,53 @@ ghost use Rattle.nd_base.specs.Signed.{signed as signed_reading, all_signed};
 ghost use Rattle.nd_base.specs.Size.{size, limit};
 ghost use Rattle.nd_base.specs.declared.order.Order.TheVariants.{RowMajor};
 ghost use Rattle.ndarray_layout.specs.View.{IsView, view_places};
-ghost use Rattle.ndarray_layout.specs.Walk.{nested, nested_view};
+ghost use Rattle.ndarray_layout.specs.Walk.{nested, nested_view, row_view};
 
 use nd_base::{Order, stride_offset};
 
 /// Appends the places of all indices, in an order, to a list with room for them.
 pub fn push_places(
-    places: &mut Vec<usize>,
+    mut places: Vec<usize>,
     order: Order,
     shape: &[usize],
     strides: &[usize],
     start: usize,
-)
+) -> Vec<usize>
     requires view { IsView (nested_view order start shape.now (all_signed strides.now)) }
-    requires room { vec_len places.old + size (nested order shape.now) ≤ vec_capacity places.old }
-    ensures items { map pos places.new.items ≡ map pos places.old.items ++
+    requires room { vec_len places + size (nested order shape.now) ≤ vec_capacity places }
+    ensures items { map pos result.items ≡ map pos places.items ++
         view_places RowMajor (nested_view order start shape.now (all_signed strides.now)) }
-    ensures len { vec_len places.new ≡ vec_len places.old + size (nested order shape.now) }
-    ensures capacity { vec_capacity places.new ≡ vec_capacity places.old }
+    ensures len { vec_len result ≡ vec_len places + size (nested order shape.now) }
+    ensures capacity { vec_capacity result ≡ vec_capacity places }
 {
     match (split_slowest(order, shape), split_slowest(order, strides)) {
         (Some((len, lens)), Some((stride, rest))) => {
+            if lens.is_empty() {
+                return push_row(places, start, len, stride);
+            }
             for i in 0..len {
-                push_places(places, order, lens, rest, entry_place(start, i, stride));
+                places = push_places(places, order, lens, rest, entry_place(start, i, stride));
             }
         },
         _ => places.push_reserved(start),
     }
+    places
+}
+
+/// Appends the places of the entries of one axis. The list is passed by value: behind a reference
+/// its length would be written at each entry, and the loop would not become vector code.
+fn push_row(mut places: Vec<usize>, start: usize, len: usize, stride: usize) -> Vec<usize>
+    requires view { IsView (row_view start len (signed_reading stride)) }
+    requires room { vec_len places + len ≤ vec_capacity places }
+    ensures items { map pos result.items ≡ map pos places.items ++
+        view_places RowMajor (row_view start len (signed_reading stride)) }
+    ensures len { vec_len result ≡ vec_len places + len }
+    ensures capacity { vec_capacity result ≡ vec_capacity places }
+{
+    for i in 0..len {
+        places.push_reserved(entry_place(start, i, stride));
+    }
+    places
 }
 
 /// The item of the slowest axis, and the items of the others.

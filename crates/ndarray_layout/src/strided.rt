@@ -198,7 +198,7 @@ impl<D: Dimension> Strided<D> {
         let mut places = Vec::with_capacity(alloc, size)?;
         if size > 0 {
             let (shape, strides) = (self.dim.slice(), self.strides.slice());
-            push_places(&mut places, order, shape, strides, self.start);
+            places = push_places(places, order, shape, strides, self.start);
         }
         Ok(places)
     }

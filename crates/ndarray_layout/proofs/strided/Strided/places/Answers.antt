@@ -15,12 +15,12 @@ unwrap-size-requires g c =
     let fits : size (g.D.Lengths.list c.self.inside.dim) < 2 ^ 64 = size_fits (record { start = c.self.inside.start; shape = g.D.Lengths.list c.self.inside.dim; strides = all_signed (g.D.Lengths.list c.self.inside.strides) }) c.self.invariant in
     grind (arith, common_steps)
 
-pub push_places-requires-clause-view : goal.push_places-requires-clause-view
-push_places-requires-clause-view g c =
+pub push_places-places-requires-clause-view : goal.push_places-places-requires-clause-view
+push_places-places-requires-clause-view g c =
     rw (c.slice-shape.ensures.list, c.slice-strides.ensures.list) (view_nested c.args.order c.self.inside.start (g.D.Lengths.list c.self.inside.dim) (all_signed (g.D.Lengths.list c.self.inside.strides)) c.self.invariant)
 
-pub push_places-requires-clause-room : goal.push_places-requires-clause-room
-push_places-requires-clause-room g c =
+pub push_places-places-requires-clause-room : goal.push_places-places-requires-clause-room
+push_places-places-requires-clause-room g c =
     let whole = size_nested c.args.order c.slice-shape.result.now in
     let same : size c.slice-shape.result.now ≡ size (g.D.Lengths.list c.self.inside.dim) = ap size c.slice-shape.ensures.list in
     grind (arith, common_steps, whole, same, c.in_ok-places.ensures)
@@ -34,15 +34,15 @@ returns g c =
     let known : c.unwrap-size.result ≡ size shape = grind (arith, common_steps, c.size_checked.ensures, c.unwrap-size.ensures) in
     elim c.if-size-gt0.branch [
       | then-size-gt0 w ↦
-          let walked = rw (c.in_ok-places.ensures.items, w.slice-shape.ensures.list, w.slice-strides.ensures.list) at w.push_places.ensures.items in
+          let walked = rw (c.in_ok-places.ensures.items, w.slice-shape.ensures.list, w.slice-strides.ensures.list) at w.push_places-places.ensures.items in
           let same = walked ∙ places_nested order c.self.inside.start shape strides c.self.invariant.valid.same_count in
           let whole : size (nested order w.slice-shape.result.now) ≡ size shape = size_nested order w.slice-shape.result.now ∙ ap size w.slice-shape.ensures.list in
           rw (← c.self.view_is, w.places-is) (record {
             items = same;
-            len = omega (arith, w.push_places.ensures.len, c.in_ok-places.ensures.len, whole);
-            capacity = w.push_places.ensures.capacity ∙ c.in_ok-places.ensures.exact ∙ known;
-            at_rank = λ r below. item_at_rank order view w.push_places.new.places.items r same below;
-            inside = λ len within. items_lie_within len order view w.push_places.new.places.items same within;
+            len = omega (arith, w.push_places-places.ensures.len, c.in_ok-places.ensures.len, whole);
+            capacity = w.push_places-places.ensures.capacity ∙ c.in_ok-places.ensures.exact ∙ known;
+            at_rank = λ r below. item_at_rank order view w.push_places-places.result.items r same below;
+            inside = λ len within. items_lie_within len order view w.push_places-places.result.items same within;
             memory = λ none. refl;
           })
       | else-size-gt0 w ↦
