@@ -1,139 +1,129 @@
 //! Which shapes with an order or with strides are accepted over data.
-use crate::shapes::five;
+//!
+//! A row is the size of an element, a count of them, a shape, strides and an index that is not asked
+//! for; then, behind an arrow, the fault. Where the shape or the strides alone are asked for, they
+//! stand twice.
+use crate::questions::{Asked, Question, Type, holds_at, table};
 use CanIndexCheckMode::{OwnedMutable, ReadOnly};
 use ErrorKind::{OutOfBounds, Overflow, Unsupported};
-use nd_dim::{Dimension, ErrorKind, Ix2, Ix3, new_ix2, new_ix3, new_ixdyn, unsigned};
+use nd_dim::{Dimension, ErrorKind, ShapeError};
 use nd_shape::{
     CanIndexCheckMode, Strides, can_index_slice, can_index_slice_not_custom,
     can_index_slice_with_strides, strides_non_negative,
 };
 use nd_testing::fault_of;
 use std::alloc::{AllocError, Global};
+use std::process::Abort;
 
-const MAX: usize = 9223372036854775807;
+/// The fault that a word names, if any.
+fn kind_of(word: &str) -> Option<ErrorKind> {
+    match word {
+        "OutOfBounds" => Some(OutOfBounds),
+        "Overflow" => Some(Overflow),
+        "Unsupported" => Some(Unsupported),
+        _ => None,
+    }
+}
 
-/// Whether a shape with these strides over data of `len` elements of one byte has this fault.
-fn has_fault<D: Dimension>(
+/// Whether a call names this fault.
+fn is_fault(answer: Result<(), ShapeError>, fault: &str) -> bool {
+    fault_of(answer) == kind_of(fault)
+}
+
+/// Whether a shape by the strides of an order, over data of `len` elements of one byte, has this
+/// fault in either mode.
+fn has_order_fault<D: Dimension>(len: usize, dim: &D, order: &Strides<D>, fault: &str) -> bool {
+    !order.is_custom()
+        && is_fault(
+            can_index_slice_with_strides(1, len, dim, order, OwnedMutable),
+            fault,
+        )
+        && is_fault(
+            can_index_slice_with_strides(1, len, dim, order, ReadOnly),
+            fault,
+        )
+}
+
+/// Whether a shape has this fault by its own strides, in either order and mode.
+pub fn has_order_faults<D: Dimension>(len: usize, dim: &D, fault: &str) -> bool {
+    is_fault(can_index_slice_not_custom(len, dim), fault)
+        && has_order_fault(len, dim, &Strides::C, fault)
+        && has_order_fault(len, dim, &Strides::F, fault)
+}
+
+/// Whether a shape with given strides has this fault.
+pub fn has_fault<D: Dimension>(
     len: usize,
     dim: &D,
-    strides: &Strides<D>,
+    strides: D,
     mode: CanIndexCheckMode,
-    fault: Option<ErrorKind>,
+    fault: &str,
 ) -> bool {
-    let by_its_own = fault_of(can_index_slice_not_custom(len, dim));
-    (strides.is_custom() || by_its_own == fault)
-        && fault_of(can_index_slice_with_strides(1, len, dim, strides, mode)) == fault
+    let given = Strides::Custom(strides);
+    given.is_custom()
+        && is_fault(
+            can_index_slice_with_strides(1, len, dim, &given, mode),
+            fault,
+        )
 }
 
-/// The same with any of these strides, in any of these modes.
-fn have_fault<D: Dimension>(
-    len: usize,
-    dim: &D,
-    strides: &[Strides<D>],
-    modes: &[CanIndexCheckMode],
-    fault: Option<ErrorKind>,
-) -> bool {
-    for strides in strides {
-        for mode in modes {
-            if !has_fault(len, dim, strides, *mode, fault) {
-                return false;
-            }
-        }
-    }
-    true
-}
+const ORDERS_OF_TWO: &str = "\
+1 6 2,3 2,3 - => none
+1 5 2,3 2,3 - => OutOfBounds
+1 0 0,9223372036854775807 0,0 - => none
+1 9 0,9223372036854775808 0,0 - => Overflow";
 
-/// The same of two axes.
-fn two_have_fault(
-    len: usize,
-    dim: &Ix2,
-    strides: &[Strides<Ix2>],
-    modes: &[CanIndexCheckMode],
-    fault: Option<ErrorKind>,
-) -> bool {
-    have_fault(len, dim, strides, modes, fault)
-}
-
-/// Either mode.
-const MODES: [CanIndexCheckMode; 2] = [OwnedMutable, ReadOnly];
-
-/// The same of two axes by their own strides, in either order and mode.
-fn two_have_standard_fault(len: usize, dim: Ix2, fault: Option<ErrorKind>) -> bool {
-    two_have_fault(len, &dim, &[Strides::C, Strides::F], &MODES, fault)
-}
-
-/// The same of five axes.
-fn five_have_standard_fault(alloc: Global, len: usize, fault: Option<ErrorKind>) -> bool {
-    match five(alloc) {
-        Ok(five) => have_fault(len, &five, &[Strides::C, Strides::F], &MODES, fault),
-        Err(_) => false,
-    }
-}
+const ORDERS_OF_FIVE: &str = "\
+1 24 2,3,1,2,2 2,3,1,2,2 - => none
+1 23 2,3,1,2,2 2,3,1,2,2 - => OutOfBounds";
 
 #[test]
 fn r3_rows_of_standard_shapes(rt: HostRuntime) {
-    assert!(rt;
-        two_have_standard_fault(6, new_ix2(2, 3), None)
-            && two_have_standard_fault(5, new_ix2(2, 3), Some(OutOfBounds))
-            && two_have_standard_fault(0, new_ix2(0, MAX), None)
-            && two_have_standard_fault(9, new_ix2(0, MAX + 1), Some(Overflow))
-            && five_have_standard_fault(rt.alloc(), 24, None)
-            && five_have_standard_fault(rt.alloc(), 23, Some(OutOfBounds))
+    table(
+        &rt,
+        rt.alloc(),
+        Type::Of(2),
+        Question::Orders,
+        ORDERS_OF_TWO,
     );
+    table(&rt, rt.alloc(), Type::Any, Question::Orders, ORDERS_OF_FIVE);
 }
 
-/// Whether three rows of two along given strides, over data of `len` elements, have this fault.
-fn three_rows_have_fault(
-    len: usize,
-    strides: Ix2,
-    mode: CanIndexCheckMode,
-    fault: Option<ErrorKind>,
-) -> bool {
-    two_have_fault(
-        len,
-        &new_ix2(3, 2),
-        &[Strides::Custom(strides)],
-        &[mode],
-        fault,
-    )
-}
+const OWNED: &str = "\
+1 8 3,2 2,3 - => Unsupported
+1 6 3,2 -2,1 - => none";
+
+const READ: &str = "\
+1 8 3,2 2,3 - => none
+1 7 3,2 2,3 - => OutOfBounds";
 
 #[test]
 fn r3_rows_of_given_strides(rt: HostRuntime) {
-    let strides = new_ix2(2, 3);
-    let back = new_ix2(unsigned(-2), 1);
-    assert!(rt;
-        three_rows_have_fault(8, strides, OwnedMutable, Some(Unsupported))
-            && three_rows_have_fault(8, strides, ReadOnly, None)
-            && three_rows_have_fault(7, strides, ReadOnly, Some(OutOfBounds))
-            && three_rows_have_fault(6, back, OwnedMutable, None)
-    );
+    table(&rt, rt.alloc(), Type::Of(2), Question::Owned, OWNED);
+    table(&rt, rt.alloc(), Type::Of(2), Question::Read, READ);
 }
 
-/// Whether strides of any number of axes have this fault, as they lead back, or none.
-fn have_sign_fault(alloc: Global, strides: &[usize], fault: Option<ErrorKind>) -> bool {
-    match new_ixdyn(alloc, strides) {
-        Ok(strides) => fault_of(strides_non_negative(&strides)) == fault,
-        Err(_) => false,
-    }
+/// Whether strides have this fault, as they lead back, or none.
+pub fn has_sign_fault<D: Dimension>(strides: &D, fault: &str) -> bool {
+    is_fault(strides_non_negative(strides), fault)
 }
 
-/// The same of two axes.
-fn two_have_sign_fault(strides: &Ix2, fault: Option<ErrorKind>) -> bool {
-    fault_of(strides_non_negative(strides)) == fault
-}
+const SIGNS: &str = "\
+1 0 - - - => none
+1 0 3,0 3,0 - => none
+1 0 0,1 -9223372036854775808,1 - => Unsupported
+1 0 4,3,2,1,0 4,3,2,1,9223372036854775807 - => none
+1 0 4,3,0,1,0 4,3,-2,1,0 - => Unsupported";
 
 #[test]
 fn r3_rows_of_signs(rt: HostRuntime) {
-    let alloc = rt.alloc();
-    let back = Some(Unsupported);
-    assert!(rt;
-        have_sign_fault(alloc, &[], None)
-            && have_sign_fault(alloc, &[3, 0], None)
-            && have_sign_fault(alloc, &[MAX + 1, 1], back)
-            && have_sign_fault(alloc, &[4, 3, 2, 1, MAX], None)
-            && have_sign_fault(alloc, &[4, 3, 18446744073709551614, 1, 0], back)
-            && two_have_sign_fault(&new_ix2(unsigned(-3), 1), back)
+    table(&rt, rt.alloc(), Type::Any, Question::Signs, SIGNS);
+    table(
+        &rt,
+        rt.alloc(),
+        Type::Of(2),
+        Question::Signs,
+        "1 0 3,1 -3,1 - => Unsupported",
     );
 }
 
@@ -153,32 +143,36 @@ fn is_accepted_along<D: Dimension>(dim: &D, strides: Result<D, AllocError>) -> b
 }
 
 /// The same along its own strides, in both orders.
-fn is_accepted_along_its_own<D: Dimension>(alloc: Global, dim: &D) -> bool {
+pub fn is_accepted_along_its_own<D: Dimension>(alloc: Global, dim: &D) -> bool {
     dim.size_checked().is_some()
         && is_accepted_along(dim, dim.default_strides(alloc))
         && is_accepted_along(dim, dim.fortran_strides(alloc))
 }
 
-/// The same of three axes.
-fn three_are_accepted(alloc: Global, dim: &Ix3) -> bool {
-    is_accepted_along_its_own(alloc, dim)
+/// A list of its own.
+fn copy(rt: &impl Abort, alloc: Global, lens: &[usize]) -> Vec<usize> {
+    Vec::from_slice(alloc, lens).expect(rt, "memory")
 }
 
-/// The same of any number of axes.
-fn any_are_accepted(alloc: Global, lens: &[usize]) -> bool {
-    match new_ixdyn(alloc, lens) {
-        Ok(dim) => is_accepted_along_its_own(alloc, &dim),
-        Err(_) => false,
-    }
+/// The same of lengths, at a type.
+fn are_accepted(rt: &impl Abort, alloc: Global, at: Type, lens: &[usize]) -> bool {
+    let asked = Asked {
+        elem_size: 1,
+        len: 0,
+        shape: copy(rt, alloc, lens),
+        strides: copy(rt, alloc, lens),
+        index: copy(rt, alloc, lens),
+    };
+    holds_at(rt, alloc, at, Question::OwnStrides, &asked, "")
 }
 
 /// The same of no axes, the first one, the first two and all three.
-fn are_accepted(alloc: Global, lens: [usize; 3]) -> bool {
-    three_are_accepted(alloc, &new_ix3(lens[0], lens[1], lens[2]))
-        && any_are_accepted(alloc, &lens[..0])
-        && any_are_accepted(alloc, &lens[..1])
-        && any_are_accepted(alloc, &lens[..2])
-        && any_are_accepted(alloc, &lens)
+fn three_are_accepted(rt: &impl Abort, alloc: Global, lens: [usize; 3]) -> bool {
+    are_accepted(rt, alloc, Type::Of(3), &lens)
+        && are_accepted(rt, alloc, Type::Any, &lens[..0])
+        && are_accepted(rt, alloc, Type::Any, &lens[..1])
+        && are_accepted(rt, alloc, Type::Any, &lens[..2])
+        && are_accepted(rt, alloc, Type::Any, &lens)
 }
 
 #[test]
@@ -186,7 +180,7 @@ fn r3_rows_of_shapes_along_their_own_strides(rt: HostRuntime) {
     for a in 0..4 {
         for b in 0..4 {
             for c in 0..4 {
-                assert!(rt; are_accepted(rt.alloc(), [a, b, c]));
+                assert!(rt; three_are_accepted(&rt, rt.alloc(), [a, b, c]));
             }
         }
     }

@@ -1,66 +1,88 @@
 //! The axes of a layout one by one.
-ghost use Rattle.std.specs.Prelude.{◌≡◌, ◌≤◌, length, sum};
-ghost use Rattle.nd_base.specs.Size.{limit};
+//!
+//! A row is the size of an element, a count of them, a shape, strides and an index: the shape and the
+//! strides are asked, and the count where lengths are summed.
+ghost use Rattle.std.specs.Prelude.{◌≡◌, IfSome, length, sum};
 
-use nd_dim::{Axis, Dimension, new_ix3, new_ixdyn, unsigned};
-use nd_shape::{AxisDescription, axes_of};
-use std::test::Fail;
+use crate::questions::{Question, Type, table};
+use nd_dim::Dimension;
+use nd_shape::{Axes, AxisDescription, axes_of};
 
-/// What an axis is told by.
-fn parts_of(axis: AxisDescription) -> (Axis, usize, isize) {
-    (axis.axis, axis.len, axis.stride)
+/// Whether this is the next axis.
+fn is(axis: Option<AxisDescription>, number: usize, len: usize, stride: isize) -> bool {
+    match axis {
+        Some(axis) => axis.axis.0 == number && axis.len == len && axis.stride == stride,
+        None => false,
+    }
+}
+
+/// Whether three axes are told from the front and from the back in turn.
+fn are_in_turn(mut axes: Axes<'_>) -> bool {
+    is(axes.next(), 0, 2, 12)
+        && is(axes.next_back(), 2, 4, 1)
+        && is(axes.next(), 1, 3, -4)
+        && axes.next().is_none()
+}
+
+/// The same of the axes of a layout.
+pub fn is_in_turn<D: Dimension>(dim: &D, strides: &D) -> bool {
+    dim.ndim() == strides.ndim() && are_in_turn(axes_of(dim, strides))
 }
 
 #[test]
 fn r3_rows(rt: HostRuntime) {
-    let (dim, strides) = (new_ix3(2, 3, 4), new_ix3(12, unsigned(-4), 1));
-    let mut axes = axes_of(&dim, &strides);
-    let given = [axes.next(), axes.next_back(), axes.next(), axes.next()];
-    assert_eq!(rt;
-        given.map(|axis| axis.map(parts_of)),
-        [
-            Some((Axis(0), 2, 12)),
-            Some((Axis(2), 4, 1)),
-            Some((Axis(1), 3, -4)),
-            None
-        ]
-    );
+    let row = "1 0 2,3,4 12,-4,1 0,0,0 => in turn";
+    table(&rt, rt.alloc(), Type::Of(3), Question::InTurn, row);
 }
 
-#[test]
-fn lengths_of_walks(rt: HostRuntime) -> Result<(), Fail> {
-    let dim = new_ixdyn(rt.alloc(), &[2, 3, 4])?;
-    let mut axes = axes_of(&dim, &dim);
+/// Whether so many axes are left.
+fn are_left(axes: Axes<'_>, count: usize) -> bool {
+    axes.len() == count && axes.size_hint() == (count, Some(count))
+}
+
+/// Whether of three axes two are left behind the first one, and one before the last one, of which
+/// the walk that was copied knows nothing.
+fn have_lengths(mut axes: Axes<'_>) -> bool {
     axes.next();
     let rest = axes;
     axes.next_back();
-    assert_eq!(rt; (rest.len(), rest.size_hint()), (2, (2, Some(2))));
-    assert_eq!(rt; (axes.len(), axes.size_hint()), (1, (1, Some(1))));
-    Ok(())
+    are_left(rest, 2) && are_left(axes, 1)
 }
 
-/// The lengths of all axes together, by one walk along them.
-fn sum_of_lens<D: Dimension>(dim: &D, strides: &D) -> usize
-    requires same_count { length (D.list dim.now) ≡ length (D.list strides.now) }
-    requires fits { sum (D.list dim.now) ≤ limit }
-    ensures { result ≡ sum (D.list dim.now) }
-{
-    let mut total = 0usize;
-    for axis in axes_of(dim, strides) {
-        total += axis.len;
-    }
-    total
+/// The same of the axes of a layout.
+pub fn has_lengths<D: Dimension>(dim: &D, strides: &D) -> bool {
+    dim.ndim() == strides.ndim() && have_lengths(axes_of(dim, strides))
 }
 
 #[test]
-fn a_walk_adds_lengths(rt: HostRuntime) -> Result<(), Fail> {
-    let five = new_ixdyn(rt.alloc(), &[2, 3, 1, 4, 2])?;
-    assert_eq!(rt;
-        (
-            sum_of_lens(&new_ix3(2, 3, 4), &new_ix3(12, 4, 1)),
-            sum_of_lens(&five, &five)
-        ),
-        (9, 12)
+fn lengths_of_walks(rt: HostRuntime) {
+    let row = "1 0 2,3,4 2,3,4 0,0,0 => two and one";
+    table(&rt, rt.alloc(), Type::Any, Question::Lengths, row);
+}
+
+/// The lengths of all axes together, by one walk along them, where they fit.
+fn sum_of_lens<D: Dimension>(dim: &D, strides: &D) -> Option<usize>
+    requires same_count { length (D.list dim.now) ≡ length (D.list strides.now) }
+    ensures { IfSome result (λ total. total ≡ sum (D.list dim.now)) }
+{
+    let mut total = 0usize;
+    for axis in axes_of(dim, strides) {
+        total = total.checked_add(axis.len)?;
+    }
+    Some(total)
+}
+
+/// Whether this is the sum.
+pub fn has_sum<D: Dimension>(dim: &D, strides: &D, total: usize) -> bool {
+    dim.ndim() == strides.ndim() && sum_of_lens(dim, strides) == Some(total)
+}
+
+#[test]
+fn a_walk_adds_lengths(rt: HostRuntime) {
+    let (three, five) = (
+        "1 9 2,3,4 12,4,1 0,0,0 => sum",
+        "1 12 2,3,1,4,2 2,3,1,4,2 - => sum",
     );
-    Ok(())
+    table(&rt, rt.alloc(), Type::Of(3), Question::Sum, three);
+    table(&rt, rt.alloc(), Type::Any, Question::Sum, five);
 }

@@ -5,23 +5,15 @@
 //! arrow, what is told: the size, the span, whether the data may be owned through the layout, and
 //! whether it may be read and then, whether indices may share an element, how many elements lie
 //! below the first index, and where the index lies, checked and unchecked.
-use crate::lists::{dim_of, strides_of};
+use crate::questions::{Asked, Question, Type, table};
 use CanIndexCheckMode::{OwnedMutable, ReadOnly};
-use nd_dim::{Dimension, ErrorKind, Ix0, Ix1, Ix2, Ix3, Ix6, IxDyn, ShapeError};
+use nd_dim::{Dimension, ErrorKind, ShapeError};
 use nd_shape::{
     CanIndexCheckMode, NdIndex, can_index_slice, dim_stride_overlap, max_abs_offset_check_overflow,
     offset_from_low_addr_ptr_to_logical_ptr, size_of_shape_checked,
 };
-use nd_testing::{Row, TableError, rows};
 use std::alloc::Global;
 use std::process::Abort;
-
-/// Some elements in a row.
-#[derive(Clone, Copy)]
-struct Data {
-    elem_size: usize,
-    len: usize,
-}
 
 /// What is told of a layout that data may be read through.
 type Extent = (bool, usize, Option<(isize, isize)>);
@@ -43,8 +35,8 @@ fn or_kind<T: Drop>(answer: Result<T, ShapeError>) -> Result<T, ErrorKind> {
 }
 
 /// What is told of a layout, where data may be read through it.
-fn read<D: Dimension>(data: Data, dim: &D, strides: &D, index: &D) -> Result<Extent, ErrorKind> {
-    match can_index_slice(data.elem_size, data.len, dim, strides, ReadOnly) {
+fn read<D: Dimension>(asked: &Asked, dim: &D, strides: &D, index: &D) -> Result<Extent, ErrorKind> {
+    match can_index_slice(asked.elem_size, asked.len, dim, strides, ReadOnly) {
         Ok(()) => {
             let shares = dim_stride_overlap(dim, strides);
             let low = offset_from_low_addr_ptr_to_logical_ptr(dim, strides);
@@ -58,76 +50,26 @@ fn read<D: Dimension>(data: Data, dim: &D, strides: &D, index: &D) -> Result<Ext
     }
 }
 
-/// A shape, strides and an index as lists.
-#[derive(Clone, Copy)]
-struct Lists<'a> {
-    shape: &'a [usize],
-    strides: &'a [usize],
-    index: &'a [usize],
-}
-
-/// What is told of a layout over data, at a dimension type.
-fn ask<D: Dimension>(rt: &impl Abort, alloc: Global, data: Data, lists: Lists) -> Told {
-    let Data { elem_size, len } = data;
-    let dim = dim_of::<D>(rt, alloc, lists.shape);
-    let strides = dim_of::<D>(rt, alloc, lists.strides);
-    let index = dim_of::<D>(rt, alloc, lists.index);
+/// What is told of a layout over data.
+pub fn ask<D: Dimension>(asked: &Asked, dim: &D, strides: &D, index: &D) -> Told {
+    let Asked { elem_size, len, .. } = *asked;
     (
-        or_kind(size_of_shape_checked(&dim)),
-        or_kind(max_abs_offset_check_overflow(elem_size, &dim, &strides)),
-        or_kind(can_index_slice(elem_size, len, &dim, &strides, OwnedMutable)),
-        read(data, &dim, &strides, &index),
+        or_kind(size_of_shape_checked(dim)),
+        or_kind(max_abs_offset_check_overflow(elem_size, dim, strides)),
+        or_kind(can_index_slice(elem_size, len, dim, strides, OwnedMutable)),
+        read(asked, dim, strides, index),
     )
 }
 
-/// The same at the dimension type of the count of axes.
-fn ask_lists(rt: &impl Abort, alloc: Global, data: Data, lists: Lists) -> Told {
-    match (lists.shape.len(), lists.strides.len(), lists.index.len()) {
-        (0, 0, 0) => ask::<Ix0>(rt, alloc, data, lists),
-        (1, 1, 1) => ask::<Ix1>(rt, alloc, data, lists),
-        (2, 2, 2) => ask::<Ix2>(rt, alloc, data, lists),
-        (3, 3, 3) => ask::<Ix3>(rt, alloc, data, lists),
-        (6, 6, 6) => ask::<Ix6>(rt, alloc, data, lists),
-        _ => ask::<IxDyn>(rt, alloc, data, lists),
-    }
-}
-
-/// The elements that a row begins with.
-fn read_data(row: &mut Row) -> Result<Data, TableError> {
-    Ok(Data {
-        elem_size: row.length()?,
-        len: row.length()?,
-    })
-}
-
-/// What is told of the layout that a row begins with.
-fn tell(rt: &impl Abort, alloc: Global, row: &mut Row) -> Told {
-    let data = read_data(row).expect(rt, "data");
-    let shape = row.lengths(alloc).expect(rt, "a shape");
-    let strides = row.numbers(alloc).expect(rt, "strides");
-    let strides = strides_of(alloc, strides).expect(rt, "memory");
-    let index = row.lengths(alloc).expect(rt, "an index");
-    let lists = Lists {
-        shape: shape.as_slice(),
-        strides: strides.as_slice(),
-        index: index.as_slice(),
-    };
-    ask_lists(rt, alloc, data, lists)
-}
-
-/// What is told of a layout, as it is printed.
-fn is_told(rt: &impl Abort, alloc: Global, told: Told, answer: &str) {
+/// Whether this is told of a layout, as it is printed.
+pub fn is_told(rt: &impl Abort, alloc: Global, told: Told, answer: &str) -> bool {
     let text = format!(in alloc; "{told:?}").expect(rt, "memory");
-    assert_eq!(rt; text.as_str(), answer);
+    text.as_str() == answer
 }
 
 /// A table of layouts.
-fn tells(rt: &impl Abort, alloc: Global, table: &str) {
-    for line in rows(table) {
-        let (layout, answer) = line.split_once(" => ").expect(rt, "an arrow");
-        let told = tell(rt, alloc, &mut Row::new(layout));
-        is_told(rt, alloc, told, answer);
-    }
+fn tells(rt: &impl Abort, alloc: Global, layouts: &str) {
+    table(rt, alloc, Type::OfRow, Question::Layout, layouts);
 }
 
 /// Layouts of one axis and of two, and indices of the shape 2, 3.

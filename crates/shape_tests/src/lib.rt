@@ -12,4 +12,6 @@ mod layouts;
 #[cfg(test)]
 mod lists;
 #[cfg(test)]
+mod questions;
+#[cfg(test)]
 mod shapes;

@@ -1,17 +1,21 @@
 //! Shapes with an order or with strides: what builds them, and which strides they have.
+//!
+//! Builders are asked by the bound alone, whatever their type and that of their dimension.
 ghost use Rattle.nd_base.specs.Signed.{all_signed};
 ghost use Rattle.nd_base.specs.ValidLayout.{IsValidLayout};
 ghost use Rattle.nd_shape.specs.ShapeBuilder.{strides_list};
 
-use nd_dim::{Dimension, Ix2, IxDyn, Lengths, new_ix2, new_ixdyn};
+use crate::lists::dim_of;
+use nd_dim::{Dimension, IntoDimension, Ix2, IxDyn, new_ix2};
 use nd_shape::{
     CanIndexCheckMode, Shape, ShapeBuilder, StrideShape, Strides, can_index_slice_with_strides,
 };
 use nd_testing::asked;
 use std::alloc::{AllocError, Global};
 use std::fmt::Debug;
+use std::process::Abort;
 
-// ---- what builds them
+// ---- what is built
 
 /// Whether a shape has this size.
 fn has_size<D: Dimension>(shape: &Shape<D>, size: usize) -> bool {
@@ -69,122 +73,6 @@ fn follows<D: Dimension>(shape: Result<StrideShape<D>, AllocError>, dim: &D, is_
     }
 }
 
-/// Whether a builder of two axes in this order builds them in each order.
-fn builds<T: ShapeBuilder<Dim = Ix2> + Copy>(alloc: Global, builder: T, is_c: bool) -> bool {
-    let dim = new_ix2(2, 3);
-    has(builder.into_shape_with_order(alloc), &dim, 6, is_c)
-        && has(builder.f(alloc), &dim, 6, false)
-        && has(builder.set_f(alloc, true), &dim, 6, false)
-        && has(builder.set_f(alloc, false), &dim, 6, true)
-        && follows(StrideShape::from_builder(alloc, builder), &dim, is_c)
-}
-
-/// Whether a builder of two axes builds them with given strides.
-fn gives<T: ShapeBuilder<Dim = Ix2>>(alloc: Global, builder: T, strides: T::Strides) -> bool {
-    is_given(
-        builder.strides(alloc, strides),
-        &new_ix2(2, 3),
-        &new_ix2(4, 7),
-    )
-}
-
-/// Two axes, row-major.
-fn two_by_rows() -> Shape<Ix2> {
-    Shape::from(new_ix2(2, 3))
-}
-
-/// Two axes, column-major.
-fn two_by_columns(alloc: Global) -> Result<Shape<Ix2>, AllocError> {
-    two_by_rows().f(alloc)
-}
-
-/// Whether a builder that may want memory builds two axes, column-major.
-fn builds_columns(alloc: Global, builder: Result<Shape<Ix2>, AllocError>) -> bool {
-    match builder {
-        Ok(builder) => builds(alloc, builder, false),
-        Err(_) => false,
-    }
-}
-
-#[test]
-fn r3_rows_of_builders_of_two_axes(rt: HostRuntime) {
-    let alloc = rt.alloc();
-    assert!(rt;
-        builds(alloc, (2, 3), true)
-            && builds(alloc, [2, 3], true)
-            && builds(alloc, new_ix2(2, 3), true)
-            && builds(alloc, two_by_rows(), true)
-            && builds_columns(alloc, two_by_columns(alloc))
-    );
-}
-
-#[test]
-fn r3_rows_of_given_strides_of_two_axes(rt: HostRuntime) {
-    let alloc = rt.alloc();
-    assert!(rt;
-        gives(alloc, (2, 3), (4, 7))
-            && gives(alloc, [2, 3], [4, 7])
-            && gives(alloc, new_ix2(2, 3), new_ix2(4, 7))
-            && gives(alloc, two_by_rows(), new_ix2(4, 7))
-    );
-}
-
-/// A shape of any number of axes.
-pub fn five(alloc: Global) -> Result<IxDyn, AllocError> {
-    new_ixdyn(alloc, &[2, 3, 1, 2, 2])
-}
-
-/// The same, column-major.
-fn five_by_columns(alloc: Global) -> Result<Shape<IxDyn>, AllocError> {
-    five(alloc)?.f(alloc)
-}
-
-/// The same in the strides of its order.
-fn five_from_columns(alloc: Global) -> Result<StrideShape<IxDyn>, AllocError> {
-    StrideShape::from_builder(alloc, five_by_columns(alloc)?)
-}
-
-/// The same with strides.
-fn five_given(alloc: Global) -> Result<StrideShape<IxDyn>, AllocError> {
-    five(alloc)?.strides(alloc, new_ixdyn(alloc, &[1, 2, 6, 6, 12])?)
-}
-
-/// Whether a builder of a shape builds it in each order, and with given strides, as many.
-fn builds_any<T: ShapeBuilder<Dim = IxDyn, Strides = T> + Copy>(
-    alloc: Global,
-    builder: T,
-    dim: &IxDyn,
-    size: usize,
-) -> bool {
-    has(builder.into_shape_with_order(alloc), dim, size, true)
-        && has(builder.f(alloc), dim, size, false)
-        && is_given(builder.strides(alloc, builder), dim, dim)
-        && follows(StrideShape::from_builder(alloc, builder), dim, true)
-}
-
-/// Whether a list builds shapes of any number of axes.
-fn list_builds(alloc: Global, lens: &[usize], size: usize) -> bool {
-    match new_ixdyn(alloc, lens) {
-        Ok(dim) => builds_any(alloc, lens, &dim, size),
-        Err(_) => false,
-    }
-}
-
-/// Whether five axes have the strides of their order, column-major.
-fn five_follow_columns(alloc: Global) -> bool {
-    match five(alloc) {
-        Ok(five) => follows(five_from_columns(alloc), &five, false),
-        Err(_) => false,
-    }
-}
-
-#[test]
-fn r3_rows_of_builders_of_any_number_of_axes(rt: HostRuntime) {
-    assert!(rt; list_builds(rt.alloc(), &[2, 3, 1, 2, 2], 24) && five_follow_columns(rt.alloc()));
-}
-
-// ---- their strides
-
 /// Whether these are the strides that a shape has.
 fn are_strides<D: Dimension>(alloc: Global, dim: &D, kept: Strides<D>, strides: &D) -> bool
     requires valid { IsValidLayout
@@ -212,65 +100,198 @@ fn has_strides<D: Dimension>(
         && are_strides(alloc, &dim, kept, strides)
 }
 
-/// Whether these are the strides of what a builder of two axes builds.
-fn builds_strides<T: ShapeBuilder<Dim = Ix2>>(alloc: Global, builder: T, strides: &Ix2) -> bool {
-    has_strides(alloc, StrideShape::from_builder(alloc, builder), strides)
+/// Whether there is such a value, which can be shown and let go.
+fn is_shown<T: Debug + Drop>(value: Result<T, AllocError>) -> bool {
+    value.is_ok()
 }
 
-/// The same of a builder that may want memory.
-fn builds_strides_of_columns(
+// ---- what builds it
+
+/// What is built: its lengths, strides that are given, and its own strides in its order.
+#[derive(Drop)]
+struct Built<'a, D> {
+    dim: &'a D,
+    size: usize,
+    is_c: bool,
+    given: &'a D,
+    strides: &'a D,
+}
+
+/// Whether a builder builds this in each order.
+fn builds<D: Dimension, T: ShapeBuilder<Dim = D> + Copy>(
     alloc: Global,
-    builder: Result<Shape<Ix2>, AllocError>,
-    strides: &Ix2,
+    builder: T,
+    built: &Built<'_, D>,
 ) -> bool {
-    match builder {
-        Ok(builder) => builds_strides(alloc, builder, strides),
+    let (dim, size) = (built.dim, built.size);
+    has(builder.into_shape_with_order(alloc), dim, size, built.is_c)
+        && has(builder.f(alloc), dim, size, false)
+        && has(builder.set_f(alloc, true), dim, size, false)
+        && has(builder.set_f(alloc, false), dim, size, true)
+        && follows(StrideShape::from_builder(alloc, builder), dim, built.is_c)
+}
+
+/// Whether a builder builds this with its own strides and with given ones, and shapes that are shown.
+fn gives<D: Dimension, T: ShapeBuilder<Dim = D> + Copy>(
+    alloc: Global,
+    builder: T,
+    strides: T::Strides,
+    built: &Built<'_, D>,
+) -> bool {
+    is_given(builder.strides(alloc, strides), built.dim, built.given)
+        && has_strides(
+            alloc,
+            StrideShape::from_builder(alloc, builder),
+            built.strides,
+        )
+        && is_shown(builder.f(alloc))
+        && is_shown(StrideShape::from_builder(alloc, builder))
+}
+
+/// Whether a builder builds all this.
+fn is_builder<D: Dimension, T: ShapeBuilder<Dim = D> + Copy>(
+    alloc: Global,
+    builder: T,
+    strides: T::Strides,
+    built: &Built<'_, D>,
+) -> bool {
+    gives(alloc, builder, strides, built) && builds(alloc, builder, built)
+}
+
+/// Whether what a builder builds, column-major, has these strides, those of its order.
+fn builds_columns<D: Dimension, T: ShapeBuilder<Dim = D>>(
+    alloc: Global,
+    builder: T,
+    dim: &D,
+    strides: &D,
+) -> bool {
+    match builder.f(alloc) {
+        Ok(shape) => columns_follow(alloc, shape, dim, strides),
         Err(_) => false,
     }
 }
 
-#[test]
-fn r3_rows_of_strides(rt: HostRuntime) {
-    let alloc = rt.alloc();
-    assert!(rt;
-        builds_strides(alloc, (2, 3), &new_ix2(3, 1))
-            && builds_strides_of_columns(alloc, two_by_columns(alloc), &new_ix2(1, 2))
-    );
+fn columns_follow<D: Dimension>(alloc: Global, shape: Shape<D>, dim: &D, strides: &D) -> bool {
+    match StrideShape::from_builder(alloc, shape) {
+        Ok(shape) => {
+            shape.raw_dim().equal(dim)
+                && are_of_order(&shape.strides, false)
+                && has_strides(alloc, Ok(shape), strides)
+        }
+        Err(_) => false,
+    }
 }
 
-/// Whether shapes of five axes, column-major and with these strides, have these strides.
-fn five_have_strides(alloc: Global, strides: Result<IxDyn, AllocError>) -> bool {
-    match strides {
-        Ok(strides) => {
-            has_strides(alloc, five_from_columns(alloc), &strides)
-                && has_strides(alloc, five_given(alloc), &strides)
+/// Whether what a builder builds along given strides has these.
+fn builds_along<D: Dimension, T: ShapeBuilder<Dim = D>>(
+    alloc: Global,
+    builder: T,
+    given: T::Strides,
+    strides: &D,
+) -> bool {
+    has_strides(alloc, builder.strides(alloc, given), strides)
+}
+
+/// Whether the column-major shape of a dimension is a builder of such shapes.
+fn shape_builds<D: Dimension + Copy>(
+    alloc: Global,
+    dim: D,
+    size: usize,
+    given: D,
+    strides: &D,
+) -> bool {
+    match Shape::from(dim).f(alloc) {
+        Ok(shape) => {
+            let built = Built {
+                dim: &dim,
+                size,
+                is_c: false,
+                given: &given,
+                strides,
+            };
+            is_builder(alloc, shape, given, &built)
         }
         Err(_) => false,
     }
 }
 
 #[test]
-fn r3_rows_of_strides_of_any_number_of_axes(rt: HostRuntime) {
+fn r3_rows_of_builders_of_two_axes(rt: HostRuntime) {
     let alloc = rt.alloc();
-    assert!(rt; five_have_strides(alloc, new_ixdyn(alloc, &[1, 2, 6, 6, 12])));
+    let (dim, given) = (new_ix2(2, 3), new_ix2(4, 7));
+    let built = Built {
+        dim: &dim,
+        size: 6,
+        is_c: true,
+        given: &given,
+        strides: &new_ix2(3, 1),
+    };
+    assert!(rt;
+        is_builder(alloc, (2, 3), (4, 7), &built)
+            && is_builder(alloc, [2, 3], [4, 7], &built)
+            && is_builder(alloc, dim, given, &built)
+            && is_builder(alloc, Shape::from(dim), given, &built)
+            && shape_builds(alloc, dim, 6, given, &new_ix2(1, 2))
+    );
 }
 
-// ---- their traits
+/// Lengths, their product, and their strides by rows and by columns.
+#[derive(Clone, Copy)]
+struct Lists<'a> {
+    lens: &'a [usize],
+    size: usize,
+    by_rows: &'a [usize],
+    by_columns: &'a [usize],
+}
 
-/// Whether there is such a value, which can be shown and let go.
-fn is_shown<T: Debug + Drop>(value: Result<T, AllocError>) -> bool {
-    value.is_ok()
+/// Whether a list of lengths, which may stand for strides as well, builds shapes of them.
+fn list_builds<D: Dimension, T: ShapeBuilder<Dim = D, Strides = T> + Copy>(
+    rt: &impl Abort,
+    alloc: Global,
+    builder: T,
+    lists: Lists<'_>,
+) -> bool {
+    let dim: D = dim_of(rt, alloc, lists.lens);
+    let strides: D = dim_of(rt, alloc, lists.by_rows);
+    let built = Built {
+        dim: &dim,
+        size: lists.size,
+        is_c: true,
+        given: &dim,
+        strides: &strides,
+    };
+    is_builder(alloc, builder, builder, &built)
+}
+
+/// Whether a dimension of these lengths builds shapes of them.
+fn dimension_builds<D: Dimension + IntoDimension<Dim = D>>(
+    rt: &impl Abort,
+    alloc: Global,
+    lists: Lists<'_>,
+) -> bool {
+    let dim: D = dim_of(rt, alloc, lists.lens);
+    let strides: D = dim_of(rt, alloc, lists.by_columns);
+    let builder: D = dim_of(rt, alloc, lists.lens);
+    let given: D = dim_of(rt, alloc, lists.by_columns);
+    builds_along(alloc, builder, given, &strides)
+        && builds_columns(alloc, dim_of::<D>(rt, alloc, lists.lens), &dim, &strides)
+}
+
+/// The same of any number of axes.
+fn any_build(rt: &impl Abort, alloc: Global, lists: Lists<'_>) -> bool {
+    list_builds::<IxDyn, _>(rt, alloc, lists.lens, lists)
+        && dimension_builds::<IxDyn>(rt, alloc, lists)
 }
 
 #[test]
-fn shapes_are_shown(rt: HostRuntime) {
-    let alloc = rt.alloc();
-    assert!(rt;
-        is_shown(two_by_columns(alloc))
-            && is_shown(StrideShape::from_builder(alloc, (2, 3)))
-            && is_shown(five_by_columns(alloc))
-            && is_shown(five_given(alloc))
-    );
+fn r3_rows_of_builders_of_any_number_of_axes(rt: HostRuntime) {
+    let lists = Lists {
+        lens: &[2, 3, 1, 2, 2],
+        size: 24,
+        by_rows: &[12, 4, 4, 2, 1],
+        by_columns: &[1, 2, 6, 6, 12],
+    };
+    assert!(rt; any_build(&rt, rt.alloc(), lists));
 }
 
 #[test]
@@ -288,27 +309,65 @@ fn shapes_are_copied(rt: HostRuntime) {
 // Builders of at most four axes are never refused.
 #[test]
 fn r9_rows_of_builders(rt: HostRuntime) {
-    assert!(rt; list_builds(rt.alloc(), &[2, 3, 1, 2], 12));
+    let lists = Lists {
+        lens: &[2, 3, 1, 2],
+        size: 12,
+        by_rows: &[6, 2, 2, 1],
+        by_columns: &[1, 2, 6, 6],
+    };
+    assert!(rt; any_build(&rt, rt.alloc(), lists));
+}
+
+/// A call of a builder.
+#[derive(Clone, Copy)]
+enum Call {
+    Orders,
+    GivenStrides,
+    OwnStrides,
+}
+
+/// Whether a call of a builder asks for memory.
+fn asks<D: Dimension, T: ShapeBuilder<Dim = D, Strides = T> + Copy>(
+    alloc: Global,
+    call: Call,
+    builder: T,
+) -> bool {
+    match call {
+        Call::Orders => asked(
+            alloc,
+            builder.f(alloc),
+            builder.into_shape_with_order(alloc),
+        ),
+        Call::GivenStrides => {
+            asked(
+                alloc,
+                builder.strides(alloc, builder),
+                builder.strides(alloc, builder),
+            )
+        },
+        Call::OwnStrides => {
+            let first = StrideShape::from_builder(alloc, builder);
+            asked(alloc, first, StrideShape::from_builder(alloc, builder))
+        },
+    }
+}
+
+/// The same of a list of five lengths.
+fn five_ask(alloc: Global, call: Call) -> bool {
+    asks::<IxDyn, _>(alloc, call, [2, 3, 1, 2, 2].as_slice())
 }
 
 #[test]
 fn memory_of_orders(rt: HostRuntime) {
-    let alloc = rt.alloc();
-    let lens = [2, 3, 1, 2, 2].as_slice();
-    assert!(rt; asked(alloc, lens.f(alloc), lens.into_shape_with_order(alloc)));
+    assert!(rt; five_ask(rt.alloc(), Call::Orders));
 }
 
 #[test]
 fn memory_of_given_strides(rt: HostRuntime) {
-    let alloc = rt.alloc();
-    let lens = [2, 3, 1, 2, 2].as_slice();
-    assert!(rt; asked(alloc, lens.strides(alloc, lens), lens.strides(alloc, lens)));
+    assert!(rt; five_ask(rt.alloc(), Call::GivenStrides));
 }
 
 #[test]
 fn memory_of_shapes(rt: HostRuntime) {
-    let alloc = rt.alloc();
-    let lens = [2, 3, 1, 2, 2].as_slice();
-    let first = StrideShape::from_builder(alloc, lens);
-    assert!(rt; asked(alloc, first, StrideShape::from_builder(alloc, lens)));
+    assert!(rt; five_ask(rt.alloc(), Call::OwnStrides));
 }
