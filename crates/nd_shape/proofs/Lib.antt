@@ -1,5 +1,6 @@
 pub mod Answered
 pub mod AxesWalk
+pub mod IndicesWalk
 pub mod OwnedRule
 pub mod SumLoop
 pub mod WalkOrder

@@ -1,6 +1,7 @@
 pub mod Acceptance
 pub mod Axes
 pub mod DistinctOffsets
+pub mod IndicesLeft
 pub mod Inside
 pub mod OwnedRule
 pub mod OwnedWalk
