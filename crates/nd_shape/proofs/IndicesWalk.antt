@@ -1,17 +1,19 @@
 -- What a walk over the indices of a shape keeps while it goes on.
-use Rattle.std.proofs.Common.{◌≡◌, ℕ, ◌+◌, ◌-◌, ◌<◌, ◌≤◌, ◌↔◌, Bool, true, false, cond, eqb, eqb-true, not, pos_of_ne-zero, List, [], ◌∷◌, length, replicate, Option, Some, None, refl, sym, ap, subst, ◌∙◌, arith}
-use Rattle.std.specs.Option.{option_map}
+use Rattle.std.proofs.Common.{◌≡◌, ℕ, ◌+◌, ◌-◌, ◌<◌, ◌≤◌, ◌↔◌, Bool, true, false, cond, drop, eqb, eqb-true, not, pos_of_ne-zero, List, [], ◌∷◌, length, replicate, Option, Some, None, refl, sym, ap, subst, ◌∙◌, arith}
+use Rattle.std.specs.List.{slice_get}
 use Rattle.std.specs.Prelude.{nat_lt, IsTrue}
-use Rattle.std.proofs.lemmas.Bool.{eqb-false, ltb-true, ltb-false, lt-ltb}
+use Rattle.std.proofs.lemmas.Bool.{eqb-false, ltb-true, ltb-false}
 use Rattle.nd_base.specs.declared.order.Order.{Order}
 use Rattle.nd_base.specs.declared.order.Order.TheVariants.{RowMajor, ColumnMajor}
-use Rattle.nd_base.specs.Indices.{indices_in, is_index}
+use Rattle.nd_base.specs.Dim.{lengths, rewritten, lengths_rewritten}
+use Rattle.nd_base.specs.declared.dim.Dim.{Dim}
+use Rattle.nd_base.specs.Indices.{is_index}
 use Rattle.nd_base.specs.Rank.{rank, rank_in, index_of_rank, index_of_rank_in}
 use Rattle.nd_base.specs.Size.{size, is_empty}
-use Rattle.nd_base.proofs.laws.IsIndex.{is_index-zeros}
+use Rattle.nd_base.proofs.laws.IsIndex.{is_index-zeros, length_of_index}
 use Rattle.nd_base.proofs.laws.Rank.{index_of_rank_in-rank_in, is_index-index_of_rank_in, rank_in-index_of_rank_in, rank_in-zeros}
 use Rattle.nd_base.proofs.laws.Size.{size_of_empty}
-use Rattle.nd_shape.specs.IndicesLeft.{indices_left, first_left, StandsAt, StandsAtFirst}
+use Rattle.nd_shape.specs.IndicesLeft.{indices_left, StandsAt, StandsAtFirst, StandsBehind}
 use Rattle.nd_shape.proofs.laws.IndicesLeft.{indices_left-more, indices_left-none}
 
 -- a shape with an index has no zero length
@@ -128,3 +130,40 @@ column_goes_on shape index next n false h s is e = ended n refl
             wrong : IsTrue false → ⊥
             wrong g = absurd (cc)
         by false t = omega (arith, s.within, rank_here ColumnMajor shape index n h s, ltb-false (rank_in ColumnMajor shape index + 1) (size shape) t)
+
+-- ---- a cursor, which moves on before it lends
+-- behind the index that was lent last it stands at the next one
+pub moves_on : (order : Order) (shape index next : List ℕ) (n : ℕ) (more : Bool) → StandsAt order shape (n + 1) index → (IsTrue more ↔ (rank_in order shape index + 1 < size shape)) → next ≡ cond more (index_of_rank_in order shape (rank_in order shape index + 1)) (replicate (length shape) 0) → StandsAt order shape n next
+moves_on order shape index next n more s is e =
+    let same : n + 1 - 1 ≡ n = omega arith in
+    subst (λ m. StandsAt order shape m next) same (goes_on order shape index next (n + 1) (omega arith) s (λ within. taken more (is.1 within) e))
+  where
+    taken : (b : Bool) → IsTrue b → next ≡ cond b (index_of_rank_in order shape (rank_in order shape index + 1)) (replicate (length shape) 0) → next ≡ index_of_rank_in order shape (rank_in order shape index + 1)
+    taken true t g = g
+    taken false t g = absurd (cc)
+
+-- what it lends is the first of those left
+pub lends : (order : Order) (shape index : List ℕ) (n : ℕ) (left : List (List ℕ)) → 0 < n → StandsAt order shape n index → indices_left order shape n ≡ left → (indices_left order shape (n - 1) ≡ drop 1 left) × (Some index ≡ slice_get left 0)
+lends order shape index n left h s is =
+    let all = gives order shape index index n left h s refl is in
+    (sym (ap (drop 1) all), sym (ap (λ xs. slice_get xs 0) all))
+
+pub lends_none : (order : Order) (shape : List ℕ) (n : ℕ) (left : List (List ℕ)) → n ≡ 0 → indices_left order shape n ≡ left → (indices_left order shape n ≡ drop 1 left) × (◌≡◌ {A = Option (List ℕ)} None (slice_get left 0))
+lends_none order shape n left z is =
+    let none = gives_none order shape n left z is in
+    (is ∙ none ∙ sym (ap (drop 1) none), sym (ap (λ xs. slice_get xs 0) none))
+
+-- where the step writes to a dimension, it keeps the count of its entries
+pub row_moved : (shape index : List ℕ) (kept : Dim (List ℕ)) (next : List ℕ) (n : ℕ) (more : Bool) → 0 < n → index ≡ lengths kept → StandsAt RowMajor shape (n + 1) index → (IsTrue more ↔ (rank shape index + 1 < size shape)) → next ≡ cond more (index_of_rank shape (rank shape index + 1)) (replicate (length shape) 0) → StandsAt RowMajor shape n (lengths (rewritten kept next))
+row_moved shape index kept next n more h e s is g =
+    let at = moves_on RowMajor shape index next n more s is g in
+    let count : length next ≡ length (lengths kept) =
+    length_of_index shape next (stands_at_index RowMajor shape next n h at)
+    ∙ sym (length_of_index shape index (stands_at_index RowMajor shape index (n + 1) (omega arith) s))
+    ∙ ap length e in
+    subst (λ xs. StandsAt RowMajor shape n xs) (sym (lengths_rewritten kept next count)) at
+
+-- no more are left than there are
+pub behind_within : (order : Order) (shape index : List ℕ) (is_lent : Bool) (n : ℕ) → StandsBehind order shape is_lent n index → n ≤ size shape
+behind_within order shape index true n s = omega (arith, s.within)
+behind_within order shape index false n s = s.within

@@ -1,5 +1,5 @@
 -- What a walk over the indices of a shape has still to give.
-use Rattle.std.specs.Prelude.{◌≡◌, ℕ, ◌-◌, ◌<◌, ◌≤◌, Option, Some, None, List, [], ◌∷◌, drop, refl}
+use Rattle.std.specs.Prelude.{◌≡◌, ℕ, ◌+◌, ◌-◌, ◌<◌, ◌≤◌, Bool, if◌then◌else◌, Option, Some, None, List, [], ◌∷◌, drop, refl}
 use Rattle.nd_base.specs.declared.order.Order.{Order}
 use Rattle.nd_base.specs.declared.order.Order.TheVariants.{RowMajor, ColumnMajor}
 use Rattle.nd_base.specs.Indices.{indices_in}
@@ -23,6 +23,10 @@ pub record StandsAt (order : Order) (shape : List ℕ) (n : ℕ) (index : List �
 abbrev pub StandsAtFirst : Order → List ℕ → ℕ → Option (List ℕ) → Type 0
 StandsAtFirst order shape n None = n ≡ 0
 StandsAtFirst order shape n (Some index) = (0 < n) × StandsAt order shape n index
+
+-- n indices are left, and this is the one before them that was lent last, or else the first of them
+abbrev pub StandsBehind : Order → List ℕ → Bool → ℕ → List ℕ → Type 0
+StandsBehind order shape is_lent n index = StandsAt order shape (if is_lent then n + 1 else n) index
 
 -- examples
 two_left_by_rows : indices_left RowMajor (2 ∷ 2 ∷ []) 2 ≡ (1 ∷ 0 ∷ []) ∷ (1 ∷ 1 ∷ []) ∷ []

@@ -6,9 +6,11 @@ ghost use Rattle.nd_base.specs.Lengths.{NeedsNoMemory};
 ghost use Rattle.nd_base.specs.Size.{size};
 
 mod columns;
+mod cursors;
 mod rows;
 
 pub use columns::IndicesIterF;
+pub use cursors::{IndexCursor, IndexCursorF};
 use nd_dim::{Dimension, IntoDimension};
 pub use rows::{Indices, IndicesIter};
 use std::alloc::{AllocError, Global};

@@ -15,7 +15,9 @@ pub use checks::{
     CanIndexCheckMode, can_index_slice, can_index_slice_not_custom, can_index_slice_with_strides,
     max_abs_offset_check_overflow, size_of_shape_checked, strides_non_negative,
 };
-pub use indexes::{Indices, IndicesIter, IndicesIterF, all_indices, indices_iter_f};
+pub use indexes::{
+    IndexCursor, IndexCursorF, Indices, IndicesIter, IndicesIterF, all_indices, indices_iter_f,
+};
 pub use ndindex::NdIndex;
 pub use offsets::offset_from_low_addr_ptr_to_logical_ptr;
 pub use overlap::dim_stride_overlap;
