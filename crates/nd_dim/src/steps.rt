@@ -9,7 +9,7 @@ ghost use Rattle.nd_base.specs.Size.{size};
 /// fastest, and says that there is one; the last index becomes the first, with `false`. The step
 /// of upstream's `next_for`.
 #[inline(always)]
-pub(crate) fn step_by_rows(shape: &[usize], index: &mut [usize]) -> bool
+pub fn step_by_rows(shape: &[usize], index: &mut [usize]) -> bool
     requires { is_index shape.now index.old ≡ true }
     ensures more { IsTrue result ↔ (rank shape.now index.old + 1 < size shape.now) }
     ensures next { index.new ≡ (if result

@@ -3,6 +3,7 @@ pub mod Axes
 pub mod CommonShape
 pub mod DefaultStrides
 pub mod DistinctOffsets
+pub mod IndicesLeft
 pub mod Inside
 pub mod OwnedRule
 pub mod OwnedWalk

@@ -2,6 +2,7 @@ pub mod Acceptance
 pub mod Axes
 pub mod CommonShape
 pub mod DistinctOffsets
+pub mod IndicesLeft
 pub mod Inside
 pub mod Merge
 pub mod OwnedRule

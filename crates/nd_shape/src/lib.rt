@@ -4,6 +4,7 @@
 mod axes;
 mod broadcast;
 mod checks;
+mod indexes;
 mod limits;
 mod merge;
 mod ndindex;
@@ -16,6 +17,9 @@ pub use broadcast::co_broadcast;
 pub use checks::{
     CanIndexCheckMode, can_index_slice, can_index_slice_not_custom, can_index_slice_with_strides,
     max_abs_offset_check_overflow, size_of_shape_checked, strides_non_negative,
+};
+pub use indexes::{
+    IndexCursor, IndexCursorF, Indices, IndicesIter, IndicesIterF, all_indices, indices_iter_f,
 };
 pub use merge::merge_axes;
 pub use ndindex::NdIndex;

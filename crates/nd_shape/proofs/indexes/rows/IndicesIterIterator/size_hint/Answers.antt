@@ -1,0 +1,17 @@
+use Rattle.std.proofs.Common.{Some, length, ap, sym, ◌∙◌, arith}
+use Rattle.std.specs.Option.{option_map}
+use Rattle.nd_base.specs.declared.order.Order.TheVariants.{RowMajor}
+use Rattle.nd_shape.proofs.IndicesWalk.{within_shape}
+use Rattle.nd_shape.proofs.laws.IndicesLeft.{length-indices_left}
+use Rattle.nd_shape.proofs.indexes.rows.IndicesIterIterator.size_hint.Goals as goal
+
+pub returns-clause-exact : goal.returns-clause-exact
+returns-clause-exact g c =
+    let left = sym (length-indices_left RowMajor (g.D.Lengths.list c.self.inside.dim) c.self.inside.left (within_shape RowMajor (g.D.Lengths.list c.self.inside.dim) c.self.inside.left (option_map g.D.Lengths.list c.self.inside.index) c.self.invariant)) ∙ ap length c.self.view_is in
+    (left, ap Some left)
+
+pub returns-clause-lower : goal.returns-clause-lower
+returns-clause-lower g c = λ _. omega (arith, (returns-clause-exact g c).0)
+
+pub returns-clause-upper : goal.returns-clause-upper
+returns-clause-upper g c = (tt, omega (arith, (returns-clause-exact g c).0))

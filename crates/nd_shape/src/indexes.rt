@@ -1,0 +1,46 @@
+//! Walks over all indices of a shape.
+ghost use Rattle.std.specs.Prelude.{◌≡◌, ◌<◌, ◌^◌, length, IsOk, IfOk};
+ghost use Rattle.nd_base.specs.declared.order.Order.TheVariants.{ColumnMajor};
+ghost use Rattle.nd_base.specs.Indices.{indices_in};
+ghost use Rattle.nd_base.specs.Lengths.{NeedsNoMemory};
+ghost use Rattle.nd_base.specs.Size.{size};
+
+mod columns;
+mod cursors;
+mod rows;
+
+pub use columns::IndicesIterF;
+pub use cursors::{IndexCursor, IndexCursorF};
+use nd_dim::{Dimension, IntoDimension};
+pub use rows::{Indices, IndicesIter};
+use std::alloc::{AllocError, Global};
+
+/// All indices of a shape, to be walked in row-major order, where the last axis moves fastest. The
+/// size of the shape fits. Upstream's `indices`.
+///
+/// Errors: want of memory, and none where the type fixes the count or there are at most 4 axes.
+pub fn all_indices<D: Dimension, T: IntoDimension<Dim = D>>(
+    alloc: Global,
+    shape: T,
+) -> Result<Indices<D>, AllocError>
+    requires { size (T.lens shape) < 2 ^ 64 }
+    ensures dim { IfOk result (λ indices. D.list indices.dim ≡ T.lens shape) }
+    ensures memory { NeedsNoMemory D.NDIM (length (T.lens shape)) → IsOk result }
+{
+    Indices::new(alloc, shape.into_dimension(alloc)?)
+}
+
+/// A walk over all indices of a shape in column-major order, where the first axis moves fastest.
+/// The size of the shape fits. Upstream's `indices_iter_f`.
+///
+/// Errors: want of memory, and none where the type fixes the count or there are at most 4 axes.
+pub fn indices_iter_f<D: Dimension, T: IntoDimension<Dim = D>>(
+    alloc: Global,
+    shape: T,
+) -> Result<IndicesIterF<D>, AllocError>
+    requires { size (T.lens shape) < 2 ^ 64 }
+    ensures items { IfOk result (λ walk. walk ≡ indices_in ColumnMajor (T.lens shape)) }
+    ensures memory { NeedsNoMemory D.NDIM (length (T.lens shape)) → IsOk result }
+{
+    IndicesIterF::new(alloc, shape.into_dimension(alloc)?)
+}

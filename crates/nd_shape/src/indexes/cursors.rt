@@ -1,0 +1,158 @@
+//! Walks over the indices of shapes of any number of axes. They lend each index, so that only their
+//! making takes memory.
+ghost use Rattle.std.specs.Borrow.{sem};
+ghost use Rattle.std.specs.Io.BufRead.{Rests};
+ghost use Rattle.std.specs.Option.{option_map};
+ghost use Rattle.std.specs.Prelude.{◌≡◌, ◌<◌, ◌≤◌, ◌^◌, drop, length, slice_get, IsOk, IfOk};
+ghost use Rattle.nd_base.specs.declared.order.Order.TheVariants.{RowMajor, ColumnMajor};
+ghost use Rattle.nd_base.specs.Dim.{lengths};
+ghost use Rattle.nd_base.specs.Indices.{indices_in};
+ghost use Rattle.nd_base.specs.Size.{size};
+
+use nd_dim::{Dimension, IxDyn, Lengths, step_by_rows};
+use std::alloc::{AllocError, Global};
+use std::marker::Model;
+
+/// A walk over the indices of a shape in row-major order, where the last axis moves fastest. A
+/// contract sees the list of those that are still to come. In place of upstream's `IndicesIter`
+/// over `IxDyn`.
+#[derive(Drop)]
+pub struct IndexCursor {
+    dim: IxDyn,
+    // The index that was lent last, or else the first one, and how many are left.
+    index: IxDyn,
+    is_lent: bool,
+    left: usize,
+}
+
+impl Model for IndexCursor {
+    ghost use Rattle.std.specs.Prelude.{ℕ, List};
+    ghost use Rattle.nd_base.specs.declared.order.Order.TheVariants.{RowMajor};
+    ghost use Rattle.nd_base.specs.Dim.{lengths};
+    ghost use Rattle.nd_shape.specs.IndicesLeft.{indices_left, StandsBehind};
+
+    ghost Value = { List (List ℕ) };
+
+    ghost view = { λ cursor. indices_left RowMajor (lengths cursor.dim) cursor.left };
+
+    ghost invariant = { λ cursor. StandsBehind RowMajor (lengths cursor.dim)
+        cursor.is_lent cursor.left (lengths cursor.index) };
+}
+
+impl IndexCursor {
+    ghost use Rattle.nd_shape.specs.contracts.indexes.cursors.IndexCursor.{the_row};
+
+    /// The walk over all indices of a shape, whose size fits.
+    ///
+    /// Errors: want of memory, and none where there are at most 4 axes.
+    pub fn new(alloc: Global, dim: IxDyn) -> Result<Self, AllocError>
+        requires { size (lengths dim) < 2 ^ 64 }
+        ensures items { IfOk result (λ cursor. cursor ≡ indices_in RowMajor (lengths dim)) }
+        ensures memory { length (lengths dim) ≤ 4 → IsOk result }
+    {
+        let index = IxDyn::zeros(alloc, dim.ndim())?;
+        let left = dim.size();
+        Ok(IndexCursor {
+            dim,
+            index,
+            is_lent: false,
+            left,
+        })
+    }
+
+    /// Lends the next index, or `None` behind the last one, there for ever. Takes no memory.
+    #[inline]
+    pub fn next(&mut self) -> Option<&[usize]>
+        ensures* rest { sem 𝓛 (Rests the_row self.entry (λ left. left ≡ drop 1 self.old)) }
+        ensures index { option_map (λ index. index.now) result ≡ slice_get self.old 0 }
+    {
+        if self.left == 0 {
+            return None;
+        }
+        if self.is_lent {
+            step_by_rows(self.dim.slice(), self.index.slice_mut());
+        }
+        self.is_lent = true;
+        self.left -= 1;
+        Some(self.index.slice())
+    }
+
+    /// How many indices are still to come.
+    pub fn len(&self) -> usize
+        ensures { result ≡ length self.now }
+    {
+        self.left
+    }
+}
+
+/// A walk over the indices of a shape in column-major order, where the first axis moves fastest. A
+/// contract sees the list of those that are still to come. In place of upstream's `IndicesIterF`
+/// over `IxDyn`.
+#[derive(Drop)]
+pub struct IndexCursorF {
+    dim: IxDyn,
+    // The index that was lent last, or else the first one, and how many are left.
+    index: IxDyn,
+    is_lent: bool,
+    left: usize,
+}
+
+impl Model for IndexCursorF {
+    ghost use Rattle.std.specs.Prelude.{ℕ, List};
+    ghost use Rattle.nd_base.specs.declared.order.Order.TheVariants.{ColumnMajor};
+    ghost use Rattle.nd_base.specs.Dim.{lengths};
+    ghost use Rattle.nd_shape.specs.IndicesLeft.{indices_left, StandsBehind};
+
+    ghost Value = { List (List ℕ) };
+
+    ghost view = { λ cursor. indices_left ColumnMajor (lengths cursor.dim) cursor.left };
+
+    ghost invariant = { λ cursor. StandsBehind ColumnMajor (lengths cursor.dim)
+        cursor.is_lent cursor.left (lengths cursor.index) };
+}
+
+impl IndexCursorF {
+    ghost use Rattle.nd_shape.specs.contracts.indexes.cursors.IndexCursorF.{the_row};
+
+    /// The walk over all indices of a shape, whose size fits.
+    ///
+    /// Errors: want of memory, and none where there are at most 4 axes.
+    pub fn new(alloc: Global, dim: IxDyn) -> Result<Self, AllocError>
+        requires { size (lengths dim) < 2 ^ 64 }
+        ensures items { IfOk result (λ cursor. cursor ≡ indices_in ColumnMajor (lengths dim)) }
+        ensures memory { length (lengths dim) ≤ 4 → IsOk result }
+    {
+        let index = IxDyn::zeros(alloc, dim.ndim())?;
+        let left = dim.size();
+        Ok(IndexCursorF {
+            dim,
+            index,
+            is_lent: false,
+            left,
+        })
+    }
+
+    /// Lends the next index, or `None` behind the last one, there for ever. Takes no memory.
+    #[inline]
+    pub fn next(&mut self) -> Option<&[usize]>
+        ensures* rest { sem 𝓛 (Rests the_row self.entry (λ left. left ≡ drop 1 self.old)) }
+        ensures index { option_map (λ index. index.now) result ≡ slice_get self.old 0 }
+    {
+        if self.left == 0 {
+            return None;
+        }
+        if self.is_lent {
+            self.dim.next_for_f(&mut self.index);
+        }
+        self.is_lent = true;
+        self.left -= 1;
+        Some(self.index.slice())
+    }
+
+    /// How many indices are still to come.
+    pub fn len(&self) -> usize
+        ensures { result ≡ length self.now }
+    {
+        self.left
+    }
+}
