@@ -2,6 +2,7 @@ pub mod Answered
 pub mod AxesWalk
 pub mod CommonShape
 pub mod MergedStride
+pub mod OrderRule
 pub mod OwnedRule
 pub mod SumLoop
 pub mod WalkOrder

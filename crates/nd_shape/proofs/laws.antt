@@ -4,6 +4,7 @@ pub mod CommonShape
 pub mod DefaultStrides
 pub mod DistinctOffsets
 pub mod Inside
+pub mod LayoutOrder
 pub mod OwnedRule
 pub mod OwnedWalk
 pub mod Place

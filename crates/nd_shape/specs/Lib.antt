@@ -3,6 +3,7 @@ pub mod Axes
 pub mod CommonShape
 pub mod DistinctOffsets
 pub mod Inside
+pub mod LayoutOrder
 pub mod Merge
 pub mod OwnedRule
 pub mod OwnedWalk
