@@ -1,6 +1,7 @@
 pub mod Answered
 pub mod AxesWalk
 pub mod CommonShape
+pub mod FirstLeast
 pub mod MergedStride
 pub mod OrderRule
 pub mod OwnedRule

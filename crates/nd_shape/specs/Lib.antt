@@ -3,8 +3,10 @@ pub mod Axes
 pub mod CommonShape
 pub mod DistinctOffsets
 pub mod Inside
+pub mod Layout
 pub mod LayoutOrder
 pub mod Merge
+pub mod MinStride
 pub mod OwnedRule
 pub mod OwnedWalk
 pub mod Place
