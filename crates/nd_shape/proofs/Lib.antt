@@ -1,8 +1,10 @@
 pub mod Answered
 pub mod AxesWalk
 pub mod CommonShape
+pub mod FirstLeast
 pub mod MergedStride
 pub mod IndicesWalk
+pub mod OrderRule
 pub mod OwnedRule
 pub mod SumLoop
 pub mod WalkOrder

@@ -5,6 +5,7 @@ pub mod DefaultStrides
 pub mod DistinctOffsets
 pub mod IndicesLeft
 pub mod Inside
+pub mod LayoutOrder
 pub mod OwnedRule
 pub mod OwnedWalk
 pub mod Place

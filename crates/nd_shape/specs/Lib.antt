@@ -4,7 +4,10 @@ pub mod CommonShape
 pub mod DistinctOffsets
 pub mod IndicesLeft
 pub mod Inside
+pub mod Layout
+pub mod LayoutOrder
 pub mod Merge
+pub mod MinStride
 pub mod OwnedRule
 pub mod OwnedWalk
 pub mod Place

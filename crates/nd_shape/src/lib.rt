@@ -5,8 +5,11 @@ mod axes;
 mod broadcast;
 mod checks;
 mod indexes;
+mod layout;
+mod layout_order;
 mod limits;
 mod merge;
+mod min_stride;
 mod ndindex;
 mod offsets;
 mod overlap;
@@ -21,7 +24,10 @@ pub use checks::{
 pub use indexes::{
     IndexCursor, IndexCursorF, Indices, IndicesIter, IndicesIterF, all_indices, indices_iter_f,
 };
+pub use layout::Layout;
+pub use layout_order::{is_layout_c, is_layout_f};
 pub use merge::merge_axes;
+pub use min_stride::move_min_stride_axis_to_last;
 pub use ndindex::NdIndex;
 pub use offsets::offset_from_low_addr_ptr_to_logical_ptr;
 pub use overlap::dim_stride_overlap;

@@ -1,0 +1,145 @@
+//! In which orders a layout can be walked.
+ghost use Rattle.std.specs.Prelude.{◌≡◌, ◌≢◌, ◌<◌, ◌↔◌, pos, ◌≤ℤ◌, IsTrue, bit_and, bit_or};
+ghost use Rattle.nd_shape.specs.Layout.{flag_at, tendency as tendency_of_bits};
+
+use std::marker::Model;
+
+mod layoutfmt;
+
+/// In which orders the indices of a layout lie one behind another, and which one it likes better: a
+/// set of bits. Upstream's `Layout`.
+#[derive(Clone, Copy)]
+pub struct Layout {
+    bits: u32,
+}
+
+impl Model for Layout {
+    ghost use Rattle.std.specs.Prelude.{ℕ, ◌<◌};
+
+    ghost Value = { ℕ };
+
+    ghost view = { λ layout. layout.bits };
+
+    ghost inverse = { λ bits. record { bits = bits } };
+
+    ghost invariant = { λ layout. layout.bits < 16 };
+}
+
+impl Layout {
+    /// The bit of a row-major layout.
+    pub const CORDER: u32 = 0b01;
+
+    /// The bit of a column-major layout.
+    pub const FORDER: u32 = 0b10;
+
+    /// The bit of a layout that is walked better in row-major order.
+    pub const CPREFER: u32 = 0b0100;
+
+    /// The bit of a layout that is walked better in column-major order.
+    pub const FPREFER: u32 = 0b1000;
+
+    /// Whether some bit of `flag` is set. Upstream's `is`.
+    #[inline(always)]
+    pub fn is(self, flag: u32) -> bool
+        ensures { IsTrue result ↔ (bit_and self flag ≢ 0) }
+    {
+        self.bits & flag != 0
+    }
+
+    /// The bits that are set in both. Upstream's `intersect`.
+    #[inline(always)]
+    pub fn intersect(self, other: Layout) -> Layout
+        ensures { result ≡ bit_and self other }
+    {
+        Layout {
+            bits: self.bits & other.bits,
+        }
+    }
+
+    /// The bits that are set in either. Upstream's `also`.
+    #[inline(always)]
+    pub fn also(self, other: Layout) -> Layout
+        ensures { result ≡ bit_or self other }
+    {
+        Layout {
+            bits: self.bits | other.bits,
+        }
+    }
+
+    /// The layout of at most one axis of more than one entry: both orders, all bits. Upstream's
+    /// `one_dimensional`.
+    #[inline(always)]
+    pub fn one_dimensional() -> Layout
+        ensures { result ≡ 15 }
+    {
+        Layout::c().also(Layout::f())
+    }
+
+    /// The row-major layout. Upstream's `c`.
+    #[inline(always)]
+    pub fn c() -> Layout
+        ensures { result ≡ 5 }
+    {
+        Layout {
+            bits: Layout::CORDER | Layout::CPREFER,
+        }
+    }
+
+    /// The column-major layout. Upstream's `f`.
+    #[inline(always)]
+    pub fn f() -> Layout
+        ensures { result ≡ 10 }
+    {
+        Layout {
+            bits: Layout::FORDER | Layout::FPREFER,
+        }
+    }
+
+    /// In neither order, but better by rows. Upstream's `cpref`.
+    #[inline(always)]
+    pub fn cpref() -> Layout
+        ensures { result ≡ 4 }
+    {
+        Layout {
+            bits: Layout::CPREFER,
+        }
+    }
+
+    /// In neither order, but better by columns. Upstream's `fpref`.
+    #[inline(always)]
+    pub fn fpref() -> Layout
+        ensures { result ≡ 8 }
+    {
+        Layout {
+            bits: Layout::FPREFER,
+        }
+    }
+
+    /// In neither order, and neither is better. Upstream's `none`.
+    #[inline(always)]
+    pub fn none() -> Layout
+        ensures { result ≡ 0 }
+    {
+        Layout { bits: 0 }
+    }
+
+    /// From -2 to 2: above 0 where row-major order is better, below 0 where column-major order is.
+    /// Upstream's `tendency`.
+    #[inline]
+    pub fn tendency(self) -> i32
+        ensures { result ≡ tendency_of_bits self }
+    {
+        (self.count(Layout::CORDER) - self.count(Layout::FORDER))
+            + (self.count(Layout::CPREFER) - self.count(Layout::FPREFER))
+    }
+
+    /// 1 where some bit of `flag` is set, or else 0.
+    #[inline(always)]
+    fn count(self, flag: u32) -> i32
+        ensures value { result ≡ flag_at self flag }
+        ensures least { pos 0 ≤ℤ result }
+        ensures greatest { result ≤ℤ pos 1 }
+    {
+        if self.is(flag) { 1 } else { 0 }
+    }
+}

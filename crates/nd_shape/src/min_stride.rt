@@ -1,0 +1,83 @@
+//! The axis of the least stride, as the last one.
+ghost use Rattle.std.specs.List.{swap};
+ghost use Rattle.std.specs.Prelude.{◌≡◌, ◌-◌, ◌<◌, ◌≤◌, length, ℕ};
+ghost use Rattle.nd_base.specs.Signed.{all_signed};
+ghost use Rattle.nd_dim.specs.AxisOrder.{magnitude_at as magnitude_at_axis};
+ghost use Rattle.nd_shape.specs.MinStride.{IsFirstLeastAxis, are_turned as are_turned_by_rule, IsAxisToMove};
+
+use nd_dim::{Dimension, signed};
+
+/// How many elements the stride of an axis steps over, in either direction.
+#[inline(always)]
+fn magnitude_at(strides: &[usize], axis: usize) -> usize
+    requires { axis < length strides.now }
+    ensures { result ≡ magnitude_at_axis (all_signed strides.now) axis }
+{
+    signed(strides[axis]).unsigned_abs()
+}
+
+/// The axis whose stride is of least magnitude among those of more than one entry, and the first of
+/// these where several are; the last axis where none has more than one entry.
+#[inline(always)]
+fn first_least_axis(lens: &[usize], strides: &[usize]) -> usize
+    requires some_axis { 0 < length lens.now }
+    requires same_count { length lens.now ≡ length strides.now }
+    ensures { IsFirstLeastAxis lens.now (all_signed strides.now) result }
+{
+    let mut least = lens.len() - 1;
+    for axis in (0..lens.len()).rev() {
+        if lens[axis] > 1
+            && (lens[least] <= 1 || magnitude_at(strides, axis) <= magnitude_at(strides, least))
+        {
+            least = axis;
+        }
+    }
+    least
+}
+
+/// Whether two axes are to be turned.
+#[inline(always)]
+fn are_turned(lens: &[usize], strides: &[usize]) -> bool
+    requires two { length lens.now ≡ 2 }
+    requires same_count { length lens.now ≡ length strides.now }
+    ensures { result ≡ are_turned_by_rule lens.now (all_signed strides.now) }
+{
+    lens[1] <= 1 || lens[0] > 1 && magnitude_at(strides, 0) < magnitude_at(strides, 1)
+}
+
+/// The axis that changes places with the last one.
+#[inline(always)]
+fn axis_to_move(lens: &[usize], strides: &[usize]) -> usize
+    requires some_axis { 0 < length lens.now }
+    requires same_count { length lens.now ≡ length strides.now }
+    ensures axis { IsAxisToMove lens.now (all_signed strides.now) result }
+    ensures exists { result < length lens.now }
+{
+    if lens.len() == 2 {
+        if are_turned(lens, strides) { 0 } else { 1 }
+    } else {
+        first_least_axis(lens, strides)
+    }
+}
+
+/// Moves the axis whose stride is of least magnitude to the end, by letting it change places with the
+/// last one. Of three axes or more it is the first of the least stride among those of more than one
+/// entry; nothing changes where there is none. Two axes change places where the last has at most one
+/// entry, or where the first has more than one and a lesser stride than the last. Fewer axes stay.
+///
+/// There is a stride for each axis. Upstream's `move_min_stride_axis_to_last`.
+pub fn move_min_stride_axis_to_last<D: Dimension>(dim: &mut D, strides: &mut D)
+    requires { length (D.list dim.old) ≡ length (D.list strides.old) }
+    ensures moved { (axis : ℕ)
+        × (0 < length (D.list dim.old) →
+        IsAxisToMove (D.list dim.old) (all_signed (D.list strides.old)) axis)
+        × (D.list dim.new ≡ swap (D.list dim.old) axis (length (D.list dim.old) - 1))
+        × (D.list strides.new ≡ swap (D.list strides.old) axis (length (D.list dim.old) - 1)) }
+{
+    let ndim = dim.ndim();
+    if ndim > 0 {
+        let axis = axis_to_move(dim.slice(), strides.slice());
+        dim.slice_mut().swap(axis, ndim - 1);
+        strides.slice_mut().swap(axis, ndim - 1);
+    }
+}
