@@ -1,4 +1,7 @@
 //! Tests of `nd_slice`, by its public calls.
 mod arguments;
 mod axis_slice;
+mod builders;
 mod equality;
+mod info;
+mod texts;

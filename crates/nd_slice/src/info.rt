@@ -16,9 +16,9 @@ use std::marker::{Model, PhantomData};
 /// many as `Dout` has, where those types fix it. Upstream's `SliceInfo`.
 #[derive(Debug, Drop)]
 pub struct SliceInfo<T: SliceElems, Din: FixedCount, Dout: FixedCount> {
-    indices: T,
     in_dim: PhantomData<Din>,
     out_dim: PhantomData<Dout>,
+    indices: T,
 }
 
 impl<T: SliceElems, Din: FixedCount, Dout: FixedCount> Model for SliceInfo<T, Din, Dout> {

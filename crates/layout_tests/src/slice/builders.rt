@@ -1,0 +1,169 @@
+//! Slices and elements from ranges, numbers and builders.
+use nd_slice::{NewAxis, Slice, SliceInfoElem};
+
+const MAX: isize = isize::MAX;
+
+const MIN: isize = isize::MIN;
+
+/// `isize::MAX` as a length.
+const LIMIT: usize = 9223372036854775807;
+
+/// The start, the end and the step of a slice.
+type Parts = (isize, Option<isize>, isize);
+
+fn parts(slice: Slice) -> Parts {
+    (slice.start, slice.end, slice.step)
+}
+
+/// Whether these slices are of these parts, in order.
+fn are(slices: &[Slice], told: &[Parts]) -> bool {
+    slices.len() == told.len()
+        && slices
+            .iter()
+            .zip(told)
+            .all(|(slice, told)| parts(*slice) == *told)
+}
+
+#[test]
+fn r4_rows_of_builders(rt: HostRuntime) {
+    let slices = [
+        Slice::inclusive(2, -1),
+        Slice::inclusive(2, 4),
+        Slice::inclusive(-3, -2),
+        Slice::inclusive(0, MAX - 1),
+        Slice::inclusive(MIN, MIN),
+        Slice::to_inclusive(-1),
+        Slice::to_inclusive(0),
+        Slice::of_usize(3, LIMIT),
+        Slice::from_usize(LIMIT),
+        Slice::to_usize(7),
+        Slice::inclusive_usize(LIMIT, LIMIT - 1),
+        Slice::to_inclusive_usize(0),
+    ];
+    let told = [
+        (2, None, 1),
+        (2, Some(5), 1),
+        (-3, Some(-1), 1),
+        (0, Some(MAX), 1),
+        (MIN, Some(MIN + 1), 1),
+        (0, None, 1),
+        (0, Some(1), 1),
+        (3, Some(MAX), 1),
+        (MAX, None, 1),
+        (0, Some(7), 1),
+        (MAX, Some(MAX), 1),
+        (0, Some(1), 1),
+    ];
+    assert!(rt; are(&slices, &told));
+    assert!(rt; SliceInfoElem::index_usize(LIMIT) == SliceInfoElem::Index(MAX));
+}
+
+#[test]
+fn rows_of_steps(rt: HostRuntime) {
+    let slices = [
+        Slice::new(1, Some(8), 2).step_by(-3),
+        Slice::new(0, None, MAX).step_by(-1),
+        Slice::new(-4, None, -1).step_by(MAX),
+        Slice::new(0, Some(0), MIN).step_by(1),
+    ];
+    let told = [
+        (1, Some(8), -6),
+        (0, None, -MAX),
+        (-4, None, -MAX),
+        (0, Some(0), MIN),
+    ];
+    assert!(rt; are(&slices, &told));
+}
+
+/// The ranges that a slice and an element can be made of.
+fn made<T>() -> [T; 12]
+where
+    T: From<std::ops::RangeFull>
+        + From<std::ops::Range<isize>>
+        + From<std::ops::RangeFrom<isize>>
+        + From<std::ops::RangeTo<isize>>
+        + From<std::ops::Range<i32>>
+        + From<std::ops::RangeFrom<i32>>
+        + From<std::ops::RangeTo<i32>>
+        + From<std::ops::RangeInclusive<i32>>
+        + From<std::ops::RangeToInclusive<i32>>,
+{
+    [
+        T::from(..),
+        T::from(MIN..MAX),
+        T::from(MIN..),
+        T::from(..MIN),
+        T::from(-3i32..2),
+        T::from(i32::MIN..),
+        T::from(..i32::MAX),
+        T::from(2i32..=-1),
+        T::from(-2i32..=i32::MAX),
+        T::from(..=-1i32),
+        T::from(..=-2i32),
+        T::from(..=i32::MAX),
+    ]
+}
+
+/// The parts of each.
+const TOLD: [Parts; 12] = [
+    (0, None, 1),
+    (MIN, Some(MAX), 1),
+    (MIN, None, 1),
+    (0, Some(MIN), 1),
+    (-3, Some(2), 1),
+    (-2147483648, None, 1),
+    (0, Some(2147483647), 1),
+    (2, None, 1),
+    (-2, Some(2147483648), 1),
+    (0, None, 1),
+    (0, Some(-1), 1),
+    (0, Some(2147483648), 1),
+];
+
+#[test]
+fn slices_of_ranges(rt: HostRuntime) {
+    assert!(rt; are(&made::<Slice>(), &TOLD));
+}
+
+#[test]
+fn elements_of_ranges(rt: HostRuntime) {
+    for (elem, told) in made::<SliceInfoElem>().iter().zip(&TOLD) {
+        let (start, end, step) = *told;
+        assert!(rt; *elem == SliceInfoElem::Slice { start, end, step });
+    }
+}
+
+#[test]
+fn other_elements(rt: HostRuntime) {
+    let (start, end, step) = (1, Some(8), -3);
+    let made = [
+        SliceInfoElem::from(Slice { start, end, step }),
+        SliceInfoElem::from(MIN),
+        SliceInfoElem::from(-7i32),
+        SliceInfoElem::from(NewAxis),
+    ];
+    let told = [
+        SliceInfoElem::Slice { start, end, step },
+        SliceInfoElem::Index(MIN),
+        SliceInfoElem::Index(-7),
+        SliceInfoElem::NewAxis,
+    ];
+    assert!(rt; made == told);
+}
+
+#[test]
+fn kinds(rt: HostRuntime) {
+    let elems = [
+        SliceInfoElem::from(..),
+        SliceInfoElem::from(0i32),
+        SliceInfoElem::from(NewAxis),
+    ];
+    let told = elems.map(|elem| (elem.is_slice(), elem.is_index(), elem.is_new_axis()));
+    assert!(rt;
+        told == [
+            (true, false, false),
+            (false, true, false),
+            (false, false, true)
+        ]
+    );
+}

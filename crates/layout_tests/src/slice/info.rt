@@ -1,0 +1,115 @@
+//! Slice arguments whose type tells the shapes before and after.
+use nd_base::{ErrorKind, FixedCount, Ix0, Ix1, Ix2, Ix3, Ix6, IxDyn, ShapeError, new_ix2};
+use nd_slice::{NewAxis, SliceArg, SliceElems, SliceInfo, SliceInfoElem, check_slice};
+use nd_testing::or_fault;
+use std::alloc::Global;
+
+/// The counts that the elements have, or the fault that they are refused with.
+type Counts = Result<(usize, usize), ErrorKind>;
+
+/// What is told of elements that are tried as an argument between these types.
+fn counts<T: SliceElems + Drop, Din: FixedCount, Dout: FixedCount>(
+    info: Result<SliceInfo<T, Din, Dout>, ShapeError>,
+) -> Counts {
+    let info = or_fault(info)?;
+    Ok((info.in_ndim(), info.out_ndim()))
+}
+
+/// An array, a slice and a vector of the same elements, tried between these types, tell one thing.
+fn agreed<Din: FixedCount, Dout: FixedCount, const N: usize>(
+    alloc: Global,
+    elems: [SliceInfoElem; N],
+) -> Option<Counts> {
+    let kept = elems.to_vec(alloc).ok()?;
+    let told = counts(SliceInfo::<[SliceInfoElem; N], Din, Dout>::try_from(elems));
+    let of_slice = counts(SliceInfo::<&[SliceInfoElem], Din, Dout>::try_from(&elems[..]));
+    let of_vec = counts(SliceInfo::<Vec<SliceInfoElem>, Din, Dout>::try_from(kept));
+    if told == of_slice && told == of_vec {
+        Some(told)
+    } else {
+        None
+    }
+}
+
+/// An index and a range.
+fn row_of_a_matrix() -> [SliceInfoElem; 2] {
+    [SliceInfoElem::from(0i32), SliceInfoElem::from(1i32..)]
+}
+
+#[test]
+fn r4_rows_of_slice_info(rt: HostRuntime) {
+    let alloc = rt.alloc();
+    let elems = row_of_a_matrix();
+    let refused = Some(Err(ErrorKind::IncompatibleShape));
+    assert!(rt;
+        agreed::<Ix2, Ix1, 2>(alloc, elems) == Some(Ok((2, 1)))
+            && agreed::<Ix2, Ix2, 2>(alloc, elems) == refused
+            && agreed::<Ix3, Ix1, 2>(alloc, elems) == refused
+    );
+}
+
+#[test]
+fn counts_between_other_types(rt: HostRuntime) {
+    let alloc = rt.alloc();
+    let (whole, new, index) = (
+        SliceInfoElem::from(..),
+        SliceInfoElem::from(NewAxis),
+        SliceInfoElem::from(-1isize),
+    );
+    let eight = [whole, new, whole, whole, index, whole, new, whole];
+    let refused = Some(Err(ErrorKind::IncompatibleShape));
+    assert!(rt;
+        agreed::<Ix0, Ix0, 0>(alloc, []) == Some(Ok((0, 0)))
+            && agreed::<IxDyn, IxDyn, 0>(alloc, []) == Some(Ok((0, 0)))
+            && agreed::<Ix0, Ix1, 1>(alloc, [new]) == Some(Ok((0, 1)))
+            && agreed::<Ix1, Ix0, 1>(alloc, [new]) == refused
+    );
+    assert!(rt;
+        agreed::<Ix6, IxDyn, 8>(alloc, eight) == Some(Ok((6, 7)))
+            && agreed::<IxDyn, Ix6, 8>(alloc, eight) == refused
+            && agreed::<IxDyn, IxDyn, 8>(alloc, eight) == Some(Ok((6, 7)))
+    );
+}
+
+/// What an argument for shapes of a type tells.
+fn told<D: FixedCount, S: SliceArg<D>>(arg: &S) -> (usize, usize) {
+    (arg.in_ndim(), arg.out_ndim())
+}
+
+/// What an argument from two axes to one tells, kept in a `T`: its counts, for shapes of two axes and
+/// of any number; and its first element.
+fn parts<T: SliceElems>(info: &SliceInfo<T, Ix2, Ix1>) -> ((usize, usize), (usize, usize), usize) {
+    (
+        told::<Ix2, _>(info),
+        told::<IxDyn, _>(info),
+        info.elems().len(),
+    )
+}
+
+/// The argument of an index and a range.
+fn made() -> Result<SliceInfo<[SliceInfoElem; 2], Ix2, Ix1>, ErrorKind> {
+    or_fault(SliceInfo::try_from(row_of_a_matrix()))
+}
+
+#[test]
+fn an_argument_by_its_type(rt: HostRuntime) {
+    let info = made().expect(&rt, "the counts fit");
+    let lent: SliceInfo<&[SliceInfoElem], Ix2, Ix1> = SliceInfo::from(&info);
+    let (copy, clone) = (info, info.clone().unwrap());
+    let told = ((2, 1), (2, 1), 2);
+    assert!(rt; parts(&info) == told && parts(&lent) == told && parts(&copy) == told);
+    assert!(rt;
+        *info.indices() == row_of_a_matrix()
+            && *clone.indices() == row_of_a_matrix()
+            && *lent.indices() == row_of_a_matrix().as_slice()
+            && check_slice(&new_ix2(3, 4), &info).is_ok()
+            && check_slice(&new_ix2(0, 4), &lent).is_err()
+    );
+}
+
+#[test]
+fn an_argument_shows_its_elements(rt: HostRuntime) {
+    let info = made().expect(&rt, "the counts fit");
+    let text = format!(in rt.alloc(); "{info:?}").expect(&rt, "memory");
+    assert!(rt; text.contains("[Index(0), Slice { start: 1, end: None, step: 1 }]"));
+}

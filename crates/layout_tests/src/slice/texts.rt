@@ -1,0 +1,50 @@
+//! What slices and elements print.
+use nd_slice::{Slice, SliceInfoElem};
+use std::alloc::Global;
+use std::fmt::Display;
+
+/// A range with a step.
+fn range(start: isize, end: Option<isize>, step: isize) -> SliceInfoElem {
+    SliceInfoElem::Slice { start, end, step }
+}
+
+/// Whether a value prints so.
+fn prints<T: Display>(alloc: Global, value: &T, text: &str) -> bool {
+    match value.to_string(alloc) {
+        Ok(printed) => printed.as_str() == text,
+        Err(_) => false,
+    }
+}
+
+/// Whether an element prints so, and a range does as a slice too.
+fn elem_prints(alloc: Global, elem: SliceInfoElem, text: &str) -> bool {
+    let as_slice = match elem {
+        SliceInfoElem::Slice { start, end, step } => {
+            prints(alloc, &Slice { start, end, step }, text)
+        }
+        _ => true,
+    };
+    as_slice && prints(alloc, &elem, text)
+}
+
+#[test]
+fn r4_rows_of_texts(rt: HostRuntime) {
+    let rows = [
+        (range(0, None, 1), ".."),
+        (range(-3, Some(-1), 2), "-3..-1;2"),
+        (range(0, Some(0), 1), "..0"),
+        (SliceInfoElem::Index(-1), "-1"),
+        (SliceInfoElem::Index(0), "0"),
+        (SliceInfoElem::NewAxis, "NewAxis"),
+        (range(0, None, -1), "..;-1"),
+        (range(9, None, 0), "9..;0"),
+        (range(1, Some(10), 1), "1..10"),
+        (
+            range(isize::MAX, Some(isize::MIN), isize::MIN),
+            "9223372036854775807..-9223372036854775808;-9223372036854775808",
+        ),
+    ];
+    for (elem, text) in rows {
+        assert!(rt; elem_prints(rt.alloc(), elem, text));
+    }
+}
