@@ -2,3 +2,4 @@
 mod arguments;
 mod axis_slice;
 mod equality;
+mod min_max;

@@ -1,7 +1,9 @@
 //! Views: shapes with strides and a start, as functions from indices to places.
 #![tactic(auto)]
 
+mod collapsing;
 mod places;
+mod sizes;
 mod slicing;
 mod strided;
 
@@ -19,7 +21,7 @@ pub use nd_shape::{
     size_of_shape_checked, strides_non_negative,
 };
 pub use nd_slice::{
-    Fit, NewAxis, Slice, SliceElems, SliceInfoElem, abs_index, check_elems, check_slice, do_slice,
-    in_ndim_of, out_ndim_of, to_abs_slice,
+    Fit, NewAxis, Slice, SliceElems, SliceInfoElem, abs_index, check_elems, check_slice,
+    do_collapse_axis, do_slice, in_ndim_of, out_ndim_of, slice_min_max, to_abs_slice,
 };
 pub use strided::Strided;
