@@ -4,4 +4,5 @@ mod axis_slice;
 mod builders;
 mod equality;
 mod info;
+mod min_max;
 mod texts;

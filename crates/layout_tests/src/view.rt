@@ -1,6 +1,6 @@
 //! Tests of `ndarray_layout`, by its public calls.
 mod answer;
-mod elems;
+pub mod elems;
 mod question;
 mod rows;
 mod shapes;

@@ -1,6 +1,7 @@
 pub mod Every
 pub mod Axis
 pub mod Counts
+pub mod Ends
 pub mod Picks
 pub mod Slicing
 pub mod Times

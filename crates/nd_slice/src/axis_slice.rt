@@ -1,17 +1,22 @@
 //! A slice of one axis: the entries that it means, and the axis that it leaves.
-ghost use Rattle.std.specs.Prelude.{◌≡◌, ℕ, ◌<◌, ◌≤◌, ◌^◌, max, pos, ◌+ℤ◌, ◌*ℤ◌, ◌≤ℤ◌, ◌↔◌, IsOk, IfOk, OnOk, OnErr, OkIff, IsOkUnless, IsTrue, FitsSigned, length, slice_index};
+ghost use Rattle.std.specs.Prelude.{◌≡◌, ℕ, ◌-◌, ◌*◌, ◌<◌, ◌≤◌, ◌^◌, max, pos, ◌+ℤ◌, ◌*ℤ◌, ◌≤ℤ◌, ◌↔◌, IsOk, IfOk, OnOk, OnErr, OkIff, IsOkUnless, IsTrue, FitsSigned, MatchOption, [], length, slice_index, slice_set};
 ghost use Rattle.std.specs.Int.{w64};
+ghost use Rattle.std.specs.List.{All, Contains};
 ghost use Rattle.std.specs.Result.{result_err};
-ghost use Rattle.nd_base.specs.Signed.{magnitude, signed as signed_reading};
+ghost use Rattle.nd_base.specs.Signed.{magnitude, all_signed, signed as signed_reading};
 ghost use Rattle.nd_base.specs.Size.{limit};
 ghost use Rattle.nd_base.specs.Span.{reach};
+ghost use Rattle.nd_base.specs.ValidLayout.{IsValidLayout};
 ghost use Rattle.nd_slice.specs.Picks.{meaning, is_bound, bound_meaning, start_meaning, end_meaning, range, directed, every, picks};
 ghost use Rattle.nd_slice.specs.SliceFault.{slice_fault, SliceFits};
 ghost use Rattle.nd_slice.specs.Sliced.{picked_stride, first_offset};
 
 use crate::fit::Fit;
 use crate::slice::Slice;
-use nd_base::{ErrorKind, ShapeError, from_kind, signed, stride_offset, unsigned};
+use nd_base::{
+    Axis, ErrorKind, Lengths, ShapeError, from_kind, set_axis_of, signed, stride_offset, unsigned,
+};
+use nd_dim::Dimension;
 use num_traits::clamp;
 
 /// The entry that an index means on an axis of `len` entries: itself, or `len + index` where it is
@@ -135,4 +140,64 @@ pub fn do_slice(
     *dim = pick_count(start, end, step);
     *stride = stepped_stride(*dim, *stride, step);
     Ok(offset)
+}
+
+/// How many entries lie between the first entry that a step picks between two bounds and the last.
+fn pick_extent(start: usize, end: usize, step: isize) -> usize
+    requires order { start < end }
+    requires moves { 0 < magnitude step }
+    ensures extent { result ≡ (length (every (magnitude step) (directed step (range start end))) - 1)
+        * magnitude step }
+    ensures within { result < end - start }
+{
+    (pick_count(start, end, step) - 1) * step.unsigned_abs()
+}
+
+/// The least and the greatest entry that a step picks between two bounds.
+fn pick_ends(start: usize, end: usize, step: isize) -> (usize, usize)
+    requires order { start < end }
+    requires moves { 0 < magnitude step }
+    ensures least { Contains (every (magnitude step) (directed step (range start end))) result.0 }
+    ensures greatest { Contains (every (magnitude step) (directed step (range start end))) result.1 }
+    ensures between { All (λ pick. (result.0 ≤ pick) × (pick ≤ result.1))
+        (every (magnitude step) (directed step (range start end))) }
+{
+    let extent = pick_extent(start, end, step);
+    if step < 0 {
+        (end - 1 - extent, end - 1)
+    } else {
+        (start, start + extent)
+    }
+}
+
+/// The least and the greatest entry that a slice picks of an axis of `len` entries which it fits;
+/// `None` where it picks none. Upstream's `slice_min_max`.
+pub fn slice_min_max(len: usize, slice: Slice, fit: Fit) -> Option<(usize, usize)>
+    requires { SliceFits fit len slice }
+    ensures picks { MatchOption result (picks fit len slice ≡ [])
+        (λ (least, greatest). Contains (picks fit len slice) least
+        × Contains (picks fit len slice) greatest
+        × All (λ pick. (least ≤ pick) × (pick ≤ greatest)) (picks fit len slice)) }
+{
+    let (start, end, step) = to_abs_slice(len, slice, fit).unwrap();
+    if start < end {
+        Some(pick_ends(start, end, step))
+    } else {
+        None
+    }
+}
+
+/// Takes one entry of an axis in place: the axis has a length of 1 then, and its stride stays. Answers
+/// how many elements the entry lies behind the first one, with its sign. Upstream's
+/// `do_collapse_axis`.
+pub fn do_collapse_axis<D: Dimension>(dims: &mut D, strides: &D, axis: usize, index: usize) -> isize
+    requires valid { IsValidLayout (D.list dims.old) (all_signed (D.list strides.now)) }
+    requires exists { axis < length (D.list dims.old) }
+    requires below { index < slice_index (D.list dims.old) axis }
+    ensures dims { D.list dims.new ≡ slice_set (D.list dims.old) axis 1 }
+    ensures offset { result ≡ pos index *ℤ signed_reading (slice_index (D.list strides.now) axis) }
+{
+    let offset = stride_offset(index, strides.slice()[axis]);
+    set_axis_of(dims.slice_mut(), Axis(axis), 1);
+    offset
 }

@@ -1,6 +1,8 @@
+pub mod Collapses
 pub mod OneAxis
 pub mod Offsets
 pub mod Picked
+pub mod PickedSize
 pub mod PicksFit
 pub mod Reversed
 pub mod SliceSteps

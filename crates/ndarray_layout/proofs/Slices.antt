@@ -40,7 +40,7 @@ pub index_entry : (len : ℕ) (index : ℤ) → index_fault len index ≡ None �
 index_entry len index h = entry_of len (meaning len index) h
 
 -- a factor that is no greater
-nonzero_more : (a b x y : ℕ) → a ≤ b → x ≤ y → cond (eqb a 0) x (a * x) ≤ cond (eqb b 0) y (b * y)
+pub nonzero_more : (a b x y : ℕ) → a ≤ b → x ≤ y → cond (eqb a 0) x (a * x) ≤ cond (eqb b 0) y (b * y)
 nonzero_more a b x y h g = by (eqb a 0) (eqb b 0) refl refl
   where
     by : (t u : Bool) → eqb a 0 ≡ t → eqb b 0 ≡ u → cond t x (a * x) ≤ cond u y (b * y)

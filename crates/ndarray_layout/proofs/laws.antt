@@ -1,3 +1,5 @@
+pub mod CollapsedView
 pub mod DistinctPlaces
+pub mod KeepsPlaces
 pub mod SlicedView
 pub mod View

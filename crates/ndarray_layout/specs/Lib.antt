@@ -1,3 +1,4 @@
+pub mod CollapsedView
 pub mod DistinctPlaces
 pub mod KeepsPlaces
 pub mod SlicedView

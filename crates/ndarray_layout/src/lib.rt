@@ -1,7 +1,9 @@
 //! Views: shapes with strides and a start, as functions from indices to places.
 #![tactic(auto)]
 
+mod collapsing;
 mod places;
+mod sizes;
 mod slicing;
 mod strided;
 
@@ -20,6 +22,6 @@ pub use nd_shape::{
 };
 pub use nd_slice::{
     Fit, NewAxis, Slice, SliceArg, SliceElems, SliceInfo, SliceInfoElem, abs_index, check_elems,
-    check_slice, do_slice, in_ndim_of, out_ndim_of, to_abs_slice,
+    check_slice, do_collapse_axis, do_slice, in_ndim_of, out_ndim_of, slice_min_max, to_abs_slice,
 };
 pub use strided::Strided;

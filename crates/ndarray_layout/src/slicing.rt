@@ -35,7 +35,7 @@ pub fn check_counts_and_elems(
 
 /// Slices one axis with a slice that fits it: the length and the stride that are left, and how many
 /// elements the first pick lies behind the first entry.
-fn slice_axis(len: usize, stride: usize, slice: Slice, fit: Fit) -> (usize, usize, isize)
+pub fn slice_axis(len: usize, stride: usize, slice: Slice, fit: Fit) -> (usize, usize, isize)
     requires len_fits { len < 2 ^ 63 }
     requires span_fits { reach len (signed_reading stride) ≤ limit }
     requires fits { slice_fault fit len slice ≡ None }

@@ -2,7 +2,7 @@
 ghost use Rattle.std.specs.Iterator.{YieldsFirst, YieldsLast};
 ghost use Rattle.std.specs.Iterator.Runs.{YieldsInOrder, YieldsInReverse};
 ghost use Rattle.std.specs.List.{All};
-ghost use Rattle.std.specs.Prelude.{◌≡◌, ℕ, ◌<◌, pos, None, map, length, vec_len, vec_capacity, IfOk, IsOk, Some, slice_get};
+ghost use Rattle.std.specs.Prelude.{◌≡◌, ℕ, ◌<◌, pos, None, map, length, vec_len, vec_capacity, IfOk, IsOk, OnErr, OnOk, Some, slice_get};
 ghost use Rattle.std.specs.Option.{IsSome, option_map};
 ghost use Rattle.std.specs.Result.{result_err};
 ghost use Rattle.nd_base.specs.Signed.{all_signed};
@@ -14,8 +14,10 @@ ghost use Rattle.nd_base.specs.Lengths.{NeedsNoMemory};
 ghost use Rattle.nd_base.specs.Rank.{index_of_rank_in};
 ghost use Rattle.nd_base.specs.Size.{size};
 ghost use Rattle.nd_base.specs.Span.{low_span};
-ghost use Rattle.nd_slice.specs.SliceFault.{out_count};
+ghost use Rattle.nd_slice.specs.SliceFault.{argument_fault, out_count};
+ghost use Rattle.nd_slice.specs.Sliced.{sliced_shape};
 ghost use Rattle.nd_slice.specs.Selected.{selected};
+ghost use Rattle.ndarray_layout.specs.CollapsedView.{collapse_fault, collapse_of, collapse_source};
 ghost use Rattle.ndarray_layout.specs.DistinctPlaces.{HasDistinctPlaces};
 ghost use Rattle.ndarray_layout.specs.KeepsPlaces.{KeepsPlaces};
 ghost use Rattle.ndarray_layout.specs.SlicedView.{IsSliceOf};
@@ -23,14 +25,16 @@ ghost use Rattle.ndarray_layout.specs.SlicedView.{shape_fault, slice_refusal};
 ghost use Rattle.ndarray_layout.specs.View.{IsView, LiesWithin};
 ghost use Rattle.ndarray_layout.specs.View.{view_of, checked_place, place_at, view_places};
 
+use crate::collapsing::has_entry;
 use crate::places::{offset_place, push_places};
+use crate::sizes::picked_size;
 use crate::slicing::{check_counts_and_elems, slice_axes};
-use nd_dim::{Dimension, LayoutError, Order, ShapeError};
+use nd_dim::{Axis, Dimension, ErrorKind, LayoutError, Order, ShapeError, from_kind};
 use nd_shape::{
     Axes, CanIndexCheckMode, NdIndex, StrideShape, axes_of, can_index_slice,
     can_index_slice_with_strides, offset_from_low_addr_ptr_to_logical_ptr,
 };
-use nd_slice::{Fit, SliceElems, SliceInfoElem, out_ndim_of};
+use nd_slice::{Fit, SliceElems, SliceInfoElem, check_elems, do_collapse_axis, out_ndim_of};
 use std::alloc::{AllocError, Global};
 use std::marker::Model;
 
@@ -228,6 +232,39 @@ impl<D: Dimension> Strided<D> {
         let elems = slices.elems();
         check_counts_and_elems(E::NDIM, self.dim.slice(), elems, fit)?;
         Ok(self.fitting_slice(alloc, elems, fit)?)
+    }
+
+    /// Takes one entry of an axis: the axis has a length of 1 then, and keeps its stride. Refused with
+    /// `OutOfBounds` where there is no such axis or the index is not below its length, and then the
+    /// view stays. Upstream's `collapse_axis`.
+    pub fn collapse(&mut self, axis: Axis, index: usize) -> Result<(), ShapeError>
+        ensures fault { result_err result ≡ collapse_fault self.old.shape axis.0 index }
+        ensures refusal { OnErr result (self.new ≡ self.old) }
+        ensures collapsed { OnOk result (self.new ≡ collapse_of axis.0 index self.old) }
+        ensures is_view { IsView self.new }
+        ensures places { OnOk result (KeepsPlaces (collapse_source axis.0 index) self.old self.new) }
+        ensures inside { (len : ℕ) → LiesWithin len self.old → LiesWithin len self.new }
+        ensures distinct { HasDistinctPlaces self.old → HasDistinctPlaces self.new }
+    {
+        if !has_entry(self.dim.slice(), axis, index) {
+            return Err(from_kind(ErrorKind::OutOfBounds));
+        }
+        let offset = do_collapse_axis(&mut self.dim, &self.strides, axis.index(), index);
+        self.start = offset_place(self.start, offset);
+        Ok(())
+    }
+
+    /// How many places of the view a slice argument picks. Refused as `check_slice` refuses it on the
+    /// shape: with `IncompatibleShape` where it is for more axes or fewer, then as the first element
+    /// at fault is. The project's own.
+    pub fn picked<S: SliceElems>(&self, slices: &S, fit: Fit) -> Result<usize, ShapeError>
+        ensures fault { result_err result ≡ argument_fault fit self.now.shape (S.list slices.now) }
+        ensures size { IfOk result (λ count. count ≡
+            size (sliced_shape fit (S.list slices.now) self.now.shape)) }
+    {
+        let (shape, elems) = (self.dim.slice(), slices.elems());
+        check_elems(shape, elems, fit)?;
+        Ok(picked_size(shape, elems, fit))
     }
 
     /// The slice by an argument that fits.

@@ -1,6 +1,6 @@
 //! Which slice arguments fit a shape, and the first fault of any other, however the elements are kept.
 use ErrorKind::{IncompatibleShape, OutOfBounds, Unsupported};
-use Fit::Strict;
+use Fit::{Clamp, Strict};
 use SliceInfoElem::{Index, NewAxis};
 use nd_base::{ErrorKind, Ix1, Ix2, Ix3, Ix6, new_ix1, new_ix2, new_ix3, new_ix6, new_ixdyn};
 use nd_dim::Dimension;
@@ -102,22 +102,41 @@ fn one_axis(rt: HostRuntime) {
     assert!(rt; one_has_faults(rt.alloc(), &new_ix1(4), &rows));
 }
 
-fn two_have_faults(alloc: Global, dim: &Ix2, rows: &[Row]) -> bool {
-    have_faults(alloc, dim, rows, Strict)
+fn two_have_faults(alloc: Global, dim: &Ix2, rows: &[Row], fit: Fit) -> bool {
+    have_faults(alloc, dim, rows, fit)
 }
 
 #[test]
 fn r1_rows(rt: HostRuntime) {
-    let rows: [Row; 7] = [
-        (&[ALL], Some(IncompatibleShape)),
-        (&[from(9, 1), from(0, 0)], Some(OutOfBounds)),
-        (&[from(0, 0), from(9, 1)], Some(Unsupported)),
+    let rows: [Row; 4] = [
         (&[ALL, ALL], None),
         (&[Index(-4), from(5, 1)], None),
         (&[from(5, 0), ALL], Some(OutOfBounds)),
         (&[from(4, 0), Index(5)], Some(Unsupported)),
     ];
-    assert!(rt; two_have_faults(rt.alloc(), &new_ix2(4, 5), &rows));
+    assert!(rt; two_have_faults(rt.alloc(), &new_ix2(4, 5), &rows, Strict));
+}
+
+#[test]
+fn r4_rows(rt: HostRuntime) {
+    let rows: [Row; 3] = [
+        (&[ALL], Some(IncompatibleShape)),
+        (&[from(9, 1), from(0, 0)], Some(OutOfBounds)),
+        (&[from(0, 0), from(9, 1)], Some(Unsupported)),
+    ];
+    assert!(rt; two_have_faults(rt.alloc(), &new_ix2(4, 5), &rows, Strict));
+}
+
+#[test]
+fn r14_rows(rt: HostRuntime) {
+    let rows: [Row; 5] = [
+        (&[from(9, 1), from(-9, 2)], None),
+        (&[from(9, 1), from(0, 0)], Some(Unsupported)),
+        (&[from(9, 1), Index(5)], Some(OutOfBounds)),
+        (&[Index(-5), from(9, 0)], Some(OutOfBounds)),
+        (&[from(9, 0), Index(9)], Some(Unsupported)),
+    ];
+    assert!(rt; two_have_faults(rt.alloc(), &new_ix2(4, 5), &rows, Clamp));
 }
 
 fn three_have_faults(alloc: Global, dim: &Ix3, rows: &[Row]) -> bool {

@@ -3,9 +3,9 @@ ghost use Rattle.std.specs.Prelude.{◌<◌, ◌≤◌, ◌^◌};
 ghost use Rattle.nd_base.specs.Size.{limit};
 ghost use Rattle.nd_base.specs.Span.{reach};
 
-use Fit::Strict;
-use nd_base::{ErrorKind, signed, unsigned};
-use nd_slice::{Fit, Slice, abs_index, do_slice, to_abs_slice};
+use Fit::{Clamp, Strict};
+use nd_base::{ErrorKind, new_ix2, signed, unsigned};
+use nd_slice::{Fit, Slice, abs_index, do_collapse_axis, do_slice, to_abs_slice};
 use nd_testing::or_fault;
 
 /// One axis, a slice of it, and what it gives: the answer, the length and the stride afterwards.
@@ -83,4 +83,32 @@ fn r1_rows(rt: HostRuntime) {
     for row in &rows {
         assert!(rt; row.holds());
     }
+}
+
+#[test]
+fn r14_rows(rt: HostRuntime) {
+    const MIN: isize = isize::MIN;
+    let rows = [
+        Row::new((4, 1), (3, Some(9), 1), Ok(3), (1, 0), Clamp),
+        Row::new((4, 1), (-9, Some(9), -2), Ok(3), (2, -2), Clamp),
+        Row::new((4, 1), (5, Some(2), 1), Ok(0), (0, 0), Clamp),
+        Row::new((4, 3), (MIN, None, 3), Ok(0), (2, 9), Clamp),
+        Row::new(
+            (4, 1),
+            (9, None, 0),
+            Err(ErrorKind::Unsupported),
+            (4, 1),
+            Clamp,
+        ),
+    ];
+    for row in &rows {
+        assert!(rt; row.holds());
+    }
+}
+
+#[test]
+fn r4_rows(rt: HostRuntime) {
+    let (strides, mut lens) = (new_ix2(unsigned(-3), 1), new_ix2(2, 3));
+    let offset = do_collapse_axis(&mut lens, &strides, 0, 1);
+    assert_eq!(rt; (lens, offset), (new_ix2(1, 3), -3));
 }

@@ -4,8 +4,8 @@ use ErrorKind::{IncompatibleShape, OutOfBounds, Unsupported};
 use Order::{ColumnMajor, RowMajor};
 use nd_testing::Row;
 use ndarray_layout::{
-    Dimension, ErrorKind, Ix1, Ix2, Ix3, Ix5, Ix6, IxDyn, LayoutError, Lengths, Order, Strided,
-    max_abs_offset_check_overflow, new_ixdyn,
+    Axis, Dimension, ErrorKind, Ix1, Ix2, Ix3, Ix5, Ix6, IxDyn, LayoutError, Lengths, Order,
+    Strided, max_abs_offset_check_overflow, new_ixdyn,
 };
 use std::alloc::Global;
 use std::process::Abort;
@@ -154,6 +154,35 @@ fn slice_of_layout<D: Dimension>(
     slice(rt, alloc, &view, argument)
 }
 
+/// How many places of the view of a layout a slice picks.
+fn picked<D: Dimension>(
+    rt: &impl Abort,
+    alloc: Global,
+    layout: &Asked,
+    argument: &Argument,
+) -> Answer {
+    let view = view::<D>(rt, alloc, layout).expect(rt, "refused");
+    match view.picked(&argument.elems, argument.fit) {
+        Ok(count) => Answer::Number(Some(count)),
+        Err(fault) => Answer::Refused(fault.kind()),
+    }
+}
+
+/// What is left of the view of a layout by one entry of an axis.
+fn collapse<D: Dimension>(
+    rt: &impl Abort,
+    alloc: Global,
+    layout: &Asked,
+    axis: Axis,
+    index: usize,
+) -> Answer {
+    let mut view = view::<D>(rt, alloc, layout).expect(rt, "refused");
+    match view.collapse(axis, index) {
+        Ok(()) => Answer::View(look(rt, alloc, &view)),
+        Err(fault) => Answer::Refused(fault.kind()),
+    }
+}
+
 /// The answer of a layout at a dimension type.
 fn ask<D: Dimension>(
     rt: &impl Abort,
@@ -167,6 +196,8 @@ fn ask<D: Dimension>(
         Question::Place(index) => {
             Answer::Number(place::<D>(rt, alloc, layout, index.as_slice()))
         },
+        Question::Picked(argument) => picked::<D>(rt, alloc, layout, argument),
+        Question::Collapse(axis, index) => collapse::<D>(rt, alloc, layout, *axis, *index),
         Question::Slice(argument) => slice_of_layout::<D>(rt, alloc, layout, argument),
     }
 }

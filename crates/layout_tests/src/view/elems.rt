@@ -25,7 +25,7 @@ fn range(rt: &impl Abort, start: &str, rest: &str) -> SliceInfoElem {
 }
 
 /// The element that a word spells: `3`, `1..`, `..4`, `1..;-2` or `NewAxis`.
-fn elem(rt: &impl Abort, word: &str) -> SliceInfoElem {
+pub fn elem(rt: &impl Abort, word: &str) -> SliceInfoElem {
     if word == "NewAxis" {
         return NewAxis;
     }
@@ -35,10 +35,14 @@ fn elem(rt: &impl Abort, word: &str) -> SliceInfoElem {
     }
 }
 
-/// The next word of a row as elements, parted by commas.
+/// The next word of a row as elements, parted by commas; `-` for none.
 pub fn elems(rt: &impl Abort, alloc: Global, row: &mut Row<'_>) -> Vec<SliceInfoElem> {
     let mut elems = Vec::new(alloc);
-    for part in row.word().expect(rt, "a slice").split(',') {
+    let word = row.word().expect(rt, "a slice");
+    if word == "-" {
+        return elems;
+    }
+    for part in word.split(',') {
         elems.push(elem(rt, part)).expect(rt, "memory");
     }
     elems

@@ -3,7 +3,7 @@ use crate::view::elems::elems;
 use CanIndexCheckMode::{OwnedMutable, ReadOnly};
 use Fit::{Clamp, Strict};
 use nd_testing::Row;
-use ndarray_layout::{CanIndexCheckMode, Fit, SliceInfoElem, unsigned};
+use ndarray_layout::{Axis, CanIndexCheckMode, Fit, SliceInfoElem, unsigned};
 use std::alloc::Global;
 use std::process::Abort;
 
@@ -37,6 +37,10 @@ pub enum Question {
     Place(Vec<usize>),
     /// The slice into the type of so many axes.
     Slice(Argument),
+    /// How many places it picks.
+    Picked(Argument),
+    /// One entry of an axis.
+    Collapse(Axis, usize),
 }
 
 /// The next word of a row as lengths.
@@ -79,6 +83,11 @@ pub fn fixed_count(rt: &impl Abort, row: &mut Row<'_>) -> Option<usize> {
     name.strip_prefix("Ix")?.parse().ok()
 }
 
+/// The next word of a row as an unsigned number.
+fn number(rt: &impl Abort, row: &mut Row<'_>) -> usize {
+    row.length().expect(rt, "a number")
+}
+
 /// The next words of a row: the dimension type of a slice, and its elements.
 fn read_argument(rt: &impl Abort, alloc: Global, row: &mut Row<'_>, fit: Fit) -> Argument {
     Argument {
@@ -94,6 +103,9 @@ pub fn read_question(rt: &impl Abort, alloc: Global, row: &mut Row<'_>) -> Quest
         "view" => Question::View,
         "span" => Question::Span,
         "at" => Question::Place(lens(rt, alloc, row)),
+        "picked" => Question::Picked(read_argument(rt, alloc, row, Strict)),
+        "clamp_picked" => Question::Picked(read_argument(rt, alloc, row, Clamp)),
+        "collapse" => Question::Collapse(Axis(number(rt, row)), number(rt, row)),
         "clamp" => Question::Slice(read_argument(rt, alloc, row, Clamp)),
         _ => Question::Slice(read_argument(rt, alloc, row, Strict)),
     }

@@ -55,3 +55,51 @@ Ix2 1 6 owned 2,3 3,1 slice Ix1 2,.. OutOfBounds";
 fn refusals_at_every_dimension_type(rt: HostRuntime) {
     hold(&rt, rt.alloc(), REFUSED);
 }
+
+/// Whole arguments, one entry of an axis, and how many places are picked.
+const WHOLE: &str = "\
+Ix3 1 24 owned 2,3,4 12,4,1 slice Ix3 ..,1..;-1,0..4;2 is 2,2,2 12,-4,2 8 8,10,4,6,20,22,16,18 8,20,\
+4,16,10,22,6,18
+Ix2 1 6 owned 2,3 3,1 slice Ix2 ..;-1,.. is 2,3 -3,1 3 3,4,5,0,1,2 3,0,4,1,5,2
+Ix2 1 6 owned 2,3 -3,1 slice Ix1 0,1.. is 2 1 4 4,5 4,5
+Ix2 1 6 owned 2,3 3,1 slice Ix2 1,NewAxis,.. is 1,3 0,1 3 3,4,5 3,4,5
+IxDyn 1 1 owned - - slice IxDyn - is - - 0 0 0
+Ix2 1 6 owned 2,3 3,1 collapse 0 1 is 1,3 3,1 3 3,4,5 3,4,5
+Ix2 1 6 owned 2,3 3,1 collapse 0 2 OutOfBounds
+Ix2 1 6 owned 2,3 3,1 collapse 1 3 OutOfBounds
+Ix2 1 6 owned 2,3 3,1 collapse 2 0 OutOfBounds
+Ix2 1 6 owned 2,3 -3,-1 collapse 1 2 is 2,1 -3,-1 3 3,0 3,0
+IxDyn 1 1 owned - - collapse 0 0 OutOfBounds
+IxDyn 1 0 owned 0,2 0,0 collapse 1 1 is 0,1 0,0 0 - -
+IxDyn 4 99 view 2,1,3,1,2 -6,9,1,9,3 collapse 2 2 is 2,1,1,1,2 -6,9,1,9,3 8 8,11,2,5 8,2,11,5
+Ix2 1 6 owned 2,3 3,1 picked Ix1 0,.. 3
+Ix2 1 6 owned 2,3 3,1 picked Ix2 NewAxis,..;-2,1.. 2
+Ix2 1 6 owned 2,3 3,1 picked Ix2 .. IncompatibleShape
+Ix2 1 6 owned 2,3 3,1 picked Ix2 ..;0,4.. Unsupported
+Ix2 1 6 owned 2,3 3,1 picked Ix2 2,.. OutOfBounds
+IxDyn 1 0 owned 0,9223372036854775807 0,0 picked IxDyn ..,.. 0
+IxDyn 1 9223372036854775807 owned 1,9223372036854775807 1,1 picked IxDyn ..,..;2 4611686018427387904";
+
+#[test]
+fn r4_rows(rt: HostRuntime) {
+    hold(&rt, rt.alloc(), WHOLE);
+}
+
+/// Slices whose bounds are moved to the ends of their axis, and an index, which is not.
+const CLAMPED: &str = "\
+Ix1 1 4 owned 4 1 clamp Ix1 -9..9;-2 is 2 -2 3 3,1 3,1
+Ix1 1 4 owned 4 1 slice Ix1 -9..9;-2 OutOfBounds
+Ix1 1 4 owned 4 1 clamp Ix1 5..2 is 0 0 0 - -
+Ix1 1 4 owned 4 1 clamp IxDyn 4 OutOfBounds
+Ix1 1 4 owned 4 1 clamp IxDyn -5 OutOfBounds
+Ix1 1 4 owned 4 1 clamp Ix1 9..;0 Unsupported
+IxDyn 4 99 view 2,1,3,1,2 -6,9,1,9,3 clamp IxDyn -9..9,..,1..9;-1,0,-1 is 2,1,2 -6,0,-1 11 11,10,\
+5,4 11,5,10,4
+Ix2 1 6 owned 2,3 3,1 clamp_picked Ix2 -9..9,1..9 4
+Ix2 1 6 owned 2,3 3,1 clamp_picked Ix1 2,.. OutOfBounds
+Ix2 1 6 owned 2,3 3,1 clamp_picked Ix2 .. IncompatibleShape";
+
+#[test]
+fn r14_rows(rt: HostRuntime) {
+    hold(&rt, rt.alloc(), CLAMPED);
+}

@@ -1,12 +1,11 @@
 -- Laws of slices of views: a slice is a view of the same data, whose indices lie where those that they stand for do.
-use Rattle.std.proofs.Common.{◌≡◌, ℕ, ℤ, pos, negsuc, ◌≤ℤ◌, Option, Some, None, Bool, true, false, not, ◌||◌, cond, eqb, List, length, sym, subst, ◌∙◌, refl, arith}
+use Rattle.std.proofs.Common.{◌≡◌, ℕ, ℤ, pos, negsuc, ◌≤ℤ◌, Option, Some, None, Bool, true, false, not, ◌||◌, cond, eqb, List, length, refl, arith}
 use Rattle.std.proofs.lemmas.Int.{ints}
 use Rattle.std.specs.Option.{option_map_or}
 use Rattle.nd_base.specs.declared.error.ErrorKind.TheVariants.{IncompatibleShape}
 use Rattle.nd_base.specs.Signed.{magnitude}
 use Rattle.nd_base.specs.Size.{limit}
 use Rattle.nd_base.proofs.laws.Span.{low_high_span}
-use Rattle.nd_shape.specs.Inside.{IsInside}
 use Rattle.nd_slice.specs.declared.fit.Fit.{Fit}
 use Rattle.nd_slice.specs.declared.slice.SliceInfoElem.{SliceInfoElem}
 use Rattle.nd_slice.specs.SliceFault.{in_count, out_count, first_fault, argument_fault}
@@ -18,6 +17,7 @@ use Rattle.ndarray_layout.specs.DistinctPlaces.{HasDistinctPlaces}
 use Rattle.ndarray_layout.specs.KeepsPlaces.{KeepsPlaces}
 use Rattle.ndarray_layout.specs.SlicedView.{slice_of, sliced_start, slice_refusal}
 use Rattle.ndarray_layout.specs.View.{View, IsView, LiesWithin}
+use Rattle.ndarray_layout.proofs.laws.KeepsPlaces.{LiesWithin-kept, HasDistinctPlaces-kept}
 use Rattle.ndarray_layout.proofs.Slices.{SliceKept, slices_kept, places_kept}
 
 -- an argument that is not refused fits the shape
@@ -74,13 +74,8 @@ KeepsPlaces-slice_of fit elems view v none = λ index here.
 
 -- it lies within the data that the view lies within
 pub LiesWithin-slice_of : (fit : Fit) (len : ℕ) (elems : List SliceInfoElem) (view : View) → IsView view → argument_fault fit view.shape elems ≡ None → LiesWithin len view → LiesWithin len (slice_of fit elems view)
-LiesWithin-slice_of fit len elems view v none within = λ index here.
-    let stays = KeepsPlaces-slice_of fit elems view v none index here in
-    subst (IsInside len) (sym stays.1) (within (selected fit elems view.shape index) stays.0)
+LiesWithin-slice_of fit len elems view v none within = LiesWithin-kept len (selected fit elems view.shape) view (slice_of fit elems view) (KeepsPlaces-slice_of fit elems view v none) within
 
 -- and where no two indices of the view share a place, no two of the slice do
 pub HasDistinctPlaces-slice_of : (fit : Fit) (elems : List SliceInfoElem) (view : View) → IsView view → argument_fault fit view.shape elems ≡ None → HasDistinctPlaces view → HasDistinctPlaces (slice_of fit elems view)
-HasDistinctPlaces-slice_of fit elems view v none distinct = λ index other here there same.
-    let first = KeepsPlaces-slice_of fit elems view v none index here in
-    let second = KeepsPlaces-slice_of fit elems view v none other there in
-    selected_injective fit elems view.shape index other here there (distinct (selected fit elems view.shape index) (selected fit elems view.shape other) first.0 second.0 (sym first.1 ∙ same ∙ second.1))
+HasDistinctPlaces-slice_of fit elems view v none distinct = HasDistinctPlaces-kept (selected fit elems view.shape) view (slice_of fit elems view) (KeepsPlaces-slice_of fit elems view v none) (λ index other here there same. selected_injective fit elems view.shape index other here there same) distinct

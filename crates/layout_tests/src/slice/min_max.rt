@@ -1,0 +1,98 @@
+//! The least and the greatest entry that a slice picks.
+//!
+//! A row is a length, a slice, and both entries.
+use crate::view::elems::elem;
+use Fit::{Clamp, Strict};
+use nd_slice::{Fit, Slice, SliceInfoElem, slice_min_max, to_abs_slice};
+use nd_testing::{Row, rows};
+use std::process::Abort;
+
+/// Both entries, or nothing where there are none; the outer one where the slice does not fit.
+fn ends(len: usize, slice: Slice, fit: Fit) -> Option<Option<(usize, usize)>> {
+    match to_abs_slice(len, slice, fit) {
+        Ok(_bounds) => Some(slice_min_max(len, slice, fit)),
+        Err(_fault) => None,
+    }
+}
+
+/// The slice that the next word of a row spells.
+fn slice(rt: &impl Abort, row: &mut Row<'_>) -> Option<Slice> {
+    match elem(rt, row.word().expect(rt, "a slice")) {
+        SliceInfoElem::Slice { start, end, step } => Some(Slice { start, end, step }),
+        _ => None,
+    }
+}
+
+/// A row holds.
+fn holds(rt: &impl Abort, line: &str, fit: Fit) {
+    let mut row = Row::new(line);
+    let len = row.length().expect(rt, "a length");
+    let slice = slice(rt, &mut row).expect(rt, "a slice");
+    let expected = match row.length().ok() {
+        Some(least) => Some((least, row.length().expect(rt, "an entry"))),
+        None => None,
+    };
+    assert!(rt; ends(len, slice, fit) == Some(expected), "{line}");
+}
+
+/// All rows of a table hold.
+fn hold(rt: &impl Abort, table: &str, fit: Fit) {
+    for line in rows(table) {
+        holds(rt, line, fit);
+    }
+}
+
+/// Slices that fit.
+const STRICT: &str = "\
+0 ..;3 none
+10 -1..-1;-3 none
+10 1..8;3 1 7
+11 1..;3 1 10
+10 1..8;-3 1 7
+10 2..8;-3 4 7
+9 2..;-3 2 8
+9 3..;-3 5 8
+10 1..1;3 none
+10 -1..-1;3 none
+10 1..1;-3 none
+10 1..9;3 1 7
+10 -9..8;3 1 7
+10 -9..9;3 1 7
+10 1..-2;3 1 7
+10 1..-1;3 1 7
+10 -9..-2;3 1 7
+10 -9..-1;3 1 7
+10 1..;3 1 7
+10 -9..;3 1 7
+10 -9..8;-3 1 7
+10 1..-2;-3 1 7
+10 -9..-2;-3 1 7
+10 -8..8;-3 4 7
+10 2..-2;-3 4 7
+10 -8..-2;-3 4 7
+11 -10..;3 1 10
+9 -7..;-3 2 8
+9 -6..;-3 5 8
+9223372036854775807 ..;-9223372036854775808 9223372036854775806 9223372036854775806
+9223372036854775807 ..;9223372036854775806 0 9223372036854775806";
+
+#[test]
+fn r4_rows(rt: HostRuntime) {
+    hold(&rt, STRICT, Strict);
+}
+
+/// Slices whose bounds are moved to the ends of the axis.
+const CLAMPED: &str = "\
+10 -20..8;3 0 6
+10 -20..8;-3 1 7
+10 4..99;5 4 9
+10 99..;1 none
+10 5..2;1 none
+10 -99..-50;2 none
+0 -9223372036854775808..9223372036854775807;3 none
+18446744073709551615 -9223372036854775808..;9223372036854775807 9223372036854775807 18446744073709551614";
+
+#[test]
+fn r14_rows(rt: HostRuntime) {
+    hold(&rt, CLAMPED, Clamp);
+}

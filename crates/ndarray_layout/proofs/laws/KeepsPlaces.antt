@@ -1,0 +1,20 @@
+-- Laws of views whose indices lie where their sources in another view do.
+use Rattle.std.proofs.Common.{◌≡◌, ℕ, true, List, sym, subst, ◌∙◌}
+use Rattle.nd_base.specs.Indices.{is_index}
+use Rattle.nd_shape.specs.Inside.{IsInside}
+use Rattle.ndarray_layout.specs.DistinctPlaces.{HasDistinctPlaces}
+use Rattle.ndarray_layout.specs.KeepsPlaces.{KeepsPlaces}
+use Rattle.ndarray_layout.specs.View.{View, LiesWithin}
+
+-- such a view lies within the data that the other lies within
+pub LiesWithin-kept : (len : ℕ) (source : List ℕ → List ℕ) (view result : View) → KeepsPlaces source view result → LiesWithin len view → LiesWithin len result
+LiesWithin-kept len source view result keeps within = λ index here.
+    let stays = keeps index here in
+    subst (IsInside len) (sym stays.1) (within (source index) stays.0)
+
+-- and where no two indices of the other share a place, and different indices have different sources, no two of it do
+pub HasDistinctPlaces-kept : (source : List ℕ → List ℕ) (view result : View) → KeepsPlaces source view result → ((index other : List ℕ) → is_index result.shape index ≡ true → is_index result.shape other ≡ true → source index ≡ source other → index ≡ other) → HasDistinctPlaces view → HasDistinctPlaces result
+HasDistinctPlaces-kept source view result keeps injective distinct = λ index other here there same.
+    let first = keeps index here in
+    let second = keeps other there in
+    injective index other here there (distinct (source index) (source other) first.0 second.0 (sym first.1 ∙ same ∙ second.1))

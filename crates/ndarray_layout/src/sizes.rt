@@ -1,0 +1,31 @@
+//! How many indices a slice argument leaves of a shape.
+ghost use Rattle.std.specs.Prelude.{◌≡◌, ◌≤◌, None};
+ghost use Rattle.nd_base.specs.Size.{nonzero_size, size, limit};
+ghost use Rattle.nd_slice.specs.SliceFault.{argument_fault};
+ghost use Rattle.nd_slice.specs.Sliced.{sliced_shape};
+
+use crate::slicing::slice_axis;
+use nd_slice::{Fit, Slice, SliceInfoElem};
+
+/// The product of the lengths that an argument which fits a shape leaves.
+pub fn picked_size(shape: &[usize], elems: &[SliceInfoElem], fit: Fit) -> usize
+    requires size_fits { nonzero_size shape.now ≤ limit }
+    requires fits { argument_fault fit shape.now elems.now ≡ None }
+    ensures { result ≡ size (sliced_shape fit elems.now shape.now) }
+{
+    let mut axis = 0usize;
+    let mut size = 1usize;
+    for elem in elems {
+        match *elem {
+            SliceInfoElem::Slice { start, end, step } => {
+                let slice = Slice { start, end, step };
+                let (count, _stride, _offset) = slice_axis(shape[axis], 0, slice, fit);
+                size *= count;
+                axis += 1;
+            },
+            SliceInfoElem::Index(_) => axis += 1,
+            SliceInfoElem::NewAxis => {},
+        }
+    }
+    size
+}
