@@ -48,8 +48,8 @@ fn push_row(mut places: Vec<usize>, start: usize, len: usize, stride: usize) -> 
     ensures len { vec_len result ≡ vec_len places + len }
     ensures capacity { vec_capacity result ≡ vec_capacity places }
 {
-    for i in 0..len {
-        places.push_reserved(entry_place(start, i, stride));
+    for entry in 0..len {
+        places.push_reserved(entry_place(start, entry, stride));
     }
     places
 }

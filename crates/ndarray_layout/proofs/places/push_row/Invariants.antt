@@ -6,9 +6,9 @@ use Rattle.ndarray_layout.specs.View.{view_places}
 use Rattle.ndarray_layout.specs.Walk.{row_view}
 use Rattle.ndarray_layout.proofs.places.push_row.Given as goal
 
-abbrev pub invariant-loop-i : goal.invariant-loop-i
-invariant-loop-i l = record {
-  items : map pos l.places.items ≡ map pos l.initial.places.items ++ view_places RowMajor (row_view l.start l.i (signed l.stride));
-  len : vec_len l.places ≡ vec_len l.initial.places + l.i;
+abbrev pub invariant-loop-entry : goal.invariant-loop-entry
+invariant-loop-entry l = record {
+  items : map pos l.places.items ≡ map pos l.initial.places.items ++ view_places RowMajor (row_view l.start l.entry (signed l.stride));
+  len : vec_len l.places ≡ vec_len l.initial.places + l.entry;
   capacity : vec_capacity l.places ≡ vec_capacity l.initial.places;
 }
