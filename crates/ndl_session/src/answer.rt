@@ -11,7 +11,7 @@ ghost use Rattle.ndl_session.specs.StepLine.{step_value};
 use crate::script::{ReadError, Script, read_script};
 use crate::step_line::Step;
 use ndarray_layout::{
-    Fit, IxDyn, LayoutError, Lengths, Order, ShapeError, Strided, new_ixdyn, signed, unsigned,
+    IxDyn, LayoutError, Lengths, Order, ShapeError, Strided, new_ixdyn, signed, unsigned,
 };
 use ndl_text::push_line;
 use std::alloc::{AllocError, Global};
@@ -113,7 +113,7 @@ fn take_step(
     ensures view { IfOk result (λ next. next ≡ view_after view.now (step_value step.now)) }
 {
     match step {
-        Step::Slice(elems) => view.slice(alloc, elems, Fit::Strict),
+        Step::Slice(elems, fit) => view.slice(alloc, elems, *fit),
     }
 }
 
