@@ -7,6 +7,7 @@ use Rattle.nd_base.specs.ErrorText.{shape_error_text}
 use Rattle.nd_base.specs.Signed.{unsigned}
 use Rattle.nd_base.specs.Span.{low_span}
 use Rattle.nd_shape.specs.Acceptance.{acceptance}
+use Rattle.nd_slice.specs.SliceFault.{out_count}
 use Rattle.ndarray_layout.specs.SlicedView.{slice_of, slice_refusal}
 use Rattle.ndarray_layout.specs.View.{View, view_of, view_places}
 use Rattle.ndl_session.specs.declared.answer.Answer.{Answer}
@@ -53,6 +54,10 @@ step_fault view (SliceBy elems fit) = slice_refusal fit None view.shape elems
 -- the view after a step
 abbrev pub view_after : View → StepValue → View
 view_after view (SliceBy elems fit) = slice_of fit elems view
+
+-- how many axes a step leaves
+abbrev pub axes_after : StepValue → ℕ
+axes_after (SliceBy elems fit) = out_count elems
 
 -- the reply to steps from a view, of which the first has this number
 abbrev pub reply_to_steps : ℕ → View → List StepValue → Reply
