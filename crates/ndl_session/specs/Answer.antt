@@ -4,12 +4,11 @@ use Rattle.std.specs.Fmt.{signed_decimal, digits}
 use Rattle.nd_base.specs.declared.error.ErrorKind.{ErrorKind}
 use Rattle.nd_base.specs.declared.order.Order.TheVariants.{RowMajor}
 use Rattle.nd_base.specs.ErrorText.{shape_error_text}
-use Rattle.nd_base.specs.Signed.{magnitude, unsigned}
+use Rattle.nd_base.specs.Signed.{unsigned}
 use Rattle.nd_base.specs.Span.{low_span}
 use Rattle.nd_shape.specs.Acceptance.{acceptance}
-use Rattle.nd_slice.specs.declared.fit.Fit.TheVariants.{Strict}
-use Rattle.nd_slice.specs.Sliced.{sliced_shape, sliced_strides}
-use Rattle.ndarray_layout.specs.SlicedView.{sliced_start, slice_refusal}
+use Rattle.nd_slice.specs.SliceFault.{out_count}
+use Rattle.ndarray_layout.specs.SlicedView.{slice_of, slice_refusal}
 use Rattle.ndarray_layout.specs.View.{View, view_of, view_places}
 use Rattle.ndl_session.specs.declared.answer.Answer.{Answer}
 use Rattle.ndl_session.specs.DataLine.{LayoutValue}
@@ -50,15 +49,15 @@ view_of_layout layout = view_of (low_span layout.shape layout.strides) layout.sh
 
 -- the fault of a step from a view
 abbrev pub step_fault : View → StepValue → Option ErrorKind
-step_fault view (SliceBy elems) = slice_refusal Strict None view.shape elems
+step_fault view (SliceBy elems fit) = slice_refusal fit None view.shape elems
 
 -- the view after a step
 abbrev pub view_after : View → StepValue → View
-view_after view (SliceBy elems) = record {
-  start = magnitude (sliced_start Strict elems view);
-  shape = sliced_shape Strict elems view.shape;
-  strides = sliced_strides Strict elems view.shape view.strides;
-}
+view_after view (SliceBy elems fit) = slice_of fit elems view
+
+-- how many axes a step leaves
+abbrev pub axes_after : StepValue → ℕ
+axes_after (SliceBy elems fit) = out_count elems
 
 -- the reply to steps from a view, of which the first has this number
 abbrev pub reply_to_steps : ℕ → View → List StepValue → Reply
@@ -92,6 +91,30 @@ back_by_two = refl
 nothing_left : answer_of (codes "data 4 owned 4 1\nslice 2..2\n") ≡ record { text = codes "shape 0\nstrides 0\nplaces -\n"; status = 0 }
 unfolding digits
 nothing_left = refl
+
+three_axes : answer_of (codes "data 24 owned 2,3,4 12,4,1\nslice ..,1..;-1,0..4;2\n") ≡ record { text = codes "shape 2,2,2\nstrides 12,-4,2\nplaces 8 10 4 6 20 22 16 18\n"; status = 0 }
+unfolding digits
+three_axes = refl
+
+row_with_new_axis : answer_of (codes "data 6 owned 2,3 3,1\nslice 1,NewAxis,..\n") ≡ record { text = codes "shape 1,3\nstrides 0,1\nplaces 3 4 5\n"; status = 0 }
+unfolding digits
+row_with_new_axis = refl
+
+without_axes : answer_of (codes "data 1 owned - -\nslice -\n") ≡ record { text = codes "shape -\nstrides -\nplaces 0\n"; status = 0 }
+unfolding digits
+without_axes = refl
+
+step_by_step : answer_of (codes "data 6 owned 2,3 3,1\nslice ..;-1,..\nslice 0,1..\n") ≡ record { text = codes "shape 2\nstrides 1\nplaces 4 5\n"; status = 0 }
+unfolding digits
+step_by_step = refl
+
+clamped : answer_of (codes "data 4 owned 4 1\nclamp -9..9;-2\n") ≡ record { text = codes "shape 2\nstrides -2\nplaces 3 1\n"; status = 0 }
+unfolding digits
+clamped = refl
+
+index_past_the_end : answer_of (codes "data 4 owned 4 1\nslice ..\nclamp 4\n") ≡ record { text = codes "step 2: ShapeError/OutOfBounds: out of bounds indexing\n"; status = 1 }
+unfolding digits
+index_past_the_end = refl
 
 one_element_for_two_axes : answer_of (codes "data 6 owned 2,3 3,1\nslice 1..\n") ≡ record { text = codes "step 1: ShapeError/IncompatibleShape: incompatible shapes\n"; status = 1 }
 unfolding digits

@@ -2,6 +2,7 @@
 use Rattle.std.specs.Prelude.{◌≡◌, ℕ, pos, negsuc, Option, None, Result, Ok, Err, List, [], ◌∷◌, ◌++◌, map, codes, refl}
 use Rattle.std.specs.Option.{ok_or}
 use Rattle.nd_shape.specs.declared.checks.CanIndexCheckMode.TheVariants.{OwnedMutable}
+use Rattle.nd_slice.specs.declared.fit.Fit.TheVariants.{Strict, Clamp}
 use Rattle.nd_slice.specs.declared.slice.SliceInfoElem.TheVariants as elem
 use Rattle.ndl_session.specs.declared.script.Script.{Script}
 use Rattle.ndl_session.specs.declared.script.ReadError.{ReadError}
@@ -52,7 +53,10 @@ abbrev four : LayoutValue
 four = record { len = 4; mode = OwnedMutable; shape = 4 ∷ []; strides = pos 1 ∷ [] }
 
 abbrev two_of_four : StepValue
-two_of_four = SliceBy (elem.Slice (pos 1) None (negsuc 1) ∷ [])
+two_of_four = SliceBy (elem.Slice (pos 1) None (negsuc 1) ∷ []) Strict
+
+abbrev clamped : StepValue
+clamped = SliceBy (elem.Slice (pos 9) None (pos 1) ∷ []) Clamp
 
 with_a_step : script_of (codes "data 4 owned 4 1\nslice 1..;-2\n") ≡ Ok (record { layout = four; steps = two_of_four ∷ [] })
 with_a_step = refl
@@ -60,7 +64,7 @@ with_a_step = refl
 without_a_step : script_of (codes "data 4 owned 4 1") ≡ Ok (record { layout = four; steps = [] })
 without_a_step = refl
 
-with_two_steps : script_of (codes "data 4 owned 4 1\nslice 1..;-2\n\nslice 1..;-2\n") ≡ Ok (record { layout = four; steps = two_of_four ∷ two_of_four ∷ [] })
+with_two_steps : script_of (codes "data 4 owned 4 1\nslice 1..;-2\n\nclamp 9..\n") ≡ Ok (record { layout = four; steps = two_of_four ∷ clamped ∷ [] })
 with_two_steps = refl
 
 nothing : script_of [] ≡ Err 1

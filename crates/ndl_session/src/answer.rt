@@ -1,18 +1,15 @@
 //! The answer to a whole input: its text and its status.
 ghost use Rattle.std.specs.Prelude.{◌≡◌, ◌≤◌, map, IfOk};
-ghost use Rattle.nd_base.specs.Signed.{all_signed, unsigned as unsigned_bits};
-ghost use Rattle.ndarray_layout.specs.SlicedView.{shape_fault};
+ghost use Rattle.nd_base.specs.Signed.{all_signed};
 ghost use Rattle.ndl_session.specs.Answer.{answer_of, listing, refused as refusal, IsReply};
 ghost use Rattle.ndl_session.specs.Answer.{reply_to_script, reply_to_steps, unreadable as unreadable_reply};
-ghost use Rattle.ndl_session.specs.Answer.{step_fault, view_after};
 ghost use Rattle.ndl_session.specs.Script.{script_value};
 ghost use Rattle.ndl_session.specs.StepLine.{step_value};
 
 use crate::script::{ReadError, Script, read_script};
 use crate::step_line::Step;
-use ndarray_layout::{
-    Fit, IxDyn, LayoutError, Lengths, Order, ShapeError, Strided, new_ixdyn, signed, unsigned,
-};
+use crate::views::{kept_strides, take_step};
+use ndarray_layout::{IxDyn, LayoutError, Lengths, Order, ShapeError, Strided, new_ixdyn, signed};
 use ndl_text::push_line;
 use std::alloc::{AllocError, Global};
 
@@ -59,24 +56,13 @@ fn refused(alloc: Global, step: usize, fault: &ShapeError) -> Result<Answer, All
     })
 }
 
-/// The strides, each as it is kept.
-fn unsigned_strides(alloc: Global, strides: &[isize]) -> Result<Vec<usize>, AllocError>
-    ensures bits { IfOk result (λ kept. kept.items ≡ map unsigned_bits strides.now) }
-    ensures back { IfOk result (λ kept. all_signed kept.items ≡ strides.now) }
-{
-    strides
-        .iter()
-        .map(|stride| unsigned(*stride))
-        .collect(alloc)
-}
-
 /// The answer to a script: the layout first, and then the steps.
 fn answer_to_script(alloc: Global, script: &Script) -> Result<Answer, AllocError>
     ensures { IfOk result (λ answer. IsReply answer (reply_to_script (script_value script.now))) }
 {
     let layout = &script.layout;
     let dim = new_ixdyn(alloc, &layout.shape)?;
-    let strides = new_ixdyn(alloc, &unsigned_strides(alloc, &layout.strides)?)?;
+    let strides = kept_strides(alloc, &layout.strides)?;
     match Strided::new(dim, strides, 1, layout.len, layout.mode) {
         Ok(view) => answer_to_steps(alloc, view, &script.steps),
         Err(fault) => refused(alloc, 0, &fault),
@@ -101,20 +87,6 @@ fn answer_to_steps(
         }
     }
     list(alloc, &view)
-}
-
-/// The view after a step.
-fn take_step(
-    alloc: Global,
-    view: &Strided<IxDyn>,
-    step: &Step,
-) -> Result<Strided<IxDyn>, LayoutError>
-    ensures fault { shape_fault result ≡ step_fault view.now (step_value step.now) }
-    ensures view { IfOk result (λ next. next ≡ view_after view.now (step_value step.now)) }
-{
-    match step {
-        Step::Slice(elems) => view.slice(alloc, elems, Fit::Strict),
-    }
 }
 
 /// The strides, each read with its sign.

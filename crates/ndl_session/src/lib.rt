@@ -8,6 +8,7 @@ mod lists;
 mod over_devices;
 mod script;
 mod step_line;
+mod views;
 
 pub use data_line::Layout;
 pub use over_devices::session;

@@ -24,7 +24,6 @@ data 20 owned 4,5 5,1|slice 9..,..;0| => step 1: ShapeError/OutOfBounds: out of 
 data 20 owned 4,5 5,1|slice ..;0,9..| => step 1: ShapeError/Unsupported: unsupported operation|
 data 4 owned 4 1|slice 4| => step 1: ShapeError/OutOfBounds: out of bounds indexing|
 data 4 owned 4 1|slice -5| => step 1: ShapeError/OutOfBounds: out of bounds indexing|
-data 4 owned 4 1|slice -9..9;-2| => step 1: ShapeError/OutOfBounds: out of bounds indexing|
 data 4 owned 4 1|slice -| => step 1: ShapeError/IncompatibleShape: incompatible shapes|
 data 1 owned - -|slice 0| => step 1: ShapeError/IncompatibleShape: incompatible shapes|
 data 4 owned 4 1|slice 1..3||slice 2|slice 9..| => step 2: ShapeError/OutOfBounds: out of bounds indexing|
@@ -35,4 +34,31 @@ data 4 owned 4 1|slice 1|slice NewAxis|slice ..,..| => step 3: ShapeError/Incomp
 fn r4_rows(rt: HostRuntime) {
     assert_eq!(rt; wrong_row(rt.alloc(), DONE, 0), None);
     assert_eq!(rt; wrong_row(rt.alloc(), REFUSED, 1), None);
+}
+
+const CLAMPED: &str = "\
+data 4 owned 4 1|clamp -9..9;-2| => shape 2|strides -2|places 3 1|
+data 4 owned 4 1|clamp 5..2| => shape 0|strides 0|places -|
+data 4 owned 4 1|clamp 1..3| => shape 2|strides 1|places 1 2|
+data 4 owned 4 1|clamp ..-9| => shape 0|strides 0|places -|
+data 4 owned 4 1|clamp -9223372036854775808..9223372036854775807| => shape 4|strides 1|places 0 1 2 3|
+data 6 owned 2,3 3,1|clamp -1,NewAxis,2..9| => shape 1,1|strides 0,0|places 5|
+data 6 owned 2,3 3,1|clamp ..9,..|slice 1,..|clamp 1..9| => shape 2|strides 1|places 4 5|
+";
+
+const PAST_THE_END: &str = "\
+data 4 owned 4 1|slice -9..9;-2| => step 1: ShapeError/OutOfBounds: out of bounds indexing|
+data 4 owned 4 1|clamp 4| => step 1: ShapeError/OutOfBounds: out of bounds indexing|
+data 4 owned 4 1|clamp -5| => step 1: ShapeError/OutOfBounds: out of bounds indexing|
+data 4 owned 4 1|clamp 9..;0| => step 1: ShapeError/Unsupported: unsupported operation|
+data 4 owned 4 1|clamp -| => step 1: ShapeError/IncompatibleShape: incompatible shapes|
+data 20 owned 4,5 5,1|clamp ..;0,9| => step 1: ShapeError/Unsupported: unsupported operation|
+data 20 owned 4,5 5,1|clamp 9,..;0| => step 1: ShapeError/OutOfBounds: out of bounds indexing|
+data 4 owned 4 1|clamp 1..9|slice 1..9| => step 2: ShapeError/OutOfBounds: out of bounds indexing|
+";
+
+#[test]
+fn r14_rows(rt: HostRuntime) {
+    assert_eq!(rt; wrong_row(rt.alloc(), CLAMPED, 0), None);
+    assert_eq!(rt; wrong_row(rt.alloc(), PAST_THE_END, 1), None);
 }
