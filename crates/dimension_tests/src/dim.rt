@@ -7,11 +7,10 @@
 //! their magnitude, axes of at most one entry with the least stride, and sizes that overflow before a
 //! length of 0.
 mod checks;
-mod contiguity;
 mod conversions;
+mod layouts;
 mod lists;
 mod memory;
-mod offsets;
 mod operators;
 mod steps;
 mod tables;

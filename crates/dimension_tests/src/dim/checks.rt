@@ -1,9 +1,13 @@
 //! What the calls answer, each by the bound alone: whether it is what a row wants. Want of memory is not.
-use crate::dim::lists::made;
-use nd_dim::{Axis, Dimension, IntoDimension, IxDyn, Lengths, RemoveAxis};
+use crate::dim::lists::dim_of;
+use nd_dim::{
+    Axis, Dimension, ErrorKind, IntoDimension, IxDyn, Lengths, RemoveAxis, incompatible_shapes,
+    new_ixdyn,
+};
 use nd_testing::hash_of;
 use std::alloc::{AllocError, Global};
 use std::hash::Hash;
+use std::process::Abort;
 
 /// A call made this value.
 pub(crate) fn makes<D: Lengths>(made: Result<D, AllocError>, wanted: &D) -> bool {
@@ -51,77 +55,83 @@ pub(crate) fn has_strides<D: Dimension>(
 
 /// Whether strides are equivalent to those of another type.
 pub(crate) fn is_equivalent<D: Dimension>(
+    rt: &impl Abort,
     alloc: Global,
     dim: &D,
     strides: &[usize],
     others: &[usize],
-) -> Option<bool> {
-    match (made::<D>(alloc, strides), made::<IxDyn>(alloc, others)) {
-        (Some(strides), Some(others)) => Some(dim.strides_equivalent(&strides, &others)),
-        _ => None,
-    }
+) -> bool {
+    let strides: D = dim_of(rt, alloc, strides);
+    let others = new_ixdyn(alloc, others).expect(rt, "memory");
+    dim.strides_equivalent(&strides, &others)
+}
+
+/// The refusal of two shapes is of their kind.
+pub(crate) fn is_incompatible<D: Dimension>(
+    rt: &impl Abort,
+    alloc: Global,
+    dim: &D,
+    others: &[usize],
+) -> bool {
+    let others = new_ixdyn(alloc, others).expect(rt, "memory");
+    incompatible_shapes(dim, &others).kind() == ErrorKind::IncompatibleShape
 }
 
 /// An axis more, as a value of this type.
 pub(crate) fn widens<D: Dimension<Larger = L>, L: Lengths>(
+    rt: &impl Abort,
     alloc: Global,
     dim: &D,
     axis: usize,
     larger: &[usize],
 ) -> bool {
-    match made::<L>(alloc, larger) {
-        Some(larger) => { axis <= dim.ndim() && makes(dim.insert_axis(alloc, Axis(axis)), &larger) }
-        None => false,
-    }
+    let larger: L = dim_of(rt, alloc, larger);
+    axis <= dim.ndim() && makes(dim.insert_axis(alloc, Axis(axis)), &larger)
 }
 
 /// An axis less, as a value of this type. No axes stay none.
 pub(crate) fn tries_to_narrow<D: Dimension<Smaller = S>, S: Lengths>(
+    rt: &impl Abort,
     alloc: Global,
     dim: &D,
     axis: usize,
     smaller: &[usize],
 ) -> bool {
-    match made::<S>(alloc, smaller) {
-        Some(smaller) => {
-            (axis < dim.ndim() || dim.ndim() == 0)
-                && makes(dim.try_remove_axis(alloc, Axis(axis)), &smaller)
-        }
-        None => false,
-    }
+    let smaller: S = dim_of(rt, alloc, smaller);
+    (axis < dim.ndim() || dim.ndim() == 0)
+        && makes(dim.try_remove_axis(alloc, Axis(axis)), &smaller)
 }
 
 /// An axis less, where there is one.
 pub(crate) fn narrows<D: RemoveAxis + Dimension<Smaller = S>, S: Lengths>(
+    rt: &impl Abort,
     alloc: Global,
     dim: &D,
     axis: usize,
     smaller: &[usize],
 ) -> bool {
-    match made::<S>(alloc, smaller) {
-        Some(smaller) => {
-            axis >= dim.ndim() || makes(dim.remove_axis(alloc, Axis(axis)), &smaller)
-        }
-        None => false,
-    }
+    let smaller: S = dim_of(rt, alloc, smaller);
+    axis >= dim.ndim() || makes(dim.remove_axis(alloc, Axis(axis)), &smaller)
 }
 
 /// The axes of the least and of the greatest stride.
 pub(crate) fn has_stride_axes<D: Dimension>(
+    rt: &impl Abort,
     alloc: Global,
     dim: &D,
     strides: &[usize],
     axes: &[usize],
 ) -> bool {
-    let Some(strides) = made::<D>(alloc, strides) else {
-        return false;
-    };
+    let strides: D = dim_of(rt, alloc, strides);
     if dim.ndim() == 0 || dim.ndim() != strides.ndim() {
         return false;
     }
-    let least = dim.min_stride_axis(&strides);
-    let greatest = dim.max_stride_axis(&strides);
-    [least.0, greatest.0].as_slice() == axes
+    [
+        dim.min_stride_axis(&strides).0,
+        dim.max_stride_axis(&strides).0,
+    ]
+    .as_slice()
+        == axes
 }
 
 /// The list, and a copy that is equal by either comparison.
@@ -139,6 +149,15 @@ pub(crate) fn keeps_list<D: Dimension>(alloc: Global, dim: D, lens: &[usize]) ->
     gives(dim.into_pattern().into_dimension(alloc), lens)
 }
 
+/// A dimension makes itself.
+pub(crate) fn stays<D: Lengths + IntoDimension<Dim = D>>(
+    alloc: Global,
+    dim: D,
+    lens: &[usize],
+) -> bool {
+    gives(dim.into_dimension(alloc), lens)
+}
+
 /// To the type of any number of axes and back.
 pub(crate) fn changes_type<D: Dimension>(alloc: Global, dim: D, lens: &[usize]) -> bool {
     match dim.into_dyn(alloc) {
@@ -148,12 +167,22 @@ pub(crate) fn changes_type<D: Dimension>(alloc: Global, dim: D, lens: &[usize]) 
 }
 
 /// A list is one of this type, or is none.
-pub(crate) fn becomes<D: Dimension>(alloc: Global, dynamic: &IxDyn, answer: bool) -> bool {
+fn becomes<D: Dimension>(alloc: Global, dynamic: &IxDyn, answer: bool) -> bool {
     match D::from_dimension(alloc, dynamic) {
         Ok(Some(made)) => answer && made.slice() == dynamic.slice(),
         Ok(None) => !answer,
         Err(_) => false,
     }
+}
+
+/// The same of a list of its own.
+pub(crate) fn list_becomes<D: Dimension>(
+    rt: &impl Abort,
+    alloc: Global,
+    lens: &[usize],
+    answer: bool,
+) -> bool {
+    becomes::<D>(alloc, &new_ixdyn(alloc, lens).expect(rt, "memory"), answer)
 }
 
 /// Writes the last length.

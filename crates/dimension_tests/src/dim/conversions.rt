@@ -2,32 +2,14 @@
 use crate::dim::checks::{gives, is_one, makes};
 use crate::dim::lists::made;
 use nd_dim::{
-    Dimension, ErrorKind, IntoDimension, Ix0, Ix1, Ix2, Ix3, Ix4, Ix5, Ix6, IxDyn, IxDynImpl,
-    Lengths, Order, ShapeArg, incompatible_shapes, new_dim, new_ix0, new_ix1, new_ix2, new_ix3,
-    new_ix4, new_ix5, new_ix6,
+    Dimension, IntoDimension, Ix2, Ix3, IxDyn, IxDynImpl, Lengths, Order, ShapeArg, new_dim,
+    new_ix0, new_ix1, new_ix2, new_ix3, new_ix4, new_ix5, new_ix6,
 };
 use std::alloc::Global;
 
 /// A value makes this dimension.
 fn converts<T: IntoDimension>(alloc: Global, value: T, wanted: &T::Dim) -> bool {
     makes(value.into_dimension(alloc), wanted)
-}
-
-/// A dimension of these lengths makes itself.
-fn stays<D: Lengths + IntoDimension<Dim = D>>(alloc: Global, lens: &[usize]) -> bool {
-    match made::<D>(alloc, lens) {
-        Some(dim) => gives(dim.into_dimension(alloc), lens),
-        None => false,
-    }
-}
-
-#[test]
-fn r2_rows_from_dimensions(rt: HostRuntime) {
-    let alloc = rt.alloc();
-    assert!(rt; stays::<Ix0>(alloc, &[]) && stays::<Ix1>(alloc, &[2]));
-    assert!(rt; stays::<Ix2>(alloc, &[2, 3]) && stays::<Ix3>(alloc, &[2, 3, 4]));
-    assert!(rt; stays::<Ix4>(alloc, &[2, 3, 4, 5]) && stays::<Ix5>(alloc, &[2, 3, 4, 5, 6]));
-    assert!(rt; stays::<Ix6>(alloc, &[2, 3, 4, 5, 6, 7]) && stays::<IxDyn>(alloc, &[2, 3]));
 }
 
 /// The pattern of a dimension of any number of axes is that dimension.
@@ -118,34 +100,6 @@ fn r2_rows_of_equality(rt: HostRuntime) {
     assert!(rt; is_one_with_vector(alloc, &[1, 2, 3, 4, 5]));
 }
 
-/// A list makes a value of a type, or is none of it.
-fn becomes<D: Dimension, E: Lengths>(alloc: Global, lens: &[usize], answer: bool) -> bool {
-    let Some(from) = made::<E>(alloc, lens) else {
-        return false;
-    };
-    match D::from_dimension(alloc, &from) {
-        Ok(Some(made)) => answer && made.slice() == lens,
-        Ok(None) => !answer,
-        Err(_) => false,
-    }
-}
-
-/// A value makes another of any number of axes.
-fn becomes_dynamic<D: Dimension>(alloc: Global, lens: &[usize]) -> bool {
-    match made::<D>(alloc, lens) {
-        Some(dim) => gives(dim.into_dyn(alloc), lens),
-        None => false,
-    }
-}
-
-#[test]
-fn r2_rows_of_other_types(rt: HostRuntime) {
-    let alloc = rt.alloc();
-    assert!(rt; becomes::<Ix2, IxDyn>(alloc, &[3, 4, 5], false));
-    assert!(rt; becomes::<Ix2, IxDyn>(alloc, &[3, 4], true));
-    assert!(rt; becomes_dynamic::<IxDyn>(alloc, &[3, 4, 5]));
-}
-
 /// A value stands for this shape of this type, and tells an order or none.
 fn shapes<T: ShapeArg<Dim = D>, D: Lengths>(
     alloc: Global,
@@ -166,23 +120,4 @@ fn r2_rows_of_shapes(rt: HostRuntime) {
     assert!(rt; shapes::<_, Ix2>(alloc, ((2, 3), Order::C), &[2, 3], Some(Order::C)));
     assert!(rt; shapes::<_, Ix3>(alloc, ([2, 3, 4], Order::F), &[2, 3, 4], Some(Order::F)));
     assert!(rt; shapes::<_, IxDyn>(alloc, [2, 3].as_slice(), &[2, 3], None));
-}
-
-/// The refusal of two shapes is of this kind.
-fn refuses<D: Dimension, E: Dimension>(
-    alloc: Global,
-    lens: &[usize],
-    others: &[usize],
-    kind: ErrorKind,
-) -> bool {
-    match (made::<D>(alloc, lens), made::<E>(alloc, others)) {
-        (Some(dim), Some(other)) => incompatible_shapes(&dim, &other).kind() == kind,
-        _ => false,
-    }
-}
-
-#[test]
-fn r2_rows_of_faults(rt: HostRuntime) {
-    let kind = ErrorKind::IncompatibleShape;
-    assert!(rt; refuses::<Ix3, IxDyn>(rt.alloc(), &[2, 3, 4], &[2, 3], kind));
 }

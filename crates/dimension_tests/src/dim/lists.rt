@@ -4,46 +4,71 @@ ghost use Rattle.std.specs.Prelude.{◌≡◌, IfSome};
 use nd_dim::{Lengths, unsigned};
 use nd_testing::Row;
 use std::alloc::Global;
+use std::process::Abort;
+
+/// A list of a row. It needs no memory, so a row can be read where memory is refused.
+#[derive(Clone, Copy)]
+pub(crate) struct List {
+    entries: [usize; 16],
+    count: usize,
+}
+
+impl List {
+    pub(crate) fn as_slice(&self) -> &[usize] {
+        if self.count <= 16 {
+            &self.entries[..self.count]
+        } else {
+            &[]
+        }
+    }
+
+    /// The number at a place, or none that is an axis.
+    pub(crate) fn at(&self, place: usize) -> usize {
+        self.as_slice().get(place).copied().unwrap_or(usize::MAX)
+    }
+}
 
 /// The lists of a row: numbers parted by commas, negative ones as they are kept. Those that the row
 /// doesn't have are empty.
-#[derive(Drop)]
+#[derive(Clone, Copy)]
 pub(crate) struct Lists {
-    pub(crate) first: Vec<usize>,
-    pub(crate) second: Vec<usize>,
-    pub(crate) third: Vec<usize>,
+    pub(crate) first: List,
+    pub(crate) second: List,
+    pub(crate) third: List,
+    pub(crate) fourth: List,
 }
 
 impl Lists {
-    pub(crate) fn read(line: &str, alloc: Global) -> Option<Lists> {
+    pub(crate) fn read(line: &str) -> Option<Lists> {
         let mut row = Row::new(line);
         Some(Lists {
-            first: list(&mut row, alloc)?,
-            second: list(&mut row, alloc)?,
-            third: list(&mut row, alloc)?,
+            first: read_list(row.word().unwrap_or("-"))?,
+            second: read_list(row.word().unwrap_or("-"))?,
+            third: read_list(row.word().unwrap_or("-"))?,
+            fourth: read_list(row.word().unwrap_or("-"))?,
         })
     }
 }
 
-/// The next word as a list.
-fn list(row: &mut Row<'_>, alloc: Global) -> Option<Vec<usize>> {
-    let mut list = Vec::new(alloc);
-    for part in row.word().unwrap_or("-").split(',') {
+/// A word as a list.
+fn read_list(word: &str) -> Option<List> {
+    let (mut entries, mut count) = ([0; 16], 0usize);
+    for part in word.split(',') {
         if part != "-" {
-            list.push(entry(part)?).ok()?;
+            *entries.get_mut(count)? = entry(part)?;
+            count += 1;
         }
     }
-    Some(list)
+    Some(List { entries, count })
 }
 
 /// A length, or a stride as it is kept.
 fn entry(part: &str) -> Option<usize> {
-    let mut row = Row::new(part);
     if part.starts_with('-') {
-        Some(unsigned(row.number().ok()?))
-    } else {
-        row.length().ok()
+        let stride: isize = part.parse().ok()?;
+        return Some(unsigned(stride));
     }
+    part.parse().ok()
 }
 
 /// The value of a type that stands for a list, if the type allows as many axes.
@@ -57,4 +82,11 @@ pub(crate) fn made<D: Lengths>(alloc: Global, lens: &[usize]) -> Option<D>
     let mut dim = D::zeros(alloc, lens.len()).ok()?;
     dim.slice_mut().copy_from_slice(lens);
     Some(dim)
+}
+
+/// The same, where the type allows as many axes.
+pub(crate) fn dim_of<D: Lengths>(rt: &impl Abort, alloc: Global, lens: &[usize]) -> D
+    ensures { D.list result ≡ lens.now }
+{
+    made(alloc, lens).expect(rt, "another count of axes, or memory")
 }

@@ -2,16 +2,41 @@
 //! request is refused.
 //!
 //! A call that needs no memory goes well whatever is refused. A call that needs memory is made
-//! twice, before one small request.
+//! twice, before one small request. To make a list of more than four lengths is a request itself.
 use crate::dim::checks::is_one;
 use crate::dim::lists::made;
+use crate::dim::told::{Told, row_holds_at_any_count, table_at_its_type};
 use nd_dim::{
-    Axis, Dimension, FixedCount, IntoDimension, Ix0, Ix1, Ix2, Ix3, Ix4, Ix5, Ix6, IxDyn,
-    IxDynImpl, Lengths, RemoveAxis, ShapeArg, new_dim, new_ixdyn,
+    Axis, Dimension, FixedCount, IntoDimension, IxDyn, IxDynImpl, Lengths, RemoveAxis, ShapeArg,
+    new_dim, new_ixdyn,
 };
 use nd_testing::asked;
 use std::alloc::{AllocError, Global};
-use std::hash::Hash;
+use std::process::Abort;
+
+/// How calls go about memory.
+#[derive(Clone, Copy)]
+pub(crate) enum Call {
+    /// None is needed at a type of a fixed count of axes, nor with up to four axes at another.
+    NeedsNone,
+    /// None is needed for an axis less than five, for the default, and for the list itself.
+    NeedsNoneOfFive,
+    /// None is needed to make a value of a list of five of any number of axes, nor to hand it on.
+    MakesOfFive,
+    /// None is needed to make a value of any number of axes.
+    MakesAny,
+    /// To make a value of any number of axes asks for some, in either way.
+    IntoAny,
+    FromFixed,
+    DefaultStrides,
+    FortranStrides,
+    Duplicate,
+    StrideOrder,
+    /// At the axis of the row, and at the end.
+    InsertAxis,
+    /// The first and the last one.
+    RemoveAxis,
+}
 
 /// What a call of a shape gives needs no memory.
 fn serves_shape<D: Dimension>(alloc: Global, dim: &D) -> bool {
@@ -41,141 +66,51 @@ fn is_narrower<D: RemoveAxis>(alloc: Global, dim: &D, axis: usize) -> bool {
         && dim.remove_axis(alloc, Axis(axis)).is_ok()
 }
 
-/// What needs no memory at a type of a fixed count of axes, nor with up to four axes at another.
-fn serves<D: Dimension>(alloc: Global, lens: &[usize]) -> bool {
-    let Some(dim) = made::<D>(alloc, lens) else {
-        return false;
-    };
-    serves_shape(alloc, &dim)
-        && serves_type(alloc, &dim)
-        && (D::Larger::NDIM.is_none() && dim.ndim() > 3 || is_wider(alloc, &dim))
-        && (dim.ndim() > 0 || dim.try_remove_axis(alloc, Axis(0)).is_ok())
-        && (dim.ndim() > 4 || dim.into_dyn(alloc).is_ok())
-}
-
-/// What needs no memory where there is an axis.
-fn serves_axes<D: RemoveAxis>(alloc: Global, lens: &[usize]) -> bool {
-    match made::<D>(alloc, lens) {
-        Some(dim) => is_narrower(alloc, &dim, 0) && serves::<D>(alloc, lens),
+/// The same list of any number of axes needs no memory.
+fn is_handed_on<D: Dimension>(alloc: Global, dim: &D) -> bool {
+    match made::<D>(alloc, dim.slice()) {
+        Some(same) => same.into_dyn(alloc).is_ok(),
         None => false,
     }
 }
 
-#[test]
-fn r9_rows_at_fixed_types(rt: HostRuntime) {
-    let alloc = rt.alloc();
-    assert!(rt; serves::<Ix0>(alloc, &[]) && serves_axes::<Ix1>(alloc, &[2]));
-    assert!(rt; serves_axes::<Ix2>(alloc, &[2, 3]) && serves_axes::<Ix3>(alloc, &[2, 3, 4]));
-    assert!(rt; serves_axes::<Ix4>(alloc, &[2, 3, 4, 5]));
-    assert!(rt; serves_axes::<Ix5>(alloc, &[2, 3, 4, 5, 6]));
-    assert!(rt; serves_axes::<Ix6>(alloc, &[2, 3, 4, 5, 6, 7]));
+/// What needs no memory at a type of a fixed count of axes, nor with up to four axes at another.
+fn needs_none<D: Dimension>(alloc: Global, dim: &D) -> bool {
+    serves_shape(alloc, dim)
+        && serves_type(alloc, dim)
+        && (D::Larger::NDIM.is_none() && dim.ndim() > 3 || is_wider(alloc, dim))
+        && (dim.ndim() > 0 || dim.try_remove_axis(alloc, Axis(0)).is_ok())
+        && (dim.ndim() > 4 || is_handed_on(alloc, dim))
 }
 
-/// A value of another type needs no memory.
-fn crosses<D: Dimension, E: Dimension>(alloc: Global, lens: &[usize]) -> bool {
-    match made::<D>(alloc, lens) {
-        Some(dim) => E::from_dimension(alloc, &dim).is_ok() && dim.into_dyn(alloc).is_ok(),
-        None => is_unmade::<D>(lens),
+/// A value itself needs no memory, if there was memory for it.
+fn is_kept<D: Lengths + IntoDimension<Dim = D>>(alloc: Global, dim: &D) -> bool {
+    match made::<D>(alloc, dim.slice()) {
+        Some(same) => new_dim(alloc, same).is_ok(),
+        None => D::NDIM.is_none() && dim.ndim() > 4,
     }
 }
 
-/// To make the value itself needs memory.
-fn is_unmade<D: FixedCount>(lens: &[usize]) -> bool {
-    D::NDIM.is_none() && lens.len() > 4
+/// A value of a list of five of any number of axes needs no memory, nor does that list, if there was
+/// memory for it.
+fn makes_of_five<D: Dimension>(alloc: Global) -> bool {
+    match new_ixdyn(alloc, &[1, 2, 3, 4, 5]) {
+        Ok(five) => D::from_dimension(alloc, &five).is_ok() && five.into_dyn(alloc).is_ok(),
+        Err(_) => true,
+    }
 }
 
-#[test]
-fn r9_rows(rt: HostRuntime) {
-    let alloc = rt.alloc();
-    assert!(rt; serves_axes::<IxDyn>(alloc, &[2]) && serves_axes::<IxDyn>(alloc, &[2, 3]));
-    assert!(rt; serves_axes::<IxDyn>(alloc, &[2, 3, 4]));
-    assert!(rt; serves_axes::<IxDyn>(alloc, &[1, 2, 3, 4]));
-    assert!(rt; new_dim(alloc, [1, 2, 3, 4].as_slice()).is_ok());
-    assert!(rt; [1, 2, 3, 4].as_slice().into_shape_and_order(alloc).is_ok());
-    assert!(rt; crosses::<Ix4, IxDyn>(alloc, &[1, 2, 3, 4]));
-}
-
-#[test]
-fn r9_rows_insert_axis_into_three(rt: HostRuntime) {
-    assert!(rt; serves_axes::<IxDyn>(rt.alloc(), &[1, 2, 3]));
-}
-
-/// What is left of a list is one that was made so, and has its hash.
-fn leaves<D, S>(alloc: Global, lens: &[usize], axis: usize, left: &[usize]) -> bool
-where
-    D: RemoveAxis + Dimension<Smaller = S>,
-    S: Lengths + Hash,
-{
-    match (made::<D>(alloc, lens), made::<S>(alloc, left)) {
-        (Some(dim), Some(left)) => {
-            axis < dim.ndim() && is_one(&left, dim.remove_axis(alloc, Axis(axis)))
-        }
-        (None, Some(_)) => is_unmade::<D>(lens),
+/// A value of any number of axes asks for memory.
+fn asks_into_any<D: Dimension>(alloc: Global, dim: &D) -> bool {
+    match (made::<D>(alloc, dim.slice()), made::<D>(alloc, dim.slice())) {
+        (Some(dim), Some(same)) => asked(alloc, dim.into_dyn(alloc), same.into_dyn(alloc)),
         _ => false,
     }
 }
 
-// In each of the following to make the list is the first request.
-#[test]
-fn r9_rows_of_equality(rt: HostRuntime) {
-    assert!(rt; leaves::<IxDyn, IxDyn>(rt.alloc(), &[1, 2, 3, 4, 5], 2, &[1, 2, 4, 5]));
-}
-
-/// What needs no memory of a list of five: an axis less, the default and the list itself.
-fn serves_five<D: RemoveAxis + IntoDimension>(alloc: Global, lens: &[usize]) -> bool {
-    match made::<D>(alloc, lens) {
-        Some(five) => {
-            is_narrower(alloc, &five, 2)
-                && is_narrower(alloc, &five, 4)
-                && D::default_in(alloc).is_ok()
-                && new_dim(alloc, five).is_ok()
-        }
-        None => is_unmade::<D>(lens),
-    }
-}
-
-#[test]
-fn r9_rows_remove_axis_from_five(rt: HostRuntime) {
-    assert!(rt; serves_five::<IxDyn>(rt.alloc(), &[1, 2, 3, 4, 5]));
-}
-
-#[test]
-fn r9_rows_five_into_dyn(rt: HostRuntime) {
-    assert!(rt; crosses::<IxDyn, Ix5>(rt.alloc(), &[1, 2, 3, 4, 5]));
-}
-
-#[test]
-fn r9_rows_five_into_three(rt: HostRuntime) {
-    assert!(rt; crosses::<IxDyn, Ix3>(rt.alloc(), &[1, 2, 3, 4, 5]));
-}
-
-#[test]
-fn r9_rows_vector_of_four(rt: HostRuntime) {
-    if let Ok(items) = [1, 2, 3, 4].to_vec(rt.alloc()) {
-        assert!(rt; new_dim(rt.alloc(), items).is_ok());
-    }
-}
-
-#[test]
-fn r9_rows_list_of_five(rt: HostRuntime) {
-    if let Ok(list) = IxDynImpl::copy_from(rt.alloc(), &[1, 2, 3, 4, 5]) {
-        let first = new_dim(rt.alloc(), list);
-        let second = new_ixdyn(rt.alloc(), &[1, 2, 3, 4, 5]);
-        assert!(rt; asked(rt.alloc(), first, second));
-    }
-}
-
-/// A call that needs memory with more than four axes.
-#[derive(Clone, Copy)]
-enum Call {
-    DefaultStrides,
-    FortranStrides,
-    Duplicate,
-    StrideOrder,
-    /// At this axis, and at the end.
-    InsertAxis(usize),
-    /// The first and the last one.
-    RemoveAxis,
+/// Made of the value of another type it asks for memory, or needs none.
+fn any_of<D: Dimension>(alloc: Global, dim: &D) -> Result<Option<IxDyn>, AllocError> {
+    IxDyn::from_dimension(alloc, dim)
 }
 
 /// Strides ask for memory.
@@ -221,8 +156,14 @@ fn asks_without_axis<D: RemoveAxis>(alloc: Global, dim: &D) -> bool {
     )
 }
 
-fn asks<D: RemoveAxis>(alloc: Global, call: Call, dim: &D) -> bool {
+/// Whether a call goes so about memory.
+pub(crate) fn serves<D: Dimension>(alloc: Global, call: Call, dim: &D, axis: usize) -> bool {
     match call {
+        Call::NeedsNone => needs_none(alloc, dim),
+        Call::MakesOfFive => makes_of_five::<D>(alloc),
+        Call::MakesAny => any_of(alloc, dim).is_ok() && is_handed_on(alloc, dim),
+        Call::IntoAny => asks_into_any(alloc, dim),
+        Call::FromFixed => asked(alloc, any_of(alloc, dim), any_of(alloc, dim)),
         Call::DefaultStrides | Call::FortranStrides => asks_for_strides(alloc, call, dim),
         Call::Duplicate => asked(alloc, dim.duplicate(alloc), dim.duplicate(alloc)),
         Call::StrideOrder => asked(
@@ -230,52 +171,153 @@ fn asks<D: RemoveAxis>(alloc: Global, call: Call, dim: &D) -> bool {
             dim._fastest_varying_stride_order(alloc),
             dim._fastest_varying_stride_order(alloc),
         ),
-        Call::InsertAxis(axis) => asks_for_axis(alloc, dim, axis),
+        Call::InsertAxis => asks_for_axis(alloc, dim, axis),
+        Call::NeedsNoneOfFive | Call::RemoveAxis => false,
+    }
+}
+
+/// The same at a type that can have an axis to remove.
+pub(crate) fn asks<D: RemoveAxis + IntoDimension<Dim = D>>(
+    alloc: Global,
+    call: Call,
+    dim: &D,
+    axis: usize,
+) -> bool {
+    match call {
+        Call::NeedsNone => is_narrower(alloc, dim, 0) && needs_none(alloc, dim),
+        Call::NeedsNoneOfFive => {
+            is_narrower(alloc, dim, 2)
+                && is_narrower(alloc, dim, 4)
+                && D::default_in(alloc).is_ok()
+                && is_kept(alloc, dim)
+        },
         Call::RemoveAxis => asks_without_axis(alloc, dim),
+        _ => serves(alloc, call, dim, axis),
     }
 }
 
-/// The call asks for memory with these lengths, if there was memory for them.
-fn asks_with<D: RemoveAxis>(alloc: Global, call: Call, lens: &[usize]) -> bool {
-    match made::<D>(alloc, lens) {
-        Some(dim) => asks(alloc, call, &dim),
-        None => is_unmade::<D>(lens),
+/// A row, at the type of any number of axes.
+fn holds_at_any_count(rt: &impl Abort, alloc: Global, call: Call, line: &str) {
+    assert!(rt; row_holds_at_any_count(rt, alloc, Told::Memory(call), line));
+}
+
+const AT_FIXED_TYPES: &str = "\
+-
+2
+2,3
+2,3,4
+2,3,4,5
+2,3,4,5,6
+2,3,4,5,6,7";
+
+#[test]
+fn r9_rows_at_fixed_types(rt: HostRuntime) {
+    table_at_its_type(
+        &rt,
+        rt.alloc(),
+        Told::Memory(Call::NeedsNone),
+        AT_FIXED_TYPES,
+    );
+}
+
+#[test]
+fn r9_rows(rt: HostRuntime) {
+    let alloc = rt.alloc();
+    holds_at_any_count(&rt, alloc, Call::NeedsNone, "2");
+    holds_at_any_count(&rt, alloc, Call::NeedsNone, "2,3");
+    holds_at_any_count(&rt, alloc, Call::NeedsNone, "2,3,4");
+    holds_at_any_count(&rt, alloc, Call::NeedsNone, "1,2,3,4");
+    table_at_its_type(&rt, alloc, Told::Memory(Call::MakesAny), "1,2,3,4");
+    let four = [1, 2, 3, 4].as_slice();
+    assert!(rt; new_dim(alloc, four).is_ok() && four.into_shape_and_order(alloc).is_ok());
+}
+
+#[test]
+fn r9_rows_insert_axis_into_three(rt: HostRuntime) {
+    holds_at_any_count(&rt, rt.alloc(), Call::NeedsNone, "1,2,3");
+}
+
+/// What is left of a list is one that was made so, and has its hash; if there was memory for it.
+fn leaves(alloc: Global, lens: &[usize], axis: usize, left: &[usize]) -> bool {
+    match new_ixdyn(alloc, lens) {
+        Ok(dim) => match new_ixdyn(alloc, left) {
+            Ok(left) => axis < dim.ndim() && is_one(&left, dim.remove_axis(alloc, Axis(axis))),
+            Err(_) => false,
+        },
+        Err(_) => lens.len() > 4,
     }
 }
 
-/// The same at the type of any number of axes.
-fn asks_at_any_count(alloc: Global, call: Call, lens: &[usize]) -> bool {
-    asks_with::<IxDyn>(alloc, call, lens)
+// In each of the following to make the list is the first request.
+#[test]
+fn r9_rows_of_equality(rt: HostRuntime) {
+    assert!(rt; leaves(rt.alloc(), &[1, 2, 3, 4, 5], 2, &[1, 2, 4, 5]));
+}
+
+#[test]
+fn r9_rows_remove_axis_from_five(rt: HostRuntime) {
+    holds_at_any_count(&rt, rt.alloc(), Call::NeedsNoneOfFive, "1,2,3,4,5");
+}
+
+#[test]
+fn r9_rows_five_into_dyn(rt: HostRuntime) {
+    table_at_its_type(
+        &rt,
+        rt.alloc(),
+        Told::Memory(Call::MakesOfFive),
+        "1,2,3,4,5",
+    );
+}
+
+#[test]
+fn r9_rows_five_into_three(rt: HostRuntime) {
+    table_at_its_type(&rt, rt.alloc(), Told::Memory(Call::MakesOfFive), "1,2,3");
+}
+
+#[test]
+fn r9_rows_vector_of_four(rt: HostRuntime) {
+    if let Ok(items) = [1, 2, 3, 4].to_vec(rt.alloc()) {
+        assert!(rt; new_dim(rt.alloc(), items).is_ok());
+    }
+}
+
+#[test]
+fn r9_rows_list_of_five(rt: HostRuntime) {
+    if let Ok(list) = IxDynImpl::copy_from(rt.alloc(), &[1, 2, 3, 4, 5]) {
+        let first = new_dim(rt.alloc(), list);
+        let second = new_ixdyn(rt.alloc(), &[1, 2, 3, 4, 5]);
+        assert!(rt; asked(rt.alloc(), first, second));
+    }
 }
 
 #[test]
 fn r9_rows_default_strides_of_five(rt: HostRuntime) {
-    assert!(rt; asks_at_any_count(rt.alloc(), Call::DefaultStrides, &[1, 2, 3, 4, 5]));
+    holds_at_any_count(&rt, rt.alloc(), Call::DefaultStrides, "1,2,3,4,5");
 }
 
 #[test]
 fn r9_rows_fortran_strides_of_five(rt: HostRuntime) {
-    assert!(rt; asks_at_any_count(rt.alloc(), Call::FortranStrides, &[1, 2, 3, 4, 5]));
+    holds_at_any_count(&rt, rt.alloc(), Call::FortranStrides, "1,2,3,4,5");
 }
 
 #[test]
 fn r9_rows_duplicate_of_five(rt: HostRuntime) {
-    assert!(rt; asks_at_any_count(rt.alloc(), Call::Duplicate, &[1, 2, 3, 4, 5]));
+    holds_at_any_count(&rt, rt.alloc(), Call::Duplicate, "1,2,3,4,5");
 }
 
 #[test]
 fn r9_rows_stride_order_of_five(rt: HostRuntime) {
-    assert!(rt; asks_at_any_count(rt.alloc(), Call::StrideOrder, &[1, 2, 3, 4, 5]));
+    holds_at_any_count(&rt, rt.alloc(), Call::StrideOrder, "1,2,3,4,5");
 }
 
 #[test]
 fn r9_rows_insert_axis_into_four(rt: HostRuntime) {
-    assert!(rt; asks_at_any_count(rt.alloc(), Call::InsertAxis(1), &[1, 2, 3, 4]));
+    holds_at_any_count(&rt, rt.alloc(), Call::InsertAxis, "1,2,3,4 1");
 }
 
 #[test]
 fn r9_rows_remove_axis_from_six(rt: HostRuntime) {
-    assert!(rt; asks_at_any_count(rt.alloc(), Call::RemoveAxis, &[1, 2, 3, 4, 5, 6]));
+    holds_at_any_count(&rt, rt.alloc(), Call::RemoveAxis, "1,2,3,4,5,6");
 }
 
 // These ask for memory at once.
@@ -301,37 +343,18 @@ fn r9_rows_shape_of_five(rt: HostRuntime) {
 
 #[test]
 fn r9_rows_insert_axis_into_six(rt: HostRuntime) {
-    assert!(rt; asks_with::<Ix6>(rt.alloc(), Call::InsertAxis(0), &[1, 2, 3, 4, 5, 6]));
-}
-
-/// The value of any number of axes asks for memory.
-fn asks_into_dyn<D: Dimension>(alloc: Global, lens: &[usize]) -> bool {
-    match (made::<D>(alloc, lens), made::<D>(alloc, lens)) {
-        (Some(dim), Some(same)) => asked(alloc, dim.into_dyn(alloc), same.into_dyn(alloc)),
-        _ => false,
-    }
+    let told = Told::Memory(Call::InsertAxis);
+    table_at_its_type(&rt, rt.alloc(), told, "1,2,3,4,5,6 0");
 }
 
 #[test]
 fn r9_rows_into_dyn_of_five(rt: HostRuntime) {
-    assert!(rt; asks_into_dyn::<Ix5>(rt.alloc(), &[1, 2, 3, 4, 5]));
-}
-
-/// A list of another type asks for memory.
-fn asks_from<D: Dimension, E: Lengths>(alloc: Global, lens: &[usize]) -> bool {
-    match made::<E>(alloc, lens) {
-        Some(from) => asked(
-            alloc,
-            D::from_dimension(alloc, &from),
-            D::from_dimension(alloc, &from),
-        ),
-        None => false,
-    }
+    table_at_its_type(&rt, rt.alloc(), Told::Memory(Call::IntoAny), "1,2,3,4,5");
 }
 
 #[test]
 fn r9_rows_from_dimension_of_five(rt: HostRuntime) {
-    assert!(rt; asks_from::<IxDyn, Ix5>(rt.alloc(), &[1, 2, 3, 4, 5]));
+    table_at_its_type(&rt, rt.alloc(), Told::Memory(Call::FromFixed), "1,2,3,4,5");
 }
 
 #[test]

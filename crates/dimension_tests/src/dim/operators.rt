@@ -1,16 +1,49 @@
 //! The operators of a dimension type, by the bound alone.
+//!
+//! A row is a shape, an index or a factor, and what an operator makes of them.
+ghost use Rattle.std.specs.Prelude.{IsTrue};
 ghost use Rattle.nd_base.specs.Entrywise.{SumsFit, DifferencesFit, ProductsFit, ScaledFit};
 
-use crate::dim::lists::made;
-use nd_dim::{Dimension, Ix2, Ix3, IxDyn};
+use crate::dim::lists::dim_of;
+use crate::dim::told::{Told, table};
+use nd_dim::Dimension;
 use std::alloc::Global;
+use std::process::Abort;
 
 /// An operator on a shape and an index.
 #[derive(Clone, Copy)]
-enum Operator {
+pub(crate) enum Operator {
     Add,
     Sub,
     Mul,
+}
+
+/// Whether two lists have as many entries, and each result of theirs fits.
+fn fit(lens: &[usize], others: &[usize]) -> bool
+    ensures sums { IsTrue result → SumsFit lens.now others.now }
+    ensures differences { IsTrue result → DifferencesFit lens.now others.now }
+    ensures products { IsTrue result → ProductsFit lens.now others.now }
+{
+    match (lens, others) {
+        ([], []) => true,
+        ([len, lens @ ..], [other, others @ ..]) => {
+            len.checked_add(*other).is_some()
+                && len.checked_sub(*other).is_some()
+                && len.checked_mul(*other).is_some()
+                && fit(lens, others)
+        },
+        _ => false,
+    }
+}
+
+/// Whether each entry of a list fits, so many times.
+fn fits_scaled(lens: &[usize], factor: usize) -> bool
+    ensures { IsTrue result → ScaledFit lens.now factor }
+{
+    match lens {
+        [] => true,
+        [len, lens @ ..] => len.checked_mul(factor).is_some() && fits_scaled(lens, factor),
+    }
 }
 
 /// What an operator makes.
@@ -40,157 +73,121 @@ fn result_in_place<D: Dimension>(operator: Operator, mut dim: D, index: D) -> D
     dim
 }
 
-fn twice<D: Dimension>(dim: D) -> D
-    requires { ScaledFit (D.list dim) 2 }
+fn scaled<D: Dimension>(dim: D, factor: usize) -> D
+    requires { ScaledFit (D.list dim) factor }
 {
-    dim * 2
+    dim * factor
 }
 
-fn twice_in_place<D: Dimension>(mut dim: D) -> D
-    requires { ScaledFit (D.list dim) 2 }
+fn scaled_in_place<D: Dimension>(mut dim: D, factor: usize) -> D
+    requires { ScaledFit (D.list dim) factor }
 {
-    dim *= 2;
+    dim *= factor;
     dim
 }
 
+/// A value has this list.
+fn is<D: Dimension>(dim: D, wanted: &[usize]) -> bool {
+    dim.slice() == wanted
+}
+
 /// Whether an operator makes and leaves this of a shape and an index.
-fn makes<D: Dimension>(
+pub(crate) fn calculates<D: Dimension>(
+    rt: &impl Abort,
     alloc: Global,
     operator: Operator,
     lens: &[usize],
     index: &[usize],
     wanted: &[usize],
-) -> bool
-    requires sums { SumsFit lens.now index.now }
-    requires differences { DifferencesFit lens.now index.now }
-    requires products { ProductsFit lens.now index.now }
-{
-    match (made::<D>(alloc, lens), made::<D>(alloc, index)) {
-        (Some(dim), Some(index)) => result(operator, dim, index).slice() == wanted,
-        _ => false,
-    }
+) -> bool {
+    fit(lens, index)
+        && is::<D>(
+            result(operator, dim_of(rt, alloc, lens), dim_of(rt, alloc, index)),
+            wanted,
+        )
+        && is::<D>(
+            result_in_place(operator, dim_of(rt, alloc, lens), dim_of(rt, alloc, index)),
+            wanted,
+        )
 }
 
-fn leaves<D: Dimension>(
+/// Whether this is a shape so many times.
+pub(crate) fn scales<D: Dimension>(
+    rt: &impl Abort,
     alloc: Global,
-    operator: Operator,
     lens: &[usize],
-    index: &[usize],
+    factor: usize,
     wanted: &[usize],
-) -> bool
-    requires sums { SumsFit lens.now index.now }
-    requires differences { DifferencesFit lens.now index.now }
-    requires products { ProductsFit lens.now index.now }
-{
-    match (made::<D>(alloc, lens), made::<D>(alloc, index)) {
-        (Some(dim), Some(index)) => result_in_place(operator, dim, index).slice() == wanted,
-        _ => false,
-    }
+) -> bool {
+    fits_scaled(lens, factor)
+        && is::<D>(scaled(dim_of(rt, alloc, lens), factor), wanted)
+        && is::<D>(scaled_in_place(dim_of(rt, alloc, lens), factor), wanted)
 }
 
-/// Whether this is a shape twice.
-fn doubles<D: Dimension>(alloc: Global, lens: &[usize], wanted: &[usize]) -> bool
-    requires { ScaledFit lens.now 2 }
-{
-    match (made::<D>(alloc, lens), made::<D>(alloc, lens)) {
-        (Some(dim), Some(same)) => {
-            twice(dim).slice() == wanted && twice_in_place(same).slice() == wanted
-        }
-        _ => false,
-    }
-}
+const SUMS: &str = "\
+- - -
+5 4 9
+2,3 1,2 3,5
+3,2 2,1 5,3
+3,5 1,1 4,6
+3,5 1,2 4,7
+3,4,5 2,3,4 5,7,9
+2,3,4,5 1,2,3,4 3,5,7,9
+2,3,4,5,6 1,2,3,4,5 3,5,7,9,11
+1,2,3,4,5,6 0,1,2,3,4,5 1,3,5,7,9,11";
 
-/// The sums, differences and products of a shape and an index, and the shape twice.
-type Results<'a> = [&'a [usize]; 4];
+const DIFFERENCES: &str = "\
+- - -
+5 4 1
+2,3 1,2 1,1
+3,2 2,1 1,1
+3,5 1,1 2,4
+3,5 1,2 2,3
+3,4,5 2,3,4 1,1,1
+2,3,4,5 1,2,3,4 1,1,1,1
+2,3,4,5,6 1,2,3,4,5 1,1,1,1,1
+1,2,3,4,5,6 0,1,2,3,4,5 1,1,1,1,1,1";
 
-/// The operators on a shape and an index, at a type.
-fn calculates_at<D: Dimension>(
-    alloc: Global,
-    lens: &[usize],
-    index: &[usize],
-    results: Results,
-) -> bool
-    requires sums { SumsFit lens.now index.now }
-    requires differences { DifferencesFit lens.now index.now }
-    requires products { ProductsFit lens.now index.now }
-    requires twice { ScaledFit lens.now 2 }
-{
-    let [sums, differences, products, twice] = results;
-    makes::<D>(alloc, Operator::Add, lens, index, sums)
-        && leaves::<D>(alloc, Operator::Add, lens, index, sums)
-        && makes::<D>(alloc, Operator::Sub, lens, index, differences)
-        && leaves::<D>(alloc, Operator::Sub, lens, index, differences)
-        && makes::<D>(alloc, Operator::Mul, lens, index, products)
-        && leaves::<D>(alloc, Operator::Mul, lens, index, products)
-        && doubles::<D>(alloc, lens, twice)
-}
+const PRODUCTS: &str = "\
+- - -
+5 4 20
+2,3 1,2 2,6
+3,2 2,1 6,2
+3,5 1,1 3,5
+3,5 1,2 3,10
+3,4,5 2,3,4 6,12,20
+2,3,4,5 1,2,3,4 2,6,12,20
+2,3,4,5,6 1,2,3,4,5 2,6,12,20,30
+1,2,3,4,5,6 0,1,2,3,4,5 0,2,6,12,20,30";
 
-/// The same at the type of any number of axes and, with three of them, at that of three.
-fn calculates(alloc: Global, lens: &[usize], index: &[usize], results: Results) -> bool
-    requires sums { SumsFit lens.now index.now }
-    requires differences { DifferencesFit lens.now index.now }
-    requires products { ProductsFit lens.now index.now }
-    requires twice { ScaledFit lens.now 2 }
-{
-    calculates_at::<IxDyn>(alloc, lens, index, results)
-        && (lens.len() != 3 || calculates_at::<Ix3>(alloc, lens, index, results))
-}
+const DOUBLES: &str = "\
+- 2 -
+5 2 10
+2,3 2 4,6
+3,2 2 6,4
+3,5 2 6,10
+3,4,5 2 6,8,10
+2,3,4,5 2 4,6,8,10
+2,3,4,5,6 2 4,6,8,10,12
+1,2,3,4,5,6 2 2,4,6,8,10,12";
 
 #[test]
 fn r2_rows_of_operators(rt: HostRuntime) {
     let alloc = rt.alloc();
-    assert!(rt; calculates(alloc, &[], &[], [&[], &[], &[], &[]]));
-    assert!(rt; calculates(alloc, &[5], &[4], [&[9], &[1], &[20], &[10]]));
-    assert!(rt;
-        calculates(
-            alloc,
-            &[2, 3],
-            &[1, 2],
-            [&[3, 5], &[1, 1], &[2, 6], &[4, 6]]
-        )
-    );
-    assert!(rt;
-        calculates(
-            alloc,
-            &[3, 2],
-            &[2, 1],
-            [&[5, 3], &[1, 1], &[6, 2], &[6, 4]]
-        )
-    );
-    assert!(rt;
-        calculates(
-            alloc,
-            &[3, 5],
-            &[1, 1],
-            [&[4, 6], &[2, 4], &[3, 5], &[6, 10]]
-        )
-    );
-    let two: Results = [&[4, 7], &[2, 3], &[3, 10], &[6, 10]];
-    assert!(rt;
-        calculates(alloc, &[3, 5], &[1, 2], two)
-            && calculates_at::<Ix2>(alloc, &[3, 5], &[1, 2], two)
-    );
+    table(&rt, alloc, Told::Calculated(Operator::Add), SUMS);
+    table(&rt, alloc, Told::Calculated(Operator::Sub), DIFFERENCES);
+    table(&rt, alloc, Told::Calculated(Operator::Mul), PRODUCTS);
+    table(&rt, alloc, Told::Scaled, DOUBLES);
 }
 
+// Each operator on what the one before it left, first of 3, 5 and 1, 2.
 #[test]
-fn r2_rows_of_operators_on_more_axes(rt: HostRuntime) {
+fn r2_rows_of_operators_in_a_chain(rt: HostRuntime) {
     let alloc = rt.alloc();
-    let three: Results = [&[5, 7, 9], &[1, 1, 1], &[6, 12, 20], &[6, 8, 10]];
-    assert!(rt; calculates(alloc, &[3, 4, 5], &[2, 3, 4], three));
-    let four: Results = [&[3, 5, 7, 9], &[1; 4], &[2, 6, 12, 20], &[4, 6, 8, 10]];
-    assert!(rt; calculates(alloc, &[2, 3, 4, 5], &[1, 2, 3, 4], four));
-    let five: Results = [
-        &[3, 5, 7, 9, 11],
-        &[1; 5],
-        &[2, 6, 12, 20, 30],
-        &[4, 6, 8, 10, 12],
-    ];
-    assert!(rt; calculates(alloc, &[2, 3, 4, 5, 6], &[1, 2, 3, 4, 5], five));
-    let six: Results = [
-        &[1, 3, 5, 7, 9, 11],
-        &[1; 6],
-        &[0, 2, 6, 12, 20, 30],
-        &[2, 4, 6, 8, 10, 12],
-    ];
-    assert!(rt; calculates(alloc, &[1, 2, 3, 4, 5, 6], &[0, 1, 2, 3, 4, 5], six));
+    table(&rt, alloc, Told::Calculated(Operator::Mul), "3,5 1,2 3,10");
+    table(&rt, alloc, Told::Scaled, "3,10 2 6,20");
+    table(&rt, alloc, Told::Calculated(Operator::Add), "3,5 1,2 4,7");
+    table(&rt, alloc, Told::Calculated(Operator::Mul), "4,7 1,2 4,14");
+    table(&rt, alloc, Told::Calculated(Operator::Sub), "4,14 1,2 3,12");
+    table(&rt, alloc, Told::Scaled, "3,12 3 9,36");
 }

@@ -266,6 +266,28 @@ fn r2_rows_of_values(rt: HostRuntime) {
     table(&rt, rt.alloc(), Told::Values, VALUES);
 }
 
+const DIMENSIONS: &str = "\
+-
+2
+2,3
+2,3,4
+2,3,4,5
+2,3,4,5,6
+2,3,4,5,6,7";
+
+#[test]
+fn r2_rows_from_dimensions(rt: HostRuntime) {
+    table(&rt, rt.alloc(), Told::Values, DIMENSIONS);
+}
+
+#[test]
+fn r2_rows_of_other_types(rt: HostRuntime) {
+    let alloc = rt.alloc();
+    table_at_its_type(&rt, alloc, Told::Made(false), "3,4 3,4,5");
+    table_at_its_type(&rt, alloc, Told::Made(true), "3,4 3,4");
+    table_at_its_type(&rt, alloc, Told::Incompatible, "2,3,4 2,3");
+}
+
 const ZEROS: &str = "\
 - -
 5 0

@@ -1,10 +1,19 @@
 //! What the rows of a table tell, at the type of any number of axes and at that of as many as the row has.
+//!
+//! Each type is named in one place, since the check takes seconds for each function that names one.
 use crate::dim::checks::{
-    becomes, changes_type, gives, has_list, has_size, has_stride_axes, has_strides, is_equivalent,
-    keeps_list, narrows, tries_to_narrow, widens, writes, writes_last, writes_slice,
+    changes_type, gives, has_list, has_size, has_stride_axes, has_strides, is_equivalent,
+    is_incompatible, keeps_list, list_becomes, narrows, stays, tries_to_narrow, widens, writes,
+    writes_last, writes_slice,
 };
-use crate::dim::lists::{Lists, made};
-use nd_dim::{Dimension, Ix0, Ix1, Ix2, Ix3, Ix4, Ix5, Ix6, IxDyn, Lengths, RemoveAxis};
+use crate::dim::layouts::{is_filled, reaches};
+use crate::dim::lists::{Lists, dim_of, made};
+use crate::dim::memory::{Call, asks, serves};
+use crate::dim::operators::{Operator, calculates, scales};
+use crate::dim::steps::{has_columns, has_rows};
+use nd_dim::{
+    Dimension, IntoDimension, Ix0, Ix1, Ix2, Ix3, Ix4, Ix5, Ix6, IxDyn, Lengths, RemoveAxis,
+};
 use nd_testing::rows;
 use std::alloc::Global;
 use std::process::Abort;
@@ -18,12 +27,28 @@ pub(crate) enum Told {
     Zeros,
     /// Lengths, and the default of their type.
     Default,
+    /// Lengths, and others that make a value of the same type, or don't.
+    Made(bool),
+    /// Lengths, and others, which are incompatible.
+    Incompatible,
     /// Lengths, and their product where it fits.
     Size,
     /// Lengths, default strides and Fortran strides.
     Strides,
     /// Lengths, and two lists of strides that are equivalent, or are not.
     Equivalent(bool),
+    /// Lengths, and strides by which they are contiguous, or are not.
+    Contiguous(bool),
+    /// Lengths, strides, an index, and its offset or none.
+    Offset,
+    /// Lengths, an index, and what an operator makes of them.
+    Calculated(Operator),
+    /// Lengths, a factor, and their products.
+    Scaled,
+    /// Lengths, how many indices there are, and these by rows.
+    Rows,
+    /// The same by columns.
+    Columns,
     /// Lengths, an axis, and the lengths with one more axis there.
     Inserted,
     /// Lengths, an axis, and the lengths without it.
@@ -38,118 +63,173 @@ pub(crate) enum Told {
     LastWritten,
     /// Lengths, an axis and its new length, and the lengths with it.
     Written,
-}
-
-/// The number at a place of a list, or none that is an axis.
-fn at(list: &[usize], place: usize) -> usize {
-    list.get(place).copied().unwrap_or(usize::MAX)
+    /// Lengths, and an axis: how a call goes about memory.
+    Memory(Call),
 }
 
 /// Whether a value keeps its list in what is made of it. Four axes make a value where no other count is
 /// fixed.
-fn keeps<D: Dimension>(alloc: Global, dim: D, lens: &[usize]) -> bool {
-    let (Some(second), Some(third)) = (made::<D>(alloc, lens), made::<D>(alloc, lens)) else {
-        return false;
-    };
-    has_list(alloc, &dim, lens)
-        && keeps_list(alloc, second, lens)
-        && changes_type(alloc, third, lens)
-        && is_of_four::<D>(alloc)
-}
-
-/// Whether four axes make a value of a type just where it fixes no other count.
-fn is_of_four<D: Dimension>(alloc: Global) -> bool {
-    match made::<IxDyn>(alloc, &[1; 4]) {
-        Some(four) => becomes::<D>(alloc, &four, D::NDIM.unwrap_or(4) == 4),
-        None => false,
-    }
+fn keeps<D: Dimension + IntoDimension<Dim = D>>(
+    rt: &impl Abort,
+    alloc: Global,
+    dim: &D,
+    lens: &[usize],
+) -> bool {
+    has_list(alloc, dim, lens)
+        && keeps_list(alloc, dim_of::<D>(rt, alloc, lens), lens)
+        && stays(alloc, dim_of::<D>(rt, alloc, lens), lens)
+        && changes_type(alloc, dim_of::<D>(rt, alloc, lens), lens)
+        && list_becomes::<D>(rt, alloc, &[1; 4], D::NDIM.unwrap_or(4) == 4)
 }
 
 /// Whether a length is written in either way.
-fn rewrites<D: Dimension>(alloc: Global, dim: D, row: &Lists) -> bool {
-    let (axis, len) = (at(row.second.as_slice(), 0), at(row.second.as_slice(), 1));
-    match made::<D>(alloc, row.first.as_slice()) {
-        Some(second) => {
-            writes(dim, axis, len, row.third.as_slice())
-                && writes_slice(second, axis, len, row.third.as_slice())
-        }
-        None => false,
+fn rewrites<D: Dimension>(rt: &impl Abort, alloc: Global, row: &Lists) -> bool {
+    let (lens, axis, len) = (row.first.as_slice(), row.second.at(0), row.second.at(1));
+    writes(
+        dim_of::<D>(rt, alloc, lens),
+        axis,
+        len,
+        row.third.as_slice(),
+    ) && writes_slice(
+        dim_of::<D>(rt, alloc, lens),
+        axis,
+        len,
+        row.third.as_slice(),
+    )
+}
+
+/// Whether a row tells of layouts, operators and walks.
+fn tells_of_indices<D: Dimension>(
+    rt: &impl Abort,
+    told: Told,
+    alloc: Global,
+    dim: &D,
+    row: &Lists,
+) -> bool {
+    let (first, second, third) = (
+        row.first.as_slice(),
+        row.second.as_slice(),
+        row.third.as_slice(),
+    );
+    match told {
+        Told::Contiguous(answer) => is_filled(rt, alloc, dim, second) == Some(answer),
+        Told::Offset => reaches(rt, alloc, dim, second, &row.third, row.fourth.as_slice()),
+        Told::Calculated(operator) => calculates::<D>(rt, alloc, operator, first, second, third),
+        Told::Scaled => scales::<D>(rt, alloc, first, row.second.at(0), third),
+        Told::Rows => has_rows(alloc, dim, row.second.at(0), third),
+        Told::Columns => has_columns(alloc, dim, row.second.at(0), third),
+        Told::StrideAxes => has_stride_axes(rt, alloc, dim, second, third),
+        Told::Order => gives(dim._fastest_varying_stride_order(alloc), second),
+        _ => false,
     }
 }
 
 /// Whether a row tells what the calls answer at a type, whose smaller and larger types are these.
-fn holds<D, S, L>(told: Told, alloc: Global, row: &Lists) -> bool
+fn tells<D, S, L>(rt: &impl Abort, told: Told, alloc: Global, dim: &D, row: &Lists) -> bool
 where
-    D: Dimension<Smaller = S, Larger = L>,
+    D: Dimension<Smaller = S, Larger = L> + IntoDimension<Dim = D>,
     S: Lengths,
     L: Lengths,
 {
-    let Some(dim) = made::<D>(alloc, row.first.as_slice()) else {
-        return false;
-    };
-    let (second, third) = (row.second.as_slice(), row.third.as_slice());
+    let (first, second, third) = (
+        row.first.as_slice(),
+        row.second.as_slice(),
+        row.third.as_slice(),
+    );
     match told {
-        Told::Values => keeps(alloc, dim, row.first.as_slice()),
+        Told::Values => keeps(rt, alloc, dim, first),
         Told::Zeros => gives(D::zeros(alloc, dim.ndim()), second),
         Told::Default => {
             D::NDIM.unwrap_or(1) == second.len() && gives(D::default_in(alloc), second)
-        }
-        Told::Size => has_size(&dim, second),
-        Told::Strides => has_strides(alloc, &dim, second, third),
-        Told::Equivalent(answer) => is_equivalent(alloc, &dim, second, third) == Some(answer),
-        Told::Inserted => widens::<D, L>(alloc, &dim, at(second, 0), third),
-        Told::Removed => tries_to_narrow::<D, S>(alloc, &dim, at(second, 0), third),
-        Told::StrideAxes => has_stride_axes(alloc, &dim, second, third),
-        Told::Order => gives(dim._fastest_varying_stride_order(alloc), second),
+        },
+        Told::Made(answer) => list_becomes::<D>(rt, alloc, second, answer),
+        Told::Incompatible => is_incompatible(rt, alloc, dim, second),
+        Told::Size => has_size(dim, second),
+        Told::Strides => has_strides(alloc, dim, second, third),
+        Told::Equivalent(answer) => is_equivalent(rt, alloc, dim, second, third) == answer,
+        Told::Inserted => widens::<D, L>(rt, alloc, dim, row.second.at(0), third),
+        Told::Removed => tries_to_narrow::<D, S>(rt, alloc, dim, row.second.at(0), third),
         Told::Last => [dim.last_elem()].as_slice() == second,
-        Told::LastWritten => writes_last(dim, at(second, 0), third),
-        Told::Written => rewrites(alloc, dim, row),
+        Told::LastWritten => {
+            writes_last(dim_of::<D>(rt, alloc, first), row.second.at(0), third)
+        },
+        Told::Written => rewrites::<D>(rt, alloc, row),
+        Told::Memory(call) => serves(alloc, call, dim, row.second.at(0)),
+        _ => tells_of_indices(rt, told, alloc, dim, row),
+    }
+}
+
+/// Whether a value can't be made for want of memory, which a row may tell.
+fn may_want_memory<D: Lengths>(told: Told, row: &Lists) -> bool {
+    match told {
+        Told::Memory(_) => D::NDIM.is_none() && row.first.as_slice().len() > 4,
+        _ => false,
+    }
+}
+
+/// Whether a row tells what the calls answer at a type, whose smaller and larger types are these.
+fn holds<D, S, L>(rt: &impl Abort, told: Told, alloc: Global, row: &Lists) -> bool
+where
+    D: Dimension<Smaller = S, Larger = L> + IntoDimension<Dim = D>,
+    S: Lengths,
+    L: Lengths,
+{
+    match made::<D>(alloc, row.first.as_slice()) {
+        Some(dim) => tells::<D, S, L>(rt, told, alloc, &dim, row),
+        None => may_want_memory::<D>(told, row),
     }
 }
 
 /// The same at a type that can have an axis to remove.
-fn holds_with_axes<D, S, L>(told: Told, alloc: Global, row: &Lists) -> bool
+fn holds_with_axes<D, S, L>(rt: &impl Abort, told: Told, alloc: Global, row: &Lists) -> bool
 where
-    D: RemoveAxis + Dimension<Smaller = S, Larger = L>,
+    D: RemoveAxis + Dimension<Smaller = S, Larger = L> + IntoDimension<Dim = D>,
     S: Lengths,
     L: Lengths,
 {
-    let (second, third) = (row.second.as_slice(), row.third.as_slice());
-    match (told, made::<D>(alloc, row.first.as_slice())) {
-        (Told::Removed, Some(dim)) => {
-            narrows::<D, S>(alloc, &dim, at(second, 0), third) && holds::<D, S, L>(told, alloc, row)
-        }
-        _ => holds::<D, S, L>(told, alloc, row),
+    match made::<D>(alloc, row.first.as_slice()) {
+        Some(dim) => match told {
+            Told::Removed => {
+                narrows::<D, S>(rt, alloc, &dim, row.second.at(0), row.third.as_slice())
+                    && tells::<D, S, L>(rt, told, alloc, &dim, row)
+            },
+            Told::Memory(call) => asks(alloc, call, &dim, row.second.at(0)),
+            _ => tells::<D, S, L>(rt, told, alloc, &dim, row),
+        },
+        None => may_want_memory::<D>(told, row),
     }
 }
 
-/// The same at the type of as many axes.
-fn holds_at_its_type(told: Told, alloc: Global, row: &Lists) -> bool {
-    match row.first.as_slice().len() {
-        0 => holds::<Ix0, Ix0, Ix1>(told, alloc, row),
-        1 => holds_with_axes::<Ix1, Ix0, Ix2>(told, alloc, row),
-        2 => holds_with_axes::<Ix2, Ix1, Ix3>(told, alloc, row),
-        3 => holds_with_axes::<Ix3, Ix2, Ix4>(told, alloc, row),
-        4 => holds_with_axes::<Ix4, Ix3, Ix5>(told, alloc, row),
-        5 => holds_with_axes::<Ix5, Ix4, Ix6>(told, alloc, row),
-        6 => holds_with_axes::<Ix6, Ix5, IxDyn>(told, alloc, row),
-        _ => holds_with_axes::<IxDyn, IxDyn, IxDyn>(told, alloc, row),
+/// The same at the type of so many axes, or at that of any number.
+fn holds_at(rt: &impl Abort, told: Told, alloc: Global, ndim: Option<usize>, row: &Lists) -> bool {
+    match ndim {
+        Some(0) => holds::<Ix0, Ix0, Ix1>(rt, told, alloc, row),
+        Some(1) => holds_with_axes::<Ix1, Ix0, Ix2>(rt, told, alloc, row),
+        Some(2) => holds_with_axes::<Ix2, Ix1, Ix3>(rt, told, alloc, row),
+        Some(3) => holds_with_axes::<Ix3, Ix2, Ix4>(rt, told, alloc, row),
+        Some(4) => holds_with_axes::<Ix4, Ix3, Ix5>(rt, told, alloc, row),
+        Some(5) => holds_with_axes::<Ix5, Ix4, Ix6>(rt, told, alloc, row),
+        Some(6) => holds_with_axes::<Ix6, Ix5, IxDyn>(rt, told, alloc, row),
+        _ => holds_with_axes::<IxDyn, IxDyn, IxDyn>(rt, told, alloc, row),
     }
 }
 
-fn row_holds_at_its_type(told: Told, alloc: Global, line: &str) -> bool {
-    match Lists::read(line, alloc) {
-        Some(row) => holds_at_its_type(told, alloc, &row),
+fn row_holds_at_its_type(rt: &impl Abort, told: Told, alloc: Global, line: &str) -> bool {
+    match Lists::read(line) {
+        Some(row) => holds_at(rt, told, alloc, Some(row.first.as_slice().len()), &row),
         None => false,
     }
 }
 
-fn row_holds(told: Told, alloc: Global, line: &str) -> bool {
-    match Lists::read(line, alloc) {
-        Some(row) => {
-            holds_with_axes::<IxDyn, IxDyn, IxDyn>(told, alloc, &row)
-                && holds_at_its_type(told, alloc, &row)
-        }
+/// A row, at the type of any number of axes alone.
+pub(crate) fn row_holds_at_any_count(
+    rt: &impl Abort,
+    alloc: Global,
+    told: Told,
+    line: &str,
+) -> bool {
+    match Lists::read(line) {
+        Some(row) => holds_at(rt, told, alloc, None, &row),
         None => false,
     }
 }
@@ -157,13 +237,14 @@ fn row_holds(told: Told, alloc: Global, line: &str) -> bool {
 /// The rows of a table, one by one, at their types alone.
 pub(crate) fn table_at_its_type(rt: &impl Abort, alloc: Global, told: Told, table: &str) {
     for line in rows(table) {
-        assert!(rt; row_holds_at_its_type(told, alloc, line), "{line}");
+        assert!(rt; row_holds_at_its_type(rt, told, alloc, line), "{line}");
     }
 }
 
 /// The rows of a table, one by one.
 pub(crate) fn table(rt: &impl Abort, alloc: Global, told: Told, table: &str) {
     for line in rows(table) {
-        assert!(rt; row_holds(told, alloc, line), "{line}");
+        assert!(rt; row_holds_at_any_count(rt, alloc, told, line), "{line}");
+        assert!(rt; row_holds_at_its_type(rt, told, alloc, line), "{line}");
     }
 }
