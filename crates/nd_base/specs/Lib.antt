@@ -8,6 +8,7 @@ pub mod Order
 pub mod Rank
 pub mod Reach
 pub mod Signed
+pub mod ShapeFault
 pub mod Size
 pub mod Span
 pub mod ValidLayout

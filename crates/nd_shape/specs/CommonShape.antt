@@ -1,10 +1,8 @@
 -- The shape that two shapes have in common, by NumPy's rule: they are set side by side at their last axes.
-use Rattle.std.specs.Prelude.{◌≡◌, ℕ, ◌-◌, ◌==◌, max, if◌then◌else◌, Option, Some, None, is_some, Result, Ok, Err, List, [], ◌∷◌, ◌++◌, length, replicate, refl}
+use Rattle.std.specs.Prelude.{◌≡◌, ℕ, ◌-◌, ◌==◌, max, if◌then◌else◌, Option, Some, None, is_some, List, [], ◌∷◌, ◌++◌, length, replicate, refl}
 use Rattle.std.specs.Option.{option_map, option_and_then}
 use Rattle.nd_base.specs.declared.error.ErrorKind.{ErrorKind}
 use Rattle.nd_base.specs.declared.error.ErrorKind.TheVariants.{IncompatibleShape}
-use Rattle.nd_base.specs.declared.error.LayoutError.{LayoutError}
-use Rattle.nd_base.specs.declared.error.LayoutError.TheVariants.{Shape, Memory}
 
 -- equal lengths stay, and a length of 1 gives way to the other; there is none for two others
 abbrev pub common_length : ℕ → ℕ → Option ℕ
@@ -27,12 +25,6 @@ common_shape shape other = common_lengths (padded (max (length shape) (length ot
 -- the fault of shapes that have none in common
 abbrev pub common_shape_fault : List ℕ → List ℕ → Option ErrorKind
 common_shape_fault shape other = (if is_some (common_shape shape other) then None else Some IncompatibleShape)
-
--- the rule that a call refused by, if it did
-abbrev pub shape_fault : {X : Type 0} → Result X LayoutError → Option ErrorKind
-shape_fault (Ok x) = None
-shape_fault (Err (Shape kind)) = Some kind
-shape_fault (Err (Memory e)) = None
 
 -- examples
 stretched : common_shape (2 ∷ 3 ∷ []) (4 ∷ 1 ∷ 3 ∷ []) ≡ Some (4 ∷ 2 ∷ 3 ∷ [])

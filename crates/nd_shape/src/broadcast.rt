@@ -1,7 +1,8 @@
 //! The shape that two shapes have in common.
 ghost use Rattle.std.specs.Prelude.{◌≡◌, ◌≤◌, max, true, length, Some, None, is_some, IsOk, IfOk};
 ghost use Rattle.nd_base.specs.Lengths.{IsCount, NeedsNoMemory};
-ghost use Rattle.nd_shape.specs.CommonShape.{common_length, common_shape, common_shape_fault, shape_fault};
+ghost use Rattle.nd_base.specs.ShapeFault.{shape_fault};
+ghost use Rattle.nd_shape.specs.CommonShape.{common_length, common_shape, common_shape_fault};
 
 use nd_dim::{Dimension, ErrorKind, LayoutError, from_kind};
 use std::alloc::Global;

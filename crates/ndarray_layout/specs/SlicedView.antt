@@ -1,10 +1,8 @@
 -- What slicing makes of a view, and which slices are refused.
-use Rattle.std.specs.Prelude.{◌≡◌, ℕ, ℤ, pos, negsuc, ◌+ℤ◌, true, not, ◌||◌, ◌==◌, Option, Some, None, Result, Ok, Err, if◌then◌else◌, List, [], ◌∷◌, length, refl}
+use Rattle.std.specs.Prelude.{◌≡◌, ℕ, ℤ, pos, negsuc, ◌+ℤ◌, true, not, ◌||◌, ◌==◌, Option, Some, None, if◌then◌else◌, List, [], ◌∷◌, length, refl}
 use Rattle.std.specs.Option.{option_map_or}
 use Rattle.nd_base.specs.declared.error.ErrorKind.{ErrorKind}
 use Rattle.nd_base.specs.declared.error.ErrorKind.TheVariants.{IncompatibleShape, OutOfBounds}
-use Rattle.nd_base.specs.declared.error.LayoutError.{LayoutError}
-use Rattle.nd_base.specs.declared.error.LayoutError.TheVariants.{Shape, Memory}
 use Rattle.nd_base.specs.Signed.{magnitude}
 use Rattle.nd_slice.specs.declared.fit.Fit.{Fit}
 use Rattle.nd_slice.specs.declared.fit.Fit.TheVariants.{Strict, Clamp}
@@ -35,12 +33,6 @@ abbrev pub slice_refusal : Fit → Option ℕ → List ℕ → List SliceInfoEle
 slice_refusal fit fixed shape elems =
     if not (in_count elems == length shape) || not (option_map_or (λ count. out_count elems == count) fixed true) then Some IncompatibleShape
     else first_fault fit shape elems
-
--- the rule that a call refused by, if it did
-abbrev pub shape_fault : {X : Type 0} → Result X LayoutError → Option ErrorKind
-shape_fault (Ok x) = None
-shape_fault (Err (Shape kind)) = Some kind
-shape_fault (Err (Memory e)) = None
 
 -- examples
 every_other_backwards : slice_of Strict (elem.Slice (pos 1) None (negsuc 1) ∷ []) (record { start = 5; shape = 4 ∷ []; strides = pos 3 ∷ [] }) ≡ record { start = 14; shape = 2 ∷ []; strides = negsuc 5 ∷ [] }

@@ -21,7 +21,8 @@ ghost use Rattle.ndarray_layout.specs.CollapsedView.{collapse_fault, collapse_of
 ghost use Rattle.ndarray_layout.specs.DistinctPlaces.{HasDistinctPlaces};
 ghost use Rattle.ndarray_layout.specs.KeepsPlaces.{KeepsPlaces};
 ghost use Rattle.ndarray_layout.specs.SlicedView.{IsSliceOf};
-ghost use Rattle.ndarray_layout.specs.SlicedView.{shape_fault, slice_refusal};
+ghost use Rattle.nd_base.specs.ShapeFault.{shape_fault};
+ghost use Rattle.ndarray_layout.specs.SlicedView.{slice_refusal};
 ghost use Rattle.ndarray_layout.specs.View.{IsView, LiesWithin};
 ghost use Rattle.ndarray_layout.specs.View.{view_of, checked_place, place_at, view_places};
 

@@ -2,7 +2,7 @@
 ghost use Rattle.std.specs.Prelude.{◌≡◌, ◌≤◌, None, map, length, IfOk, IsOk};
 ghost use Rattle.nd_base.specs.Dim.{lengths};
 ghost use Rattle.nd_base.specs.Signed.{all_signed, unsigned as unsigned_bits};
-ghost use Rattle.ndarray_layout.specs.SlicedView.{shape_fault};
+ghost use Rattle.nd_base.specs.ShapeFault.{shape_fault};
 ghost use Rattle.ndl_session.specs.Answer.{axes_after, step_fault, view_after};
 ghost use Rattle.ndl_session.specs.StepLine.{step_value};
 
