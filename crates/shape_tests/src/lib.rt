@@ -6,6 +6,8 @@ mod acceptance;
 #[cfg(test)]
 mod axes;
 #[cfg(test)]
+mod indexes;
+#[cfg(test)]
 mod indexing;
 #[cfg(test)]
 mod layouts;
@@ -13,3 +15,5 @@ mod layouts;
 mod lists;
 #[cfg(test)]
 mod shapes;
+#[cfg(test)]
+mod sums;
