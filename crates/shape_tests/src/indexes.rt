@@ -232,7 +232,7 @@ fn number_of<T: IntoDimension>(alloc: Global, item: T) -> usize {
     number
 }
 
-/// Whether a fold over a copy of a walk meets the items that are still to come, as many as it tells.
+/// Whether a loop over a copy of a walk meets the items that are still to come, as many as it tells.
 fn folds<D: Dimension + Copy>(alloc: Global, dim: D, gone: usize) -> bool {
     let Some(mut walk) = by_rows(alloc, dim) else {
         return false;
@@ -245,19 +245,16 @@ fn folds<D: Dimension + Copy>(alloc: Global, dim: D, gone: usize) -> bool {
     let Ok(copy) = copy else {
         return false;
     };
-    let met = copy.fold((0_usize, 0_usize), |met, item| {
-        let (count, sum) = met;
-        let number = number_of(alloc, item);
-        (
-            count.wrapping_add(1),
-            sum.wrapping_mul(31).wrapping_add(number),
-        )
-    });
+    let (mut count, mut met) = (0_usize, 0_usize);
+    for item in copy {
+        count = count.wrapping_add(1);
+        met = met.wrapping_mul(31).wrapping_add(number_of(alloc, item));
+    }
     let mut sum = 0_usize;
     for item in walk {
         sum = sum.wrapping_mul(31).wrapping_add(number_of(alloc, item));
     }
-    met == (len, sum)
+    (count, met) == (len, sum)
 }
 
 fn folds_after<D: Dimension + Copy>(rt: &impl Abort, alloc: Global, lens: &[usize]) {
