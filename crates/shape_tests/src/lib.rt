@@ -6,6 +6,8 @@ mod acceptance;
 #[cfg(test)]
 mod axes;
 #[cfg(test)]
+mod indexes;
+#[cfg(test)]
 mod indexing;
 #[cfg(test)]
 mod layouts;
@@ -15,3 +17,5 @@ mod lists;
 mod questions;
 #[cfg(test)]
 mod shapes;
+#[cfg(test)]
+mod sums;

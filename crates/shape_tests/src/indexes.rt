@@ -1,0 +1,335 @@
+//! Walks over all indices of a shape, in either order.
+use crate::lists::dim_of;
+use nd_dim::{
+    Dimension, IntoDimension, Ix0, Ix1, Ix2, Ix3, Ix4, IxDyn, Lengths, Order, new_ix1, new_ixdyn,
+};
+use nd_shape::{IndexCursor, IndexCursorF, IndicesIter, IndicesIterF, all_indices, indices_iter_f};
+use nd_testing::{Row, asked, rows};
+use std::alloc::{AllocError, Global};
+use std::process::Abort;
+
+// ---- what walks give
+
+/// The walk over a shape by rows.
+fn by_rows<D: Dimension + Copy>(alloc: Global, dim: D) -> Option<IndicesIter<D>> {
+    dim.size_checked()?;
+    match all_indices(alloc, dim.into_pattern()) {
+        Ok(indices) => Some(indices.into_iter()),
+        Err(_) => None,
+    }
+}
+
+/// The walk over a shape by columns.
+fn by_columns<D: Dimension + Copy>(alloc: Global, dim: D) -> Option<IndicesIterF<D>> {
+    dim.size_checked()?;
+    match indices_iter_f(alloc, dim.into_pattern()) {
+        Ok(walk) => Some(walk),
+        Err(_) => None,
+    }
+}
+
+/// Whether the next word of a row is these entries.
+fn tells(alloc: Global, row: &mut Row<'_>, entries: &[usize]) -> bool {
+    match row.lengths(alloc) {
+        Ok(wanted) => wanted.as_slice() == entries,
+        Err(_) => false,
+    }
+}
+
+/// Whether an item stands for the next word of a row.
+fn is_told<T: IntoDimension>(alloc: Global, row: &mut Row<'_>, item: T) -> bool {
+    match item.into_dimension(alloc) {
+        Ok(index) => tells(alloc, row, index.slice()),
+        Err(_) => false,
+    }
+}
+
+/// Whether there is no item.
+fn is_end<T: IntoDimension>(alloc: Global, item: Option<T>) -> bool {
+    match item {
+        Some(item) => {
+            number_of(alloc, item);
+            false
+        }
+        None => true,
+    }
+}
+
+/// Whether the indices by rows are those of a row, while the length falls by ones, and none follow.
+fn has_rows<D: Dimension + Copy>(alloc: Global, dim: D, row: &mut Row<'_>, count: usize) -> bool {
+    let Some(mut walk) = by_rows(alloc, dim) else {
+        return false;
+    };
+    for left in (0..count).rev() {
+        let told = match walk.next() {
+            Some(item) => is_told(alloc, row, item),
+            None => false,
+        };
+        if !told || walk.len() != left {
+            return false;
+        }
+    }
+    is_end(alloc, walk.next()) && is_end(alloc, walk.next()) && walk.size_hint() == (0, Some(0))
+}
+
+/// The same by columns.
+fn has_columns<D: Dimension + Copy>(
+    alloc: Global,
+    dim: D,
+    row: &mut Row<'_>,
+    count: usize,
+) -> bool {
+    let Some(mut walk) = by_columns(alloc, dim) else {
+        return false;
+    };
+    for left in (0..count).rev() {
+        let told = match walk.next() {
+            Some(item) => is_told(alloc, row, item),
+            None => false,
+        };
+        if !told || walk.len() != left {
+            return false;
+        }
+    }
+    is_end(alloc, walk.next()) && is_end(alloc, walk.next()) && walk.size_hint() == (0, Some(0))
+}
+
+/// Whether the indices that a cursor lends by rows are those of a row, and none follow.
+fn lends_rows(alloc: Global, dim: IxDyn, row: &mut Row<'_>, count: usize) -> bool {
+    if dim.size_checked().is_none() {
+        return false;
+    }
+    let Ok(mut cursor) = IndexCursor::new(alloc, dim) else {
+        return false;
+    };
+    for left in (0..count).rev() {
+        match cursor.next() {
+            Some(index) if tells(alloc, row, index) => {}
+            _ => return false,
+        }
+        if cursor.len() != left {
+            return false;
+        }
+    }
+    cursor.next().is_none() && cursor.next().is_none() && cursor.len() == 0
+}
+
+/// The same by columns.
+fn lends_columns(alloc: Global, dim: IxDyn, row: &mut Row<'_>, count: usize) -> bool {
+    if dim.size_checked().is_none() {
+        return false;
+    }
+    let Ok(mut cursor) = IndexCursorF::new(alloc, dim) else {
+        return false;
+    };
+    for left in (0..count).rev() {
+        match cursor.next() {
+            Some(index) if tells(alloc, row, index) => {}
+            _ => return false,
+        }
+        if cursor.len() != left {
+            return false;
+        }
+    }
+    cursor.next().is_none() && cursor.next().is_none() && cursor.len() == 0
+}
+
+/// A shape, how many indices it has, and these: at a fixed type.
+fn holds<D: Dimension + Copy>(rt: &impl Abort, alloc: Global, order: Order, line: &str) -> bool {
+    let mut row = Row::new(line);
+    let (Ok(lens), Ok(count)) = (row.lengths(alloc), row.length()) else {
+        return false;
+    };
+    let dim: D = dim_of(rt, alloc, lens.as_slice());
+    match order {
+        Order::RowMajor => has_rows(alloc, dim, &mut row, count),
+        Order::ColumnMajor => has_columns(alloc, dim, &mut row, count),
+    }
+}
+
+/// The same of a cursor.
+fn lends(alloc: Global, order: Order, line: &str) -> bool {
+    let mut row = Row::new(line);
+    let (Ok(lens), Ok(count)) = (row.lengths(alloc), row.length()) else {
+        return false;
+    };
+    let Ok(dim) = new_ixdyn(alloc, lens.as_slice()) else {
+        return false;
+    };
+    match order {
+        Order::RowMajor => lends_rows(alloc, dim, &mut row, count),
+        Order::ColumnMajor => lends_columns(alloc, dim, &mut row, count),
+    }
+}
+
+fn r7_rows_of<D: Dimension + Copy>(rt: &impl Abort, alloc: Global, order: Order, table: &str) {
+    for line in rows(table) {
+        assert!(rt; holds::<D>(rt, alloc, order, line), "{line}");
+        assert!(rt; lends(alloc, order, line), "{line}");
+    }
+}
+
+const TWO_AXES_BY_ROWS: &str = "\
+2,2 4 0,0 0,1 1,0 1,1
+3,4 12 0,0 0,1 0,2 0,3 1,0 1,1 1,2 1,3 2,0 2,1 2,2 2,3
+0,18446744073709551615 0";
+
+const TWO_AXES_BY_COLUMNS: &str = "\
+2,2 4 0,0 1,0 0,1 1,1
+3,4 12 0,0 1,0 2,0 0,1 1,1 2,1 0,2 1,2 2,2 0,3 1,3 2,3
+0,18446744073709551615 0";
+
+const THREE_AXES_BY_ROWS: &str = "\
+2,1,2 4 0,0,0 0,0,1 1,0,0 1,0,1
+2,0,3 0
+1099511627776,1099511627776,0 0
+0,1099511627776,1099511627776 0";
+
+const THREE_AXES_BY_COLUMNS: &str = "\
+2,1,2 4 0,0,0 1,0,0 0,0,1 1,0,1
+2,0,3 0
+1099511627776,1099511627776,0 0
+0,1099511627776,1099511627776 0";
+
+#[test]
+fn r7_rows(rt: HostRuntime) {
+    let alloc = rt.alloc();
+    r7_rows_of::<Ix0>(&rt, alloc, Order::RowMajor, "- 1 -");
+    r7_rows_of::<Ix2>(&rt, alloc, Order::RowMajor, TWO_AXES_BY_ROWS);
+    r7_rows_of::<Ix3>(&rt, alloc, Order::RowMajor, THREE_AXES_BY_ROWS);
+}
+
+#[test]
+fn r7_rows_by_columns(rt: HostRuntime) {
+    let alloc = rt.alloc();
+    r7_rows_of::<Ix0>(&rt, alloc, Order::ColumnMajor, "- 1 -");
+    r7_rows_of::<Ix2>(&rt, alloc, Order::ColumnMajor, TWO_AXES_BY_COLUMNS);
+    r7_rows_of::<Ix3>(&rt, alloc, Order::ColumnMajor, THREE_AXES_BY_COLUMNS);
+}
+
+/// How many indices the walk over as many as there can be has, and the first one.
+fn longest(alloc: Global) -> Option<(usize, usize)> {
+    let mut walk = by_rows(alloc, new_ix1(usize::MAX))?;
+    let len = walk.len();
+    Some((len, walk.next()?))
+}
+
+#[test]
+fn r7_rows_of_the_longest_shape(rt: HostRuntime) {
+    assert_eq!(rt; longest(rt.alloc()), Some((18446744073709551615, 0)));
+}
+
+// ---- folds
+
+/// A number that tells an item from others.
+fn number_of<T: IntoDimension>(alloc: Global, item: T) -> usize {
+    let mut number = 1_usize;
+    if let Ok(index) = item.into_dimension(alloc) {
+        for entry in index.slice() {
+            number = number.wrapping_mul(7).wrapping_add(*entry);
+        }
+    }
+    number
+}
+
+/// Whether a loop over a copy of a walk meets the items that are still to come, as many as it tells.
+fn folds<D: Dimension + Copy>(alloc: Global, dim: D, gone: usize) -> bool {
+    let Some(mut walk) = by_rows(alloc, dim) else {
+        return false;
+    };
+    for _ in 0..gone {
+        is_end(alloc, walk.next());
+    }
+    let len = walk.len();
+    let copy: Result<_, _> = walk.clone();
+    let Ok(copy) = copy else {
+        return false;
+    };
+    let (mut count, mut met) = (0_usize, 0_usize);
+    for item in copy {
+        count = count.wrapping_add(1);
+        met = met.wrapping_mul(31).wrapping_add(number_of(alloc, item));
+    }
+    let mut sum = 0_usize;
+    for item in walk {
+        sum = sum.wrapping_mul(31).wrapping_add(number_of(alloc, item));
+    }
+    (count, met) == (len, sum)
+}
+
+fn folds_after<D: Dimension + Copy>(rt: &impl Abort, alloc: Global, lens: &[usize]) {
+    let dim: D = dim_of(rt, alloc, lens);
+    assert!(rt; folds(alloc, dim, 0) && folds(alloc, dim, 1) && folds(alloc, dim, 2));
+}
+
+#[test]
+fn r7_rows_of_folds(rt: HostRuntime) {
+    let alloc = rt.alloc();
+    folds_after::<Ix0>(&rt, alloc, &[]);
+    folds_after::<Ix1>(&rt, alloc, &[2]);
+    folds_after::<Ix2>(&rt, alloc, &[2, 3]);
+    folds_after::<Ix3>(&rt, alloc, &[2, 0, 3]);
+    folds_after::<Ix3>(&rt, alloc, &[2, 3, 4]);
+    folds_after::<Ix4>(&rt, alloc, &[2, 3, 4, 2]);
+}
+
+// ---- memory
+
+/// Whether the cursors over a shape are made.
+fn are_made(alloc: Global, lens: &[usize]) -> (bool, bool) {
+    match (new_ixdyn(alloc, lens), new_ixdyn(alloc, lens)) {
+        (Ok(dim), Ok(other)) if dim.size_checked().is_some() && other.size_checked().is_some() => (
+            IndexCursor::new(alloc, dim).is_ok(),
+            IndexCursorF::new(alloc, other).is_ok(),
+        ),
+        _ => (false, false),
+    }
+}
+
+#[test]
+fn ample_memory_for_cursors(rt: HostRuntime) {
+    let alloc = rt.alloc();
+    assert_eq!(rt; are_made(alloc, &[1, 2, 1, 2, 1]), (true, true));
+    let long = [1_usize; 1100];
+    assert_eq!(rt; are_made(alloc, &long), (true, true));
+}
+
+#[test]
+fn memory_of_cursors_of_four_axes(rt: HostRuntime) {
+    assert_eq!(rt; are_made(rt.alloc(), &[1, 2, 3, 4]), (true, true));
+}
+
+/// The lengths that a cursor by rows and one by columns tell, of a shape of five axes each.
+fn lens_of_cursors(
+    alloc: Global,
+    dim: IxDyn,
+    other: IxDyn,
+) -> (Result<usize, AllocError>, Result<usize, AllocError>) {
+    if dim.size_checked().is_none() || other.size_checked().is_none() {
+        return (Err(AllocError), Err(AllocError));
+    }
+    let rows = IndexCursor::new(alloc, dim);
+    let columns = IndexCursorF::new(alloc, other);
+    (len_of_rows(rows), len_of_columns(columns))
+}
+
+fn len_of_rows(cursor: Result<IndexCursor, AllocError>) -> Result<usize, AllocError> {
+    Ok(cursor?.len())
+}
+
+fn len_of_columns(cursor: Result<IndexCursorF, AllocError>) -> Result<usize, AllocError> {
+    Ok(cursor?.len())
+}
+
+// To make the two shapes takes the first two requests.
+#[test]
+fn late_memory_of_cursors(rt: HostRuntime) {
+    let alloc = rt.alloc();
+    let lens = [1, 2, 3, 2, 1].as_slice();
+    let (dim, other) = (new_ixdyn(alloc, lens), new_ixdyn(alloc, lens));
+    let (Ok(dim), Ok(other)) = (dim, other) else {
+        panic!(rt; "memory");
+    };
+    let (rows, columns) = lens_of_cursors(alloc, dim, other);
+    assert!(rt; asked(alloc, rows, columns));
+}
