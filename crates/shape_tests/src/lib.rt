@@ -6,10 +6,16 @@ mod acceptance;
 #[cfg(test)]
 mod axes;
 #[cfg(test)]
+mod broadcast;
+#[cfg(test)]
 mod indexing;
+#[cfg(test)]
+mod layout;
 #[cfg(test)]
 mod layouts;
 #[cfg(test)]
 mod lists;
+#[cfg(test)]
+mod merge;
 #[cfg(test)]
 mod shapes;
