@@ -7,14 +7,18 @@ mod acceptance;
 mod axes;
 #[cfg(test)]
 mod indexes;
+mod broadcast;
 #[cfg(test)]
 mod indexing;
+#[cfg(test)]
+mod layout;
 #[cfg(test)]
 mod layouts;
 #[cfg(test)]
 mod lists;
 #[cfg(test)]
 mod questions;
+mod merge;
 #[cfg(test)]
 mod shapes;
 #[cfg(test)]
