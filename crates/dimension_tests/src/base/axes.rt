@@ -1,19 +1,23 @@
 //! Axes, orders, and the entries of an index as tuples.
 use nd_base::{Axis, Convert, Order, axis_of, set_axis_of};
 
+/// The length of an axis of the shape 2, 3, 4 is told, and written.
+fn rewrites(axis: Axis, len: usize, rewritten: [usize; 3]) -> bool {
+    let mut lens = [2, 3, 4];
+    if axis.index() >= lens.len() || axis_of(&lens, axis) != len {
+        return false;
+    }
+    set_axis_of(&mut lens, axis, 7);
+    lens == rewritten
+}
+
 #[test]
 fn r2_rows_of_axes(rt: HostRuntime) {
-    let rows = [
-        (Axis(0), 2, [7, 3, 4]),
-        (Axis(1), 3, [2, 7, 4]),
-        (Axis(2), 4, [2, 3, 7]),
-    ];
-    for (axis, len, rewritten) in rows {
-        let mut lens = [2, 3, 4];
-        assert!(rt; axis.index() < lens.len() && axis_of(&lens, axis) == len);
-        set_axis_of(&mut lens, axis, 7);
-        assert!(rt; lens == rewritten);
-    }
+    assert!(rt;
+        rewrites(Axis(0), 2, [7, 3, 4])
+            && rewrites(Axis(1), 3, [2, 7, 4])
+            && rewrites(Axis(2), 4, [2, 3, 7])
+    );
 }
 
 /// What an order is, and which one is the other.

@@ -3,8 +3,8 @@ ghost use Rattle.std.specs.Prelude.{◌<◌, ◌≤◌, length};
 
 use crate::base::lists::ixdyn;
 use nd_base::{
-    FixedCount, Ix1, Ix2, Ix3, IxDyn, Lengths, new_ix0, new_ix1, new_ix2, new_ix3, new_ix4,
-    new_ix5, new_ix6,
+    FixedCount, Ix0, Ix1, Ix2, Ix3, Ix4, Ix5, Ix6, IxDyn, Lengths, new_ix0, new_ix1, new_ix2,
+    new_ix3, new_ix4, new_ix5, new_ix6,
 };
 use std::alloc::{AllocError, Global};
 
@@ -12,28 +12,39 @@ fn is(found: &[usize], lens: &[usize]) -> bool {
     found == lens
 }
 
+fn has_one_axis(dim: Ix1) -> bool {
+    is(dim.slice(), &[4]) && Ix1::NDIM == Some(1)
+}
+
+fn zeros_of_two(alloc: Global) -> bool {
+    Ix2::zeros(alloc, 2).unwrap() == new_ix2(0, 0)
+}
+
 #[test]
 fn r1_rows(rt: HostRuntime) {
     assert!(rt;
-        is(new_ix1(4).slice(), &[4])
-            && is(new_ix2(2, 3).slice(), &[2, 3])
-            && Ix2::zeros(rt.alloc(), 2).unwrap() == new_ix2(0, 0)
-            && Ix1::NDIM == Some(1)
+        has_one_axis(new_ix1(4))
+            && is_two(new_ix2(2, 3))
+            && zeros_of_two(rt.alloc())
             && IxDyn::NDIM == None
     );
 }
 
+/// Writes by the axis.
+fn writes_second(mut dim: Ix2) -> bool {
+    dim[1] = 7;
+    dim == new_ix2(2, 7)
+}
+
+/// Writes in the list.
+fn writes_first_of_list(mut dim: Ix2) -> bool {
+    dim.slice_mut()[0] = 5;
+    dim == new_ix2(5, 7) && dim[1] == 7 && !dim.equal(&new_ix2(7, 5))
+}
+
 #[test]
 fn r1_rows_of_writes(rt: HostRuntime) {
-    let (mut two, mut other) = (new_ix2(2, 3), new_ix2(2, 7));
-    two[1] = 7;
-    other.slice_mut()[0] = 5;
-    assert!(rt;
-        two == new_ix2(2, 7)
-            && other == new_ix2(5, 7)
-            && other[1] == 7
-            && !other.equal(&new_ix2(7, 5))
-    );
+    assert!(rt; writes_second(new_ix2(2, 3)) && writes_first_of_list(new_ix2(2, 7)));
 }
 
 #[test]
@@ -44,17 +55,34 @@ fn r1_rows_of_writes_to_equal_lengths(rt: HostRuntime) {
     assert!(rt; first == new_ix2(7, 3) && second == new_ix2(3, 7));
 }
 
+fn is_two(dim: Ix2) -> bool {
+    is(dim.slice(), &[2, 3])
+}
+
+fn is_three(dim: Ix3) -> bool {
+    is(dim.slice(), &[2, 3, 4]) && Ix3::default() == new_ix3(0, 0, 0)
+}
+
+fn are_few(none: Ix0, one: Ix1) -> bool {
+    is(none.slice(), &[]) && is(one.slice(), &[2])
+}
+
+fn are_four_and_five(four: Ix4, five: Ix5) -> bool {
+    is(four.slice(), &[2, 3, 4, 5]) && is(five.slice(), &[2, 3, 4, 5, 6])
+}
+
+fn is_six(dim: Ix6) -> bool {
+    is(dim.slice(), &[2, 3, 4, 5, 6, 7])
+}
+
 #[test]
 fn r2_rows(rt: HostRuntime) {
     assert!(rt;
-        is(new_ix0().slice(), &[])
-            && is(new_ix1(2).slice(), &[2])
-            && is(new_ix2(2, 3).slice(), &[2, 3])
-            && is(new_ix3(2, 3, 4).slice(), &[2, 3, 4])
-            && is(new_ix4(2, 3, 4, 5).slice(), &[2, 3, 4, 5])
-            && is(new_ix5(2, 3, 4, 5, 6).slice(), &[2, 3, 4, 5, 6])
-            && is(new_ix6(2, 3, 4, 5, 6, 7).slice(), &[2, 3, 4, 5, 6, 7])
-            && Ix3::default() == new_ix3(0, 0, 0)
+        are_few(new_ix0(), new_ix1(2))
+            && is_two(new_ix2(2, 3))
+            && is_three(new_ix3(2, 3, 4))
+            && are_four_and_five(new_ix4(2, 3, 4, 5), new_ix5(2, 3, 4, 5, 6))
+            && is_six(new_ix6(2, 3, 4, 5, 6, 7))
     );
 }
 

@@ -10,8 +10,9 @@ use nd_dim::{
     Axis, Dimension, FixedCount, IntoDimension, IxDyn, IxDynImpl, Lengths, RemoveAxis, ShapeArg,
     new_dim, new_ixdyn,
 };
-use nd_testing::asked;
+use nd_testing::{asked, rows};
 use std::alloc::{AllocError, Global};
+use std::hash::Hash;
 use std::process::Abort;
 
 /// How calls go about memory.
@@ -196,9 +197,14 @@ pub(crate) fn asks<D: RemoveAxis + IntoDimension<Dim = D>>(
     }
 }
 
-/// A row, at the type of any number of axes.
-fn holds_at_any_count(rt: &impl Abort, alloc: Global, call: Call, line: &str) {
-    assert!(rt; row_holds_at_any_count(rt, alloc, Told::Memory(call), line));
+/// The rows of a table, at the type of any number of axes.
+fn hold_at_any_count(rt: &impl Abort, alloc: Global, call: Call, table: &str) {
+    for line in rows(table) {
+        assert!(rt;
+            row_holds_at_any_count(rt, alloc, Told::Memory(call), line),
+            "{line}"
+        );
+    }
 }
 
 const AT_FIXED_TYPES: &str = "\
@@ -220,43 +226,54 @@ fn r9_rows_at_fixed_types(rt: HostRuntime) {
     );
 }
 
+const AT_ANY_COUNT: &str = "\
+2
+2,3
+2,3,4
+1,2,3,4";
+
+/// A list of four needs no memory as a dimension, nor as a shape.
+fn four_need_none(alloc: Global, four: &[usize]) -> bool {
+    new_dim(alloc, four).is_ok() && four.into_shape_and_order(alloc).is_ok()
+}
+
 #[test]
 fn r9_rows(rt: HostRuntime) {
     let alloc = rt.alloc();
-    holds_at_any_count(&rt, alloc, Call::NeedsNone, "2");
-    holds_at_any_count(&rt, alloc, Call::NeedsNone, "2,3");
-    holds_at_any_count(&rt, alloc, Call::NeedsNone, "2,3,4");
-    holds_at_any_count(&rt, alloc, Call::NeedsNone, "1,2,3,4");
+    hold_at_any_count(&rt, alloc, Call::NeedsNone, AT_ANY_COUNT);
     table_at_its_type(&rt, alloc, Told::Memory(Call::MakesAny), "1,2,3,4");
-    let four = [1, 2, 3, 4].as_slice();
-    assert!(rt; new_dim(alloc, four).is_ok() && four.into_shape_and_order(alloc).is_ok());
+    assert!(rt; four_need_none(alloc, &[1, 2, 3, 4]));
 }
 
 #[test]
 fn r9_rows_insert_axis_into_three(rt: HostRuntime) {
-    holds_at_any_count(&rt, rt.alloc(), Call::NeedsNone, "1,2,3");
+    hold_at_any_count(&rt, rt.alloc(), Call::NeedsNone, "1,2,3");
 }
 
 /// What is left of a list is one that was made so, and has its hash; if there was memory for it.
-fn leaves(alloc: Global, lens: &[usize], axis: usize, left: &[usize]) -> bool {
-    match new_ixdyn(alloc, lens) {
-        Ok(dim) => match new_ixdyn(alloc, left) {
-            Ok(left) => axis < dim.ndim() && is_one(&left, dim.remove_axis(alloc, Axis(axis))),
-            Err(_) => false,
-        },
-        Err(_) => lens.len() > 4,
+fn leaves<D, S>(alloc: Global, lens: &[usize], axis: usize, left: &[usize]) -> bool
+where
+    D: RemoveAxis + Dimension<Smaller = S>,
+    S: Lengths + Hash,
+{
+    let Some(left) = made::<S>(alloc, left) else {
+        return false;
+    };
+    match made::<D>(alloc, lens) {
+        Some(dim) => axis < dim.ndim() && is_one(&left, dim.remove_axis(alloc, Axis(axis))),
+        None => D::NDIM.is_none() && lens.len() > 4,
     }
 }
 
 // In each of the following to make the list is the first request.
 #[test]
 fn r9_rows_of_equality(rt: HostRuntime) {
-    assert!(rt; leaves(rt.alloc(), &[1, 2, 3, 4, 5], 2, &[1, 2, 4, 5]));
+    assert!(rt; leaves::<IxDyn, IxDyn>(rt.alloc(), &[1, 2, 3, 4, 5], 2, &[1, 2, 4, 5]));
 }
 
 #[test]
 fn r9_rows_remove_axis_from_five(rt: HostRuntime) {
-    holds_at_any_count(&rt, rt.alloc(), Call::NeedsNoneOfFive, "1,2,3,4,5");
+    hold_at_any_count(&rt, rt.alloc(), Call::NeedsNoneOfFive, "1,2,3,4,5");
 }
 
 #[test]
@@ -292,32 +309,32 @@ fn r9_rows_list_of_five(rt: HostRuntime) {
 
 #[test]
 fn r9_rows_default_strides_of_five(rt: HostRuntime) {
-    holds_at_any_count(&rt, rt.alloc(), Call::DefaultStrides, "1,2,3,4,5");
+    hold_at_any_count(&rt, rt.alloc(), Call::DefaultStrides, "1,2,3,4,5");
 }
 
 #[test]
 fn r9_rows_fortran_strides_of_five(rt: HostRuntime) {
-    holds_at_any_count(&rt, rt.alloc(), Call::FortranStrides, "1,2,3,4,5");
+    hold_at_any_count(&rt, rt.alloc(), Call::FortranStrides, "1,2,3,4,5");
 }
 
 #[test]
 fn r9_rows_duplicate_of_five(rt: HostRuntime) {
-    holds_at_any_count(&rt, rt.alloc(), Call::Duplicate, "1,2,3,4,5");
+    hold_at_any_count(&rt, rt.alloc(), Call::Duplicate, "1,2,3,4,5");
 }
 
 #[test]
 fn r9_rows_stride_order_of_five(rt: HostRuntime) {
-    holds_at_any_count(&rt, rt.alloc(), Call::StrideOrder, "1,2,3,4,5");
+    hold_at_any_count(&rt, rt.alloc(), Call::StrideOrder, "1,2,3,4,5");
 }
 
 #[test]
 fn r9_rows_insert_axis_into_four(rt: HostRuntime) {
-    holds_at_any_count(&rt, rt.alloc(), Call::InsertAxis, "1,2,3,4 1");
+    hold_at_any_count(&rt, rt.alloc(), Call::InsertAxis, "1,2,3,4 1");
 }
 
 #[test]
 fn r9_rows_remove_axis_from_six(rt: HostRuntime) {
-    holds_at_any_count(&rt, rt.alloc(), Call::RemoveAxis, "1,2,3,4,5,6");
+    hold_at_any_count(&rt, rt.alloc(), Call::RemoveAxis, "1,2,3,4,5,6");
 }
 
 // These ask for memory at once.

@@ -1,12 +1,15 @@
 //! Views of shapes by their own strides or by given ones, their axes, and the same views once more.
+//!
+//! What is asked of a view is asked by the bound alone, and each type is named in one place: what
+//! `Strided::from_shape` ensures is dear where a type is given.
 use crate::view::rows::{is_told, owned};
 use CanIndexCheckMode::OwnedMutable;
 use nd_testing::grants;
 use ndarray_layout::{
-    Axes, Axis, AxisDescription, CanIndexCheckMode, Dimension, Ix2, IxDyn, LayoutError, Lengths,
-    ShapeBuilder, StrideShape, Strided, Strides, new_ix2, new_ix3, new_ix6, new_ixdyn, unsigned,
+    Axes, AxisDescription, CanIndexCheckMode, Dimension, IxDyn, LayoutError, Lengths, ShapeBuilder,
+    StrideShape, Strided, Strides, new_ix2, new_ix3, new_ix6, new_ixdyn, unsigned,
 };
-use std::alloc::{AllocError, Global};
+use std::alloc::Global;
 use std::process::Abort;
 
 /// The view of a shape in owned mode.
@@ -19,6 +22,14 @@ fn along<D: Dimension>(
     Strided::from_shape(alloc, shape, elem_size, len, OwnedMutable)
 }
 
+/// A view once more.
+fn again<D: Dimension>(
+    alloc: Global,
+    view: Result<Strided<D>, LayoutError>,
+) -> Result<Strided<D>, LayoutError> {
+    Ok(view?.duplicate(alloc)?)
+}
+
 // ---- shapes by their own strides
 
 /// The view of a shape in column-major order, over `len` elements of one byte.
@@ -27,60 +38,184 @@ fn by_columns<D: Dimension>(alloc: Global, dim: D, len: usize) -> Result<Strided
     along(alloc, StrideShape { dim, strides }, 1, len)
 }
 
-/// Two axes, built in column-major order.
-fn two(alloc: Global) -> Result<StrideShape<Ix2>, AllocError> {
-    StrideShape::from_builder(alloc, (2, 3).f(alloc)?)
+/// The same of a shape that is built so.
+fn built_by_columns<D: Dimension, T: ShapeBuilder<Dim = D>>(
+    alloc: Global,
+    builder: T,
+    len: usize,
+) -> Result<Strided<D>, LayoutError> {
+    let shape = StrideShape::from_builder(alloc, builder.f(alloc)?)?;
+    along(alloc, shape, 1, len)
 }
 
-/// Their view.
-fn two_by_columns(alloc: Global, len: usize) -> Result<Strided<Ix2>, LayoutError> {
-    along(alloc, two(alloc)?, 1, len)
-}
-
-/// Five axes.
-fn five_by_columns(alloc: Global, len: usize) -> Result<Strided<IxDyn>, LayoutError> {
-    by_columns(alloc, new_ixdyn(alloc, &[2, 1, 3, 1, 2])?, len)
+/// Whether the view of what is built so is told by a row.
+fn builder_is_told<D: Dimension, T: ShapeBuilder<Dim = D>>(
+    rt: &impl Abort,
+    alloc: Global,
+    builder: T,
+    len: usize,
+    row: &str,
+) -> bool {
+    is_told(rt, alloc, built_by_columns(alloc, builder, len), row)
 }
 
 #[test]
 fn r3_rows(rt: HostRuntime) {
     let alloc = rt.alloc();
     let whole = "is 2,3 1,2 0 0,2,4,1,3,5 0,1,2,3,4,5";
-    assert!(rt; is_told(&rt, alloc, two_by_columns(alloc, 6), whole));
-    assert!(rt; is_told(&rt, alloc, two_by_columns(alloc, 5), "OutOfBounds"));
+    assert!(rt; builder_is_told(&rt, alloc, (2, 3), 6, whole));
+    assert!(rt; builder_is_told(&rt, alloc, (2, 3), 5, "OutOfBounds"));
+}
+
+/// What is asked of a view in column-major order.
+#[derive(Clone, Copy)]
+enum OfColumns<'a> {
+    /// What it is told by.
+    Row(&'a str),
+    /// How many axes it has, it and the same once more.
+    Axes(usize),
+    /// Whether it is made, and once more.
+    Made,
+    /// Whether it is made, or else refused for want of memory.
+    MadeOrRefused,
+}
+
+/// Whether a view has so many axes.
+fn has_axes<D: Dimension>(view: Result<Strided<D>, LayoutError>, count: usize) -> bool {
+    match view {
+        Ok(view) => view.axes().len() == count,
+        Err(_) => false,
+    }
+}
+
+/// Whether a view and the same once more have so many axes.
+fn both_have_axes<D: Dimension>(
+    alloc: Global,
+    view: Result<Strided<D>, LayoutError>,
+    count: usize,
+) -> bool {
+    match view {
+        Ok(view) => {
+            has_axes(view.duplicate(alloc).map_err(LayoutError::from), count)
+                && has_axes(Ok(view), count)
+        }
+        Err(_) => false,
+    }
+}
+
+/// Whether a call was made, or refused for want of memory.
+fn is_made_or_refused<D: Dimension>(view: Result<Strided<D>, LayoutError>) -> bool {
+    match view {
+        Ok(_) | Err(LayoutError::Memory(_)) => true,
+        Err(LayoutError::Shape(_)) => false,
+    }
+}
+
+/// Whether this holds of a view in column-major order.
+fn columns_hold<D: Dimension>(
+    rt: &impl Abort,
+    alloc: Global,
+    dim: D,
+    len: usize,
+    asked: OfColumns<'_>,
+) -> bool {
+    let view = by_columns(alloc, dim, len);
+    match asked {
+        OfColumns::Row(row) => is_told(rt, alloc, view, row),
+        OfColumns::Axes(count) => both_have_axes(alloc, view, count),
+        OfColumns::Made => again(alloc, view).is_ok(),
+        OfColumns::MadeOrRefused => is_made_or_refused(view) && grants(alloc),
+    }
+}
+
+/// The same of any number of axes.
+fn any_columns_hold(
+    rt: &impl Abort,
+    alloc: Global,
+    dim: IxDyn,
+    len: usize,
+    asked: OfColumns<'_>,
+) -> bool {
+    columns_hold(rt, alloc, dim, len, asked)
+}
+
+/// The same of five axes.
+fn five_columns_hold(rt: &impl Abort, alloc: Global, len: usize, row: &str) -> bool {
+    let five = new_ixdyn(alloc, &[2, 1, 3, 1, 2]).expect(rt, "memory");
+    any_columns_hold(rt, alloc, five, len, OfColumns::Row(row))
 }
 
 #[test]
 fn r3_rows_of_five_axes(rt: HostRuntime) {
     let alloc = rt.alloc();
     let whole = "is 2,1,3,1,2 1,2,2,6,6 0 0,6,2,8,4,10,1,7,3,9,5,11 0,1,2,3,4,5,6,7,8,9,10,11";
-    assert!(rt; is_told(&rt, alloc, five_by_columns(alloc, 12), whole));
-    assert!(rt; is_told(&rt, alloc, five_by_columns(alloc, 11), "OutOfBounds"));
+    assert!(rt; five_columns_hold(&rt, alloc, 12, whole));
+    assert!(rt; five_columns_hold(&rt, alloc, 11, "OutOfBounds"));
+}
+
+// 1,100 axes of no entries.
+#[test]
+fn r3_rows_of_many_axes(rt: HostRuntime) {
+    let empty = IxDyn::zeros(rt.alloc(), 1100).expect(&rt, "memory");
+    assert!(rt; any_columns_hold(&rt, rt.alloc(), empty, 0, OfColumns::Axes(1100)));
+}
+
+// ---- their axes
+
+/// An axis as it is told: its number, its length and its stride.
+type Told = (usize, usize, isize);
+
+/// Whether an axis is told, or none.
+fn is(axis: Option<AxisDescription>, told: Option<&Told>) -> bool {
+    match (axis, told) {
+        (Some(axis), Some(told)) => (axis.axis.0, axis.len, axis.stride) == *told,
+        (None, None) => true,
+        _ => false,
+    }
+}
+
+/// Whether these are told from the front and from the back in turn, six times, and none where none is
+/// told.
+fn are_in_turn(mut axes: Axes<'_>, told: &[Told]) -> bool {
+    is(axes.next(), told.get(0))
+        && is(axes.next_back(), told.get(1))
+        && is(axes.next(), told.get(2))
+        && is(axes.next_back(), told.get(3))
+        && is(axes.next(), told.get(4))
+        && is(axes.next_back(), told.get(5))
+}
+
+/// Whether the axes of a view are told in turn.
+fn is_in_turn<D: Dimension>(view: Result<Strided<D>, LayoutError>, told: &[Told]) -> bool {
+    match view {
+        Ok(view) => are_in_turn(view.axes(), told),
+        Err(_) => false,
+    }
+}
+
+/// The same of the view of a shape and strides.
+fn owned_is_in_turn<D: Dimension>(dim: D, strides: D, len: usize, told: &[Told]) -> bool {
+    is_in_turn(owned(dim, strides, len), told)
+}
+
+#[test]
+fn r3_rows_of_axes(rt: HostRuntime) {
+    let (dim, strides) = (new_ix3(2, 3, 4), new_ix3(12, unsigned(-4), 1));
+    let told = [(0, 2, 12), (2, 4, 1), (1, 3, -4)];
+    assert!(rt; owned_is_in_turn(dim, strides, 24, &told));
 }
 
 // ---- shapes along given strides, and their views once more
 
-/// Two rows of three elements, from the last row back.
-fn two_given(alloc: Global) -> Result<Strided<Ix2>, LayoutError> {
-    let shape = (2, 3).strides(alloc, (unsigned(-3), 1))?;
-    along(alloc, shape, 4, 6)
-}
-
-/// Five axes, of which the first leads back.
-fn five_given(alloc: Global) -> Result<Strided<IxDyn>, LayoutError> {
-    let strides = [unsigned(-6), 9, 1, 9, 3];
-    let shape = [2, 1, 3, 1, 2]
-        .as_slice()
-        .strides(alloc, strides.as_slice())?;
-    along(alloc, shape, 4, 12)
-}
-
-/// A view once more.
-fn again<D: Dimension>(
-    alloc: Global,
-    view: Result<Strided<D>, LayoutError>,
-) -> Result<Strided<D>, LayoutError> {
-    Ok(view?.duplicate(alloc)?)
+/// What is asked of a view along given strides.
+#[derive(Clone, Copy)]
+enum OfGiven<'a> {
+    /// What it and the same once more are told by.
+    Row(&'a str),
+    /// Its axes in turn.
+    Axes(&'a [Told]),
+    /// Where the same once more starts, where a request for it may be refused.
+    StartOrRefused(usize),
 }
 
 /// Whether a view, and the same once more, are told by a row.
@@ -99,143 +234,95 @@ fn are_told<D: Dimension>(
     }
 }
 
+/// Whether a view is the same once more, if there was memory for it, or a request for that was
+/// refused.
+fn starts_or_is_refused<D: Dimension>(
+    alloc: Global,
+    view: Result<Strided<D>, LayoutError>,
+    start: usize,
+) -> bool {
+    match view {
+        Ok(view) => match view.duplicate(alloc) {
+            Ok(again) => again.start() == start,
+            Err(_) => grants(alloc),
+        },
+        Err(LayoutError::Memory(_)) => true,
+        Err(LayoutError::Shape(_)) => false,
+    }
+}
+
+/// Whether this holds of the view of what is built along given strides, over `len` elements of four
+/// bytes.
+fn given_hold<D: Dimension, T: ShapeBuilder<Dim = D>>(
+    rt: &impl Abort,
+    alloc: Global,
+    builder: T,
+    strides: T::Strides,
+    len: usize,
+    asked: OfGiven<'_>,
+) -> bool {
+    let view = match builder.strides(alloc, strides) {
+        Ok(shape) => along(alloc, shape, 4, len),
+        Err(error) => Err(error.into()),
+    };
+    match asked {
+        OfGiven::Row(row) => are_told(rt, alloc, view, row),
+        OfGiven::Axes(told) => is_in_turn(view, told),
+        OfGiven::StartOrRefused(start) => starts_or_is_refused(alloc, view, start),
+    }
+}
+
+// Two rows of three elements, from the last row back.
 #[test]
 fn r3_rows_along_given_strides(rt: HostRuntime) {
-    let alloc = rt.alloc();
-    let whole = "is 2,3 -3,1 3 3,4,5,0,1,2 3,0,4,1,5,2";
-    assert!(rt; are_told(&rt, alloc, two_given(alloc), whole));
+    let row = OfGiven::Row("is 2,3 -3,1 3 3,4,5,0,1,2 3,0,4,1,5,2");
+    assert!(rt; given_hold(&rt, rt.alloc(), (2, 3), (unsigned(-3), 1), 6, row));
+}
+
+/// The same of five axes, of which the first leads back.
+fn five_given_hold(rt: &impl Abort, alloc: Global, asked: OfGiven<'_>) -> bool {
+    let strides = [unsigned(-6), 9, 1, 9, 3];
+    let lens = [2, 1, 3, 1, 2];
+    given_hold(rt, alloc, lens.as_slice(), strides.as_slice(), 12, asked)
 }
 
 #[test]
 fn r3_rows_of_five_axes_along_given_strides(rt: HostRuntime) {
-    let alloc = rt.alloc();
     let whole = "is 2,1,3,1,2 -6,9,1,9,3 6 6,9,7,10,8,11,0,3,1,4,2,5 6,0,7,1,8,2,9,3,10,4,11,5";
-    assert!(rt; are_told(&rt, alloc, five_given(alloc), whole));
-}
-
-/// 1,100 axes of no entries.
-fn empty(alloc: Global) -> Result<Strided<IxDyn>, LayoutError> {
-    by_columns(alloc, IxDyn::zeros(alloc, 1100)?, 0)
-}
-
-/// Whether a view has so many axes.
-fn has_axes(view: Result<Strided<IxDyn>, LayoutError>, count: usize) -> bool {
-    view.is_ok_and(|view| view.axes().len() == count)
-}
-
-#[test]
-fn r3_rows_of_many_axes(rt: HostRuntime) {
-    assert!(rt; has_axes(empty(rt.alloc()), 1100));
-    assert!(rt; has_axes(again(rt.alloc(), empty(rt.alloc())), 1100));
-}
-
-// ---- their axes
-
-/// What an axis is told by.
-fn parts_of(axis: AxisDescription) -> (Axis, usize, isize) {
-    (axis.axis, axis.len, axis.stride)
-}
-
-/// The axes from the front and from the back in turn.
-fn in_turn(mut axes: Axes<'_>) -> [Option<(Axis, usize, isize)>; 6] {
-    let given = [
-        axes.next(),
-        axes.next_back(),
-        axes.next(),
-        axes.next_back(),
-        axes.next(),
-        axes.next_back(),
-    ];
-    given.map(|axis| axis.map(parts_of))
-}
-
-/// Whether these are told in turn.
-fn are_in_turn(axes: Axes<'_>, told: [Option<(Axis, usize, isize)>; 6]) -> bool {
-    in_turn(axes) == told
-}
-
-/// An axis as it is told.
-const fn axis(number: usize, len: usize, stride: isize) -> Option<(Axis, usize, isize)> {
-    Some((Axis(number), len, stride))
-}
-
-#[test]
-fn r3_rows_of_axes(rt: HostRuntime) {
-    let (dim, strides) = (new_ix3(2, 3, 4), new_ix3(12, unsigned(-4), 1));
-    let view = owned(dim, strides, 24).expect(&rt, "refused");
-    let told = [
-        axis(0, 2, 12),
-        axis(2, 4, 1),
-        axis(1, 3, -4),
-        None,
-        None,
-        None,
-    ];
-    assert!(rt; are_in_turn(view.axes(), told));
+    assert!(rt; five_given_hold(&rt, rt.alloc(), OfGiven::Row(whole)));
 }
 
 #[test]
 fn r3_rows_of_five_axes_in_turn(rt: HostRuntime) {
-    let view = five_given(rt.alloc()).expect(&rt, "refused");
-    let told = [
-        axis(0, 2, -6),
-        axis(4, 2, 3),
-        axis(1, 1, 9),
-        axis(3, 1, 9),
-        axis(2, 3, 1),
-        None,
-    ];
-    assert!(rt; are_in_turn(view.axes(), told));
+    let told = [(0, 2, -6), (4, 2, 3), (1, 1, 9), (3, 1, 9), (2, 3, 1)];
+    assert!(rt; five_given_hold(&rt, rt.alloc(), OfGiven::Axes(&told)));
 }
 
 // ---- refused memory
 
-/// Whether a view is made and once more, though a request may be refused.
-fn is_served<D: Dimension>(alloc: Global, dim: D) -> bool {
-    again(alloc, by_columns(alloc, dim, 24)).is_ok()
-}
-
 #[test]
 fn memory_of_shapes_at_fixed_types(rt: HostRuntime) {
-    assert!(rt; is_served(rt.alloc(), new_ix2(2, 3)));
-    assert!(rt; is_served(rt.alloc(), new_ix6(2, 1, 3, 1, 2, 2)));
+    let (alloc, made) = (rt.alloc(), OfColumns::Made);
+    assert!(rt; columns_hold(&rt, alloc, new_ix2(2, 3), 24, made));
+    assert!(rt; columns_hold(&rt, alloc, new_ix6(2, 1, 3, 1, 2, 2), 24, made));
 }
 
 #[test]
 fn memory_of_a_shape_of_four(rt: HostRuntime) {
     let four = new_ixdyn(rt.alloc(), &[2, 3, 2, 2]).expect(&rt, "four axes need no memory");
-    assert!(rt; is_served(rt.alloc(), four));
-}
-
-/// Whether a call was made, or refused for want of memory.
-fn is_made_or_refused<D: Dimension>(view: Result<Strided<D>, LayoutError>) -> bool {
-    match view {
-        Ok(_) | Err(LayoutError::Memory(_)) => true,
-        Err(LayoutError::Shape(_)) => false,
-    }
+    assert!(rt; any_columns_hold(&rt, rt.alloc(), four, 24, OfColumns::Made));
 }
 
 #[test]
 fn memory_of_a_shape_of_five(rt: HostRuntime) {
     let alloc = rt.alloc();
     if let Ok(five) = new_ixdyn(alloc, &[2, 1, 3, 1, 2]) {
-        assert!(rt; is_made_or_refused(by_columns(alloc, five, 12)) && grants(alloc));
-    }
-}
-
-/// Whether this is the view of five axes, or a request for it was refused.
-fn is_five(alloc: Global, view: Result<Strided<IxDyn>, AllocError>) -> bool {
-    match view {
-        Ok(view) => view.start() == 6,
-        Err(_) => grants(alloc),
+        assert!(rt; any_columns_hold(&rt, alloc, five, 12, OfColumns::MadeOrRefused));
     }
 }
 
 // The view itself takes two requests: the third and the fourth are those of what is asked here.
 #[test]
 fn late_memory_of_a_view_of_five(rt: HostRuntime) {
-    let alloc = rt.alloc();
-    if let Ok(view) = five_given(alloc) {
-        assert!(rt; is_five(alloc, view.duplicate(alloc)));
-    }
+    assert!(rt; five_given_hold(&rt, rt.alloc(), OfGiven::StartOrRefused(6)));
 }
