@@ -2,8 +2,8 @@ pub mod Answered
 pub mod AxesWalk
 pub mod CommonShape
 pub mod FirstLeast
-pub mod MergedStride
 pub mod IndicesWalk
+pub mod MergedStride
 pub mod OrderRule
 pub mod OwnedRule
 pub mod SumLoop

@@ -15,7 +15,11 @@ pub use nd_dim::{
     stride_offset_checked, unsigned,
 };
 pub use nd_shape::{
-    Axes, AxisDescription, CanIndexCheckMode, IndexCursor, IndexCursorF, Indices, IndicesIter, IndicesIterF, Layout, NdIndex, Shape, ShapeBuilder, StrideShape, Strides, all_indices, axes_of, can_index_slice, can_index_slice_not_custom, can_index_slice_with_strides, co_broadcast, dim_stride_overlap, indices_iter_f, is_layout_c, is_layout_f, max_abs_offset_check_overflow, merge_axes, move_min_stride_axis_to_last, offset_from_low_addr_ptr_to_logical_ptr,
+    Axes, AxisDescription, CanIndexCheckMode, IndexCursor, IndexCursorF, Indices, IndicesIter,
+    IndicesIterF, Layout, NdIndex, Shape, ShapeBuilder, StrideShape, Strides, all_indices, axes_of,
+    can_index_slice, can_index_slice_not_custom, can_index_slice_with_strides, co_broadcast,
+    dim_stride_overlap, indices_iter_f, is_layout_c, is_layout_f, max_abs_offset_check_overflow,
+    merge_axes, move_min_stride_axis_to_last, offset_from_low_addr_ptr_to_logical_ptr,
     size_of_shape_checked, strides_non_negative,
 };
 pub use nd_slice::{

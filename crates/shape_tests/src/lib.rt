@@ -6,8 +6,9 @@ mod acceptance;
 #[cfg(test)]
 mod axes;
 #[cfg(test)]
-mod indexes;
 mod broadcast;
+#[cfg(test)]
+mod indexes;
 #[cfg(test)]
 mod indexing;
 #[cfg(test)]
@@ -17,8 +18,9 @@ mod layouts;
 #[cfg(test)]
 mod lists;
 #[cfg(test)]
-mod questions;
 mod merge;
+#[cfg(test)]
+mod questions;
 #[cfg(test)]
 mod shapes;
 #[cfg(test)]
