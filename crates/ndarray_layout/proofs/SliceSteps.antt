@@ -1,12 +1,14 @@
 -- Slicing axis by axis: what is left by the elements so far, and the slice of the rest.
-use Rattle.std.proofs.Common.{◌≡◌, ℕ, zero, suc, ◌+◌, ◌*◌, ◌<◌, ◌≤◌, ℤ, pos, ◌+ℤ◌, ◌*ℤ◌, ◌≤ℤ◌, List, [], ◌∷◌, ◌++◌, length, get_or, take, drop, set, None, arith, refl, ap, ◌∙◌, append_assoc, subst, to_z, of_z, cond, eqb, Bool, true, false, pos_of_ne-zero}
+use Rattle.std.proofs.Common.{◌≡◌, ℕ, zero, suc, ◌+◌, ◌*◌, ◌<◌, ◌≤◌, ℤ, pos, ◌+ℤ◌, ◌*ℤ◌, ◌≤ℤ◌, List, [], ◌∷◌, ◌++◌, length, get_or, take, drop, set, None, Some, arith, refl, ap, sym, ◌∙◌, append_assoc, subst, to_z, of_z, cond, eqb, Bool, true, false, pos_of_ne-zero}
 use Rattle.std.specs.Prelude.{FitsSigned}
 use Rattle.std.specs.Int.{w64}
+use Rattle.std.specs.Option.{option_or}
 use Rattle.std.proofs.lemmas.Int.{ints, to_z-of_z}
 use Rattle.std.proofs.lemmas.Bool.{eqb-true, eqb-false}
 use Rattle.std.proofs.Math.ListN.{get_or-map}
 use Rattle.std.proofs.Math.Nat.{mul-le-mul_left, mul-le-mul_right}
 use Rattle.std.proofs.lemmas.List.{map-append, length-set, length-drop, drop_more, take_more_set}
+use Rattle.nd_base.specs.declared.error.ErrorKind.{ErrorKind}
 use Rattle.nd_base.specs.Signed.{magnitude, signed, all_signed}
 use Rattle.nd_base.specs.Size.{limit, nonzero_size}
 use Rattle.nd_base.specs.Span.{reach, reach_down, reach_up, low_span, high_span, span}
@@ -21,7 +23,7 @@ use Rattle.nd_slice.specs.Sliced.{sliced_shape, sliced_strides, sliced_offset, p
 use Rattle.ndarray_layout.proofs.OneAxis.{Within, axis_within}
 use Rattle.ndarray_layout.proofs.Picked.{slice_kept}
 use Rattle.ndarray_layout.proofs.PicksFit.{picks_fit}
-use Rattle.ndarray_layout.proofs.Slices.{or_none, index_entry}
+use Rattle.ndarray_layout.proofs.Slices.{index_entry}
 use Rattle.nd_base.proofs.laws.NonzeroSize.{nonzero_size_pos}
 use Rattle.nd_base.proofs.laws.Span.{low_high_span, reach_parts}
 
@@ -31,7 +33,7 @@ pub record SlicedSoFar (fit : Fit) (elems : List SliceInfoElem) (shape : List �
   pub counts : in_count rest ≡ length lens
   pub room : new + out_count rest ≡ length new_shape
   pub same_room : length new_strides ≡ length new_shape
-  pub fits : first_fault fit lens rest ≡ None
+  pub fault : first_fault fit lens rest ≡ first_fault fit shape elems
   pub shape_is : take new new_shape ++ sliced_shape fit rest lens ≡ sliced_shape fit elems shape
   pub strides_is : all_signed (take new new_strides) ++ sliced_strides fit rest lens steps ≡ sliced_strides fit elems shape strides
   pub offset_is : offset +ℤ sliced_offset fit rest lens steps ≡ sliced_offset fit elems shape strides
@@ -66,10 +68,9 @@ wrote_stride new v z nt out whole h s e =
     ∙ ap (λ x. all_signed (take new nt) ++ (x ∷ out)) s ∙ e
 
 -- ---- the steps
-pub slice_step : (fit : Fit) (elems : List SliceInfoElem) (shape : List ℕ) (strides : List ℤ) (rest : List SliceInfoElem) (lens : List ℕ) (steps : List ℤ) (new : ℕ) (ns nt : List ℕ) (offset : ℤ) (slice : Slice) (len : ℕ) (stride : ℤ) (count kept : ℕ) (moved : ℤ) → count ≡ length (picks fit len slice) → signed kept ≡ picked_stride (length (picks fit len slice)) stride slice.step → moved ≡ first_offset (picks fit len slice) stride → SlicedSoFar fit elems shape strides (elem.Slice slice.start slice.end slice.step ∷ rest) (len ∷ lens) (stride ∷ steps) new ns nt offset → SlicedSoFar fit elems shape strides rest lens steps (new + 1) (set ns new count) (set nt new kept) (offset +ℤ moved)
-slice_step fit elems shape strides rest lens steps new ns nt offset slice len stride count kept moved n t m s =
-    let none = or_none (slice_fault fit len slice) (first_fault fit lens rest) s.fits in
-    let axis = slice_kept len stride slice.step (picks fit len slice) (picks_fit fit len slice none.0) in
+pub slice_step : (fit : Fit) (elems : List SliceInfoElem) (shape : List ℕ) (strides : List ℤ) (rest : List SliceInfoElem) (lens : List ℕ) (steps : List ℤ) (new : ℕ) (ns nt : List ℕ) (offset : ℤ) (slice : Slice) (len : ℕ) (stride : ℤ) (count kept : ℕ) (moved : ℤ) → count ≡ length (picks fit len slice) → signed kept ≡ picked_stride (length (picks fit len slice)) stride slice.step → moved ≡ first_offset (picks fit len slice) stride → slice_fault fit len slice ≡ None → SlicedSoFar fit elems shape strides (elem.Slice slice.start slice.end slice.step ∷ rest) (len ∷ lens) (stride ∷ steps) new ns nt offset → SlicedSoFar fit elems shape strides rest lens steps (new + 1) (set ns new count) (set nt new kept) (offset +ℤ moved)
+slice_step fit elems shape strides rest lens steps new ns nt offset slice len stride count kept moved n t m none s =
+    let axis = slice_kept len stride slice.step (picks fit len slice) (picks_fit fit len slice none) in
     let shape_is : take new ns ++ (count ∷ sliced_shape fit rest lens) ≡ sliced_shape fit elems shape = rw n s.shape_is in
     let strides_is = s.strides_is in
     record {
@@ -77,7 +78,7 @@ slice_step fit elems shape strides rest lens steps new ns nt offset slice len st
       counts = omega (arith, s.counts);
       room = omega (arith, s.room, length-set ns new count);
       same_room = omega (arith, s.same_room, length-set ns new count, length-set nt new kept);
-      fits = none.1;
+      fault = ap (λ fault. option_or fault (first_fault fit lens rest)) (sym none) ∙ s.fault;
       shape_is = wrote_len new count ns (sliced_shape fit rest lens) (sliced_shape fit elems shape) (omega (arith, s.room)) shape_is;
       strides_is = wrote_stride new kept _ nt (sliced_strides fit rest lens steps) (sliced_strides fit elems shape strides) (omega (arith, s.room, s.same_room)) t strides_is;
       offset_is = rw m (omega (arith, ints, s.offset_is));
@@ -85,17 +86,16 @@ slice_step fit elems shape strides rest lens steps new ns nt offset slice len st
       high = rw m (omega (arith, ints, s.high, axis.high));
     }
 
-pub index_step : (fit : Fit) (elems : List SliceInfoElem) (shape : List ℕ) (strides : List ℤ) (rest : List SliceInfoElem) (lens : List ℕ) (steps : List ℤ) (new : ℕ) (ns nt : List ℕ) (offset : ℤ) (index : ℤ) (len : ℕ) (stride : ℤ) (moved : ℤ) → moved ≡ meaning len index *ℤ stride → SlicedSoFar fit elems shape strides (elem.Index index ∷ rest) (len ∷ lens) (stride ∷ steps) new ns nt offset → SlicedSoFar fit elems shape strides rest lens steps new ns nt (offset +ℤ moved)
-index_step fit elems shape strides rest lens steps new ns nt offset index len stride moved m s =
-    let none = or_none (index_fault len index) (first_fault fit lens rest) s.fits in
-    let entry = index_entry len index none.0 in
+pub index_step : (fit : Fit) (elems : List SliceInfoElem) (shape : List ℕ) (strides : List ℤ) (rest : List SliceInfoElem) (lens : List ℕ) (steps : List ℤ) (new : ℕ) (ns nt : List ℕ) (offset : ℤ) (index : ℤ) (len : ℕ) (stride : ℤ) (moved : ℤ) → moved ≡ meaning len index *ℤ stride → index_fault len index ≡ None → SlicedSoFar fit elems shape strides (elem.Index index ∷ rest) (len ∷ lens) (stride ∷ steps) new ns nt offset → SlicedSoFar fit elems shape strides rest lens steps new ns nt (offset +ℤ moved)
+index_step fit elems shape strides rest lens steps new ns nt offset index len stride moved m none s =
+    let entry = index_entry len index none in
     let axis : Within (reach_down len stride) (reach_up len stride) (meaning len index *ℤ stride) = rw entry.0 (axis_within len (magnitude (meaning len index)) stride entry.1) in
     record {
       same_count = omega (arith, s.same_count);
       counts = omega (arith, s.counts);
       room = s.room;
       same_room = s.same_room;
-      fits = none.1;
+      fault = ap (λ fault. option_or fault (first_fault fit lens rest)) (sym none) ∙ s.fault;
       shape_is = s.shape_is;
       strides_is = s.strides_is;
       offset_is = rw m (omega (arith, ints, s.offset_is));
@@ -109,13 +109,20 @@ new_axis_step fit elems shape strides rest lens steps new ns nt offset s = recor
   counts = s.counts;
   room = omega (arith, s.room, length-set ns new 1);
   same_room = omega (arith, s.same_room, length-set ns new 1, length-set nt new 0);
-  fits = s.fits;
+  fault = s.fault;
   shape_is = wrote_len new 1 ns (sliced_shape fit rest lens) (sliced_shape fit elems shape) (omega (arith, s.room)) s.shape_is;
   strides_is = wrote_stride new 0 (pos 0) nt (sliced_strides fit rest lens steps) (sliced_strides fit elems shape strides) (omega (arith, s.room, s.same_room)) refl s.strides_is;
   offset_is = s.offset_is;
   low = s.low;
   high = s.high;
 }
+
+-- an element at fault is the first one
+pub slice_at_fault : (fit : Fit) (elems : List SliceInfoElem) (shape : List ℕ) (strides : List ℤ) (rest : List SliceInfoElem) (lens : List ℕ) (steps : List ℤ) (new : ℕ) (ns nt : List ℕ) (offset : ℤ) (slice : Slice) (len : ℕ) (stride : ℤ) (kind : ErrorKind) → Some kind ≡ slice_fault fit len slice → SlicedSoFar fit elems shape strides (elem.Slice slice.start slice.end slice.step ∷ rest) (len ∷ lens) (stride ∷ steps) new ns nt offset → Some kind ≡ first_fault fit shape elems
+slice_at_fault fit elems shape strides rest lens steps new ns nt offset slice len stride kind at s = ap (λ fault. option_or fault (first_fault fit lens rest)) at ∙ s.fault
+
+pub index_at_fault : (fit : Fit) (elems : List SliceInfoElem) (shape : List ℕ) (strides : List ℤ) (rest : List SliceInfoElem) (lens : List ℕ) (steps : List ℤ) (new : ℕ) (ns nt : List ℕ) (offset : ℤ) (index : ℤ) (len : ℕ) (stride : ℤ) (kind : ErrorKind) → Some kind ≡ index_fault len index → SlicedSoFar fit elems shape strides (elem.Index index ∷ rest) (len ∷ lens) (stride ∷ steps) new ns nt offset → Some kind ≡ first_fault fit shape elems
+index_at_fault fit elems shape strides rest lens steps new ns nt offset index len stride kind at s = ap (λ fault. option_or fault (first_fault fit lens rest)) at ∙ s.fault
 
 -- ---- what fits
 pub offset_fits : (fit : Fit) (elems : List SliceInfoElem) (shape : List ℕ) (strides : List ℤ) (rest : List SliceInfoElem) (lens : List ℕ) (steps : List ℤ) (new : ℕ) (ns nt : List ℕ) (offset : ℤ) → IsValidLayout shape strides → SlicedSoFar fit elems shape strides rest lens steps new ns nt offset → FitsSigned w64 offset
@@ -180,15 +187,15 @@ stepped fit elems shape strides k axis new ns nt offset valid s =
     let f = offset_fits fit elems shape (all_signed strides) (drop (k + 1) elems) (drop axis shape) (drop axis (all_signed strides)) new ns nt offset valid s in
     record { fits = f; next = rw (to_z-of_z w64 offset f) s }
 
-pub slice_arm : (fit : Fit) (elems : List SliceInfoElem) (shape strides : List ℕ) (slice : Slice) (k axis new : ℕ) (ns nt : List ℕ) (offset : ℤ) (count kept : ℕ) (moved : ℤ) → IsValidLayout shape (all_signed strides) → AtAxis fit elems shape strides (elem.Slice slice.start slice.end slice.step) k axis new ns nt offset → count ≡ length (picks fit (get_or shape axis 0) slice) → signed kept ≡ picked_stride (length (picks fit (get_or shape axis 0) slice)) (signed (get_or strides axis 0)) slice.step → moved ≡ first_offset (picks fit (get_or shape axis 0) slice) (signed (get_or strides axis 0)) → Stepped fit elems shape strides k (axis + 1) (new + 1) (set ns new count) (set nt new kept) (offset +ℤ moved)
-slice_arm fit elems shape strides slice k axis new ns nt offset count kept moved valid at n t m =
+pub slice_arm : (fit : Fit) (elems : List SliceInfoElem) (shape strides : List ℕ) (slice : Slice) (k axis new : ℕ) (ns nt : List ℕ) (offset : ℤ) (count kept : ℕ) (moved : ℤ) → IsValidLayout shape (all_signed strides) → AtAxis fit elems shape strides (elem.Slice slice.start slice.end slice.step) k axis new ns nt offset → count ≡ length (picks fit (get_or shape axis 0) slice) → signed kept ≡ picked_stride (length (picks fit (get_or shape axis 0) slice)) (signed (get_or strides axis 0)) slice.step → moved ≡ first_offset (picks fit (get_or shape axis 0) slice) (signed (get_or strides axis 0)) → slice_fault fit (get_or shape axis 0) slice ≡ None → Stepped fit elems shape strides k (axis + 1) (new + 1) (set ns new count) (set nt new kept) (offset +ℤ moved)
+slice_arm fit elems shape strides slice k axis new ns nt offset count kept moved valid at n t m none =
     stepped fit elems shape strides k (axis + 1) (new + 1) (set ns new count) (set nt new kept) (offset +ℤ moved) valid
-    (slice_step fit elems shape (all_signed strides) (drop (k + 1) elems) (drop (axis + 1) shape) (drop (axis + 1) (all_signed strides)) new ns nt offset slice (get_or shape axis 0) (signed (get_or strides axis 0)) count kept moved n t m at.so_far)
+    (slice_step fit elems shape (all_signed strides) (drop (k + 1) elems) (drop (axis + 1) shape) (drop (axis + 1) (all_signed strides)) new ns nt offset slice (get_or shape axis 0) (signed (get_or strides axis 0)) count kept moved n t m none at.so_far)
 
-pub index_arm : (fit : Fit) (elems : List SliceInfoElem) (shape strides : List ℕ) (index : ℤ) (k axis new : ℕ) (ns nt : List ℕ) (offset : ℤ) (moved : ℤ) → IsValidLayout shape (all_signed strides) → AtAxis fit elems shape strides (elem.Index index) k axis new ns nt offset → moved ≡ meaning (get_or shape axis 0) index *ℤ signed (get_or strides axis 0) → Stepped fit elems shape strides k (axis + 1) new ns nt (offset +ℤ moved)
-index_arm fit elems shape strides index k axis new ns nt offset moved valid at m =
+pub index_arm : (fit : Fit) (elems : List SliceInfoElem) (shape strides : List ℕ) (index : ℤ) (k axis new : ℕ) (ns nt : List ℕ) (offset : ℤ) (moved : ℤ) → IsValidLayout shape (all_signed strides) → AtAxis fit elems shape strides (elem.Index index) k axis new ns nt offset → moved ≡ meaning (get_or shape axis 0) index *ℤ signed (get_or strides axis 0) → index_fault (get_or shape axis 0) index ≡ None → Stepped fit elems shape strides k (axis + 1) new ns nt (offset +ℤ moved)
+index_arm fit elems shape strides index k axis new ns nt offset moved valid at m none =
     stepped fit elems shape strides k (axis + 1) new ns nt (offset +ℤ moved) valid
-    (index_step fit elems shape (all_signed strides) (drop (k + 1) elems) (drop (axis + 1) shape) (drop (axis + 1) (all_signed strides)) new ns nt offset index (get_or shape axis 0) (signed (get_or strides axis 0)) moved m at.so_far)
+    (index_step fit elems shape (all_signed strides) (drop (k + 1) elems) (drop (axis + 1) shape) (drop (axis + 1) (all_signed strides)) new ns nt offset index (get_or shape axis 0) (signed (get_or strides axis 0)) moved m none at.so_far)
 
 -- what an index means, and where it lies
 pub record IsEntryAt (len : ℕ) (stride : ℤ) (index : ℤ) : Type 0 where
@@ -196,12 +203,11 @@ pub record IsEntryAt (len : ℕ) (stride : ℤ) (index : ℤ) : Type 0 where
   pub small : (n : ℕ) → pos n ≡ meaning len index → n ≤ limit
   pub offset_fits : (n : ℕ) → pos n ≡ meaning len index → FitsSigned w64 (pos n *ℤ stride)
 
-pub index_within : (fit : Fit) (elems : List SliceInfoElem) (shape strides : List ℕ) (index : ℤ) (k axis new : ℕ) (ns nt : List ℕ) (offset : ℤ) → AtAxis fit elems shape strides (elem.Index index) k axis new ns nt offset → IsEntryAt (get_or shape axis 0) (signed (get_or strides axis 0)) index
-index_within fit elems shape strides index k axis new ns nt offset at =
+pub index_within : (fit : Fit) (elems : List SliceInfoElem) (shape strides : List ℕ) (index : ℤ) (k axis new : ℕ) (ns nt : List ℕ) (offset : ℤ) → AtAxis fit elems shape strides (elem.Index index) k axis new ns nt offset → index_fault (get_or shape axis 0) index ≡ None → IsEntryAt (get_or shape axis 0) (signed (get_or strides axis 0)) index
+index_within fit elems shape strides index k axis new ns nt offset at none =
     let len = get_or shape axis 0 in
     let stride = signed (get_or strides axis 0) in
-    let none = or_none (index_fault len index) (first_fault fit (drop (axis + 1) shape) (drop (k + 1) elems)) at.so_far.fits in
-    let entry = index_entry len index none.0 in
+    let entry = index_entry len index none in
     let fits = at.len_fits in
     let reaches = at.reach_fits in
     record {

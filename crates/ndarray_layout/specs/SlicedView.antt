@@ -1,5 +1,5 @@
 -- What slicing makes of a view, and which slices are refused.
-use Rattle.std.specs.Prelude.{◌≡◌, ℕ, ℤ, pos, negsuc, ◌+ℤ◌, true, not, ◌||◌, ◌==◌, Option, Some, None, if◌then◌else◌, List, [], ◌∷◌, length, refl}
+use Rattle.std.specs.Prelude.{◌≡◌, ℕ, ℤ, pos, negsuc, ◌+ℤ◌, Bool, true, not, ◌||◌, ◌==◌, Option, Some, None, if◌then◌else◌, List, [], ◌∷◌, length, refl}
 use Rattle.std.specs.Option.{option_map_or}
 use Rattle.nd_base.specs.declared.error.ErrorKind.{ErrorKind}
 use Rattle.nd_base.specs.declared.error.ErrorKind.TheVariants.{IncompatibleShape, OutOfBounds}
@@ -28,11 +28,13 @@ slice_of fit elems view = record {
 abbrev pub IsSliceOf : Fit → List SliceInfoElem → View → View → Type 0
 IsSliceOf fit elems view result = result ≡ slice_of fit elems view
 
+-- an argument is for more axes or fewer, or leaves more or fewer than the type of the slice fixes
+abbrev pub counts_differ : Option ℕ → List ℕ → List SliceInfoElem → Bool
+counts_differ fixed shape elems = not (in_count elems == length shape) || not (option_map_or (λ count. out_count elems == count) fixed true)
+
 -- the fault of an argument on a shape where the type of the slice may fix its count of axes: counts before any element
 abbrev pub slice_refusal : Fit → Option ℕ → List ℕ → List SliceInfoElem → Option ErrorKind
-slice_refusal fit fixed shape elems =
-    if not (in_count elems == length shape) || not (option_map_or (λ count. out_count elems == count) fixed true) then Some IncompatibleShape
-    else first_fault fit shape elems
+slice_refusal fit fixed shape elems = if counts_differ fixed shape elems then Some IncompatibleShape else first_fault fit shape elems
 
 -- examples
 every_other_backwards : slice_of Strict (elem.Slice (pos 1) None (negsuc 1) ∷ []) (record { start = 5; shape = 4 ∷ []; strides = pos 3 ∷ [] }) ≡ record { start = 14; shape = 2 ∷ []; strides = negsuc 5 ∷ [] }

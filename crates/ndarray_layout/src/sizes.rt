@@ -4,7 +4,7 @@ ghost use Rattle.nd_base.specs.Size.{nonzero_size, size, limit};
 ghost use Rattle.nd_slice.specs.SliceFault.{argument_fault};
 ghost use Rattle.nd_slice.specs.Sliced.{sliced_shape};
 
-use crate::slicing::slice_axis;
+use crate::slicing::count_of_picks;
 use nd_slice::{Fit, Slice, SliceInfoElem};
 
 /// The product of the lengths that an argument which fits a shape leaves.
@@ -19,8 +19,7 @@ pub fn picked_size(shape: &[usize], elems: &[SliceInfoElem], fit: Fit) -> usize
         match *elem {
             SliceInfoElem::Slice { start, end, step } => {
                 let slice = Slice { start, end, step };
-                let (count, _stride, _offset) = slice_axis(shape[axis], 0, slice, fit);
-                size *= count;
+                size *= count_of_picks(shape[axis], slice, fit);
                 axis += 1;
             },
             SliceInfoElem::Index(_) => axis += 1,

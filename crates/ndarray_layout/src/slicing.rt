@@ -1,56 +1,84 @@
 //! The shape and the strides that a slice argument leaves of a layout.
-ghost use Rattle.std.specs.Prelude.{◌≡◌, ◌<◌, ◌≤◌, ◌^◌, None, length};
+ghost use Rattle.std.specs.Prelude.{◌≡◌, ◌<◌, ◌≤◌, ◌^◌, IsFalse, None, IfOk, OnOk, pos, length};
 ghost use Rattle.std.specs.Result.{result_err};
+ghost use Rattle.nd_base.specs.Lengths.{NeedsNoMemory};
 ghost use Rattle.nd_base.specs.Signed.{signed as signed_reading, all_signed};
 ghost use Rattle.nd_base.specs.Size.{limit};
 ghost use Rattle.nd_base.specs.Span.{reach};
 ghost use Rattle.nd_base.specs.ValidLayout.{IsValidLayout};
-ghost use Rattle.nd_slice.specs.Picks.{picks};
-ghost use Rattle.nd_slice.specs.SliceFault.{slice_fault, argument_fault, out_count};
+ghost use Rattle.nd_slice.specs.Picks.{meaning, picks};
+ghost use Rattle.nd_slice.specs.SliceFault.{slice_fault, index_fault, first_fault, in_count, out_count};
 ghost use Rattle.nd_slice.specs.Sliced.{picked_stride, first_offset};
 ghost use Rattle.nd_slice.specs.Sliced.{sliced_shape, sliced_strides, sliced_offset};
-ghost use Rattle.ndarray_layout.specs.SlicedView.{slice_refusal};
+ghost use Rattle.ndarray_layout.specs.SlicedView.{counts_differ};
 
 use nd_base::{ErrorKind, ShapeError, from_kind, stride_offset};
-use nd_slice::{Fit, Slice, SliceInfoElem, abs_index, check_elems, do_slice, out_ndim_of};
+use nd_slice::{Fit, Slice, SliceInfoElem, do_slice, in_ndim_of, out_ndim_of};
 
-/// Whether a slice argument fits the lengths of a shape and leaves as many axes as a type fixes, if
-/// it fixes a count. Refused with `IncompatibleShape` where either count of axes differs, and then
-/// as `check_elems` is.
-pub fn check_counts_and_elems(
-    fixed: Option<usize>,
-    shape: &[usize],
-    elems: &[SliceInfoElem],
-    fit: Fit,
-) -> Result<(), ShapeError>
-    ensures { result_err result ≡ slice_refusal fit fixed shape.now elems.now }
+/// Whether a slice argument is for more axes or fewer than a shape has, or leaves more or fewer than a
+/// type fixes, if it fixes a count.
+pub fn has_other_counts(fixed: Option<usize>, shape: &[usize], elems: &[SliceInfoElem]) -> bool
+    ensures { result ≡ counts_differ fixed shape.now elems.now }
 {
-    if let Some(ndim) = fixed
-        && ndim != out_ndim_of(elems)
-    {
-        return Err(from_kind(ErrorKind::IncompatibleShape));
-    }
-    check_elems(shape, elems, fit)
+    in_ndim_of(elems) != shape.len() || matches!(fixed, Some(ndim) if ndim != out_ndim_of(elems))
 }
 
-/// Slices one axis with a slice that fits it: the length and the stride that are left, and how many
-/// elements the first pick lies behind the first entry.
-pub fn slice_axis(len: usize, stride: usize, slice: Slice, fit: Fit) -> (usize, usize, isize)
+/// Whether a list of so many lengths may want memory, where its type fixes their count or not.
+pub fn may_want_memory(fixed: Option<usize>, ndim: usize) -> bool
+    ensures { IsFalse result → NeedsNoMemory fixed ndim }
+{
+    fixed.is_none() && ndim > 4
+}
+
+/// Slices one axis: the length and the stride that are left, and how many elements the first pick lies
+/// behind the first entry. Refused as `do_slice` is.
+fn slice_axis(
+    len: usize,
+    stride: usize,
+    slice: Slice,
+    fit: Fit,
+) -> Result<(usize, usize, isize), ShapeError>
     requires len_fits { len < 2 ^ 63 }
     requires span_fits { reach len (signed_reading stride) ≤ limit }
-    requires fits { slice_fault fit len slice ≡ None }
-    ensures len { result.0 ≡ length (picks fit len slice) }
-    ensures stride { signed_reading result.1 ≡
-        picked_stride (length (picks fit len slice)) (signed_reading stride) slice.step }
-    ensures offset { result.2 ≡ first_offset (picks fit len slice) (signed_reading stride) }
+    ensures fault { result_err result ≡ slice_fault fit len slice }
+    ensures count { IfOk result (λ (count, kept, offset). count ≡ length (picks fit len slice)) }
+    ensures stride { IfOk result (λ (count, kept, offset). signed_reading kept ≡
+        picked_stride (length (picks fit len slice)) (signed_reading stride) slice.step) }
+    ensures offset { IfOk result (λ (count, kept, offset).
+        offset ≡ first_offset (picks fit len slice) (signed_reading stride)) }
 {
     let (mut len, mut stride) = (len, stride);
-    let offset = do_slice(&mut len, &mut stride, slice, fit).unwrap();
-    (len, stride, offset)
+    let offset = do_slice(&mut len, &mut stride, slice, fit)?;
+    Ok((len, stride, offset))
 }
 
-/// Writes the lengths and the strides that an argument which fits leaves, one for each element but
-/// an index. Answers how many elements the first index left lies behind the first index before.
+/// How many entries a slice picks of an axis which it fits.
+pub fn count_of_picks(len: usize, slice: Slice, fit: Fit) -> usize
+    requires len_fits { len < 2 ^ 63 }
+    requires fits { slice_fault fit len slice ≡ None }
+    ensures { result ≡ length (picks fit len slice) }
+{
+    let mut count = len;
+    do_slice(&mut count, &mut 0, slice, fit).unwrap();
+    count
+}
+
+/// The entry that an index means on an axis of `len` entries; any other is `OutOfBounds`.
+fn entry_of(len: usize, index: isize) -> Result<usize, ShapeError>
+    ensures fault { result_err result ≡ index_fault len index }
+    ensures entry { IfOk result (λ entry. pos entry ≡ meaning len index) }
+{
+    let distance = index.unsigned_abs();
+    if distance < len || (distance == len && index < 0) {
+        Ok(if index < 0 { len - distance } else { distance })
+    } else {
+        Err(from_kind(ErrorKind::OutOfBounds))
+    }
+}
+
+/// Writes the lengths and the strides that an argument for as many axes as there are leaves, one for
+/// each element but an index. Answers how many elements the first index left lies behind the first
+/// index before. Refused as the first element at fault is, with nothing told of what was written.
 pub fn slice_axes(
     elems: &[SliceInfoElem],
     shape: &[usize],
@@ -58,15 +86,17 @@ pub fn slice_axes(
     new_shape: &mut [usize],
     new_strides: &mut [usize],
     fit: Fit,
-) -> isize
+) -> Result<isize, ShapeError>
     requires valid { IsValidLayout shape.now (all_signed strides.now) }
-    requires fits { argument_fault fit shape.now elems.now ≡ None }
+    requires counts { in_count elems.now ≡ length shape.now }
     requires shape_room { length new_shape.old ≡ out_count elems.now }
     requires strides_room { length new_strides.old ≡ out_count elems.now }
-    ensures shape { new_shape.new ≡ sliced_shape fit elems.now shape.now }
-    ensures strides { all_signed new_strides.new ≡
-        sliced_strides fit elems.now shape.now (all_signed strides.now) }
-    ensures offset { result ≡ sliced_offset fit elems.now shape.now (all_signed strides.now) }
+    ensures fault { result_err result ≡ first_fault fit shape.now elems.now }
+    ensures shape { OnOk result (new_shape.new ≡ sliced_shape fit elems.now shape.now) }
+    ensures strides { OnOk result (all_signed new_strides.new ≡
+        sliced_strides fit elems.now shape.now (all_signed strides.now)) }
+    ensures offset { IfOk result (λ offset.
+        offset ≡ sliced_offset fit elems.now shape.now (all_signed strides.now)) }
 {
     let mut old_axis = 0usize;
     let mut new_axis = 0usize;
@@ -80,7 +110,7 @@ pub fn slice_axes(
                     strides[old_axis],
                     slice,
                     fit,
-                );
+                )?;
                 new_shape[new_axis] = len;
                 new_strides[new_axis] = stride;
                 offset += moved;
@@ -88,7 +118,8 @@ pub fn slice_axes(
                 new_axis += 1;
             },
             SliceInfoElem::Index(index) => {
-                offset += stride_offset(abs_index(shape[old_axis], index), strides[old_axis]);
+                let entry = entry_of(shape[old_axis], index)?;
+                offset += stride_offset(entry, strides[old_axis]);
                 old_axis += 1;
             },
             SliceInfoElem::NewAxis => {
@@ -98,5 +129,5 @@ pub fn slice_axes(
             },
         }
     }
-    offset
+    Ok(offset)
 }

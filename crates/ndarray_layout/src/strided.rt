@@ -2,7 +2,7 @@
 ghost use Rattle.std.specs.Iterator.{YieldsFirst, YieldsLast};
 ghost use Rattle.std.specs.Iterator.Runs.{YieldsInOrder, YieldsInReverse};
 ghost use Rattle.std.specs.List.{All};
-ghost use Rattle.std.specs.Prelude.{◌≡◌, ℕ, ◌<◌, pos, None, map, length, vec_len, vec_capacity, IfOk, IsOk, OnErr, OnOk, Some, slice_get};
+ghost use Rattle.std.specs.Prelude.{◌≡◌, ℕ, ◌<◌, pos, None, false, map, length, vec_len, vec_capacity, IfOk, IsOk, OnErr, OnOk, Some, slice_get};
 ghost use Rattle.std.specs.Option.{IsSome, option_map};
 ghost use Rattle.std.specs.Result.{result_err};
 ghost use Rattle.nd_base.specs.Signed.{all_signed};
@@ -12,24 +12,23 @@ ghost use Rattle.nd_shape.specs.ShapeBuilder.{custom_strides, strides_list};
 ghost use Rattle.nd_shape.specs.declared.checks.CanIndexCheckMode.TheVariants.{OwnedMutable};
 ghost use Rattle.nd_base.specs.Lengths.{NeedsNoMemory};
 ghost use Rattle.nd_base.specs.Rank.{index_of_rank_in};
+ghost use Rattle.nd_base.specs.ShapeFault.{shape_fault};
 ghost use Rattle.nd_base.specs.Size.{size};
 ghost use Rattle.nd_base.specs.Span.{low_span};
-ghost use Rattle.nd_slice.specs.SliceFault.{argument_fault, out_count};
+ghost use Rattle.nd_slice.specs.SliceFault.{argument_fault, first_fault, out_count};
 ghost use Rattle.nd_slice.specs.Sliced.{sliced_shape};
 ghost use Rattle.nd_slice.specs.Selected.{selected};
 ghost use Rattle.ndarray_layout.specs.CollapsedView.{collapse_fault, collapse_of, collapse_source};
 ghost use Rattle.ndarray_layout.specs.DistinctPlaces.{HasDistinctPlaces};
 ghost use Rattle.ndarray_layout.specs.KeepsPlaces.{KeepsPlaces};
-ghost use Rattle.ndarray_layout.specs.SlicedView.{IsSliceOf};
-ghost use Rattle.nd_base.specs.ShapeFault.{shape_fault};
-ghost use Rattle.ndarray_layout.specs.SlicedView.{slice_refusal};
+ghost use Rattle.ndarray_layout.specs.SlicedView.{IsSliceOf, counts_differ, slice_refusal};
 ghost use Rattle.ndarray_layout.specs.View.{IsView, LiesWithin};
 ghost use Rattle.ndarray_layout.specs.View.{view_of, checked_place, place_at, view_places};
 
 use crate::collapsing::has_entry;
 use crate::places::{offset_place, push_places};
 use crate::sizes::picked_size;
-use crate::slicing::{check_counts_and_elems, slice_axes};
+use crate::slicing::{has_other_counts, may_want_memory, slice_axes};
 use nd_dim::{Axis, Dimension, ErrorKind, LayoutError, Order, ShapeError, from_kind};
 use nd_shape::{
     Axes, CanIndexCheckMode, NdIndex, StrideShape, axes_of, can_index_slice,
@@ -231,8 +230,10 @@ impl<D: Dimension> Strided<D> {
         ensures distinct { IfOk result (λ v. HasDistinctPlaces self.now → HasDistinctPlaces v) }
     {
         let elems = slices.elems();
-        check_counts_and_elems(E::NDIM, self.dim.slice(), elems, fit)?;
-        Ok(self.fitting_slice(alloc, elems, fit)?)
+        if has_other_counts(E::NDIM, self.dim.slice(), elems) {
+            return Err(LayoutError::Shape(from_kind(ErrorKind::IncompatibleShape)));
+        }
+        self.counted_slice(alloc, elems, fit)
     }
 
     /// Takes one entry of an axis: the axis has a length of 1 then, and keeps its stride. Refused with
@@ -268,22 +269,29 @@ impl<D: Dimension> Strided<D> {
         Ok(picked_size(shape, elems, fit))
     }
 
-    /// The slice by an argument that fits.
-    fn fitting_slice<E: Dimension>(
+    /// The slice by an argument of fitting counts. Faults come before want of memory, so where memory
+    /// may be wanted the elements are checked first.
+    fn counted_slice<E: Dimension>(
         &self,
         alloc: Global,
         elems: &[SliceInfoElem],
         fit: Fit,
-    ) -> Result<Strided<E>, AllocError>
-        requires { slice_refusal fit E.NDIM self.now.shape elems.now ≡ None }
-        ensures memory { NeedsNoMemory E.NDIM (out_count elems.now) → IsOk result }
+    ) -> Result<Strided<E>, LayoutError>
+        requires { counts_differ E.NDIM self.now.shape elems.now ≡ false }
+        ensures refusal { shape_fault result ≡ first_fault fit self.now.shape elems.now }
+        ensures memory { first_fault fit self.now.shape elems.now ≡ None →
+            NeedsNoMemory E.NDIM (out_count elems.now) → IsOk result }
         ensures sliced { IfOk result (λ v. IsSliceOf fit elems.now self.now v) }
         ensures is_view { IfOk result (λ v. IsView v) }
-        ensures places { IfOk result (λ v. KeepsPlaces (selected fit elems.now self.now.shape) self.now v) }
+        ensures places { IfOk result (λ v.
+            KeepsPlaces (selected fit elems.now self.now.shape) self.now v) }
         ensures inside { IfOk result (λ v. (len : ℕ) → LiesWithin len self.now → LiesWithin len v) }
         ensures distinct { IfOk result (λ v. HasDistinctPlaces self.now → HasDistinctPlaces v) }
     {
         let ndim = out_ndim_of(elems);
+        if may_want_memory(E::NDIM, ndim) {
+            check_elems(self.dim.slice(), elems, fit)?;
+        }
         let mut dim = E::zeros(alloc, ndim)?;
         let mut strides = E::zeros(alloc, ndim)?;
         let offset = slice_axes(
@@ -293,7 +301,7 @@ impl<D: Dimension> Strided<D> {
             dim.slice_mut(),
             strides.slice_mut(),
             fit,
-        );
+        )?;
         let start = offset_place(self.start, offset);
         Ok(Strided {
             start,

@@ -2,6 +2,7 @@
 use Rattle.std.proofs.Common.{◌≡◌, ℕ, ℤ, pos, negsuc, ◌≤ℤ◌, Option, Some, None, Bool, true, false, not, ◌||◌, cond, eqb, List, length, refl, arith}
 use Rattle.std.proofs.lemmas.Int.{ints}
 use Rattle.std.specs.Option.{option_map_or}
+use Rattle.nd_base.specs.declared.error.ErrorKind.{ErrorKind}
 use Rattle.nd_base.specs.declared.error.ErrorKind.TheVariants.{IncompatibleShape}
 use Rattle.nd_base.specs.Signed.{magnitude}
 use Rattle.nd_base.specs.Size.{limit}
@@ -15,7 +16,7 @@ use Rattle.nd_slice.proofs.laws.Selected.{selected_injective}
 use Rattle.nd_slice.proofs.laws.SliceFault.{elements_of_no_fault}
 use Rattle.ndarray_layout.specs.DistinctPlaces.{HasDistinctPlaces}
 use Rattle.ndarray_layout.specs.KeepsPlaces.{KeepsPlaces}
-use Rattle.ndarray_layout.specs.SlicedView.{slice_of, sliced_start, slice_refusal}
+use Rattle.ndarray_layout.specs.SlicedView.{slice_of, sliced_start, counts_differ, slice_refusal}
 use Rattle.ndarray_layout.specs.View.{View, IsView, LiesWithin}
 use Rattle.ndarray_layout.proofs.laws.KeepsPlaces.{LiesWithin-kept, HasDistinctPlaces-kept}
 use Rattle.ndarray_layout.proofs.Slices.{SliceKept, slices_kept, places_kept}
@@ -29,6 +30,14 @@ fits_of_no_refusal fit fixed shape elems = by (eqb (in_count elems) (length shap
     by true false none = absurd (cc)
     by false true none = absurd (cc)
     by false false none = absurd (cc)
+
+-- nor is one of fitting counts whose elements are without fault
+pub fits_of_counts : (fit : Fit) (fixed : Option ℕ) (shape : List ℕ) (elems : List SliceInfoElem) → counts_differ fixed shape elems ≡ false → first_fault fit shape elems ≡ None → argument_fault fit shape elems ≡ None
+fits_of_counts fit fixed shape elems same none = fits_of_no_refusal fit fixed shape elems (by (counts_differ fixed shape elems) (first_fault fit shape elems) same none)
+  where
+    by : (t : Bool) (first : Option ErrorKind) → t ≡ false → first ≡ None → cond t (Some IncompatibleShape) first ≡ None
+    by true first e n = absurd (cc)
+    by false first e n = n
 
 kept : (fit : Fit) (elems : List SliceInfoElem) (view : View) → IsView view → argument_fault fit view.shape elems ≡ None → SliceKept fit elems view.shape view.strides
 kept fit elems view v none =

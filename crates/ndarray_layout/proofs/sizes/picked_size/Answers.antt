@@ -7,18 +7,18 @@ use Rattle.ndarray_layout.proofs.SliceSteps.{len_small}
 use Rattle.ndarray_layout.proofs.sizes.picked_size.Goals as goal
 use Rattle.ndarray_layout.proofs.sizes.picked_size.Goals.{in-Slice, in-Index, in-NewAxis}
 
-pub slice_axis-count-requires-clause-len_fits : goal.slice_axis-count-requires-clause-len_fits
-slice_axis-count-requires-clause-len_fits c = omega (arith, len_small c.args.shape.now c.loop-elem.axis, c.requires.size_fits)
+pub count_of_picks-size-requires-clause-len_fits : goal.count_of_picks-size-requires-clause-len_fits
+count_of_picks-size-requires-clause-len_fits c = omega (arith, len_small c.args.shape.now c.loop-elem.axis, c.requires.size_fits)
 
 pub overflow_mul-size : goal.overflow_mul-size
 overflow_mul-size c =
     let f : FitsSigned w64 c.in-Slice.start = search rules in
     let g : FitsSigned w64 c.in-Slice.step = search rules in
-    let known = rw (to_z-of_z w64 c.in-Slice.start f, to_z-of_z w64 c.in-Slice.step g) at c.slice_axis-count.ensures.len in
+    let known = rw (to_z-of_z w64 c.in-Slice.start f, to_z-of_z w64 c.in-Slice.step g) at c.count_of_picks-size.ensures in
     let slice : Slice = record { start = c.in-Slice.start; end = c.in-Slice.end; step = c.in-Slice.step } in
     let here = next_elem c.args.fit c.args.elems.now c.args.shape.now _ c.loop-elem.elem-index c.loop-elem.size _ _ c.loop-elem-test.true c.in-Slice.is c.loop-elem.invariant in
     let there = next_axis c.args.fit c.args.elems.now c.args.shape.now _ c.loop-elem.axis c.loop-elem.size (omega arith) here in
-    let after = slice_picked c.args.fit c.args.elems.now c.args.shape.now _ _ c.loop-elem.size slice _ c.slice_axis-count.result.0 known there in
+    let after = slice_picked c.args.fit c.args.elems.now c.args.shape.now _ _ c.loop-elem.size slice _ c.count_of_picks-size.result known there in
     omega (arith, size_small _ _ _ _ _ _ c.requires.size_fits after)
 
 pub loop-elem-preserved : goal.loop-elem-preserved
@@ -27,11 +27,11 @@ loop-elem-preserved c =
       | in-Slice w ↦
           let f : FitsSigned w64 w.in-Slice.start = search rules in
           let g : FitsSigned w64 w.in-Slice.step = search rules in
-          let known = rw (to_z-of_z w64 w.in-Slice.start f, to_z-of_z w64 w.in-Slice.step g) at w.slice_axis-count.ensures.len in
+          let known = rw (to_z-of_z w64 w.in-Slice.start f, to_z-of_z w64 w.in-Slice.step g) at w.count_of_picks-size.ensures in
           let slice : Slice = record { start = w.in-Slice.start; end = w.in-Slice.end; step = w.in-Slice.step } in
           let here = next_elem c.args.fit c.args.elems.now c.args.shape.now _ c.loop-elem.elem-index c.loop-elem.size _ _ c.loop-elem-test.true w.in-Slice.is c.loop-elem.invariant in
           let there = next_axis c.args.fit c.args.elems.now c.args.shape.now _ c.loop-elem.axis c.loop-elem.size (omega arith) here in
-          rw (w.axis-is, w.size-is) (slice_picked c.args.fit c.args.elems.now c.args.shape.now _ _ c.loop-elem.size slice _ w.slice_axis-count.result.0 known there)
+          rw (w.axis-is, w.size-is) (slice_picked c.args.fit c.args.elems.now c.args.shape.now _ _ c.loop-elem.size slice _ w.count_of_picks-size.result known there)
       | in-Index w ↦
           let here = next_elem c.args.fit c.args.elems.now c.args.shape.now _ c.loop-elem.elem-index c.loop-elem.size _ _ c.loop-elem-test.true w.in-Index.is c.loop-elem.invariant in
           let there = next_axis c.args.fit c.args.elems.now c.args.shape.now _ c.loop-elem.axis c.loop-elem.size (omega arith) here in
