@@ -32,6 +32,7 @@ pub fn abs_index(len: usize, index: isize) -> usize
 
 /// The entry that a bound of a range means, from 0 to `len`. Any other is `OutOfBounds`, or is moved
 /// to the nearer end of the axis.
+#[inline(always)]
 fn abs_bound(len: usize, bound: isize, fit: Fit) -> Result<usize, ShapeError>
     ensures value { OkIff result (IsTrue (is_bound len (bound_meaning fit len bound)))
         (magnitude (bound_meaning fit len bound)) }
@@ -54,6 +55,7 @@ fn abs_bound(len: usize, bound: isize, fit: Fit) -> Result<usize, ShapeError>
 /// from the first entry. An end before the start becomes the start. Refused where a bound is not
 /// from 0 to `len` and is not to be clamped (`OutOfBounds`), then for a step of 0 (`Unsupported`).
 /// Upstream's `to_abs_slice`.
+#[inline]
 pub fn to_abs_slice(len: usize, slice: Slice, fit: Fit) -> Result<(usize, usize, isize), ShapeError>
     ensures fault { result_err result ≡ slice_fault fit len slice }
     ensures fits { IsOk result ↔ SliceFits fit len slice }
@@ -76,6 +78,7 @@ pub fn to_abs_slice(len: usize, slice: Slice, fit: Fit) -> Result<(usize, usize,
 }
 
 /// How many entries a step picks between two bounds.
+#[inline(always)]
 fn pick_count(start: usize, end: usize, step: isize) -> usize
     requires order { start ≤ end }
     requires moves { 0 < magnitude step }
@@ -85,6 +88,7 @@ fn pick_count(start: usize, end: usize, step: isize) -> usize
 }
 
 /// The entry that a step picks first between two bounds: the last one for a step back.
+#[inline(always)]
 fn first_pick(start: usize, end: usize, step: isize) -> usize
     requires order { start < end }
     requires moves { 0 < magnitude step }
@@ -95,6 +99,7 @@ fn first_pick(start: usize, end: usize, step: isize) -> usize
 
 /// The stride of `count` entries that lie `step` entries of an axis of a stride apart; at most one
 /// needs none.
+#[inline(always)]
 fn stepped_stride(count: usize, stride: usize, step: isize) -> usize
     requires { 1 < count → FitsSigned w64 (signed_reading stride *ℤ step) }
     ensures { signed_reading result ≡ picked_stride count (signed_reading stride) step }
@@ -110,6 +115,7 @@ fn stepped_stride(count: usize, stride: usize, step: isize) -> usize
 /// distance in elements from one of them to the next, 0 where there is at most one. Answers how many
 /// elements the first of them lies behind the first entry, with its sign; 0 where there is none.
 /// Refused as `to_abs_slice` is, and then the length and the stride stay. Upstream's `do_slice`.
+#[inline]
 pub fn do_slice(
     dim: &mut usize,
     stride: &mut usize,

@@ -12,6 +12,7 @@ use nd_dim::Dimension;
 
 /// How many axes of a shape a slice argument is for: one for each element but a new axis. Upstream's
 /// `SliceArg::in_ndim`.
+#[inline]
 pub fn in_ndim_of(list: &[SliceInfoElem]) -> usize
     ensures { result ≡ in_count list.now }
 {
@@ -22,6 +23,7 @@ pub fn in_ndim_of(list: &[SliceInfoElem]) -> usize
 
 /// How many axes a slice argument leaves: one for each element but an index. Upstream's
 /// `SliceArg::out_ndim`.
+#[inline]
 pub fn out_ndim_of(list: &[SliceInfoElem]) -> usize
     ensures { result ≡ out_count list.now }
 {

@@ -17,6 +17,7 @@ use nd_slice::{Fit, Slice, SliceInfoElem, do_slice, in_ndim_of, out_ndim_of};
 
 /// Whether a slice argument is for more axes or fewer than a shape has, or leaves more or fewer than a
 /// type fixes, if it fixes a count.
+#[inline(always)]
 pub fn has_other_counts(fixed: Option<usize>, shape: &[usize], elems: &[SliceInfoElem]) -> bool
     ensures { result ≡ counts_differ fixed shape.now elems.now }
 {
@@ -24,6 +25,7 @@ pub fn has_other_counts(fixed: Option<usize>, shape: &[usize], elems: &[SliceInf
 }
 
 /// Whether a list of so many lengths may want memory, where its type fixes their count or not.
+#[inline(always)]
 pub fn may_want_memory(fixed: Option<usize>, ndim: usize) -> bool
     ensures { IsFalse result → NeedsNoMemory fixed ndim }
 {
@@ -32,6 +34,7 @@ pub fn may_want_memory(fixed: Option<usize>, ndim: usize) -> bool
 
 /// Slices one axis: the length and the stride that are left, and how many elements the first pick lies
 /// behind the first entry. Refused as `do_slice` is.
+#[inline(always)]
 fn slice_axis(
     len: usize,
     stride: usize,
@@ -64,6 +67,7 @@ pub fn count_of_picks(len: usize, slice: Slice, fit: Fit) -> usize
 }
 
 /// The entry that an index means on an axis of `len` entries; any other is `OutOfBounds`.
+#[inline(always)]
 fn entry_of(len: usize, index: isize) -> Result<usize, ShapeError>
     ensures fault { result_err result ≡ index_fault len index }
     ensures entry { IfOk result (λ entry. pos entry ≡ meaning len index) }
@@ -79,6 +83,7 @@ fn entry_of(len: usize, index: isize) -> Result<usize, ShapeError>
 /// Writes the lengths and the strides that an argument for as many axes as there are leaves, one for
 /// each element but an index. Answers how many elements the first index left lies behind the first
 /// index before. Refused as the first element at fault is, with nothing told of what was written.
+#[inline(always)]
 pub fn slice_axes(
     elems: &[SliceInfoElem],
     shape: &[usize],

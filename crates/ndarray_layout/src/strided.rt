@@ -213,6 +213,7 @@ impl<D: Dimension> Strided<D> {
     /// axis, or a bound that is not and is not to be clamped, with `Unsupported` for a step of 0; and
     /// then for want of memory.
     /// Upstream's `slice` and `slice_collapse`.
+    #[inline]
     pub fn slice<E: Dimension, S: SliceElems>(
         &self,
         alloc: Global,
@@ -271,6 +272,7 @@ impl<D: Dimension> Strided<D> {
 
     /// The slice by an argument of fitting counts. Faults come before want of memory, so where memory
     /// may be wanted the elements are checked first.
+    #[inline(always)]
     fn counted_slice<E: Dimension>(
         &self,
         alloc: Global,
