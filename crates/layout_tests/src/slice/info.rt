@@ -1,6 +1,6 @@
 //! Slice arguments whose type tells the shapes before and after.
 use nd_base::{ErrorKind, FixedCount, Ix0, Ix1, Ix2, Ix3, Ix6, IxDyn, ShapeError, new_ix2};
-use nd_slice::{NewAxis, SliceArg, SliceElems, SliceInfo, SliceInfoElem, check_slice};
+use nd_slice::{Fit, NewAxis, SliceArg, SliceElems, SliceInfo, SliceInfoElem, check_slice};
 use nd_testing::or_fault;
 use std::alloc::Global;
 
@@ -102,8 +102,8 @@ fn an_argument_by_its_type(rt: HostRuntime) {
         *info.indices() == row_of_a_matrix()
             && *clone.indices() == row_of_a_matrix()
             && *lent.indices() == row_of_a_matrix().as_slice()
-            && check_slice(&new_ix2(3, 4), &info).is_ok()
-            && check_slice(&new_ix2(0, 4), &lent).is_err()
+            && check_slice(&new_ix2(3, 4), &info, Fit::Strict).is_ok()
+            && check_slice(&new_ix2(0, 4), &lent, Fit::Strict).is_err()
     );
 }
 
