@@ -5,5 +5,6 @@ mod question;
 mod rows;
 mod shapes;
 mod slices;
+mod sums;
 mod two_rows;
 mod views;

@@ -1,7 +1,8 @@
 //! Walks over all indices of a shape, in either order.
 use crate::lists::dim_of;
 use nd_dim::{
-    Dimension, IntoDimension, Ix0, Ix1, Ix2, Ix3, Ix4, IxDyn, Lengths, Order, new_ix1, new_ixdyn,
+    Dimension, IntoDimension, Ix0, Ix1, Ix2, Ix3, Ix4, IxDyn, Lengths, Order, new_ix1, new_ix2,
+    new_ix3, new_ixdyn,
 };
 use nd_shape::{IndexCursor, IndexCursorF, IndicesIter, IndicesIterF, all_indices, indices_iter_f};
 use nd_testing::{Row, asked, rows};
@@ -332,4 +333,43 @@ fn late_memory_of_cursors(rt: HostRuntime) {
     };
     let (rows, columns) = lens_of_cursors(alloc, dim, other);
     assert!(rt; asked(alloc, rows, columns));
+}
+
+// ---- folds of what is left
+
+/// What a fold over the indices of two axes of 2 and 3 entries that are left makes of their ranks.
+fn folded_of_two(walk: &IndicesIter<Ix2>) -> usize {
+    walk.clone().unwrap().fold(1_usize, |told, (i, j)| {
+        let rank = i.wrapping_mul(3).wrapping_add(j);
+        told.wrapping_mul(10).wrapping_add(rank)
+    })
+}
+
+/// The same of three axes of 2, 3 and 4 entries, with what does not fit cut off.
+fn folded_of_three(walk: &IndicesIter<Ix3>) -> usize {
+    walk.clone().unwrap().fold(1_usize, |told, (i, j, k)| {
+        let row = i.wrapping_mul(3).wrapping_add(j);
+        let rank = row.wrapping_mul(4).wrapping_add(k);
+        told.wrapping_mul(31).wrapping_add(rank)
+    })
+}
+
+#[test]
+fn r7_rows_of_folds_of_two_axes(rt: HostRuntime) {
+    let mut walk = by_rows(rt.alloc(), new_ix2(2, 3)).expect(&rt, "a walk");
+    assert_eq!(rt; folded_of_two(&walk), 1012345);
+    walk.next();
+    assert_eq!(rt; folded_of_two(&walk), 112345);
+    walk.next();
+    assert_eq!(rt; folded_of_two(&walk), 12345);
+}
+
+#[test]
+fn r7_rows_of_folds_of_three_axes(rt: HostRuntime) {
+    let mut walk = by_rows(rt.alloc(), new_ix3(2, 3, 4)).expect(&rt, "a walk");
+    assert_eq!(rt; folded_of_three(&walk), 9080093417489650957);
+    walk.next();
+    assert_eq!(rt; folded_of_three(&walk), 6872714081735186155);
+    walk.next();
+    assert_eq!(rt; folded_of_three(&walk), 14177832400027191308);
 }

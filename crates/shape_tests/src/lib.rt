@@ -23,5 +23,3 @@ mod merge;
 mod questions;
 #[cfg(test)]
 mod shapes;
-#[cfg(test)]
-mod sums;

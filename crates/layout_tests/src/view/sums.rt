@@ -1,0 +1,34 @@
+//! What a caller of a walk over a view's indices can prove from its contracts alone.
+ghost use Rattle.std.specs.Prelude.{◌≡◌, ◌<◌, ◌^◌, map, nat_abs, sum, IfOk};
+ghost use Rattle.nd_base.specs.declared.order.Order.TheVariants.{RowMajor};
+ghost use Rattle.ndarray_layout.specs.View.{view_places};
+
+use CanIndexCheckMode::OwnedMutable;
+use nd_dim::{Dimension, IntoDimension, new_ix2};
+use nd_shape::all_indices;
+use ndarray_layout::{CanIndexCheckMode, Strided};
+use std::alloc::{AllocError, Global};
+
+/// The places of all indices of a view together, by one walk over the indices.
+fn sum_of_places<D: Dimension + Copy>(alloc: Global, view: &Strided<D>) -> Result<usize, AllocError>
+    requires sum_fits { sum (map nat_abs (view_places RowMajor view.now)) < 2 ^ 64 }
+    ensures { IfOk result (λ total. total ≡ sum (map nat_abs (view_places RowMajor view.now))) }
+{
+    let mut total = 0usize;
+    let dim = *view.dim();
+    let indices = all_indices(alloc, dim.into_pattern())?;
+    for item in indices {
+        let index = item.into_dimension(alloc)?;
+        total += view.place(&index).unwrap();
+    }
+    Ok(total)
+}
+
+#[test]
+fn a_walk_adds_places(rt: HostRuntime) {
+    let view = Strided::new(new_ix2(2, 3), new_ix2(3, 1), 1, 6, OwnedMutable).expect(
+        &rt, "refused",
+    );
+    let sum = sum_of_places(rt.alloc(), &view);
+    assert!(rt; sum.is_ok_and(|sum| sum == 15));
+}
