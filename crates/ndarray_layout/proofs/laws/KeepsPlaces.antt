@@ -1,5 +1,5 @@
 -- Laws of views whose indices lie where their sources in another view do.
-use Rattle.std.proofs.Common.{◌≡◌, ℕ, true, List, sym, subst, ◌∙◌}
+use Rattle.std.proofs.Common.{◌≡◌, ℕ, true, List, refl, sym, subst, ◌∙◌}
 use Rattle.nd_base.specs.Indices.{is_index}
 use Rattle.nd_shape.specs.Inside.{IsInside}
 use Rattle.ndarray_layout.specs.DistinctPlaces.{HasDistinctPlaces}
@@ -18,3 +18,14 @@ HasDistinctPlaces-kept source view result keeps injective distinct = λ index ot
     let first = keeps index here in
     let second = keeps other there in
     injective index other here there (distinct (source index) (source other) first.0 second.0 (sym first.1 ∙ same ∙ second.1))
+
+-- a view keeps its own places
+pub KeepsPlaces-stayed : (view : View) → KeepsPlaces (λ index. index) view view
+KeepsPlaces-stayed view = λ index here. (here, refl)
+
+-- and a view's view keeps them, by the sources of the sources
+pub KeepsPlaces-in_turn : (source more : List ℕ → List ℕ) (view between result : View) → KeepsPlaces source view between → KeepsPlaces more between result → KeepsPlaces (λ index. source (more index)) view result
+KeepsPlaces-in_turn source more view between result first second = λ index here.
+    let near = second index here in
+    let far = first (more index) near.0 in
+    (far.0, near.1 ∙ far.1)

@@ -1,0 +1,54 @@
+-- Each step fits what those before it left, or ends the run of them all.
+use Rattle.std.proofs.Common.{◌≡◌, ℕ, ◌<◌, List, None, Some, map, length, get_or, sym, ap, subst, ◌∙◌, refl, arith}
+use Rattle.std.specs.List.{slice_get}
+use Rattle.std.specs.Option.{option_map}
+use Rattle.std.proofs.lemmas.List.{length-map, take_all}
+use Rattle.std.proofs.lemmas.Option.{slice_get-get_or, slice_get-map}
+use Rattle.ndarray_layout.specs.DistinctPlaces.{HasDistinctPlaces}
+use Rattle.ndarray_layout.specs.KeepsPlaces.{KeepsPlaces}
+use Rattle.ndarray_layout.specs.Run.{run_of, HasNoBroadcast}
+use Rattle.ndarray_layout.specs.declared.steps.Step.{Step}
+use Rattle.ndarray_layout.specs.Step.{step_value}
+use Rattle.ndarray_layout.specs.View.{IsView, LiesWithin}
+use Rattle.ndarray_layout.proofs.Runs.{taken_so_far, ended_by}
+use Rattle.ndarray_layout.proofs.laws.KeepsPlaces.{LiesWithin-kept}
+use Rattle.ndarray_layout.proofs.laws.Run.{run_sound}
+use Rattle.ndarray_layout.proofs.steps.run.Goals as goal
+
+-- the step that is taken next
+next : (steps : List Step) (at : ℕ) (step : Step) → at < length steps → step ≡ get_or steps at step → slice_get (map step_value steps) at ≡ Some (step_value step)
+next steps at step within is = slice_get-map step_value steps at ∙ ap (option_map step_value) (slice_get-get_or steps at step within ∙ ap Some (sym is))
+
+pub returns-in-Err-clause-ended : goal.returns-in-Err-clause-ended
+returns-in-Err-clause-ended c =
+    let refused = rw (c.in-Err.is) at c.take_step.ensures.fault in
+    let stays = c.in-Err.ensures.refusal in
+    rw (stays) (ended_by (Unit {0}) (map step_value c.args.steps.now) c.loop-at.at (step_value c.index-steps-at.result) c.args.view c.loop-at.view c.in-Err.fault (next c.args.steps.now c.loop-at.at c.index-steps-at.result c.loop-at-test.true c.index-steps-at.is) c.loop-at.invariant.fits c.loop-at.invariant.left refused)
+
+pub loop-at-preserved : goal.loop-at-preserved
+loop-at-preserved c =
+    let fits = rw (c.in_default.is) at c.take_step.ensures.fault in
+    let taken = rw (c.in_default.is) at c.take_step.ensures.taken in
+    let now = taken_so_far (map step_value c.args.steps.now) c.loop-at.at (step_value c.index-steps-at.result) c.args.view c.loop-at.view (next c.args.steps.now c.loop-at.at c.index-steps-at.result c.loop-at-test.true c.index-steps-at.is) c.loop-at.invariant.fits c.loop-at.invariant.left (sym fits) in
+    record { fits = now.0; left = now.1 ∙ sym taken }
+
+-- at the end every step was taken
+whole : (c : goal.After-loop-at) → (run_of (map step_value c.args.steps.now) c.args.view).view ≡ c.loop-at.view
+whole c =
+    let steps = map step_value c.args.steps.now in
+    let all = take_all c.loop-at.at steps (omega (arith, c.loop-at-test.false, length-map c.args.steps.now step_value)) in
+    subst (λ part. (run_of part c.args.view).view ≡ c.loop-at.view) all c.loop-at.invariant.left
+
+pub returns-clause-is_view : goal.returns-clause-is_view
+returns-clause-is_view c = subst IsView (whole c) (run_sound (map step_value c.args.steps.now) c.args.view c.start-start.ensures.is_view).is_view
+
+pub returns-clause-places : goal.returns-clause-places
+returns-clause-places c =
+    let steps = map step_value c.args.steps.now in
+    subst (KeepsPlaces (run_of steps c.args.view).source c.args.view) (whole c) (run_sound steps c.args.view c.start-start.ensures.is_view).places
+
+pub returns-clause-inside : goal.returns-clause-inside
+returns-clause-inside c = λ len within. LiesWithin-kept len (run_of (map step_value c.args.steps.now) c.args.view).source c.args.view c.loop-at.view (returns-clause-places c) within
+
+pub returns-clause-distinct : goal.returns-clause-distinct
+returns-clause-distinct c = λ apart distinct. subst HasDistinctPlaces (whole c) ((run_sound (map step_value c.args.steps.now) c.args.view c.start-start.ensures.is_view).distinct apart distinct)

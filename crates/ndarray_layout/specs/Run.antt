@@ -1,0 +1,88 @@
+-- What a list of steps makes of a view: what its steps make of it, one after another.
+use Rattle.std.specs.Prelude.{◌≡◌, ℕ, ◌+◌, pos, negsuc, true, false, IsTrue, Option, Some, None, IsSomeAnd, List, [], ◌∷◌, take, slice_get, refl}
+use Rattle.std.specs.List.{All}
+use Rattle.nd_base.specs.declared.error.ErrorKind.{ErrorKind}
+use Rattle.nd_base.specs.declared.error.ErrorKind.TheVariants.{IncompatibleLayout, OutOfBounds}
+use Rattle.nd_base.specs.declared.error.LayoutError.{LayoutError}
+use Rattle.nd_base.specs.declared.error.LayoutError.TheVariants.{Shape, Memory}
+use Rattle.ndarray_layout.specs.Step.{StepValue, CollapseTo, MergeInto, BroadcastTo, step_fault, view_after, source_index, may_want_memory, is_broadcast}
+use Rattle.ndarray_layout.specs.View.{View}
+
+-- what became of a view: how many steps were taken, the view that they left, which index of the first view an index of
+-- that one stands for, and the fault of the next step, where it doesn't fit
+pub record Outcome : Type 0 where
+  pub taken : ℕ
+  pub view : View
+  pub source : List ℕ → List ℕ
+  pub fault : Option ErrorKind
+
+-- no step was taken
+abbrev pub stayed : Option ErrorKind → View → Outcome
+stayed fault view = record { taken = 0; view = view; source = λ index. index; fault = fault }
+
+-- one step was
+abbrev pub stepped : View → StepValue → Outcome
+stepped view step = record { taken = 1; view = view_after view step; source = source_index view step; fault = None }
+
+-- what one step makes of a view
+abbrev pub unless_fault : Option ErrorKind → View → StepValue → Outcome
+unless_fault None view step = stepped view step
+unless_fault (Some kind) view step = stayed (Some kind) view
+
+abbrev pub run_of_step : StepValue → View → Outcome
+run_of_step step view = unless_fault (step_fault view step) view step
+
+-- two outcomes, of which the second began with the view that the first left; a fault ends both
+abbrev pub joined : Option ErrorKind → Outcome → Outcome → Outcome
+joined None first second = record { taken = first.taken + second.taken; view = second.view; source = λ index. first.source (second.source index); fault = second.fault }
+joined (Some kind) first second = first
+
+abbrev pub in_turn : (View → Outcome) → (View → Outcome) → View → Outcome
+in_turn first second view = joined (first view).fault (first view) (second (first view).view)
+
+-- what a list of steps makes of a view
+abbrev pub run_of : List StepValue → View → Outcome
+run_of [] = stayed None
+run_of (step ∷ steps) = in_turn (run_of_step step) (run_of steps)
+
+-- no step is a broadcast
+abbrev pub HasNoBroadcast : List StepValue → Type 0
+HasNoBroadcast steps = All (λ step. is_broadcast step ≡ false) steps
+
+-- why a step is not taken: it doesn't fit, or it does and memory was refused
+abbrev pub IsRefusedBy : View → LayoutError → StepValue → Type 0
+IsRefusedBy view (Shape kind) step = step_fault view step ≡ Some kind
+IsRefusedBy view (Memory e) step = (step_fault view step ≡ None) × IsTrue (may_want_memory step)
+
+-- the steps before the one of this number fit and leave this view, and that step is not taken
+pub record StopsAt (steps : List StepValue) (start : View) (at : ℕ) (fault : LayoutError) (view : View) : Type 0 where
+  pub before : (run_of (take at steps) start).fault ≡ None
+  pub left : (run_of (take at steps) start).view ≡ view
+  pub refused : IsSomeAnd (slice_get steps at) (IsRefusedBy view fault)
+
+-- so that a step which doesn't fit is the one that ends the run of them all
+abbrev pub IsEndedBy : Outcome → ℕ → LayoutError → View → Type 0
+IsEndedBy outcome at (Shape kind) view = (outcome.fault ≡ Some kind) × (outcome.taken ≡ at) × (outcome.view ≡ view)
+IsEndedBy outcome at (Memory e) view = Unit {0}
+
+-- examples
+abbrev two_by_three : View
+two_by_three = record { start = 0; shape = 2 ∷ 3 ∷ []; strides = pos 3 ∷ pos 1 ∷ [] }
+
+abbrev row_three_columns_wide : List StepValue
+row_three_columns_wide = CollapseTo 0 1 ∷ MergeInto 0 1 ∷ BroadcastTo (2 ∷ 2 ∷ 3 ∷ []) ∷ []
+
+all_taken : (run_of row_three_columns_wide two_by_three).view ≡ record { start = 3; shape = 2 ∷ 2 ∷ 3 ∷ []; strides = pos 0 ∷ pos 0 ∷ pos 1 ∷ [] }
+all_taken = refl
+
+source_of_all : (run_of row_three_columns_wide two_by_three).source (1 ∷ 1 ∷ 2 ∷ []) ≡ 1 ∷ 2 ∷ []
+source_of_all = refl
+
+ends_at_the_second : (run_of (CollapseTo 0 1 ∷ CollapseTo 0 1 ∷ MergeInto 0 1 ∷ []) two_by_three).fault ≡ Some OutOfBounds
+ends_at_the_second = refl
+
+one_was_taken : (run_of (CollapseTo 0 1 ∷ CollapseTo 0 1 ∷ MergeInto 0 1 ∷ []) two_by_three).taken ≡ 1
+one_was_taken = refl
+
+and_left_a_row : (run_of (CollapseTo 0 1 ∷ CollapseTo 0 1 ∷ MergeInto 0 1 ∷ []) two_by_three).view ≡ record { start = 3; shape = 1 ∷ 3 ∷ []; strides = pos 3 ∷ pos 1 ∷ [] }
+and_left_a_row = refl

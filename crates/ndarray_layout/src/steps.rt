@@ -1,0 +1,95 @@
+//! Steps from one view to the next, and runs of them.
+ghost use Rattle.std.specs.Prelude.{◌≡◌, ℕ, None, Some, map, IfOk, IfErr, IsOk, OnErr, OnOk, false};
+ghost use Rattle.nd_base.specs.ShapeFault.{shape_fault};
+ghost use Rattle.ndarray_layout.specs.DistinctPlaces.{HasDistinctPlaces};
+ghost use Rattle.ndarray_layout.specs.KeepsPlaces.{KeepsPlaces};
+ghost use Rattle.ndarray_layout.specs.Run.{run_of, StopsAt, IsEndedBy, HasNoBroadcast};
+ghost use Rattle.ndarray_layout.specs.Step.{may_want_memory, step_fault, step_value, view_after};
+ghost use Rattle.ndarray_layout.specs.View.{IsView, LiesWithin};
+
+use crate::strided::Strided;
+use nd_dim::{Axis, ErrorKind, IxDyn, LayoutError, from_kind};
+use nd_slice::{Fit, SliceInfoElem};
+use std::alloc::Global;
+
+/// A step from one view to the next. The project's own.
+#[derive(Debug, Drop)]
+pub enum Step {
+    /// The slice by these elements, and what becomes of a bound past its axis: `Strided::slice`.
+    Slice(Vec<SliceInfoElem>, Fit),
+    /// One entry of an axis: `Strided::collapse`.
+    Collapse(Axis, usize),
+    /// The first axis merged into the second: `Strided::merge`.
+    Merge(Axis, Axis),
+    /// The view as one of a shape: `Strided::broadcast`.
+    Broadcast(IxDyn),
+}
+
+/// A run that ended before its last step was taken. The project's own.
+#[derive(Debug, Drop)]
+pub struct Stopped {
+    /// How many steps were taken, which is the number of the one that was not, from 0 on.
+    pub at: usize,
+    /// Why it was not.
+    pub fault: LayoutError,
+    /// The view that the steps before it left.
+    pub view: Strided<IxDyn>,
+}
+
+/// Takes one step. A refusal leaves the view.
+///
+/// Errors: the fault of the step, then want of memory, which is none for at most four axes.
+fn take_step(alloc: Global, view: &mut Strided<IxDyn>, step: &Step) -> Result<(), LayoutError>
+    ensures fault { shape_fault result ≡ step_fault view.old (step_value step.now) }
+    ensures refusal { OnErr result (view.new ≡ view.old) }
+    ensures taken { OnOk result (view.new ≡ view_after view.old (step_value step.now)) }
+    ensures memory { step_fault view.old (step_value step.now) ≡ None →
+        may_want_memory (step_value step.now) ≡ false → IsOk result }
+{
+    match step {
+        Step::Slice(elems, fit) => *view = view.slice(alloc, elems, *fit)?,
+        Step::Collapse(axis, index) => view.collapse(*axis, *index)?,
+        Step::Merge(take, into) => {
+            if !view.merge(*take, *into)? {
+                return Err(from_kind(ErrorKind::IncompatibleLayout).into());
+            }
+        },
+        Step::Broadcast(dim) => *view = view.broadcast(alloc, dim)?,
+    }
+    Ok(())
+}
+
+/// Takes steps one after another, each from the view that the one before it left. The first that is
+/// refused ends the run.
+///
+/// Errors of a step: those of `Strided::slice`; `OutOfBounds` for a collapse of no such axis or
+/// entry; for a merge `OutOfBounds` where an axis is missing, then `Unsupported` for one axis twice,
+/// then `IncompatibleLayout` where no stride has the entries of both; those of `Strided::broadcast`.
+/// Want of memory comes last, and not where the step leaves at most 4 axes. The project's own.
+pub fn run(
+    alloc: Global,
+    view: Strided<IxDyn>,
+    steps: &[Step],
+) -> Result<Strided<IxDyn>, Stopped>
+    ensures fits { IfOk result (λ v. (run_of (map step_value steps.now) view).fault ≡ None) }
+    ensures left { IfOk result (λ v. v ≡ (run_of (map step_value steps.now) view).view) }
+    ensures stopped { IfErr result (λ s.
+        StopsAt (map step_value steps.now) view s.at s.fault s.view) }
+    ensures ended { IfErr result (λ s.
+        IsEndedBy (run_of (map step_value steps.now) view) s.at s.fault s.view) }
+    ensures is_view { IfOk result (λ v. IsView v) }
+    ensures places { IfOk result (λ v.
+        KeepsPlaces (run_of (map step_value steps.now) view).source view v) }
+    ensures inside { IfOk result (λ v. (len : ℕ) → LiesWithin len view → LiesWithin len v) }
+    ensures distinct { IfOk result (λ v. HasNoBroadcast (map step_value steps.now) →
+        HasDistinctPlaces view → HasDistinctPlaces v) }
+{
+    let _start = view.start();
+    let mut view = view;
+    for (at, step) in steps.iter().enumerate() {
+        if let Err(fault) = take_step(alloc, &mut view, step) {
+            return Err(Stopped { at, fault, view });
+        }
+    }
+    Ok(view)
+}
