@@ -1,3 +1,4 @@
+pub mod Broadcasts
 pub mod Collapses
 pub mod Merged
 pub mod OneAxis

@@ -1,5 +1,5 @@
 -- Two axes of a layout as one: a layout within it, whose indices lie where their sources do.
-use Rattle.std.proofs.Common.{◌≡◌, ◌≢◌, ℕ, zero, suc, ◌+◌, ◌-◌, ◌*◌, ◌/◌, ◌%◌, ◌<◌, ◌≤◌, ℤ, pos, negsuc, neg_ℤ, ◌+ℤ◌, ◌*ℤ◌, cond, eqb, List, length, get_or, set, true, inl, inr, refl, sym, ap, ◌∙◌, arith, subst, mul-le-mul_left, mul-pos, pos_of_ne-zero, zero-mul}
+use Rattle.std.proofs.Common.{◌≡◌, ◌≢◌, ℕ, zero, suc, ◌+◌, ◌-◌, ◌*◌, ◌/◌, ◌%◌, ◌<◌, ◌≤◌, ℤ, pos, negsuc, neg_ℤ, ◌+ℤ◌, ◌*ℤ◌, cond, eqb, List, length, get_or, set, true, inl, inr, refl, sym, ap, ◌∙◌, arith, subst, mul-le-mul_left, pos_of_ne-zero, zero-mul}
 use Rattle.std.proofs.Math.IntN.{pos-*ℤ-pos, pos-*ℤ-negsuc}
 use Rattle.std.proofs.Math.Nat.{div-add-mod, div-lt_iff_lt-mul, le_of_mul-le-mul_left, mod-lt, mul-le-mul_right, mul-zero}
 use Rattle.std.proofs.lemmas.Bool.{cases_eq, cond-true, cond-false, eq-eqb, ne_eqb}
