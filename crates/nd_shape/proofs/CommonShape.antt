@@ -48,7 +48,7 @@ front longer shorter k h =
     let n = length longer - length shorter in
     get_or_append_left (replicate n 1) shorter 0 k (omega (arith, length-replicate {A = ℕ} n 1)) ∙ get_or-replicate n k 1 0 h
 
-behind : (longer shorter : List ℕ) (k : ℕ) → get_or (padded (length longer) shorter) (length longer - length shorter + k) 0 ≡ get_or shorter k 0
+pub behind : (longer shorter : List ℕ) (k : ℕ) → get_or (padded (length longer) shorter) (length longer - length shorter + k) 0 ≡ get_or shorter k 0
 behind longer shorter k =
     let n = length longer - length shorter in
     let ones : List ℕ = replicate n 1 in
@@ -56,7 +56,7 @@ behind longer shorter k =
     ap (λ i. get_or (ones ++ shorter) (i + k) 0) (sym count) ∙ get_or-append-add ones shorter k 0
 
 -- only the shorter one has ones in front
-common_shape_of_longer : (longer shorter : List ℕ) → length shorter ≤ length longer → common_shape longer shorter ≡ common_lengths longer (padded (length longer) shorter)
+pub common_shape_of_longer : (longer shorter : List ℕ) → length shorter ≤ length longer → common_shape longer shorter ≡ common_lengths longer (padded (length longer) shorter)
 common_shape_of_longer longer shorter h =
     let count : max (length longer) (length shorter) ≡ length longer = omega arith in
     let none : length longer - length longer ≡ 0 = omega arith in

@@ -1,9 +1,12 @@
+pub mod Broadcasts
 pub mod Collapses
+pub mod Merged
 pub mod OneAxis
 pub mod Offsets
 pub mod Picked
 pub mod PickedSize
 pub mod PicksFit
+pub mod Replaced
 pub mod Reversed
 pub mod SliceSteps
 pub mod Slices

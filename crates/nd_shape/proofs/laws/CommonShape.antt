@@ -8,11 +8,11 @@ use Rattle.nd_shape.specs.CommonShape.{common_length, common_lengths, padded, co
 
 -- ---- one length
 -- a length has itself in common with itself
-common_with_same : (len other : ℕ) → len ≡ other → common_length len other ≡ Some len
+pub common_with_same : (len other : ℕ) → len ≡ other → common_length len other ≡ Some len
 common_with_same len other e = cond-true (eqb len other) (Some len) _ (eq-eqb len other e)
 
 -- and any length with 1, on either side
-common_from_one : (other : ℕ) → common_length 1 other ≡ Some other
+pub common_from_one : (other : ℕ) → common_length 1 other ≡ Some other
 common_from_one other =
     elim (cases_eq 1 other) [
       | inl e ↦ common_with_same 1 other e ∙ ap Some e
@@ -27,7 +27,7 @@ common_with_one len =
     ]
 
 -- two others have none
-common_of_others : (len other : ℕ) → len ≢ other → len ≢ 1 → other ≢ 1 → common_length len other ≡ None
+pub common_of_others : (len other : ℕ) → len ≢ other → len ≢ 1 → other ≢ 1 → common_length len other ≡ None
 common_of_others len other e f g =
     cond-false (eqb len other) (Some len) _ (ne_eqb len other e)
     ∙ cond-false (eqb len 1) (Some other) _ (ne_eqb len 1 f)
