@@ -8,6 +8,7 @@ pub mod PickedSize
 pub mod PicksFit
 pub mod Replaced
 pub mod Reversed
+pub mod Runs
 pub mod SliceSteps
 pub mod Slices
 pub mod Views

@@ -5,6 +5,7 @@ mod collapsing;
 mod places;
 mod sizes;
 mod slicing;
+mod steps;
 mod strided;
 
 pub use nd_dim::{
@@ -26,4 +27,5 @@ pub use nd_slice::{
     Fit, NewAxis, Slice, SliceArg, SliceElems, SliceInfo, SliceInfoElem, abs_index, check_elems,
     check_slice, do_collapse_axis, do_slice, in_ndim_of, out_ndim_of, slice_min_max, to_abs_slice,
 };
+pub use steps::{Step, Stopped, run};
 pub use strided::Strided;

@@ -39,6 +39,10 @@ pub struct Stopped {
 /// Takes one step. A refusal leaves the view.
 ///
 /// Errors: the fault of the step, then want of memory, which is none for at most four axes.
+#[tactic(auto, using(
+    crate::proofs::laws::Step::merge_fault_by_stride,
+    crate::proofs::laws::Step::merge_fault_of_axes,
+))]
 fn take_step(alloc: Global, view: &mut Strided<IxDyn>, step: &Step) -> Result<(), LayoutError>
     ensures fault { shape_fault result ≡ step_fault view.old (step_value step.now) }
     ensures refusal { OnErr result (view.new ≡ view.old) }

@@ -4,9 +4,9 @@ use Rattle.std.specs.Fmt.{signed_decimal}
 use Rattle.nd_base.specs.declared.error.ErrorKind.{ErrorKind}
 use Rattle.nd_base.specs.declared.order.Order.TheVariants.{RowMajor}
 use Rattle.ndarray_layout.specs.View.{View, view_places}
-use Rattle.ndl_session.specs.Answer.{Reply, listing, unless, step_fault, view_after, reply_to_steps, reply_to_script}
+use Rattle.ndarray_layout.specs.Run.{Outcome}
+use Rattle.ndl_session.specs.Answer.{Reply, listing, unless, reply_to_run, reply_to_script}
 use Rattle.ndl_session.specs.Script.{ScriptValue}
-use Rattle.ndl_session.specs.StepLine.{StepValue}
 use Rattle.ndl_text.specs.Text.{line, listed}
 
 -- a place is not negative, so it prints without a sign
@@ -35,9 +35,9 @@ unless_small : (step : ℕ) (fault : Option ErrorKind) (reply : Reply) → reply
 unless_small step None reply small = small
 unless_small step (Some kind) reply small = omega arith
 
-reply_to_steps_small : (number : ℕ) (view : View) (steps : List StepValue) → (reply_to_steps number view steps).status ≤ 2
-reply_to_steps_small number view [] = omega arith
-reply_to_steps_small number view (step ∷ steps) = unless_small number (step_fault view step) _ (reply_to_steps_small (number + 1) (view_after view step) steps)
+reply_to_run_small : (fault : Option ErrorKind) (run : Outcome) → (reply_to_run fault run).status ≤ 2
+reply_to_run_small None run = omega arith
+reply_to_run_small (Some kind) run = omega arith
 
 pub reply_to_script_small : (script : ScriptValue) → (reply_to_script script).status ≤ 2
-reply_to_script_small script = unless_small 0 _ _ (reply_to_steps_small 1 _ script.steps)
+reply_to_script_small script = unless_small 0 _ _ (reply_to_run_small _ _)

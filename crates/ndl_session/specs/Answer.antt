@@ -7,12 +7,11 @@ use Rattle.nd_base.specs.ErrorText.{shape_error_text}
 use Rattle.nd_base.specs.Signed.{unsigned}
 use Rattle.nd_base.specs.Span.{low_span}
 use Rattle.nd_shape.specs.Acceptance.{acceptance}
-use Rattle.nd_slice.specs.SliceFault.{out_count}
-use Rattle.ndarray_layout.specs.SlicedView.{slice_of, slice_refusal}
+use Rattle.ndarray_layout.specs.Run.{Outcome, run_of}
+use Rattle.ndarray_layout.specs.Step.{StepValue}
 use Rattle.ndarray_layout.specs.View.{View, view_of, view_places}
 use Rattle.ndl_session.specs.declared.answer.Answer.{Answer}
 use Rattle.ndl_session.specs.DataLine.{LayoutValue}
-use Rattle.ndl_session.specs.StepLine.{StepValue, SliceBy}
 use Rattle.ndl_session.specs.Script.{ScriptValue, script_of}
 use Rattle.ndl_text.specs.Text.{line, listed}
 
@@ -47,28 +46,19 @@ unless step None reply = reply
 abbrev pub view_of_layout : LayoutValue → View
 view_of_layout layout = view_of (low_span layout.shape layout.strides) layout.shape (map unsigned layout.strides)
 
--- the fault of a step from a view
-abbrev pub step_fault : View → StepValue → Option ErrorKind
-step_fault view (SliceBy elems fit) = slice_refusal fit None view.shape elems
+-- the reply to what steps make of a view, of which the first has number 1
+abbrev pub reply_to_run : Option ErrorKind → Outcome → Reply
+reply_to_run None run = listing run.view
+reply_to_run (Some kind) run = refused (run.taken + 1) kind
 
--- the view after a step
-abbrev pub view_after : View → StepValue → View
-view_after view (SliceBy elems fit) = slice_of fit elems view
-
--- how many axes a step leaves
-abbrev pub axes_after : StepValue → ℕ
-axes_after (SliceBy elems fit) = out_count elems
-
--- the reply to steps from a view, of which the first has this number
-abbrev pub reply_to_steps : ℕ → View → List StepValue → Reply
-reply_to_steps number view [] = listing view
-reply_to_steps number view (step ∷ steps) = unless number (step_fault view step) (reply_to_steps (number + 1) (view_after view step) steps)
+abbrev pub reply_to_steps : List StepValue → View → Reply
+reply_to_steps steps view = reply_to_run (run_of steps view).fault (run_of steps view)
 
 -- elements have size 1
 abbrev pub reply_to_script : ScriptValue → Reply
 reply_to_script script =
     let layout = script.layout in
-    unless 0 (acceptance 1 layout.len layout.mode layout.shape layout.strides) (reply_to_steps 1 (view_of_layout layout) script.steps)
+    unless 0 (acceptance 1 layout.len layout.mode layout.shape layout.strides) (reply_to_steps script.steps (view_of_layout layout))
 
 abbrev pub reply_to_reading : Result ScriptValue ℕ → Reply
 reply_to_reading (Ok script) = reply_to_script script
@@ -115,6 +105,14 @@ clamped = refl
 index_past_the_end : answer_of (codes "data 4 owned 4 1\nslice ..\nclamp 4\n") ≡ record { text = codes "step 2: ShapeError/OutOfBounds: out of bounds indexing\n"; status = 1 }
 unfolding digits
 index_past_the_end = refl
+
+collapsed_merged_and_broadcast : answer_of (codes "data 6 owned 2,3 3,1\ncollapse 0 1\nmerge 0 1\nbroadcast 2,2,3\n") ≡ record { text = codes "shape 2,2,3\nstrides 0,0,1\nplaces 3 4 5 3 4 5 3 4 5 3 4 5\n"; status = 0 }
+unfolding digits
+collapsed_merged_and_broadcast = refl
+
+columns_into_rows : answer_of (codes "data 6 owned 2,3 3,1\nslice ..,..\nmerge 1 0\ncollapse 9 9\n") ≡ record { text = codes "step 2: ShapeError/IncompatibleLayout: incompatible memory layout\n"; status = 1 }
+unfolding digits
+columns_into_rows = refl
 
 one_element_for_two_axes : answer_of (codes "data 6 owned 2,3 3,1\nslice 1..\n") ≡ record { text = codes "step 1: ShapeError/IncompatibleShape: incompatible shapes\n"; status = 1 }
 unfolding digits

@@ -4,6 +4,7 @@ use Rattle.std.specs.Option.{ok_or}
 use Rattle.nd_shape.specs.declared.checks.CanIndexCheckMode.TheVariants.{OwnedMutable}
 use Rattle.nd_slice.specs.declared.fit.Fit.TheVariants.{Strict, Clamp}
 use Rattle.nd_slice.specs.declared.slice.SliceInfoElem.TheVariants as elem
+use Rattle.ndarray_layout.specs.Step.{StepValue, SliceBy, step_value}
 use Rattle.ndl_session.specs.declared.script.Script.{Script}
 use Rattle.ndl_session.specs.declared.script.ReadError.{ReadError}
 use Rattle.ndl_session.specs.declared.script.ReadError.TheVariants as script
@@ -11,7 +12,7 @@ use Rattle.ndl_text.specs.Bytes.{carriage_return}
 use Rattle.ndl_session.specs.Reading.{both}
 use Rattle.ndl_text.specs.Lines.{NumberedLine, lines_from}
 use Rattle.ndl_session.specs.DataLine.{LayoutValue, layout_value, layout_of}
-use Rattle.ndl_session.specs.StepLine.{StepValue, SliceBy, step_value, step_of}
+use Rattle.ndl_session.specs.StepLine.{step_of}
 
 -- a layout, and the steps to take from it, in order
 pub record ScriptValue : Type 0 where

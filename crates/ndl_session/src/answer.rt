@@ -4,12 +4,13 @@ ghost use Rattle.nd_base.specs.Signed.{all_signed};
 ghost use Rattle.ndl_session.specs.Answer.{answer_of, listing, refused as refusal, IsReply};
 ghost use Rattle.ndl_session.specs.Answer.{reply_to_script, reply_to_steps, unreadable as unreadable_reply};
 ghost use Rattle.ndl_session.specs.Script.{script_value};
-ghost use Rattle.ndl_session.specs.StepLine.{step_value};
+ghost use Rattle.ndarray_layout.specs.Step.{step_value};
 
 use crate::script::{ReadError, Script, read_script};
-use crate::step_line::Step;
-use crate::views::{kept_strides, take_step};
-use ndarray_layout::{IxDyn, LayoutError, Lengths, Order, ShapeError, Strided, new_ixdyn, signed};
+use crate::strides::kept_strides;
+use ndarray_layout::{
+    IxDyn, LayoutError, Lengths, Order, ShapeError, Step, Stopped, Strided, new_ixdyn, run, signed,
+};
 use ndl_text::push_line;
 use std::alloc::{AllocError, Global};
 
@@ -76,17 +77,15 @@ fn answer_to_steps(
     steps: &[Step],
 ) -> Result<Answer, AllocError>
     ensures { IfOk result (λ answer. IsReply answer
-        (reply_to_steps 1 view (map step_value steps.now))) }
+        (reply_to_steps (map step_value steps.now) view)) }
 {
-    let mut view = view;
-    for (at, step) in steps.iter().enumerate() {
-        match take_step(alloc, &view, step) {
-            Ok(next) => view = next,
-            Err(LayoutError::Shape(fault)) => return refused(alloc, at + 1, &fault),
-            Err(LayoutError::Memory(error)) => return Err(error),
-        }
+    match run(alloc, view, steps) {
+        Ok(view) => list(alloc, &view),
+        Err(Stopped { at, fault, view: _ }) => match fault {
+            LayoutError::Shape(fault) => refused(alloc, at + 1, &fault),
+            LayoutError::Memory(error) => Err(error),
+        },
     }
-    list(alloc, &view)
 }
 
 /// The strides, each read with its sign.

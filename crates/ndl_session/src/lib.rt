@@ -8,9 +8,9 @@ mod lists;
 mod over_devices;
 mod script;
 mod step_line;
-mod views;
+mod strides;
 
 pub use data_line::Layout;
+pub use ndarray_layout::Step;
 pub use over_devices::session;
 pub use script::{ReadError, Script, read_script};
-pub use step_line::Step;

@@ -2,10 +2,11 @@
 ghost use Rattle.std.specs.Prelude.{◌≡◌, ◌+◌, ◌<◌, ◌^◌, length, map};
 ghost use Rattle.ndl_text.specs.Lines.{lines_from};
 ghost use Rattle.ndl_session.specs.Script.{Gives, script_of, script_value, steps_of_lines};
-ghost use Rattle.ndl_session.specs.StepLine.{step_value};
+ghost use Rattle.ndarray_layout.specs.Step.{step_value};
 
 use crate::data_line::{Layout, read_layout};
-use crate::step_line::{Step, read_step};
+use crate::step_line::read_step;
+use ndarray_layout::Step;
 use ndl_text::next_line;
 use std::alloc::{AllocError, AllocFailed, Global};
 

@@ -10,4 +10,6 @@ mod session;
 #[cfg(test)]
 mod slices;
 #[cfg(test)]
+mod steps;
+#[cfg(test)]
 mod watched;

@@ -2,7 +2,7 @@
 use Rattle.std.proofs.Common.{sym, ◌∙◌, pos, arith}
 use Rattle.std.proofs.lemmas.List.{ext_get_or, get_or-map, length-map}
 use Rattle.nd_base.specs.Signed.{signed, unsigned as unsigned_bits}
-use Rattle.ndl_session.proofs.views.keep_strides.Goals as goal
+use Rattle.ndl_session.proofs.strides.keep_strides.Goals as goal
 
 pub returns-clause-bits : goal.returns-clause-bits
 returns-clause-bits c =

@@ -1,7 +1,7 @@
 -- The strides so far are kept with their bits, which read with a sign are the strides.
 use Rattle.std.proofs.Common.{◌≡◌, ◌<◌, ℕ, pos, get_or}
 use Rattle.nd_base.specs.Signed.{signed, unsigned as unsigned_bits}
-use Rattle.ndl_session.proofs.views.keep_strides.Given as goal
+use Rattle.ndl_session.proofs.strides.keep_strides.Given as goal
 
 abbrev pub invariant-loop-axis : goal.invariant-loop-axis
 invariant-loop-axis l = record {
