@@ -77,6 +77,10 @@ stretched shape view v none =
     let parts = stretches_to_common shape view.shape (can_broadcast shape view.shape none).common in
     record { counts = v.valid.same_count; fewer = parts.0; stretches = parts.1 }
 
+-- it has no fewer axes
+pub no_fewer_axes : (shape view_shape : List ℕ) → broadcast_fault shape view_shape ≡ None → length view_shape ≤ length shape
+no_fewer_axes shape view_shape none = (stretches_to_common shape view_shape (can_broadcast shape view_shape none).common).0
+
 -- the view is one
 pub IsView-broadcast_of : (shape : List ℕ) (view : View) → IsView view → broadcast_fault shape view.shape ≡ None → IsView (broadcast_of shape view)
 IsView-broadcast_of shape view v none =
