@@ -1,10 +1,10 @@
 -- What was written is the view with the axes merged, or the view, and so all that is known of both holds of it.
-use Rattle.std.proofs.Common.{◌≡◌, ◌↔◌, ℕ, pos, Bool, true, false, cond, ltb, leb, None, List, get_or, set, map, sym, ap, subst, ◌∙◌, refl}
+use Rattle.std.proofs.Common.{◌≡◌, ◌↔◌, ℕ, pos, Bool, true, false, cond, ltb, leb, None, List, get_or, set, sym, ap, subst, ◌∙◌, refl}
 use Rattle.std.specs.Prelude.{◌&&◌}
 use Rattle.std.proofs.Math.ListN.{get_or-map}
 use Rattle.std.proofs.lemmas.List.{map-set}
 use Rattle.nd_base.specs.Signed.{signed, all_signed}
-use Rattle.nd_shape.specs.Merge.{MergeFits, merged_shape, merged_strides}
+use Rattle.nd_shape.specs.Merge.{merged_shape, merged_strides}
 use Rattle.ndarray_layout.specs.DistinctPlaces.{HasDistinctPlaces}
 use Rattle.ndarray_layout.specs.KeepsPlaces.{KeepsPlaces}
 use Rattle.ndarray_layout.specs.MergedView.{HasMergedStride, axes_fault, lasting_axis, merge_fault, merge_of, merge_source}
