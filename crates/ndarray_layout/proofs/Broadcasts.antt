@@ -1,11 +1,13 @@
 -- A layout read as one of more or longer axes: it reaches no further, and its indices lie where their sources do.
-use Rattle.std.proofs.Common.{◌≡◌, ◌⊎◌, ℕ, zero, suc, ◌-◌, ◌<◌, ◌≤◌, ℤ, pos, ◌*ℤ◌, cond, eqb, List, [], ◌∷◌, ◌++◌, length, get_or, drop, replicate, nat_lt, true, inl, inr, refl, sym, ap, ◌∙◌, arith}
+use Rattle.std.proofs.Common.{◌≡◌, ◌+◌, ◌⊎◌, ℕ, zero, suc, ◌-◌, ◌<◌, ◌≤◌, ℤ, pos, ◌*ℤ◌, cond, eqb, Bool, List, [], ◌∷◌, ◌++◌, length, get_or, drop, replicate, nat_lt, true, false, inl, inr, refl, sym, ap, ◌∙◌, arith}
 use Rattle.std.proofs.Math.Nat.{mul-zero}
-use Rattle.std.proofs.lemmas.Bool.{and_parts, and_from, cases_eq, cond-true, cond-false, eq-eqb, ltb-true, lt-ltb, ne_eqb}
+use Rattle.std.proofs.lemmas.Bool.{and_parts, and_from, cases_eq, cases_lt, cond-true, cond-false, eq-eqb, ltb-true, lt-ltb, ne_eqb}
 use Rattle.std.proofs.lemmas.Int.{ints}
-use Rattle.std.proofs.lemmas.List.{get_or-drop, length-append, length-drop, length-replicate}
+use Rattle.std.proofs.Math.ListN.{get_or-map}
+use Rattle.std.proofs.lemmas.List.{ext_get_or, get_or-append-add, get_or_append_left, get_or-drop, get_or-replicate, length-append, length-drop, length-map, length-replicate}
 use Rattle.nd_base.specs.Indices.{is_index}
 use Rattle.nd_base.specs.Offset.{offset_of}
+use Rattle.nd_base.specs.Signed.{signed, all_signed}
 use Rattle.nd_base.specs.Span.{sum_over_axes, reach_down, reach_up, low_span, high_span}
 use Rattle.nd_base.proofs.laws.IsIndex.{length_of_index}
 use Rattle.nd_shape.proofs.laws.Stretches.{StretchesTo}
@@ -168,3 +170,53 @@ broadcast_source_kept shape view_shape strides entries s here =
       within = ap (is_index view_shape) source ∙ rest.within;
       offset = offset_behind_new n (stretched_strides lens view_shape strides) entries (omega arith) ∙ rest.offset ∙ sym (ap (offset_of strides) source);
     }
+
+-- ---- axis by axis
+stretched_at : (lens others : List ℕ) (strides : List ℤ) (k : ℕ) → length lens ≡ length others → length others ≡ length strides → k < length others → get_or (stretched_strides lens others strides) k (pos 0) ≡ cond (eqb (get_or lens k 0) (get_or others k 0)) (get_or strides k (pos 0)) (pos 0)
+stretched_at [] [] strides k e f h = absurd (omega arith)
+stretched_at [] (other ∷ others) strides k e f h = absurd (omega arith)
+stretched_at (len ∷ lens) [] strides k e f h = absurd (omega arith)
+stretched_at (len ∷ lens) (other ∷ others) [] k e f h = absurd (omega arith)
+stretched_at (len ∷ lens) (other ∷ others) (stride ∷ strides) zero e f h = refl
+stretched_at (len ∷ lens) (other ∷ others) (stride ∷ strides) (suc k) e f h = stretched_at lens others strides k (omega arith) (omega arith) (omega arith)
+
+-- a list that is written axis by axis is that of the strides
+pub strides_by_axes : (shape view_shape strides new : List ℕ) → length view_shape ≤ length shape → length view_shape ≡ length strides → length new ≡ length shape → ((k : ℕ) → k < new_axes shape view_shape → get_or new k 0 ≡ 0) → ((k : ℕ) → k < length view_shape → get_or new (new_axes shape view_shape + k) 0 ≡ cond (eqb (get_or shape (new_axes shape view_shape + k) 0) (get_or view_shape k 0)) (get_or strides k 0) 0) → all_signed new ≡ broadcast_strides shape view_shape (all_signed strides)
+strides_by_axes shape view_shape strides new fewer counts count front behind =
+    let n = new_axes shape view_shape in
+    let lens = drop n shape in
+    let zeros : List ℤ = replicate n (pos 0) in
+    let old = stretched_strides lens view_shape (all_signed strides) in
+    let count_strides : length (all_signed strides) ≡ length strides = length-map strides signed in
+    let count_new : length (all_signed new) ≡ length new = length-map new signed in
+    let count_zeros : length zeros ≡ n = length-replicate {A = ℤ} n (pos 0) in
+    let count_lens = count_behind shape view_shape fewer in
+    let count_old : length old ≡ length (all_signed strides) = length-stretched_strides lens view_shape (all_signed strides) count_lens (counts ∙ sym count_strides) in
+    let count_all : length (all_signed new) ≡ length (zeros ++ old) = omega (arith, length-append zeros old) in
+    ext_get_or (pos 0) (all_signed new) (zeros ++ old) count_all (λ k l.
+    elim (cases_lt k n) [
+      | inl less ↦
+          get_or-map signed new k 0
+          ∙ ap signed (front k less)
+          ∙ sym (get_or_append_left zeros old (pos 0) k (omega arith) ∙ get_or-replicate n k (pos 0) (pos 0) less)
+      | inr more ↦
+          let i = k - n in
+          let at : k ≡ n + i = omega arith in
+          let inside : i < length view_shape = omega arith in
+          let one = get_or (all_signed strides) i (pos 0) in
+          let same = eqb (get_or shape (n + i) 0) (get_or view_shape i 0) in
+          let here : get_or old i (pos 0) ≡ cond same one (pos 0) = stretched_at lens view_shape (all_signed strides) i count_lens (counts ∙ sym count_strides) inside ∙ ap (λ len. cond (eqb len (get_or view_shape i 0)) one (pos 0)) (get_or-drop n shape i 0) in
+          get_or-map signed new k 0
+          ∙ ap (λ j. signed (get_or new j 0)) at
+          ∙ ap signed (behind i inside)
+          ∙ signed_either same (get_or strides i 0)
+          ∙ ap (λ s. cond same s (pos 0)) (sym (get_or-map signed strides i 0))
+          ∙ sym here
+          ∙ sym (get_or-append-add zeros old i (pos 0))
+          ∙ ap (λ j. get_or (zeros ++ old) (j + i) (pos 0)) count_zeros
+          ∙ ap (λ j. get_or (zeros ++ old) j (pos 0)) (sym at)
+    ])
+  where
+    signed_either : (b : Bool) (stride : ℕ) → signed (cond b stride 0) ≡ cond b (signed stride) (pos 0)
+    signed_either true stride = refl
+    signed_either false stride = refl

@@ -1,7 +1,9 @@
 //! Views: shapes with strides and a start, as functions from indices to places.
 #![tactic(auto)]
 
+mod broadcasting;
 mod collapsing;
+mod merging;
 mod places;
 mod sizes;
 mod slicing;

@@ -2,7 +2,7 @@
 ghost use Rattle.std.specs.Iterator.{YieldsFirst, YieldsLast};
 ghost use Rattle.std.specs.Iterator.Runs.{YieldsInOrder, YieldsInReverse};
 ghost use Rattle.std.specs.List.{All};
-ghost use Rattle.std.specs.Prelude.{◌≡◌, ℕ, ◌<◌, pos, None, false, map, length, vec_len, vec_capacity, IfOk, IsOk, OnErr, OnOk, Some, slice_get};
+ghost use Rattle.std.specs.Prelude.{◌≡◌, ℕ, ◌<◌, pos, None, false, map, length, vec_len, vec_capacity, IfOk, IsOk, IsTrue, ◌↔◌, if◌then◌else◌, OnErr, OnOk, Some, slice_get};
 ghost use Rattle.std.specs.Option.{IsSome, option_map};
 ghost use Rattle.std.specs.Result.{result_err};
 ghost use Rattle.nd_base.specs.Signed.{all_signed};
@@ -18,21 +18,25 @@ ghost use Rattle.nd_base.specs.Span.{low_span};
 ghost use Rattle.nd_slice.specs.SliceFault.{argument_fault, first_fault, out_count};
 ghost use Rattle.nd_slice.specs.Sliced.{sliced_shape};
 ghost use Rattle.nd_slice.specs.Selected.{selected};
+ghost use Rattle.ndarray_layout.specs.BroadcastView.{broadcast_fault, broadcast_of, broadcast_source};
 ghost use Rattle.ndarray_layout.specs.CollapsedView.{collapse_fault, collapse_of, collapse_source};
 ghost use Rattle.ndarray_layout.specs.DistinctPlaces.{HasDistinctPlaces};
 ghost use Rattle.ndarray_layout.specs.KeepsPlaces.{KeepsPlaces};
+ghost use Rattle.ndarray_layout.specs.MergedView.{HasMergedStride, axes_fault, merge_of, merge_source};
 ghost use Rattle.ndarray_layout.specs.SlicedView.{IsSliceOf, counts_differ, slice_refusal};
 ghost use Rattle.ndarray_layout.specs.View.{IsView, LiesWithin};
 ghost use Rattle.ndarray_layout.specs.View.{view_of, checked_place, place_at, view_places};
 
+use crate::broadcasting::{check_broadcast, stretch_strides};
 use crate::collapsing::has_entry;
+use crate::merging::check_axes;
 use crate::places::{offset_place, push_places};
 use crate::sizes::picked_size;
 use crate::slicing::{has_other_counts, may_want_memory, slice_axes};
 use nd_dim::{Axis, Dimension, ErrorKind, LayoutError, Order, ShapeError, from_kind};
 use nd_shape::{
     Axes, CanIndexCheckMode, NdIndex, StrideShape, axes_of, can_index_slice,
-    can_index_slice_with_strides, offset_from_low_addr_ptr_to_logical_ptr,
+    can_index_slice_with_strides, merge_axes, offset_from_low_addr_ptr_to_logical_ptr,
 };
 use nd_slice::{Fit, SliceElems, SliceInfoElem, check_elems, do_collapse_axis, out_ndim_of};
 use std::alloc::{AllocError, Global};
@@ -255,6 +259,62 @@ impl<D: Dimension> Strided<D> {
         let offset = do_collapse_axis(&mut self.dim, &self.strides, axis.index(), index);
         self.start = offset_place(self.start, offset);
         Ok(())
+    }
+
+    /// Merges the axis `take` into the axis `into` where one stride has the entries of both: then the axis
+    /// `into` has them all, that of `take` moving slowest among them, and `take` keeps one entry, or none
+    /// where there are none. Answers whether it did; else the view stays. Refused with `OutOfBounds` where
+    /// there is no such axis, then with `Unsupported` for one axis twice, and then the view stays.
+    /// Upstream's `merge_axes`.
+    pub fn merge(&mut self, take: Axis, into: Axis) -> Result<bool, ShapeError>
+        ensures fault { result_err result ≡ axes_fault self.old.shape take.0 into.0 }
+        ensures refusal { OnErr result (self.new ≡ self.old) }
+        ensures fits { IfOk result (λ merged. IsTrue merged ↔ HasMergedStride take.0 into.0 self.old) }
+        ensures merged { IfOk result (λ merged.
+            self.new ≡ (if merged then merge_of take.0 into.0 self.old else self.old)) }
+        ensures is_view { IsView self.new }
+        ensures places { IfOk result (λ merged. IsTrue merged →
+            KeepsPlaces (merge_source take.0 into.0 self.old.shape) self.old self.new) }
+        ensures inside { (len : ℕ) → LiesWithin len self.old → LiesWithin len self.new }
+        ensures distinct { HasDistinctPlaces self.old → HasDistinctPlaces self.new }
+    {
+        check_axes(self.dim.slice(), take, into)?;
+        Ok(merge_axes(&mut self.dim, &mut self.strides, take, into))
+    }
+
+    /// The same data read as a view of a shape that this one's can be stretched to: new axes come first,
+    /// and along them and along axes of length 1 that have another length now all entries are one. Their
+    /// strides are 0; the other axes keep theirs. Refused with `IncompatibleShape` where the shape is not the
+    /// one that it and the view's have in common, then with `Overflow` where the product of its lengths
+    /// that are not 0 passes the greatest `isize`; and then for want of memory, but not where the type fixes
+    /// the count or there are at most 4 axes. Upstream's `broadcast`.
+    pub fn broadcast<E: Dimension>(
+        &self,
+        alloc: Global,
+        shape: &E,
+    ) -> Result<Strided<E>, LayoutError>
+        ensures refusal { shape_fault result ≡ broadcast_fault (E.list shape.now) self.now.shape }
+        ensures memory { broadcast_fault (E.list shape.now) self.now.shape ≡ None →
+            NeedsNoMemory E.NDIM (length (E.list shape.now)) → IsOk result }
+        ensures broadcast { IfOk result (λ v. v ≡ broadcast_of (E.list shape.now) self.now) }
+        ensures is_view { IfOk result (λ v. IsView v) }
+        ensures places { IfOk result (λ v. KeepsPlaces (broadcast_source self.now.shape) self.now v) }
+        ensures inside { IfOk result (λ v. (len : ℕ) → LiesWithin len self.now → LiesWithin len v) }
+    {
+        let view_shape = self.dim.slice();
+        check_broadcast(view_shape, shape)?;
+        let mut strides = E::zeros(alloc, shape.ndim())?;
+        stretch_strides(
+            shape.slice(),
+            view_shape,
+            self.strides.slice(),
+            strides.slice_mut(),
+        );
+        Ok(Strided {
+            start: self.start,
+            dim: shape.duplicate(alloc)?,
+            strides,
+        })
     }
 
     /// How many places of the view a slice argument picks. Refused as `check_slice` refuses it on the

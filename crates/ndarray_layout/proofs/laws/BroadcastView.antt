@@ -1,6 +1,6 @@
 -- Laws of views that are read as views of a shape with more or longer axes.
-use Rattle.std.proofs.Common.{◌≡◌, ℕ, ◌≤◌, Bool, true, false, not, cond, ltb, Option, Some, None, List, refl, ap, arith}
-use Rattle.std.proofs.lemmas.Bool.{ltb-false, le-ltb}
+use Rattle.std.proofs.Common.{◌≡◌, ◌≢◌, ℕ, ◌+◌, ◌-◌, ◌<◌, ◌≤◌, Bool, true, false, not, cond, ltb, Option, Some, None, List, length, get_or, inl, inr, refl, ap, arith}
+use Rattle.std.proofs.lemmas.Bool.{false_from_ne_true, ltb-false, le-ltb}
 use Rattle.std.proofs.lemmas.Int.{ints}
 use Rattle.std.specs.Bool.{Decides}
 use Rattle.std.specs.Cmp.Lexicographic.{bytes_decides, pointwise}
@@ -10,7 +10,7 @@ use Rattle.nd_base.specs.declared.error.ErrorKind.TheVariants.{IncompatibleShape
 use Rattle.nd_base.specs.Size.{nonzero_size, limit}
 use Rattle.nd_base.proofs.laws.Span.{low_high_span}
 use Rattle.nd_shape.specs.CommonShape.{common_shape}
-use Rattle.nd_shape.proofs.laws.Stretches.{stretches_to_common}
+use Rattle.nd_shape.proofs.laws.Stretches.{StretchesTo, common_from_stretches, stretches_to_common}
 use Rattle.ndarray_layout.specs.BroadcastView.{takes_in, broadcast_fault, broadcast_of, broadcast_source}
 use Rattle.ndarray_layout.specs.KeepsPlaces.{KeepsPlaces}
 use Rattle.ndarray_layout.specs.View.{View, IsView, LiesWithin}
@@ -30,6 +30,25 @@ takes_in-Decides shape other = by (common_shape other shape)
               let e : c ≡ shape = cc in
               same.1 e,
         )
+
+-- it is no where the other has more axes
+pub takes_in_no_fewer : (shape other : List ℕ) → length shape < length other → takes_in shape other ≡ false
+takes_in_no_fewer shape other h = false_from_ne_true (takes_in shape other) (λ takes.
+    let parts = stretches_to_common shape other ((takes_in-Decides shape other).0 takes) in
+    omega (arith, parts.0))
+
+-- and where an axis has neither the length beside it nor a length of 1
+pub takes_in_no_other : (shape other : List ℕ) (k : ℕ) → k < length other → get_or other k 0 ≢ get_or shape (length shape - length other + k) 0 → get_or other k 0 ≢ 1 → takes_in shape other ≡ false
+takes_in_no_other shape other k there differs long = false_from_ne_true (takes_in shape other) (λ takes.
+    let parts = stretches_to_common shape other ((takes_in-Decides shape other).0 takes) in
+    elim (parts.1 k there) [
+      | inl e ↦ differs e
+      | inr e ↦ long e
+    ])
+
+-- and yes where every axis has one of them
+pub takes_in_by_axes : (shape other : List ℕ) → length other ≤ length shape → StretchesTo shape other → takes_in shape other ≡ true
+takes_in_by_axes shape other fewer stretches = (takes_in-Decides shape other).1 (common_from_stretches shape other fewer stretches)
 
 -- a shape without fault takes in the other one, and its size fits
 pub record CanBroadcast (shape view_shape : List ℕ) : Type 0 where
@@ -57,6 +76,10 @@ stretched : (shape : List ℕ) (view : View) → IsView view → broadcast_fault
 stretched shape view v none =
     let parts = stretches_to_common shape view.shape (can_broadcast shape view.shape none).common in
     record { counts = v.valid.same_count; fewer = parts.0; stretches = parts.1 }
+
+-- it has no fewer axes
+pub no_fewer_axes : (shape view_shape : List ℕ) → broadcast_fault shape view_shape ≡ None → length view_shape ≤ length shape
+no_fewer_axes shape view_shape none = (stretches_to_common shape view_shape (can_broadcast shape view_shape none).common).0
 
 -- the view is one
 pub IsView-broadcast_of : (shape : List ℕ) (view : View) → IsView view → broadcast_fault shape view.shape ≡ None → IsView (broadcast_of shape view)

@@ -1,0 +1,62 @@
+//! Shapes that a view can be read as one of, and the strides that it has then.
+ghost use Rattle.std.specs.Prelude.{◌≡◌, ◌≤◌, length};
+ghost use Rattle.std.specs.Result.{result_err};
+ghost use Rattle.nd_base.specs.Signed.{all_signed};
+ghost use Rattle.ndarray_layout.specs.BroadcastView.{broadcast_fault, broadcast_strides, takes_in};
+
+use nd_dim::{Dimension, ErrorKind, ShapeError, from_kind};
+use nd_shape::size_of_shape_checked;
+
+/// Whether a shape can be stretched to another one: each of its axes has a length of 1, or that of the
+/// axis of the other that lies as far from the last.
+#[inline(always)]
+fn stretches_to(view_shape: &[usize], shape: &[usize]) -> bool
+    ensures { result ≡ takes_in shape.now view_shape.now }
+{
+    if view_shape.len() > shape.len() {
+        return false;
+    }
+    let new_axes = shape.len() - view_shape.len();
+    for axis in 0..view_shape.len() {
+        if view_shape[axis] != shape[new_axes + axis] && view_shape[axis] != 1 {
+            return false;
+        }
+    }
+    true
+}
+
+/// Whether a view of a shape can be read as one of another: `IncompatibleShape` where the other is not
+/// the shape that both have in common, and then `Overflow` where it is too large.
+#[inline(always)]
+pub fn check_broadcast<E: Dimension>(view_shape: &[usize], shape: &E) -> Result<(), ShapeError>
+    ensures { result_err result ≡ broadcast_fault (E.list shape.now) view_shape.now }
+{
+    if !stretches_to(view_shape, shape.slice()) {
+        return Err(from_kind(ErrorKind::IncompatibleShape));
+    }
+    size_of_shape_checked(shape)?;
+    Ok(())
+}
+
+/// Writes the strides along which a view is read as one of a shape with no fewer axes: 0 for new axes and
+/// for those of another length, the view's own for the others.
+#[inline(always)]
+pub fn stretch_strides(
+    shape: &[usize],
+    view_shape: &[usize],
+    strides: &[usize],
+    new_strides: &mut [usize],
+)
+    requires fewer { length view_shape.now ≤ length shape.now }
+    requires counts { length view_shape.now ≡ length strides.now }
+    requires room { length new_strides.old ≡ length shape.now }
+    ensures { all_signed new_strides.new ≡
+        broadcast_strides shape.now view_shape.now (all_signed strides.now) }
+{
+    let new_axes = shape.len() - view_shape.len();
+    new_strides[..new_axes].fill(0);
+    for axis in 0..view_shape.len() {
+        let stays = shape[new_axes + axis] == view_shape[axis];
+        new_strides[new_axes + axis] = if stays { strides[axis] } else { 0 };
+    }
+}
