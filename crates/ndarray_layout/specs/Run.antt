@@ -1,8 +1,8 @@
 -- What a list of steps makes of a view: what its steps make of it, one after another.
-use Rattle.std.specs.Prelude.{◌≡◌, ℕ, ◌+◌, pos, negsuc, true, false, IsTrue, Option, Some, None, IsSomeAnd, List, [], ◌∷◌, take, slice_get, refl}
+use Rattle.std.specs.Prelude.{◌≡◌, ℕ, ◌+◌, pos, false, IsTrue, Option, Some, None, IsSomeAnd, List, [], ◌∷◌, take, slice_get, refl}
 use Rattle.std.specs.List.{All}
 use Rattle.nd_base.specs.declared.error.ErrorKind.{ErrorKind}
-use Rattle.nd_base.specs.declared.error.ErrorKind.TheVariants.{IncompatibleLayout, OutOfBounds}
+use Rattle.nd_base.specs.declared.error.ErrorKind.TheVariants.{OutOfBounds}
 use Rattle.nd_base.specs.declared.error.LayoutError.{LayoutError}
 use Rattle.nd_base.specs.declared.error.LayoutError.TheVariants.{Shape, Memory}
 use Rattle.ndarray_layout.specs.Step.{StepValue, CollapseTo, MergeInto, BroadcastTo, step_fault, view_after, source_index, may_want_memory, is_broadcast}

@@ -1,10 +1,10 @@
 -- Steps from one view to the next: which fit, what they make of a view, and where the indices of that come from.
 use Rattle.std.specs.Prelude.{◌≡◌, ℕ, pos, negsuc, Bool, true, false, nat_lt, Option, Some, None, List, [], ◌∷◌, length, refl}
 use Rattle.nd_base.specs.declared.error.ErrorKind.{ErrorKind}
-use Rattle.nd_base.specs.declared.error.ErrorKind.TheVariants.{IncompatibleShape, IncompatibleLayout, OutOfBounds, Unsupported}
+use Rattle.nd_base.specs.declared.error.ErrorKind.TheVariants.{IncompatibleLayout, OutOfBounds, Unsupported}
 use Rattle.nd_base.specs.Dim.{lengths}
 use Rattle.nd_slice.specs.declared.fit.Fit.{Fit}
-use Rattle.nd_slice.specs.declared.fit.Fit.TheVariants.{Strict, Clamp}
+use Rattle.nd_slice.specs.declared.fit.Fit.TheVariants.{Strict}
 use Rattle.nd_slice.specs.declared.slice.SliceInfoElem.{SliceInfoElem}
 use Rattle.nd_slice.specs.declared.slice.SliceInfoElem.TheVariants as elem
 use Rattle.nd_slice.specs.Selected.{selected}

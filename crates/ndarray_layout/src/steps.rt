@@ -1,6 +1,8 @@
 //! Steps from one view to the next, and runs of them.
 ghost use Rattle.std.specs.Prelude.{◌≡◌, ℕ, None, Some, map, IfOk, IfErr, IsOk, OnErr, OnOk, false};
+ghost use Rattle.std.specs.Result.{result_err};
 ghost use Rattle.nd_base.specs.ShapeFault.{shape_fault};
+ghost use Rattle.ndarray_layout.specs.MergedView.{merge_fault, merge_of};
 ghost use Rattle.ndarray_layout.specs.DistinctPlaces.{HasDistinctPlaces};
 ghost use Rattle.ndarray_layout.specs.KeepsPlaces.{KeepsPlaces};
 ghost use Rattle.ndarray_layout.specs.Run.{run_of, StopsAt, IsEndedBy, HasNoBroadcast};
@@ -8,7 +10,7 @@ ghost use Rattle.ndarray_layout.specs.Step.{may_want_memory, step_fault, step_va
 ghost use Rattle.ndarray_layout.specs.View.{IsView, LiesWithin};
 
 use crate::strided::Strided;
-use nd_dim::{Axis, ErrorKind, IxDyn, LayoutError, from_kind};
+use nd_dim::{Axis, ErrorKind, IxDyn, LayoutError, ShapeError, from_kind};
 use nd_slice::{Fit, SliceInfoElem};
 use std::alloc::Global;
 
@@ -36,13 +38,23 @@ pub struct Stopped {
     pub view: Strided<IxDyn>,
 }
 
+/// Merges an axis into another one where a stride has the entries of both; where none has,
+/// `IncompatibleLayout` is the last of the faults. A refusal leaves the view.
+fn merge_axes_of(view: &mut Strided<IxDyn>, take: Axis, into: Axis) -> Result<(), ShapeError>
+    ensures fault { result_err result ≡ merge_fault take.0 into.0 view.old }
+    ensures refusal { OnErr result (view.new ≡ view.old) }
+    ensures merged { OnOk result (view.new ≡ merge_of take.0 into.0 view.old) }
+{
+    if view.merge(take, into)? {
+        Ok(())
+    } else {
+        Err(from_kind(ErrorKind::IncompatibleLayout))
+    }
+}
+
 /// Takes one step. A refusal leaves the view.
 ///
 /// Errors: the fault of the step, then want of memory, which is none for at most four axes.
-#[tactic(auto, using(
-    crate::proofs::laws::Step::merge_fault_by_stride,
-    crate::proofs::laws::Step::merge_fault_of_axes,
-))]
 fn take_step(alloc: Global, view: &mut Strided<IxDyn>, step: &Step) -> Result<(), LayoutError>
     ensures fault { shape_fault result ≡ step_fault view.old (step_value step.now) }
     ensures refusal { OnErr result (view.new ≡ view.old) }
@@ -53,11 +65,7 @@ fn take_step(alloc: Global, view: &mut Strided<IxDyn>, step: &Step) -> Result<()
     match step {
         Step::Slice(elems, fit) => *view = view.slice(alloc, elems, *fit)?,
         Step::Collapse(axis, index) => view.collapse(*axis, *index)?,
-        Step::Merge(take, into) => {
-            if !view.merge(*take, *into)? {
-                return Err(from_kind(ErrorKind::IncompatibleLayout).into());
-            }
-        },
+        Step::Merge(take, into) => merge_axes_of(view, *take, *into)?,
         Step::Broadcast(dim) => *view = view.broadcast(alloc, dim)?,
     }
     Ok(())
@@ -70,11 +78,7 @@ fn take_step(alloc: Global, view: &mut Strided<IxDyn>, step: &Step) -> Result<()
 /// entry; for a merge `OutOfBounds` where an axis is missing, then `Unsupported` for one axis twice,
 /// then `IncompatibleLayout` where no stride has the entries of both; those of `Strided::broadcast`.
 /// Want of memory comes last, and not where the step leaves at most 4 axes. The project's own.
-pub fn run(
-    alloc: Global,
-    view: Strided<IxDyn>,
-    steps: &[Step],
-) -> Result<Strided<IxDyn>, Stopped>
+pub fn run(alloc: Global, view: Strided<IxDyn>, steps: &[Step]) -> Result<Strided<IxDyn>, Stopped>
     ensures fits { IfOk result (λ v. (run_of (map step_value steps.now) view).fault ≡ None) }
     ensures left { IfOk result (λ v. v ≡ (run_of (map step_value steps.now) view).view) }
     ensures stopped { IfErr result (λ s.

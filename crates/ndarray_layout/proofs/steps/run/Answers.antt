@@ -1,15 +1,15 @@
 -- Each step fits what those before it left, or ends the run of them all.
-use Rattle.std.proofs.Common.{◌≡◌, ℕ, ◌<◌, List, None, Some, map, length, get_or, sym, ap, subst, ◌∙◌, refl, arith}
+use Rattle.std.proofs.Common.{◌≡◌, ℕ, ◌<◌, List, Some, map, length, get_or, sym, ap, subst, ◌∙◌, arith}
 use Rattle.std.specs.List.{slice_get}
 use Rattle.std.specs.Option.{option_map}
 use Rattle.std.proofs.lemmas.List.{length-map, take_all}
 use Rattle.std.proofs.lemmas.Option.{slice_get-get_or, slice_get-map}
 use Rattle.ndarray_layout.specs.DistinctPlaces.{HasDistinctPlaces}
 use Rattle.ndarray_layout.specs.KeepsPlaces.{KeepsPlaces}
-use Rattle.ndarray_layout.specs.Run.{run_of, HasNoBroadcast}
+use Rattle.ndarray_layout.specs.Run.{run_of}
 use Rattle.ndarray_layout.specs.declared.steps.Step.{Step}
 use Rattle.ndarray_layout.specs.Step.{step_value}
-use Rattle.ndarray_layout.specs.View.{IsView, LiesWithin}
+use Rattle.ndarray_layout.specs.View.{IsView}
 use Rattle.ndarray_layout.proofs.Runs.{taken_so_far, ended_by}
 use Rattle.ndarray_layout.proofs.laws.KeepsPlaces.{LiesWithin-kept}
 use Rattle.ndarray_layout.proofs.laws.Run.{run_sound}
