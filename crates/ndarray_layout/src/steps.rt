@@ -1,5 +1,5 @@
 //! Steps from one view to the next, and runs of them.
-ghost use Rattle.std.specs.Prelude.{◌≡◌, ℕ, None, Some, map, IfOk, IfErr, IsOk, OnErr, OnOk, false};
+ghost use Rattle.std.specs.Prelude.{◌≡◌, ℕ, ◌<◌, length, None, Some, map, IfOk, IfErr, IsOk, OnErr, OnOk, false};
 ghost use Rattle.std.specs.Result.{result_err};
 ghost use Rattle.nd_base.specs.ShapeFault.{shape_fault};
 ghost use Rattle.ndarray_layout.specs.MergedView.{merge_fault, merge_of};
@@ -81,6 +81,7 @@ fn take_step(alloc: Global, view: &mut Strided<IxDyn>, step: &Step) -> Result<()
 pub fn run(alloc: Global, view: Strided<IxDyn>, steps: &[Step]) -> Result<Strided<IxDyn>, Stopped>
     ensures fits { IfOk result (λ v. (run_of (map step_value steps.now) view).fault ≡ None) }
     ensures left { IfOk result (λ v. v ≡ (run_of (map step_value steps.now) view).view) }
+    ensures at { IfErr result (λ s. s.at < length steps.now) }
     ensures stopped { IfErr result (λ s.
         StopsAt (map step_value steps.now) view s.at s.fault s.view) }
     ensures ended { IfErr result (λ s.

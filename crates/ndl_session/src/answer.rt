@@ -81,9 +81,16 @@ fn answer_to_steps(
 {
     match run(alloc, view, steps) {
         Ok(view) => list(alloc, &view),
-        Err(Stopped { at, fault, view: _ }) => match fault {
-            LayoutError::Shape(fault) => refused(alloc, at + 1, &fault),
-            LayoutError::Memory(error) => Err(error),
+        Err(stopped) => {
+            let Stopped {
+                at,
+                fault,
+                view: _left,
+            } = stopped;
+            match fault {
+                LayoutError::Shape(fault) => refused(alloc, at + 1, &fault),
+                LayoutError::Memory(error) => Err(error),
+            }
         },
     }
 }

@@ -5,9 +5,9 @@ ghost use Rattle.ndarray_layout.specs.Step.{step_value};
 ghost use Rattle.ndl_session.specs.StepLine.{fit_of, step_of, step_of_list, step_of_numbers};
 
 use crate::lists::list;
+use nd_slice::Fit;
 use ndarray_layout::{Axis, Step, new_ixdyn};
 use ndl_text::number;
-use nd_slice::Fit;
 use std::alloc::{AllocError, Global};
 
 /// What becomes of a bound past its axis, by the word that a slice begins with.

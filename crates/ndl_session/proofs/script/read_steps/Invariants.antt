@@ -2,7 +2,7 @@
 use Rattle.std.proofs.Common.{◌≡◌, ◌+◌, ◌<◌, ◌^◌, length, map}
 use Rattle.ndl_text.specs.Lines.{lines_from}
 use Rattle.ndl_session.specs.Script.{steps_of_lines}
-use Rattle.ndl_session.specs.StepLine.{step_value}
+use Rattle.ndarray_layout.specs.Step.{step_value}
 use Rattle.ndl_session.proofs.Entries.{with_front_lines}
 use Rattle.ndl_session.proofs.script.read_steps.Given as goal
 
