@@ -3,6 +3,7 @@ mod answer;
 pub mod elems;
 mod question;
 mod rows;
+mod runs;
 mod shapes;
 mod slices;
 mod sums;

@@ -1,0 +1,111 @@
+//! Runs of steps from the view of a shape of three axes, and where they stop.
+//!
+//! Each test passes plain, and with the first or the second request of its run refused.
+use crate::view::rows::owned;
+use ErrorKind::{IncompatibleLayout, OutOfBounds};
+use SliceInfoElem::Slice;
+use ndarray_layout::{
+    Axis, ErrorKind, Fit, IxDyn, LayoutError, Lengths, SliceInfoElem, Step, Stopped, Strided,
+    new_ixdyn, run,
+};
+use std::alloc::{AllocError, Global};
+use std::process::Abort;
+
+/// 24 elements, by rows.
+fn grid(rt: &impl Abort, alloc: Global) -> Strided<IxDyn> {
+    let shape = new_ixdyn(alloc, &[2, 3, 4]).expect(rt, "a shape");
+    let strides = new_ixdyn(alloc, &[12, 4, 1]).expect(rt, "strides");
+    owned(shape, strides, 24).expect(rt, "a view")
+}
+
+/// The kind of a fault, apart from want of memory.
+fn kind_of(fault: &LayoutError) -> Option<ErrorKind> {
+    match fault {
+        LayoutError::Shape(fault) => Some(fault.kind()),
+        LayoutError::Memory(_) => None,
+    }
+}
+
+/// A run ended after so many steps, by a fault of this kind if it was stopped by one, with this view
+/// left: its start, shape and strides.
+fn ends(
+    ended: Result<Strided<IxDyn>, Stopped>,
+    taken: Option<(usize, Option<ErrorKind>)>,
+    left: (usize, &[usize], &[usize]),
+) -> bool {
+    let (stopped, view) = match ended {
+        Ok(view) => (None, view),
+        Err(stopped) => {
+            let Stopped { at, fault, view } = stopped;
+            (Some((at, kind_of(&fault))), view)
+        },
+    };
+    stopped == taken && (view.start(), view.dim().slice(), view.strides().slice()) == left
+}
+
+/// The first row of two joined axes, and then a step that doesn't fit.
+#[test]
+fn r8_rows(rt: HostRuntime) {
+    let steps = [
+        Step::Collapse(Axis(1), 2),
+        Step::Merge(Axis(0), Axis(1)),
+        Step::Merge(Axis(2), Axis(1)),
+        Step::Collapse(Axis(9), 9),
+    ];
+    let left: (usize, &[usize], &[usize]) = (8, &[1, 2, 4], &[12, 12, 1]);
+    let done = run(rt.alloc(), grid(&rt, rt.alloc()), &steps[..2]);
+    assert!(rt; ends(done, None, left));
+    let stopped = run(rt.alloc(), grid(&rt, rt.alloc()), &steps);
+    assert!(rt; ends(stopped, Some((2, Some(IncompatibleLayout))), left));
+    let stopped = run(rt.alloc(), grid(&rt, rt.alloc()), &steps[3..]);
+    let whole: (usize, &[usize], &[usize]) = (0, &[2, 3, 4], &[12, 4, 1]);
+    assert!(rt; ends(stopped, Some((0, Some(OutOfBounds))), whole));
+}
+
+/// Every other entry of the first two axes from the back, and of the last one.
+fn every_other(alloc: Global) -> Result<Vec<SliceInfoElem>, AllocError> {
+    let mut elems = Vec::with_capacity(alloc, 3)?;
+    for step in [-2, -2, 2] {
+        elems.push(Slice {
+            start: 0,
+            end: None,
+            step,
+        })?;
+    }
+    Ok(elems)
+}
+
+/// A step of each kind, where no view has more than four axes: once the elements of the slice are
+/// made, nothing is asked for.
+#[test]
+fn r9_rows_of_runs(rt: HostRuntime) {
+    let Ok(elems) = every_other(rt.alloc()) else {
+        return;
+    };
+    let wide = new_ixdyn(rt.alloc(), &[3, 1, 2, 2]).expect(&rt, "a shape");
+    let steps = [
+        Step::Slice(elems, Fit::Strict),
+        Step::Merge(Axis(0), Axis(1)),
+        Step::Collapse(Axis(1), 1),
+        Step::Broadcast(wide),
+    ];
+    let left: (usize, &[usize], &[usize]) = (12, &[3, 1, 2, 2], &[0, 0, 0, 2]);
+    assert!(rt; ends(run(rt.alloc(), grid(&rt, rt.alloc()), &steps), None, left));
+}
+
+/// A broadcast to five axes may be refused memory: then the view that it began with is left.
+#[test]
+fn memory_of_a_run(rt: HostRuntime) {
+    let Ok(wide) = new_ixdyn(rt.alloc(), &[2, 1, 2, 3, 4]) else {
+        return;
+    };
+    let steps = [Step::Collapse(Axis(0), 1), Step::Broadcast(wide)];
+    let ended = run(rt.alloc(), grid(&rt, rt.alloc()), &steps);
+    if ended.is_ok() {
+        let left: (usize, &[usize], &[usize]) = (12, &[2, 1, 2, 3, 4], &[0, 0, 0, 4, 1]);
+        assert!(rt; ends(ended, None, left));
+    } else {
+        let left: (usize, &[usize], &[usize]) = (12, &[1, 3, 4], &[12, 4, 1]);
+        assert!(rt; ends(ended, Some((1, None)), left));
+    }
+}
