@@ -1,5 +1,5 @@
 //! The shape and the strides that a slice argument leaves of a layout.
-ghost use Rattle.std.specs.Prelude.{◌≡◌, ◌<◌, ◌≤◌, ◌^◌, IsFalse, None, IfOk, OnOk, length};
+ghost use Rattle.std.specs.Prelude.{◌≡◌, ◌↔◌, ◌<◌, ◌≤◌, ◌^◌, IsFalse, None, IfOk, OnOk, length};
 ghost use Rattle.std.specs.Result.{result_err};
 ghost use Rattle.nd_base.specs.Lengths.{NeedsNoMemory};
 ghost use Rattle.nd_base.specs.Signed.{signed as signed_reading, all_signed};
@@ -27,7 +27,7 @@ pub fn has_other_counts(fixed: Option<usize>, shape: &[usize], elems: &[SliceInf
 /// Whether a list of so many lengths may want memory, where its type fixes their count or not.
 #[inline(always)]
 pub fn may_want_memory(fixed: Option<usize>, ndim: usize) -> bool
-    ensures { IsFalse result → NeedsNoMemory fixed ndim }
+    ensures { IsFalse result ↔ NeedsNoMemory fixed ndim }
 {
     fixed.is_none() && ndim > 4
 }
