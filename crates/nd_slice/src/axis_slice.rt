@@ -8,7 +8,7 @@ ghost use Rattle.nd_base.specs.Size.{limit};
 ghost use Rattle.nd_base.specs.Span.{reach};
 ghost use Rattle.nd_base.specs.ValidLayout.{IsValidLayout};
 ghost use Rattle.nd_slice.specs.Picks.{meaning, is_bound, bound_meaning, start_meaning, end_meaning, range, directed, every, picks};
-ghost use Rattle.nd_slice.specs.SliceFault.{slice_fault, SliceFits};
+ghost use Rattle.nd_slice.specs.SliceFault.{slice_fault, index_fault, SliceFits};
 ghost use Rattle.nd_slice.specs.Sliced.{picked_stride, first_offset};
 
 use crate::fit::Fit;
@@ -28,6 +28,21 @@ pub fn abs_index(len: usize, index: isize) -> usize
 {
     let distance = index.unsigned_abs();
     if index < 0 { len - distance } else { distance }
+}
+
+/// The entry that an index means on an axis of `len` entries, as `abs_index` tells it. An index that
+/// is not from `-len` to `len - 1` is `OutOfBounds`. The project's own.
+#[inline(always)]
+pub fn entry_of(len: usize, index: isize) -> Result<usize, ShapeError>
+    ensures fault { result_err result ≡ index_fault len index }
+    ensures entry { IfOk result (λ entry. pos entry ≡ meaning len index) }
+{
+    let distance = index.unsigned_abs();
+    if distance < len || (distance == len && index < 0) {
+        Ok(abs_index(len, index))
+    } else {
+        Err(from_kind(ErrorKind::OutOfBounds))
+    }
 }
 
 /// The entry that a bound of a range means, from 0 to `len`. Any other is `OutOfBounds`, or is moved

@@ -1,9 +1,9 @@
 //! Which slice arguments fit a shape.
 ghost use Rattle.std.specs.Prelude.{◌≡◌};
 ghost use Rattle.std.specs.Result.{result_err};
-ghost use Rattle.nd_slice.specs.SliceFault.{argument_fault, index_fault, in_count, out_count};
+ghost use Rattle.nd_slice.specs.SliceFault.{argument_fault, in_count, out_count};
 
-use crate::axis_slice::to_abs_slice;
+use crate::axis_slice::{entry_of, to_abs_slice};
 use crate::elems::SliceElems;
 use crate::fit::Fit;
 use crate::slice::{Slice, SliceInfoElem};
@@ -32,19 +32,6 @@ pub fn out_ndim_of(list: &[SliceInfoElem]) -> usize
         .count()
 }
 
-/// Whether an index is on an axis of `len` entries, from `-len` to `len - 1`; any other is
-/// `OutOfBounds`.
-fn check_index(len: usize, index: isize) -> Result<(), ShapeError>
-    ensures { result_err result ≡ index_fault len index }
-{
-    let distance = index.unsigned_abs();
-    if distance < len || (distance == len && index < 0) {
-        Ok(())
-    } else {
-        Err(from_kind(ErrorKind::OutOfBounds))
-    }
-}
-
 /// Whether the elements of a slice argument fit the lengths of a shape. Refused with
 /// `IncompatibleShape` where they are for more axes or fewer; otherwise as the first element at fault
 /// is: with `OutOfBounds` for an index that is not on its axis, or a bound that is not and is not to
@@ -63,7 +50,7 @@ pub fn check_elems(shape: &[usize], elems: &[SliceInfoElem], fit: Fit) -> Result
                 axis += 1;
             }
             SliceInfoElem::Index(index) => {
-                check_index(shape[axis], index)?;
+                entry_of(shape[axis], index)?;
                 axis += 1;
             }
             SliceInfoElem::NewAxis => {}

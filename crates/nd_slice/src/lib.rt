@@ -10,7 +10,9 @@ mod info;
 mod slice;
 
 pub use arg::SliceArg;
-pub use axis_slice::{abs_index, do_collapse_axis, do_slice, slice_min_max, to_abs_slice};
+pub use axis_slice::{
+    abs_index, do_collapse_axis, do_slice, entry_of, slice_min_max, to_abs_slice,
+};
 pub use checks::{check_elems, check_slice, in_ndim_of, out_ndim_of};
 pub use elems::SliceElems;
 pub use fit::Fit;

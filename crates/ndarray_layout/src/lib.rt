@@ -27,7 +27,8 @@ pub use nd_shape::{
 };
 pub use nd_slice::{
     Fit, NewAxis, Slice, SliceArg, SliceElems, SliceInfo, SliceInfoElem, abs_index, check_elems,
-    check_slice, do_collapse_axis, do_slice, in_ndim_of, out_ndim_of, slice_min_max, to_abs_slice,
+    check_slice, do_collapse_axis, do_slice, entry_of, in_ndim_of, out_ndim_of, slice_min_max,
+    to_abs_slice,
 };
 pub use steps::{Step, Stopped, run};
 pub use strided::Strided;

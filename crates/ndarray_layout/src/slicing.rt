@@ -1,19 +1,19 @@
 //! The shape and the strides that a slice argument leaves of a layout.
-ghost use Rattle.std.specs.Prelude.{◌≡◌, ◌<◌, ◌≤◌, ◌^◌, IsFalse, None, IfOk, OnOk, pos, length};
+ghost use Rattle.std.specs.Prelude.{◌≡◌, ◌↔◌, ◌<◌, ◌≤◌, ◌^◌, IsFalse, None, IfOk, OnOk, length};
 ghost use Rattle.std.specs.Result.{result_err};
 ghost use Rattle.nd_base.specs.Lengths.{NeedsNoMemory};
 ghost use Rattle.nd_base.specs.Signed.{signed as signed_reading, all_signed};
 ghost use Rattle.nd_base.specs.Size.{limit};
 ghost use Rattle.nd_base.specs.Span.{reach};
 ghost use Rattle.nd_base.specs.ValidLayout.{IsValidLayout};
-ghost use Rattle.nd_slice.specs.Picks.{meaning, picks};
-ghost use Rattle.nd_slice.specs.SliceFault.{slice_fault, index_fault, first_fault, in_count, out_count};
+ghost use Rattle.nd_slice.specs.Picks.{picks};
+ghost use Rattle.nd_slice.specs.SliceFault.{slice_fault, first_fault, in_count, out_count};
 ghost use Rattle.nd_slice.specs.Sliced.{picked_stride, first_offset};
 ghost use Rattle.nd_slice.specs.Sliced.{sliced_shape, sliced_strides, sliced_offset};
 ghost use Rattle.ndarray_layout.specs.SlicedView.{counts_differ};
 
-use nd_base::{ErrorKind, ShapeError, from_kind, stride_offset};
-use nd_slice::{Fit, Slice, SliceInfoElem, do_slice, in_ndim_of, out_ndim_of};
+use nd_base::{ShapeError, stride_offset};
+use nd_slice::{Fit, Slice, SliceInfoElem, do_slice, entry_of, in_ndim_of, out_ndim_of};
 
 /// Whether a slice argument is for more axes or fewer than a shape has, or leaves more or fewer than a
 /// type fixes, if it fixes a count.
@@ -27,7 +27,7 @@ pub fn has_other_counts(fixed: Option<usize>, shape: &[usize], elems: &[SliceInf
 /// Whether a list of so many lengths may want memory, where its type fixes their count or not.
 #[inline(always)]
 pub fn may_want_memory(fixed: Option<usize>, ndim: usize) -> bool
-    ensures { IsFalse result → NeedsNoMemory fixed ndim }
+    ensures { IsFalse result ↔ NeedsNoMemory fixed ndim }
 {
     fixed.is_none() && ndim > 4
 }
@@ -64,20 +64,6 @@ pub fn count_of_picks(len: usize, slice: Slice, fit: Fit) -> usize
     let mut count = len;
     do_slice(&mut count, &mut 0, slice, fit).unwrap();
     count
-}
-
-/// The entry that an index means on an axis of `len` entries; any other is `OutOfBounds`.
-#[inline(always)]
-fn entry_of(len: usize, index: isize) -> Result<usize, ShapeError>
-    ensures fault { result_err result ≡ index_fault len index }
-    ensures entry { IfOk result (λ entry. pos entry ≡ meaning len index) }
-{
-    let distance = index.unsigned_abs();
-    if distance < len || (distance == len && index < 0) {
-        Ok(if index < 0 { len - distance } else { distance })
-    } else {
-        Err(from_kind(ErrorKind::OutOfBounds))
-    }
 }
 
 /// Writes the lengths and the strides that an argument for as many axes as there are leaves, one for

@@ -5,7 +5,7 @@ ghost use Rattle.nd_base.specs.Span.{reach};
 
 use Fit::{Clamp, Strict};
 use nd_base::{ErrorKind, new_ix2, signed, unsigned};
-use nd_slice::{Fit, Slice, abs_index, do_collapse_axis, do_slice, to_abs_slice};
+use nd_slice::{Fit, Slice, abs_index, do_collapse_axis, do_slice, entry_of, to_abs_slice};
 use nd_testing::or_fault;
 
 /// One axis, a slice of it, and what it gives: the answer, the length and the stride afterwards.
@@ -54,7 +54,9 @@ impl Row {
 #[test]
 fn counts_from_the_end(rt: HostRuntime) {
     let bounds = or_fault(to_abs_slice(10, Slice::new(-9, Some(-2), -3), Strict));
+    let entries = [or_fault(entry_of(10, -10)), or_fault(entry_of(10, 10))];
     assert!(rt; abs_index(10, 7) == 7 && abs_index(10, -3) == 7 && bounds == Ok((1, 8, -3)));
+    assert_eq!(rt; entries, [Ok(0), Err(ErrorKind::OutOfBounds)]);
 }
 
 #[test]

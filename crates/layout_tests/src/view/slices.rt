@@ -23,6 +23,8 @@ IxDyn 4 99 view 2,1,3,1,2 -6,9,1,9,3 slice Ix6 ..,NewAxis,..,2..,..,.. is 2,1,1,
 0,0,3 8 8,11,2,5 8,2,11,5
 Ix1 1 4 owned 4 1 slice Ix1 1..;-2 is 2 -2 3 3,1 3,1
 Ix1 1 4 owned 4 1 slice Ix1 2..2 is 0 0 0 - -
+Ix1 1 4 owned 4 1 slice IxDyn NewAxis,NewAxis,NewAxis,NewAxis,..;-1,NewAxis,NewAxis,NewAxis,NewAxis \
+is 1,1,1,1,4,1,1,1,1 0,0,0,0,-1,0,0,0,0 3 3,2,1,0 3,2,1,0
 Ix2 1 6 owned 2,3 3,1 slice Ix2 -1,NewAxis,.. is 1,3 0,1 3 3,4,5 3,4,5
 IxDyn 4 99 view 2,1,2,1,2,2 8,9,-4,9,2,-1 slice IxDyn ..;-1,0,..,..,..,.. is 2,2,1,2,2 -8,-4,\
 0,2,-1 13 13,12,15,14,9,8,11,10,5,4,7,6,1,0,3,2 13,5,9,1,15,7,11,3,12,4,8,0,14,6,10,2
