@@ -116,38 +116,50 @@ fn r5_rows_of_steps(rt: HostRuntime) {
 
 /// What comes of reading a view as one of a shape.
 #[derive(Clone, Copy, PartialEq)]
-enum Made {
+enum Outcome {
     Made,
     OutOfMemory,
     Refused,
 }
 
-/// The same of two columns.
-fn columns_as<E: Dimension>(alloc: Global, shape: &E) -> Made {
-    match owned(new_ix2(1, 2), new_ix2(2, 1), 2) {
-        Ok(view) => match view.broadcast(alloc, shape) {
-            Ok(_) => Made::Made,
-            Err(LayoutError::Memory(_error)) => Made::OutOfMemory,
-            Err(LayoutError::Shape(_fault)) => Made::Refused,
-        },
-        Err(_error) => Made::Refused,
+/// What came of it.
+fn outcome_of<E: Dimension>(view: Result<Strided<E>, LayoutError>) -> Outcome {
+    match view {
+        Ok(_view) => Outcome::Made,
+        Err(LayoutError::Memory(_error)) => Outcome::OutOfMemory,
+        Err(LayoutError::Shape(_fault)) => Outcome::Refused,
     }
 }
 
+/// A view, as one of a shape.
+fn read_as<D: Dimension, E: Dimension>(
+    alloc: Global,
+    view: Result<Strided<D>, LayoutError>,
+    shape: &E,
+) -> Result<Strided<E>, LayoutError> {
+    let view = view?;
+    view.broadcast(alloc, shape)
+}
+
+/// What comes of reading two columns as a view of a shape.
+fn columns_as<E: Dimension>(alloc: Global, shape: &E) -> Outcome {
+    outcome_of(read_as(alloc, owned(new_ix2(1, 2), new_ix2(2, 1), 2), shape))
+}
+
 /// The same of any number of axes.
-fn columns_as_any(alloc: Global, shape: &IxDyn) -> Made {
+fn columns_as_any(alloc: Global, shape: &IxDyn) -> Outcome {
     columns_as(alloc, shape)
 }
 
 #[test]
 fn memory_of_broadcast_at_a_fixed_type(rt: HostRuntime) {
-    assert!(rt; columns_as(rt.alloc(), &new_ix3(3, 2, 2)) == Made::Made);
+    assert!(rt; columns_as(rt.alloc(), &new_ix3(3, 2, 2)) == Outcome::Made);
 }
 
 #[test]
 fn memory_of_broadcast_to_four(rt: HostRuntime) {
     let four = new_ixdyn(rt.alloc(), &[2, 1, 3, 2]).expect(&rt, "four axes need no memory");
-    assert!(rt; columns_as_any(rt.alloc(), &four) == Made::Made);
+    assert!(rt; columns_as_any(rt.alloc(), &four) == Outcome::Made);
 }
 
 /// Whether two columns are read as a view of five axes twice, or once, where a request is refused. Each
@@ -155,7 +167,7 @@ fn memory_of_broadcast_to_four(rt: HostRuntime) {
 fn one_is_made(alloc: Global, shape: &IxDyn) -> bool {
     let first = columns_as_any(alloc, shape);
     let second = columns_as_any(alloc, shape);
-    grants(alloc) && (first == Made::Made || second == Made::Made)
+    grants(alloc) && (first == Outcome::Made || second == Outcome::Made)
 }
 
 #[test]
