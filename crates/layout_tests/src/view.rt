@@ -1,5 +1,6 @@
 //! Tests of `ndarray_layout`, by its public calls.
 mod answer;
+mod axes;
 pub mod elems;
 mod question;
 mod rows;

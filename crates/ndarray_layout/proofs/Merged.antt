@@ -129,10 +129,7 @@ pub record TwoAxes (shape : List ℕ) (strides : List ℤ) (taken into : ℕ) : 
   pub into_there : into < length shape
   pub apart : taken ≢ into
 
--- what both have: the lengths, and a stride for the entries of both
-abbrev into_len : List ℕ → ℕ → ℕ
-into_len shape into = get_or shape into 0
-
+-- how many entries both have together
 abbrev whole : List ℕ → ℕ → ℕ → ℕ
 whole shape taken into = get_or shape into 0 * get_or shape taken 0
 

@@ -1,11 +1,12 @@
 //! What views answer, at any dimension type.
 use crate::view::question::{Argument, Asked, Question, lens, strides};
-use ErrorKind::{IncompatibleShape, OutOfBounds, Unsupported};
+use ErrorKind::{IncompatibleShape, OutOfBounds, Overflow, Unsupported};
 use Order::{ColumnMajor, RowMajor};
 use nd_testing::Row;
 use ndarray_layout::{
     Axis, Dimension, ErrorKind, Ix1, Ix2, Ix3, Ix5, Ix6, IxDyn, LayoutError, Lengths, Order,
-    Strided, max_abs_offset_check_overflow, new_ixdyn,
+    Strided, is_layout_c, is_layout_f, max_abs_offset_check_overflow, new_ixdyn,
+    size_of_shape_checked,
 };
 use std::alloc::Global;
 use std::process::Abort;
@@ -24,6 +25,8 @@ pub struct Seen {
 #[derive(Drop, PartialEq)]
 pub enum Answer {
     View(Seen),
+    Unmerged(Seen),
+    InOrder(bool, bool),
     Number(Option<usize>),
     Refused(ErrorKind),
     OutOfMemory,
@@ -33,6 +36,12 @@ pub enum Answer {
 pub fn expected(rt: &impl Abort, alloc: Global, row: &mut Row<'_>) -> Answer {
     match row.word().expect(rt, "an answer") {
         "is" => Answer::View(seen_in_row(rt, alloc, row)),
+        "unmerged" => Answer::Unmerged(seen_in_row(rt, alloc, row)),
+        "by_rows" => Answer::InOrder(true, false),
+        "by_columns" => Answer::InOrder(false, true),
+        "both_ways" => Answer::InOrder(true, true),
+        "neither_way" => Answer::InOrder(false, false),
+        "Overflow" => Answer::Refused(Overflow),
         "IncompatibleShape" => Answer::Refused(IncompatibleShape),
         "OutOfBounds" => Answer::Refused(OutOfBounds),
         "Unsupported" => Answer::Refused(Unsupported),
@@ -183,6 +192,77 @@ fn collapse<D: Dimension>(
     }
 }
 
+/// What is left of the view of a layout where an axis is merged into another, or the view where it isn't.
+fn merge<D: Dimension>(
+    rt: &impl Abort,
+    alloc: Global,
+    layout: &Asked,
+    take: Axis,
+    into: Axis,
+) -> Answer {
+    let mut view = view::<D>(rt, alloc, layout).expect(rt, "refused");
+    match view.merge(take, into) {
+        Ok(true) => Answer::View(look(rt, alloc, &view)),
+        Ok(false) => Answer::Unmerged(look(rt, alloc, &view)),
+        Err(fault) => Answer::Refused(fault.kind()),
+    }
+}
+
+/// What is told of a view as one of a shape of a dimension type.
+fn told_of_broadcast<D: Dimension, E: Dimension>(
+    rt: &impl Abort,
+    alloc: Global,
+    view: &Strided<D>,
+    shape: &[usize],
+) -> Answer {
+    told::<E>(
+        rt,
+        alloc,
+        view.broadcast(alloc, &dim::<E>(rt, alloc, shape)),
+    )
+}
+
+/// The view of a layout as one of a shape, at the type of so many axes.
+fn broadcast<D: Dimension>(
+    rt: &impl Abort,
+    alloc: Global,
+    layout: &Asked,
+    ndim: Option<usize>,
+    shape: &[usize],
+) -> Answer {
+    let view = view::<D>(rt, alloc, layout).expect(rt, "refused");
+    match ndim {
+        Some(1) => told_of_broadcast::<D, Ix1>(rt, alloc, &view, shape),
+        Some(2) => told_of_broadcast::<D, Ix2>(rt, alloc, &view, shape),
+        Some(3) => told_of_broadcast::<D, Ix3>(rt, alloc, &view, shape),
+        Some(6) => told_of_broadcast::<D, Ix6>(rt, alloc, &view, shape),
+        _ => told_of_broadcast::<D, IxDyn>(rt, alloc, &view, shape),
+    }
+}
+
+/// Whether the places of a view lie in order, by rows and by columns.
+fn in_order<D: Dimension>(view: &Strided<D>) -> Answer {
+    let (dim, strides) = (view.dim(), view.strides());
+    if dim.ndim() != strides.ndim() || size_of_shape_checked(dim).is_err() {
+        return Answer::Number(None);
+    }
+    Answer::InOrder(is_layout_c(dim, strides), is_layout_f(dim, strides))
+}
+
+/// The same of a slice of two axes of the view of a layout.
+fn slice_in_order<D: Dimension>(
+    rt: &impl Abort,
+    alloc: Global,
+    layout: &Asked,
+    argument: &Argument,
+) -> Answer {
+    let view = view::<D>(rt, alloc, layout).expect(rt, "refused");
+    let slice: Strided<Ix2> = view
+        .slice(alloc, &argument.elems, argument.fit)
+        .expect(rt, "refused");
+    in_order(&slice)
+}
+
 /// The answer of a layout at a dimension type.
 fn ask<D: Dimension>(
     rt: &impl Abort,
@@ -198,6 +278,11 @@ fn ask<D: Dimension>(
         },
         Question::Picked(argument) => picked::<D>(rt, alloc, layout, argument),
         Question::Collapse(axis, index) => collapse::<D>(rt, alloc, layout, *axis, *index),
+        Question::Merge(take, into) => merge::<D>(rt, alloc, layout, *take, *into),
+        Question::Broadcast(ndim, shape) => {
+            broadcast::<D>(rt, alloc, layout, *ndim, shape.as_slice())
+        },
+        Question::InOrder(argument) => slice_in_order::<D>(rt, alloc, layout, argument),
         Question::Slice(argument) => slice_of_layout::<D>(rt, alloc, layout, argument),
     }
 }

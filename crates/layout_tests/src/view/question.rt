@@ -41,6 +41,12 @@ pub enum Question {
     Picked(Argument),
     /// One entry of an axis.
     Collapse(Axis, usize),
+    /// An axis merged into another.
+    Merge(Axis, Axis),
+    /// The same data as a view of a shape, of the type of so many axes.
+    Broadcast(Option<usize>, Vec<usize>),
+    /// Whether the places of a slice of two axes lie in order, by rows and by columns.
+    InOrder(Argument),
 }
 
 /// The next word of a row as lengths.
@@ -106,6 +112,9 @@ pub fn read_question(rt: &impl Abort, alloc: Global, row: &mut Row<'_>) -> Quest
         "picked" => Question::Picked(read_argument(rt, alloc, row, Strict)),
         "clamp_picked" => Question::Picked(read_argument(rt, alloc, row, Clamp)),
         "collapse" => Question::Collapse(Axis(number(rt, row)), number(rt, row)),
+        "merge" => Question::Merge(Axis(number(rt, row)), Axis(number(rt, row))),
+        "broadcast" => Question::Broadcast(fixed_count(rt, row), lens(rt, alloc, row)),
+        "in_order" => Question::InOrder(read_argument(rt, alloc, row, Strict)),
         "clamp" => Question::Slice(read_argument(rt, alloc, row, Clamp)),
         _ => Question::Slice(read_argument(rt, alloc, row, Strict)),
     }

@@ -1,10 +1,16 @@
 -- Laws of views whose indices lie where their sources in another view do.
-use Rattle.std.proofs.Common.{◌≡◌, ℕ, true, List, refl, sym, subst, ◌∙◌}
-use Rattle.nd_base.specs.Indices.{is_index}
+use Rattle.std.proofs.Common.{◌≡◌, ℕ, ℤ, true, List, map, refl, sym, ap, subst, ◌∙◌, arith}
+use Rattle.std.proofs.Math.ListN.{get_or-map}
+use Rattle.std.proofs.lemmas.List.{length-map}
+use Rattle.std.proofs.lemmas.List.Elements.{All-map, All-weaker}
+use Rattle.std.specs.List.{All, Contains}
+use Rattle.nd_base.specs.declared.order.Order.{Order}
+use Rattle.nd_base.specs.Indices.{is_index, indices_in}
+use Rattle.nd_base.proofs.laws.Indices.{All-indices_in, Contains-indices_in}
 use Rattle.nd_shape.specs.Inside.{IsInside}
 use Rattle.ndarray_layout.specs.DistinctPlaces.{HasDistinctPlaces}
 use Rattle.ndarray_layout.specs.KeepsPlaces.{KeepsPlaces}
-use Rattle.ndarray_layout.specs.View.{View, LiesWithin}
+use Rattle.ndarray_layout.specs.View.{View, LiesWithin, place_at, view_places}
 
 -- such a view lies within the data that the other lies within
 pub LiesWithin-kept : (len : ℕ) (source : List ℕ → List ℕ) (view result : View) → KeepsPlaces source view result → LiesWithin len view → LiesWithin len result
@@ -29,3 +35,16 @@ KeepsPlaces-in_turn source more view between result first second = λ index here
     let near = second index here in
     let far = first (more index) near.0 in
     (far.0, near.1 ∙ far.1)
+contained : (f : List ℕ → ℤ) (xs : List (List ℕ)) (x : List ℕ) → Contains xs x → Contains (map f xs) (f x)
+contained f xs x here = (here.0, omega (arith, length-map xs f, here.1), get_or-map f xs here.0 x ∙ ap f here.2)
+
+-- each of its places is one of the other's
+pub places_are_kept : (order : Order) (source : List ℕ → List ℕ) (view result : View) → KeepsPlaces source view result → All (Contains (view_places order view)) (view_places order result)
+places_are_kept order source view result keeps =
+    let places = view_places order view in
+    let stays : (index : List ℕ) → is_index result.shape index ≡ true → Contains places (place_at result index) = λ index here.
+    let kept = keeps index here in
+    subst (Contains places) (sym kept.1) (contained (place_at view) (indices_in order view.shape) (source index) (Contains-indices_in order view.shape (source index) kept.0)) in
+    let indices = indices_in order result.shape in
+    All-map (Contains places) (place_at result) indices (All-weaker (λ index. is_index result.shape index ≡ true) (λ index. Contains places (place_at result index)) stays indices (All-indices_in order result.shape))
+

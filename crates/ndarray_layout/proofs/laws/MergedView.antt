@@ -1,6 +1,7 @@
 -- Laws of views in which an axis was merged into another.
-use Rattle.std.proofs.Common.{◌≡◌, ◌≢◌, ℕ, ◌<◌, ℤ, pos, Bool, true, false, not, cond, eqb, ltb, leb, Option, Some, None, List, length, get_or, nat_lt, refl, subst, sym, arith}
+use Rattle.std.proofs.Common.{◌≡◌, ◌↔◌, ◌≢◌, ℕ, ◌<◌, ℤ, pos, Bool, true, false, not, cond, eqb, ltb, leb, Option, Some, None, List, length, get_or, nat_lt, refl, subst, sym, arith}
 use Rattle.std.proofs.lemmas.Bool.{and_parts, ltb-true, eqb-false}
+use Rattle.std.proofs.lemmas.Bool.Decides.{same_from_decides}
 use Rattle.std.proofs.lemmas.Int.{ints}
 use Rattle.std.specs.Bool.{Decides}
 use Rattle.std.specs.Option.{option_or}
@@ -59,6 +60,12 @@ can_merge take into view none =
 
 pub no_fault_where_it_can : (take into : ℕ) (view : View) → CanMerge take into view → merge_fault take into view ≡ None
 no_fault_where_it_can take into view can = rw (can.axes, can.stride) refl
+
+-- so what a merge answers tells the fault where the axes have to be merged
+pub merge_fault_of_answer : (take into : ℕ) (view : View) (merged : Bool) → axes_fault view.shape take into ≡ None → (merged ≡ true) ↔ HasMergedStride take into view → merge_fault take into view ≡ cond merged None (Some IncompatibleLayout)
+merge_fault_of_answer take into view merged none fits =
+    let same : has_merged_stride take into view ≡ merged = same_from_decides (has_merged_stride take into view) merged (has_merged_stride-Decides take into view) fits in
+    rw (none, same) refl
 
 two_axes : (take into : ℕ) (view : View) → IsView view → axes_fault view.shape take into ≡ None → TwoAxes view.shape view.strides take into
 two_axes take into view v none =

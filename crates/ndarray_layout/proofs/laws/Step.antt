@@ -1,15 +1,12 @@
 -- Laws of steps: one that fits a view makes a view of the same data, whose indices lie where those that they stand for do.
-use Rattle.std.proofs.Common.{◌≡◌, ◌↔◌, ℕ, Bool, true, false, if◌then◌else◌, Some, None, IsTrue, refl}
-use Rattle.std.specs.Bool.{Decides}
-use Rattle.nd_base.specs.declared.error.ErrorKind.TheVariants.{IncompatibleLayout}
-use Rattle.ndarray_layout.specs.MergedView.{HasMergedStride, has_merged_stride, axes_fault, merge_fault}
+use Rattle.std.proofs.Common.{◌≡◌, None, false}
 use Rattle.ndarray_layout.specs.DistinctPlaces.{HasDistinctPlaces}
 use Rattle.ndarray_layout.specs.KeepsPlaces.{KeepsPlaces}
 use Rattle.ndarray_layout.specs.Step.{StepValue, SliceBy, CollapseTo, MergeInto, BroadcastTo, step_fault, view_after, source_index, is_broadcast}
 use Rattle.ndarray_layout.specs.View.{View, IsView}
 use Rattle.ndarray_layout.proofs.laws.BroadcastView.{IsView-broadcast_of, KeepsPlaces-broadcast_of}
 use Rattle.ndarray_layout.proofs.laws.CollapsedView.{IsView-collapse_of, KeepsPlaces-collapse_of, HasDistinctPlaces-collapse_of}
-use Rattle.ndarray_layout.proofs.laws.MergedView.{has_merged_stride-Decides, IsView-merge_of, KeepsPlaces-merge_of, HasDistinctPlaces-merge_of}
+use Rattle.ndarray_layout.proofs.laws.MergedView.{IsView-merge_of, KeepsPlaces-merge_of, HasDistinctPlaces-merge_of}
 use Rattle.ndarray_layout.proofs.laws.SlicedView.{fits_of_no_refusal, IsView-slice_of, KeepsPlaces-slice_of, HasDistinctPlaces-slice_of}
 
 pub IsView-view_after : (view : View) (step : StepValue) → IsView view → step_fault view step ≡ None → IsView (view_after view step)
@@ -30,13 +27,3 @@ HasDistinctPlaces-view_after view (SliceBy elems fit) v fits apart distinct = Ha
 HasDistinctPlaces-view_after view (CollapseTo axis index) v fits apart distinct = HasDistinctPlaces-collapse_of axis index view v fits distinct
 HasDistinctPlaces-view_after view (MergeInto take into) v fits apart distinct = HasDistinctPlaces-merge_of take into view v fits distinct
 HasDistinctPlaces-view_after view (BroadcastTo shape) v fits apart distinct = absurd (cc)
-
-same_answer : (P : Type 0) (test merged : Bool) → Decides test P → (IsTrue merged ↔ P) → test ≡ merged
-same_answer P true true test merged = refl
-same_answer P false false test merged = refl
-same_answer P true false test merged = absurd (cc (merged.1 (test.0 refl)))
-same_answer P false true test merged = absurd (cc (test.1 (merged.0 refl)))
-
--- two axes that are there can be merged where a stride has the entries of both, and have a fault where none has
-pub merge_fault_by_stride : (take into : ℕ) (view : View) (merged : Bool) → None ≡ axes_fault view.shape take into → (IsTrue merged ↔ HasMergedStride take into view) → (if merged then None else Some IncompatibleLayout) ≡ merge_fault take into view
-merge_fault_by_stride take into view merged there fits = rw (← there, same_answer (HasMergedStride take into view) (has_merged_stride take into view) merged (has_merged_stride-Decides take into view) fits) refl

@@ -1,0 +1,185 @@
+//! Axes merged into others, and views read as views of shapes with more or longer axes.
+//!
+//! A row is a dimension type, a layout (size of an element, length and use of the data, shape,
+//! strides), a question and its answer. After `merge` stand the axis to take and the one to merge into,
+//! after `broadcast` the dimension type of the shape, and the shape.
+use crate::view::rows::{hold, is_told, owned};
+use nd_testing::grants;
+use ndarray_layout::{
+    Axis, Dimension, ErrorKind, IxDyn, LayoutError, Strided, from_kind, new_ix2, new_ix3, new_ixdyn,
+};
+use std::alloc::Global;
+use std::process::Abort;
+
+/// Merged axes: the view that is left, or that stays.
+const MERGED: &str = "\
+Ix2 1 6 owned 2,3 3,1 merge 0 0 Unsupported
+Ix2 1 6 owned 2,3 3,1 merge 1 1 Unsupported
+Ix2 1 6 owned 2,3 3,1 merge 0 5 OutOfBounds
+Ix2 1 6 owned 2,3 3,1 merge 2 0 OutOfBounds
+Ix2 1 6 owned 2,3 3,1 merge 5 5 OutOfBounds
+Ix2 1 6 owned 2,3 3,1 merge 1 0 unmerged 2,3 3,1 0 0,1,2,3,4,5 0,3,1,4,2,5
+Ix2 1 6 owned 2,3 3,1 merge 0 1 is 1,6 3,1 0 0,1,2,3,4,5 0,1,2,3,4,5
+Ix2 1 6 owned 3,2 2,1 merge 0 1 is 1,6 2,1 0 0,1,2,3,4,5 0,1,2,3,4,5
+Ix2 1 6 owned 2,3 1,2 merge 1 0 is 6,1 1,2 0 0,1,2,3,4,5 0,1,2,3,4,5
+Ix2 1 6 owned 2,3 -3,-1 merge 0 1 is 1,6 -3,-1 5 5,4,3,2,1,0 5,4,3,2,1,0
+Ix2 1 3 owned 3,1 1,7 merge 0 1 is 1,3 1,1 0 0,1,2 0,1,2
+Ix2 1 2 owned 3,0 1,7 merge 0 1 is 0,0 1,1 0 - -
+Ix3 1 24 owned 2,3,4 12,4,1 merge 0 1 is 1,6,4 12,4,1 0 0,1,2,3,4,5,6,7,8,9,10,11,12,13,14,15,16,\
+17,18,19,20,21,22,23 0,4,8,12,16,20,1,5,9,13,17,21,2,6,10,14,18,22,3,7,11,15,19,23
+Ix3 1 24 owned 2,3,4 12,4,1 merge 0 2 unmerged 2,3,4 12,4,1 0 0,1,2,3,4,5,6,7,8,9,10,11,12,13,14,15,\
+16,17,18,19,20,21,22,23 0,12,4,16,8,20,1,13,5,17,9,21,2,14,6,18,10,22,3,15,7,19,11,23
+IxDyn 1 0 owned 1,0 0,0 merge 0 1 is 0,0 0,0 0 - -
+IxDyn 1 1 owned - - merge 0 1 OutOfBounds
+IxDyn 4 12 owned 2,1,3,1,2 6,9,1,9,3 merge 0 4 is 1,1,3,1,4 6,9,1,9,3 0 0,3,6,9,1,4,7,10,2,5,8,11 \
+0,1,2,3,4,5,6,7,8,9,10,11";
+
+#[test]
+fn r5_rows_of_merged_views(rt: HostRuntime) {
+    hold(&rt, rt.alloc(), MERGED);
+}
+
+/// Views read as views of other shapes.
+const BROADCAST: &str = "\
+Ix2 1 3 owned 3,1 1,7 broadcast Ix3 2,3,4 is 2,3,4 0,1,0 0 0,0,0,0,1,1,1,1,2,2,2,2,0,0,0,0,1,1,1,1,2,\
+2,2,2 0,0,1,1,2,2,0,0,1,1,2,2,0,0,1,1,2,2,0,0,1,1,2,2
+Ix2 1 6 owned 2,3 3,1 broadcast Ix1 3 IncompatibleShape
+Ix2 1 6 owned 2,3 3,1 broadcast Ix2 1,3 IncompatibleShape
+Ix2 1 6 owned 2,3 3,1 broadcast Ix2 2,1 IncompatibleShape
+Ix2 1 6 owned 2,3 3,1 broadcast Ix3 2,3,2 IncompatibleShape
+Ix2 1 6 owned 2,3 3,1 broadcast Ix2 2,3 is 2,3 3,1 0 0,1,2,3,4,5 0,3,1,4,2,5
+Ix1 1 1 owned 1 5 broadcast Ix2 4611686018427387904,4 Overflow
+Ix1 1 3 owned 3 1 broadcast Ix2 4611686018427387904,4 IncompatibleShape
+Ix1 1 1 owned 1 5 broadcast Ix2 0,9223372036854775808 Overflow
+Ix2 1 3 owned 1,3 -3,-1 broadcast Ix2 2,3 is 2,3 0,-1 2 2,1,0,2,1,0 2,2,1,1,0,0
+Ix2 1 3 owned 1,3 3,1 broadcast Ix2 1,3 is 1,3 3,1 0 0,1,2 0,1,2
+Ix2 1 3 owned 1,3 3,1 broadcast Ix3 1,1,3 is 1,1,3 0,3,1 0 0,1,2 0,1,2
+Ix2 1 3 owned 1,3 3,1 broadcast Ix2 0,3 is 0,3 0,1 0 - -
+Ix2 1 2 owned 0,3 3,1 broadcast Ix2 1,3 IncompatibleShape
+IxDyn 1 1 owned - - broadcast IxDyn - is - - 0 0 0
+IxDyn 1 1 owned - - broadcast Ix2 2,2 is 2,2 0,0 0 0,0,0,0 0,0,0,0
+IxDyn 1 1 owned - - broadcast Ix2 2,9223372036854775807 Overflow
+Ix2 1 2 owned 2,1 -1,5 broadcast IxDyn 1,2,2,1,2 IncompatibleShape
+Ix2 1 2 owned 2,1 -1,5 broadcast IxDyn 1,2,1,2,2 is 1,2,1,2,2 0,0,0,-1,0 1 1,1,0,0,1,1,0,0 \
+1,1,0,0,1,1,0,0
+Ix1 1 2 owned 2 1 broadcast Ix6 1,2,1,1,2,2 is 1,2,1,1,2,2 0,0,0,0,0,1 0 0,1,0,1,0,1,0,1 0,0,0,0,1,1,1,1
+IxDyn 1 2 owned 1,1,2,1,1 3,4,1,5,6 broadcast IxDyn 1,3,2,1,1 is 1,3,2,1,1 3,0,1,5,6 0 0,1,0,1,0,1 \
+0,0,0,1,1,1";
+
+#[test]
+fn r5_rows_of_broadcast_views(rt: HostRuntime) {
+    hold(&rt, rt.alloc(), BROADCAST);
+}
+
+/// Whether slices of a layout of five by five lie in order.
+const IN_ORDER: &str = "\
+Ix2 1 25 owned 5,5 5,1 in_order Ix2 ..,.. by_rows
+Ix2 1 25 owned 5,5 1,5 in_order Ix2 ..,.. by_columns
+Ix2 1 25 owned 5,5 5,1 in_order Ix2 ..1,.. both_ways
+Ix2 1 25 owned 5,5 5,1 in_order Ix2 ..,..1 neither_way
+Ix2 1 25 owned 5,5 5,1 in_order Ix2 1..,.. by_rows
+Ix2 1 25 owned 5,5 5,1 in_order Ix2 ..,1.. neither_way
+Ix2 1 25 owned 5,5 1,5 in_order Ix2 ..,1.. by_columns
+Ix2 1 25 owned 5,5 5,1 in_order Ix2 ..;2,.. neither_way
+Ix2 1 25 owned 5,5 5,1 in_order Ix2 2..2,..;3 both_ways";
+
+#[test]
+fn r5_rows_of_layouts(rt: HostRuntime) {
+    hold(&rt, rt.alloc(), IN_ORDER);
+}
+
+// ---- one step after another
+
+/// The second entry of the first axis, merged into the second, as a view of a shape.
+fn second_row_as<D: Dimension, E: Dimension>(
+    alloc: Global,
+    view: Result<Strided<D>, LayoutError>,
+    shape: &E,
+) -> Result<Strided<E>, LayoutError> {
+    let mut view = view?;
+    view.collapse(Axis(0), 1)?;
+    if !view.merge(Axis(0), Axis(1))? {
+        return Err(from_kind(ErrorKind::IncompatibleLayout).into());
+    }
+    view.broadcast(alloc, shape)
+}
+
+#[test]
+fn r5_rows_of_steps(rt: HostRuntime) {
+    let row = "is 2,2,3 0,0,1 3 3,4,5,3,4,5,3,4,5,3,4,5 3,3,3,3,4,4,4,4,5,5,5,5";
+    let view = owned(new_ix2(2, 3), new_ix2(3, 1), 6);
+    let told = second_row_as(rt.alloc(), view, &new_ix3(2, 2, 3));
+    assert!(rt; is_told(&rt, rt.alloc(), told, row));
+}
+
+// ---- refused memory
+
+/// What comes of reading a view as one of a shape.
+#[derive(Clone, Copy, PartialEq)]
+enum Outcome {
+    Made,
+    OutOfMemory,
+    Refused,
+}
+
+/// What came of it.
+fn outcome_of<E: Dimension>(view: Result<Strided<E>, LayoutError>) -> Outcome {
+    match view {
+        Ok(_view) => Outcome::Made,
+        Err(LayoutError::Memory(_error)) => Outcome::OutOfMemory,
+        Err(LayoutError::Shape(_fault)) => Outcome::Refused,
+    }
+}
+
+/// A view, as one of a shape.
+fn read_as<D: Dimension, E: Dimension>(
+    alloc: Global,
+    view: Result<Strided<D>, LayoutError>,
+    shape: &E,
+) -> Result<Strided<E>, LayoutError> {
+    let view = view?;
+    view.broadcast(alloc, shape)
+}
+
+/// What comes of reading two columns as a view of a shape.
+fn columns_as<E: Dimension>(alloc: Global, shape: &E) -> Outcome {
+    outcome_of(read_as(alloc, owned(new_ix2(1, 2), new_ix2(2, 1), 2), shape))
+}
+
+/// The same of any number of axes.
+fn columns_as_any(alloc: Global, shape: &IxDyn) -> Outcome {
+    columns_as(alloc, shape)
+}
+
+#[test]
+fn memory_of_broadcast_at_a_fixed_type(rt: HostRuntime) {
+    assert!(rt; columns_as(rt.alloc(), &new_ix3(3, 2, 2)) == Outcome::Made);
+}
+
+#[test]
+fn memory_of_broadcast_to_four(rt: HostRuntime) {
+    let four = new_ixdyn(rt.alloc(), &[2, 1, 3, 2]).expect(&rt, "four axes need no memory");
+    assert!(rt; columns_as_any(rt.alloc(), &four) == Outcome::Made);
+}
+
+/// Whether two columns are read as a view of five axes twice, or once, where a request is refused. Each
+/// time takes two, behind the one of the shape.
+fn one_is_made(alloc: Global, shape: &IxDyn) -> bool {
+    let first = columns_as_any(alloc, shape);
+    let second = columns_as_any(alloc, shape);
+    grants(alloc) && (first == Outcome::Made || second == Outcome::Made)
+}
+
+#[test]
+fn memory_of_broadcast_to_five(rt: HostRuntime) {
+    if let Ok(five) = new_ixdyn(rt.alloc(), &[2, 1, 3, 1, 2]) {
+        assert!(rt; one_is_made(rt.alloc(), &five));
+    }
+}
+
+#[test]
+fn late_memory_of_broadcast_to_five(rt: HostRuntime) {
+    if let Ok(five) = new_ixdyn(rt.alloc(), &[2, 1, 3, 1, 2]) {
+        assert!(rt; one_is_made(rt.alloc(), &five));
+    }
+}
