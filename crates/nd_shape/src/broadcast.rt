@@ -12,7 +12,8 @@ use std::alloc::Global;
 fn go_together(len: usize, other: usize) -> bool
     ensures { result ≡ is_some (common_length len other) }
 {
-    len == other || len == 1 || other == 1
+    // (without branches: which of the three holds can't be foreseen)
+    (len == other) | (len == 1) | (other == 1)
 }
 
 /// Whether each axis of the shorter list goes together with the axis of the longer one that lies as

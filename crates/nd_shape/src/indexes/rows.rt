@@ -1,13 +1,15 @@
 //! The walk over the indices of a shape in row-major order.
-ghost use Rattle.std.specs.Prelude.{◌≡◌, ◌<◌, ◌≤◌, ◌^◌, Some, length, replicate, IfSome, IsOk, IfOk, ⊤};
+ghost use Rattle.std.specs.Option.{option_map};
+ghost use Rattle.std.specs.Prelude.{◌≡◌, ◌+◌, ◌<◌, ◌≤◌, ◌^◌, if◌then◌else◌, true, nat_lt, Some, None, length, replicate, IfSome, IsOk, IfOk, ⊤};
 ghost use Rattle.std.specs.Iterator.{UpTo, YieldsFirstBy, item_count};
 ghost use Rattle.std.specs.Iterator.SizeHint.{IsWithinCount};
 ghost use Rattle.nd_base.specs.declared.order.Order.TheVariants.{RowMajor};
-ghost use Rattle.nd_base.specs.Indices.{indices_in};
+ghost use Rattle.nd_base.specs.Indices.{indices_in, is_index};
 ghost use Rattle.nd_base.specs.Lengths.{NeedsNoMemory};
+ghost use Rattle.nd_base.specs.Rank.{rank, index_of_rank};
 ghost use Rattle.nd_base.specs.Size.{size};
 
-use nd_dim::Dimension;
+use nd_dim::{Dimension, step_by_rows, step_in_row};
 use std::alloc::{AllocError, Global};
 use std::iter::FusedIterator;
 use std::marker::Model;
@@ -102,6 +104,30 @@ impl<D: Dimension + Copy> Clone for IndicesIter<D> {
     }
 }
 
+/// The index behind one of the shape in row-major order, behind which `left` are left; `None` behind
+/// the last one.
+#[inline(always)]
+fn index_behind<D: Dimension + Copy>(dim: D, index: D, left: usize) -> Option<D>
+    requires index { is_index (D.list dim) (D.list index) ≡ true }
+    requires left { rank (D.list dim) (D.list index) + 1 + left ≡ size (D.list dim) }
+    ensures { option_map D.list result ≡
+        (if nat_lt (rank (D.list dim) (D.list index) + 1) (size (D.list dim))
+        then Some (index_of_rank (D.list dim) (rank (D.list dim) (D.list index) + 1))
+        else None) }
+{
+    // (the end is told by the count and not by the step, so that the compiler keeps a branch for the
+    // end of a row, which can be foreseen: a walk over two axes runs in less than half the time so)
+    let mut next = index;
+    if step_in_row(dim.slice(), next.slice_mut()) {
+        return Some(next);
+    }
+    if left == 0 {
+        return None;
+    }
+    step_by_rows(dim.slice(), next.slice_mut());
+    Some(next)
+}
+
 impl<D: Dimension + Copy> Iterator for IndicesIter<D> {
     type Item = D::Pattern;
 
@@ -112,8 +138,8 @@ impl<D: Dimension + Copy> Iterator for IndicesIter<D> {
     #[inline]
     fn next(&mut self) -> Option<D::Pattern> {
         let index = self.index?;
-        self.index = self.dim.next_for(index);
         self.left -= 1;
+        self.index = index_behind(self.dim, index, self.left);
         Some(index.into_pattern())
     }
 
