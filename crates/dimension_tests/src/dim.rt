@@ -9,9 +9,9 @@
 mod checks;
 mod conversions;
 mod layouts;
-mod lists;
+pub(crate) mod lists;
 mod memory;
 mod operators;
 mod steps;
 mod tables;
-mod told;
+pub(crate) mod told;

@@ -1,4 +1,4 @@
-//! Tests of `nd_base` and `nd_dim`, by their public calls. They stand in one crate, since a crate of
+//! Tests of `nd_base`, `nd_dim` and `nd_shape`, by their public calls. They stand in one crate, since a crate of
 //! tests costs the check a minute before its first test.
 #![tactic(auto)]
 
@@ -6,3 +6,5 @@
 mod base;
 #[cfg(test)]
 mod dim;
+#[cfg(test)]
+mod shape;

@@ -22,6 +22,16 @@ impl List {
         }
     }
 
+    /// The list of these numbers.
+    pub(crate) fn of(numbers: &[usize]) -> Option<List> {
+        let mut entries = [0; 16];
+        entries.get_mut(..numbers.len())?.copy_from_slice(numbers);
+        Some(List {
+            entries,
+            count: numbers.len(),
+        })
+    }
+
     /// The number at a place, or none that is an axis.
     pub(crate) fn at(&self, place: usize) -> usize {
         self.as_slice().get(place).copied().unwrap_or(usize::MAX)
@@ -29,23 +39,26 @@ impl List {
 }
 
 /// The lists of a row: numbers parted by commas, negative ones as they are kept. Those that the row
-/// doesn't have are empty.
+/// doesn't have are empty. Behind an arrow stands what is told, if the lists don't.
 #[derive(Clone, Copy)]
-pub(crate) struct Lists {
+pub(crate) struct Lists<'a> {
     pub(crate) first: List,
     pub(crate) second: List,
     pub(crate) third: List,
     pub(crate) fourth: List,
+    pub(crate) answer: &'a str,
 }
 
-impl Lists {
-    pub(crate) fn read(line: &str) -> Option<Lists> {
-        let mut row = Row::new(line);
+impl<'a> Lists<'a> {
+    pub(crate) fn read(line: &'a str) -> Option<Lists<'a>> {
+        let (lists, answer) = line.split_once(" => ").unwrap_or((line, ""));
+        let mut row = Row::new(lists);
         Some(Lists {
             first: read_list(row.word().unwrap_or("-"))?,
             second: read_list(row.word().unwrap_or("-"))?,
             third: read_list(row.word().unwrap_or("-"))?,
             fourth: read_list(row.word().unwrap_or("-"))?,
+            answer,
         })
     }
 }

@@ -11,6 +11,7 @@ use crate::dim::lists::{Lists, dim_of, made};
 use crate::dim::memory::{Call, asks, serves};
 use crate::dim::operators::{Operator, calculates, scales};
 use crate::dim::steps::{has_columns, has_rows};
+use crate::shape::questions::{Question, is_answered};
 use nd_dim::{
     Dimension, IntoDimension, Ix0, Ix1, Ix2, Ix3, Ix4, Ix5, Ix6, IxDyn, Lengths, RemoveAxis,
 };
@@ -65,6 +66,8 @@ pub(crate) enum Told {
     Written,
     /// Lengths, and an axis: how a call goes about memory.
     Memory(Call),
+    /// A layout, and what is asked of it.
+    Asked(Question),
 }
 
 /// Whether a value keeps its list in what is made of it. Four axes make a value where no other count is
@@ -83,7 +86,7 @@ fn keeps<D: Dimension + IntoDimension<Dim = D>>(
 }
 
 /// Whether a length is written in either way.
-fn rewrites<D: Dimension>(rt: &impl Abort, alloc: Global, row: &Lists) -> bool {
+fn rewrites<D: Dimension>(rt: &impl Abort, alloc: Global, row: &Lists<'_>) -> bool {
     let (lens, axis, len) = (row.first.as_slice(), row.second.at(0), row.second.at(1));
     writes(
         dim_of::<D>(rt, alloc, lens),
@@ -104,7 +107,7 @@ fn tells_of_indices<D: Dimension>(
     told: Told,
     alloc: Global,
     dim: &D,
-    row: &Lists,
+    row: &Lists<'_>,
 ) -> bool {
     let (first, second, third) = (
         row.first.as_slice(),
@@ -125,7 +128,7 @@ fn tells_of_indices<D: Dimension>(
 }
 
 /// Whether a row tells what the calls answer at a type, whose smaller and larger types are these.
-fn tells<D, S, L>(rt: &impl Abort, told: Told, alloc: Global, dim: &D, row: &Lists) -> bool
+fn tells<D, S, L>(rt: &impl Abort, told: Told, alloc: Global, dim: &D, row: &Lists<'_>) -> bool
 where
     D: Dimension<Smaller = S, Larger = L> + IntoDimension<Dim = D>,
     S: Lengths,
@@ -155,12 +158,13 @@ where
         },
         Told::Written => rewrites::<D>(rt, alloc, row),
         Told::Memory(call) => serves(alloc, call, dim, row.second.at(0)),
+        Told::Asked(question) => is_answered(rt, alloc, question, dim, row),
         _ => tells_of_indices(rt, told, alloc, dim, row),
     }
 }
 
 /// Whether a value can't be made for want of memory, which a row may tell.
-fn may_want_memory<D: Lengths>(told: Told, row: &Lists) -> bool {
+fn may_want_memory<D: Lengths>(told: Told, row: &Lists<'_>) -> bool {
     match told {
         Told::Memory(_) => D::NDIM.is_none() && row.first.as_slice().len() > 4,
         _ => false,
@@ -168,7 +172,7 @@ fn may_want_memory<D: Lengths>(told: Told, row: &Lists) -> bool {
 }
 
 /// Whether a row tells what the calls answer at a type, whose smaller and larger types are these.
-fn holds<D, S, L>(rt: &impl Abort, told: Told, alloc: Global, row: &Lists) -> bool
+fn holds<D, S, L>(rt: &impl Abort, told: Told, alloc: Global, row: &Lists<'_>) -> bool
 where
     D: Dimension<Smaller = S, Larger = L> + IntoDimension<Dim = D>,
     S: Lengths,
@@ -181,7 +185,7 @@ where
 }
 
 /// The same at a type that can have an axis to remove.
-fn holds_with_axes<D, S, L>(rt: &impl Abort, told: Told, alloc: Global, row: &Lists) -> bool
+fn holds_with_axes<D, S, L>(rt: &impl Abort, told: Told, alloc: Global, row: &Lists<'_>) -> bool
 where
     D: RemoveAxis + Dimension<Smaller = S, Larger = L> + IntoDimension<Dim = D>,
     S: Lengths,
@@ -201,7 +205,13 @@ where
 }
 
 /// The same at the type of so many axes, or at that of any number.
-fn holds_at(rt: &impl Abort, told: Told, alloc: Global, ndim: Option<usize>, row: &Lists) -> bool {
+pub(crate) fn holds_at(
+    rt: &impl Abort,
+    told: Told,
+    alloc: Global,
+    ndim: Option<usize>,
+    row: &Lists<'_>,
+) -> bool {
     match ndim {
         Some(0) => holds::<Ix0, Ix0, Ix1>(rt, told, alloc, row),
         Some(1) => holds_with_axes::<Ix1, Ix0, Ix2>(rt, told, alloc, row),

@@ -1,8 +1,9 @@
 //! Walks over all indices of a shape, in either order.
-use crate::lists::dim_of;
+ghost use Rattle.std.specs.Iterator.{IsFinite};
+
+use crate::dim::lists::dim_of;
 use nd_dim::{
-    Dimension, IntoDimension, Ix0, Ix1, Ix2, Ix3, Ix4, IxDyn, Lengths, Order, new_ix1, new_ix2,
-    new_ix3, new_ixdyn,
+    Dimension, IntoDimension, Ix0, Ix1, Ix2, Ix3, Ix4, IxDyn, Lengths, new_ix2, new_ix3, new_ixdyn,
 };
 use nd_shape::{IndexCursor, IndexCursorF, IndicesIter, IndicesIterF, all_indices, indices_iter_f};
 use nd_testing::{Row, asked, rows};
@@ -56,11 +57,16 @@ fn is_end<T: IntoDimension>(alloc: Global, item: Option<T>) -> bool {
     }
 }
 
-/// Whether the indices by rows are those of a row, while the length falls by ones, and none follow.
-fn has_rows<D: Dimension + Copy>(alloc: Global, dim: D, row: &mut Row<'_>, count: usize) -> bool {
-    let Some(mut walk) = by_rows(alloc, dim) else {
-        return false;
-    };
+/// Whether the indices of a walk are those of a row, while the length falls by ones, and none follow.
+fn yields<T: IntoDimension, W: ExactSizeIterator<Item = T> + Drop>(
+    alloc: Global,
+    mut walk: W,
+    row: &mut Row<'_>,
+    count: usize,
+) -> bool
+    requires can { (state : W) → W.can_next state }
+    requires ends { IsFinite (W.remaining walk) }
+{
     for left in (0..count).rev() {
         let told = match walk.next() {
             Some(item) => is_told(alloc, row, item),
@@ -73,34 +79,25 @@ fn has_rows<D: Dimension + Copy>(alloc: Global, dim: D, row: &mut Row<'_>, count
     is_end(alloc, walk.next()) && is_end(alloc, walk.next()) && walk.size_hint() == (0, Some(0))
 }
 
-/// The same by columns.
-fn has_columns<D: Dimension + Copy>(
-    alloc: Global,
-    dim: D,
-    row: &mut Row<'_>,
-    count: usize,
-) -> bool {
-    let Some(mut walk) = by_columns(alloc, dim) else {
-        return false;
-    };
-    for left in (0..count).rev() {
-        let told = match walk.next() {
-            Some(item) => is_told(alloc, row, item),
-            None => false,
-        };
-        if !told || walk.len() != left {
-            return false;
-        }
+/// The cursor over a shape by rows. (It is made here alone, since what is ensured of it is dear.)
+fn row_cursor(alloc: Global, dim: IxDyn) -> Result<IndexCursor, AllocError> {
+    if dim.size_checked().is_none() {
+        return Err(AllocError);
     }
-    is_end(alloc, walk.next()) && is_end(alloc, walk.next()) && walk.size_hint() == (0, Some(0))
+    IndexCursor::new(alloc, dim)
+}
+
+/// The cursor over a shape by columns.
+fn column_cursor(alloc: Global, dim: IxDyn) -> Result<IndexCursorF, AllocError> {
+    if dim.size_checked().is_none() {
+        return Err(AllocError);
+    }
+    IndexCursorF::new(alloc, dim)
 }
 
 /// Whether the indices that a cursor lends by rows are those of a row, and none follow.
 fn lends_rows(alloc: Global, dim: IxDyn, row: &mut Row<'_>, count: usize) -> bool {
-    if dim.size_checked().is_none() {
-        return false;
-    }
-    let Ok(mut cursor) = IndexCursor::new(alloc, dim) else {
+    let Ok(mut cursor) = row_cursor(alloc, dim) else {
         return false;
     };
     for left in (0..count).rev() {
@@ -117,10 +114,7 @@ fn lends_rows(alloc: Global, dim: IxDyn, row: &mut Row<'_>, count: usize) -> boo
 
 /// The same by columns.
 fn lends_columns(alloc: Global, dim: IxDyn, row: &mut Row<'_>, count: usize) -> bool {
-    if dim.size_checked().is_none() {
-        return false;
-    }
-    let Ok(mut cursor) = IndexCursorF::new(alloc, dim) else {
+    let Ok(mut cursor) = column_cursor(alloc, dim) else {
         return false;
     };
     for left in (0..count).rev() {
@@ -135,21 +129,73 @@ fn lends_columns(alloc: Global, dim: IxDyn, row: &mut Row<'_>, count: usize) -> 
     cursor.next().is_none() && cursor.next().is_none() && cursor.len() == 0
 }
 
-/// A shape, how many indices it has, and these: at a fixed type.
-fn holds<D: Dimension + Copy>(rt: &impl Abort, alloc: Global, order: Order, line: &str) -> bool {
-    let mut row = Row::new(line);
-    let (Ok(lens), Ok(count)) = (row.lengths(alloc), row.length()) else {
+/// What a row tells of the walks over a shape.
+#[derive(Clone, Copy)]
+enum Walk {
+    /// How many indices it has, and these by rows.
+    Rows,
+    /// The same by columns.
+    Columns,
+    /// How many indices it has, and the first one.
+    Starts,
+    /// That a loop over a copy of a walk meets what is left.
+    Folds,
+}
+
+/// Whether the walk over a shape has so many indices, and a row tells the first one.
+fn starts<D: Dimension + Copy>(alloc: Global, dim: D, row: &mut Row<'_>, count: usize) -> bool {
+    let Some(mut walk) = by_rows(alloc, dim) else {
         return false;
     };
-    let dim: D = dim_of(rt, alloc, lens.as_slice());
-    match order {
-        Order::RowMajor => has_rows(alloc, dim, &mut row, count),
-        Order::ColumnMajor => has_columns(alloc, dim, &mut row, count),
+    walk.len() == count
+        && match walk.next() {
+            Some(item) => is_told(alloc, row, item),
+            None => false,
+        }
+}
+
+/// Whether a row tells this at a type.
+fn holds<D: Dimension + Copy>(
+    rt: &impl Abort,
+    alloc: Global,
+    walk: Walk,
+    lens: &[usize],
+    row: &mut Row<'_>,
+) -> bool {
+    let dim: D = dim_of(rt, alloc, lens);
+    let count = row.length().unwrap_or(0);
+    match walk {
+        Walk::Rows => match by_rows(alloc, dim) {
+            Some(walk) => yields(alloc, walk, row, count),
+            None => false,
+        },
+        Walk::Columns => match by_columns(alloc, dim) {
+            Some(walk) => yields(alloc, walk, row, count),
+            None => false,
+        },
+        Walk::Starts => starts(alloc, dim, row, count),
+        Walk::Folds => folds(alloc, dim, 0) && folds(alloc, dim, 1) && folds(alloc, dim, 2),
+    }
+}
+
+/// Whether a row tells this at the type of as many axes as its shape has.
+fn holds_at_its_type(rt: &impl Abort, alloc: Global, walk: Walk, line: &str) -> bool {
+    let mut row = Row::new(line);
+    let Ok(lens) = row.lengths(alloc) else {
+        return false;
+    };
+    let lens = lens.as_slice();
+    match lens.len() {
+        0 => holds::<Ix0>(rt, alloc, walk, lens, &mut row),
+        1 => holds::<Ix1>(rt, alloc, walk, lens, &mut row),
+        2 => holds::<Ix2>(rt, alloc, walk, lens, &mut row),
+        3 => holds::<Ix3>(rt, alloc, walk, lens, &mut row),
+        _ => holds::<Ix4>(rt, alloc, walk, lens, &mut row),
     }
 }
 
 /// The same of a cursor.
-fn lends(alloc: Global, order: Order, line: &str) -> bool {
+fn lends(alloc: Global, walk: Walk, line: &str) -> bool {
     let mut row = Row::new(line);
     let (Ok(lens), Ok(count)) = (row.lengths(alloc), row.length()) else {
         return false;
@@ -157,16 +203,17 @@ fn lends(alloc: Global, order: Order, line: &str) -> bool {
     let Ok(dim) = new_ixdyn(alloc, lens.as_slice()) else {
         return false;
     };
-    match order {
-        Order::RowMajor => lends_rows(alloc, dim, &mut row, count),
-        Order::ColumnMajor => lends_columns(alloc, dim, &mut row, count),
+    match walk {
+        Walk::Rows => lends_rows(alloc, dim, &mut row, count),
+        Walk::Columns => lends_columns(alloc, dim, &mut row, count),
+        _ => false,
     }
 }
 
-fn r7_rows_of<D: Dimension + Copy>(rt: &impl Abort, alloc: Global, order: Order, table: &str) {
+fn table(rt: &impl Abort, alloc: Global, walk: Walk, table: &str) {
     for line in rows(table) {
-        assert!(rt; holds::<D>(rt, alloc, order, line), "{line}");
-        assert!(rt; lends(alloc, order, line), "{line}");
+        assert!(rt; holds_at_its_type(rt, alloc, walk, line), "{line}");
+        assert!(rt; lends(alloc, walk, line), "{line}");
     }
 }
 
@@ -195,29 +242,23 @@ const THREE_AXES_BY_COLUMNS: &str = "\
 #[test]
 fn r7_rows(rt: HostRuntime) {
     let alloc = rt.alloc();
-    r7_rows_of::<Ix0>(&rt, alloc, Order::RowMajor, "- 1 -");
-    r7_rows_of::<Ix2>(&rt, alloc, Order::RowMajor, TWO_AXES_BY_ROWS);
-    r7_rows_of::<Ix3>(&rt, alloc, Order::RowMajor, THREE_AXES_BY_ROWS);
+    table(&rt, alloc, Walk::Rows, "- 1 -");
+    table(&rt, alloc, Walk::Rows, TWO_AXES_BY_ROWS);
+    table(&rt, alloc, Walk::Rows, THREE_AXES_BY_ROWS);
 }
 
 #[test]
 fn r7_rows_by_columns(rt: HostRuntime) {
     let alloc = rt.alloc();
-    r7_rows_of::<Ix0>(&rt, alloc, Order::ColumnMajor, "- 1 -");
-    r7_rows_of::<Ix2>(&rt, alloc, Order::ColumnMajor, TWO_AXES_BY_COLUMNS);
-    r7_rows_of::<Ix3>(&rt, alloc, Order::ColumnMajor, THREE_AXES_BY_COLUMNS);
-}
-
-/// How many indices the walk over as many as there can be has, and the first one.
-fn longest(alloc: Global) -> Option<(usize, usize)> {
-    let mut walk = by_rows(alloc, new_ix1(usize::MAX))?;
-    let len = walk.len();
-    Some((len, walk.next()?))
+    table(&rt, alloc, Walk::Columns, "- 1 -");
+    table(&rt, alloc, Walk::Columns, TWO_AXES_BY_COLUMNS);
+    table(&rt, alloc, Walk::Columns, THREE_AXES_BY_COLUMNS);
 }
 
 #[test]
 fn r7_rows_of_the_longest_shape(rt: HostRuntime) {
-    assert_eq!(rt; longest(rt.alloc()), Some((18446744073709551615, 0)));
+    let row = "18446744073709551615 18446744073709551615 0";
+    assert!(rt; holds_at_its_type(&rt, rt.alloc(), Walk::Starts, row));
 }
 
 // ---- folds
@@ -258,20 +299,22 @@ fn folds<D: Dimension + Copy>(alloc: Global, dim: D, gone: usize) -> bool {
     (count, met) == (len, sum)
 }
 
-fn folds_after<D: Dimension + Copy>(rt: &impl Abort, alloc: Global, lens: &[usize]) {
-    let dim: D = dim_of(rt, alloc, lens);
-    assert!(rt; folds(alloc, dim, 0) && folds(alloc, dim, 1) && folds(alloc, dim, 2));
-}
+const FOLDED: &str = "\
+-
+2
+2,3
+2,0,3
+2,3,4
+2,3,4,2";
 
 #[test]
 fn r7_rows_of_folds(rt: HostRuntime) {
-    let alloc = rt.alloc();
-    folds_after::<Ix0>(&rt, alloc, &[]);
-    folds_after::<Ix1>(&rt, alloc, &[2]);
-    folds_after::<Ix2>(&rt, alloc, &[2, 3]);
-    folds_after::<Ix3>(&rt, alloc, &[2, 0, 3]);
-    folds_after::<Ix3>(&rt, alloc, &[2, 3, 4]);
-    folds_after::<Ix4>(&rt, alloc, &[2, 3, 4, 2]);
+    for line in rows(FOLDED) {
+        assert!(rt;
+            holds_at_its_type(&rt, rt.alloc(), Walk::Folds, line),
+            "{line}"
+        );
+    }
 }
 
 // ---- memory
@@ -279,7 +322,7 @@ fn r7_rows_of_folds(rt: HostRuntime) {
 /// Whether the cursor over a shape by rows is made.
 fn rows_are_made(alloc: Global, lens: &[usize]) -> bool {
     match new_ixdyn(alloc, lens) {
-        Ok(dim) => dim.size_checked().is_some() && IndexCursor::new(alloc, dim).is_ok(),
+        Ok(dim) => row_cursor(alloc, dim).is_ok(),
         Err(_) => false,
     }
 }
@@ -287,7 +330,7 @@ fn rows_are_made(alloc: Global, lens: &[usize]) -> bool {
 /// The same by columns.
 fn columns_are_made(alloc: Global, lens: &[usize]) -> bool {
     match new_ixdyn(alloc, lens) {
-        Ok(dim) => dim.size_checked().is_some() && IndexCursorF::new(alloc, dim).is_ok(),
+        Ok(dim) => column_cursor(alloc, dim).is_ok(),
         Err(_) => false,
     }
 }
@@ -310,20 +353,7 @@ fn memory_of_cursors_of_four_axes(rt: HostRuntime) {
     assert!(rt; are_made(rt.alloc(), &[1, 2, 3, 4]));
 }
 
-/// The lengths that a cursor by rows and one by columns tell, of a shape of five axes each.
-fn lens_of_cursors(
-    alloc: Global,
-    dim: IxDyn,
-    other: IxDyn,
-) -> (Result<usize, AllocError>, Result<usize, AllocError>) {
-    if dim.size_checked().is_none() || other.size_checked().is_none() {
-        return (Err(AllocError), Err(AllocError));
-    }
-    let rows = IndexCursor::new(alloc, dim);
-    let columns = IndexCursorF::new(alloc, other);
-    (len_of_rows(rows), len_of_columns(columns))
-}
-
+/// How many indices a cursor is to lend, if there was memory for it.
 fn len_of_rows(cursor: Result<IndexCursor, AllocError>) -> Result<usize, AllocError> {
     Ok(cursor?.len())
 }
@@ -341,7 +371,8 @@ fn late_memory_of_cursors(rt: HostRuntime) {
     let (Ok(dim), Ok(other)) = (dim, other) else {
         panic!(rt; "memory");
     };
-    let (rows, columns) = lens_of_cursors(alloc, dim, other);
+    let rows = len_of_rows(row_cursor(alloc, dim));
+    let columns = len_of_columns(column_cursor(alloc, other));
     assert!(rt; asked(alloc, rows, columns));
 }
 

@@ -5,7 +5,7 @@ use Rattle.std.specs.Prelude.{sum}
 use Rattle.nd_base.specs.Signed.{signed, all_signed}
 use Rattle.nd_shape.specs.Axes.{axes, axes_left}
 use Rattle.nd_shape.proofs.laws.Axes.{lens-axes_from}
-use Rattle.shape_tests.proofs.axes.sum_of_lens.Goals as goal
+use Rattle.dimension_tests.proofs.shape.axes.sum_of_lens.Goals as goal
 
 pub loop-axis-init : goal.loop-axis-init
 loop-axis-init g c =

@@ -5,7 +5,7 @@ ghost use Rattle.nd_base.specs.Signed.{all_signed};
 ghost use Rattle.nd_base.specs.ValidLayout.{IsValidLayout};
 ghost use Rattle.nd_shape.specs.ShapeBuilder.{strides_list};
 
-use crate::lists::dim_of;
+use crate::dim::lists::dim_of;
 use nd_dim::{Dimension, IntoDimension, Ix2, IxDyn, new_ix2};
 use nd_shape::{
     CanIndexCheckMode, Shape, ShapeBuilder, StrideShape, Strides, can_index_slice_with_strides,

@@ -1,10 +1,10 @@
 //! The axes of a layout one by one.
 //!
-//! A row is the size of an element, a count of them, a shape, strides and an index: the shape and the
-//! strides are asked, and the count where lengths are summed.
+//! A row is a shape and strides, and the sum of the lengths where that is asked.
 ghost use Rattle.std.specs.Prelude.{◌≡◌, IfSome, length, sum};
 
-use crate::questions::{Question, Type, table};
+use crate::dim::told::{Told, table};
+use crate::shape::questions::Question;
 use nd_dim::Dimension;
 use nd_shape::{Axes, AxisDescription, axes_of};
 
@@ -25,14 +25,14 @@ fn are_in_turn(mut axes: Axes<'_>) -> bool {
 }
 
 /// The same of the axes of a layout.
-pub fn is_in_turn<D: Dimension>(dim: &D, strides: &D) -> bool {
+pub(crate) fn is_in_turn<D: Dimension>(dim: &D, strides: &D) -> bool {
     dim.ndim() == strides.ndim() && are_in_turn(axes_of(dim, strides))
 }
 
 #[test]
 fn r3_rows(rt: HostRuntime) {
-    let row = "1 0 2,3,4 12,-4,1 0,0,0 => in turn";
-    table(&rt, rt.alloc(), Type::Of(3), Question::InTurn, row);
+    let row = "2,3,4 12,-4,1";
+    table(&rt, rt.alloc(), Told::Asked(Question::InTurn), row);
 }
 
 /// Whether so many axes are left.
@@ -50,14 +50,14 @@ fn have_lengths(mut axes: Axes<'_>) -> bool {
 }
 
 /// The same of the axes of a layout.
-pub fn has_lengths<D: Dimension>(dim: &D, strides: &D) -> bool {
+pub(crate) fn has_lengths<D: Dimension>(dim: &D, strides: &D) -> bool {
     dim.ndim() == strides.ndim() && have_lengths(axes_of(dim, strides))
 }
 
 #[test]
 fn lengths_of_walks(rt: HostRuntime) {
-    let row = "1 0 2,3,4 2,3,4 0,0,0 => two and one";
-    table(&rt, rt.alloc(), Type::Any, Question::Lengths, row);
+    let row = "2,3,4 2,3,4";
+    table(&rt, rt.alloc(), Told::Asked(Question::Lengths), row);
 }
 
 /// The lengths of all axes together, by one walk along them, where they fit.
@@ -73,16 +73,13 @@ fn sum_of_lens<D: Dimension>(dim: &D, strides: &D) -> Option<usize>
 }
 
 /// Whether this is the sum.
-pub fn has_sum<D: Dimension>(dim: &D, strides: &D, total: usize) -> bool {
+pub(crate) fn has_sum<D: Dimension>(dim: &D, strides: &D, total: usize) -> bool {
     dim.ndim() == strides.ndim() && sum_of_lens(dim, strides) == Some(total)
 }
 
 #[test]
 fn a_walk_adds_lengths(rt: HostRuntime) {
-    let (three, five) = (
-        "1 9 2,3,4 12,4,1 0,0,0 => sum",
-        "1 12 2,3,1,4,2 2,3,1,4,2 - => sum",
-    );
-    table(&rt, rt.alloc(), Type::Of(3), Question::Sum, three);
-    table(&rt, rt.alloc(), Type::Any, Question::Sum, five);
+    let (three, five) = ("2,3,4 12,4,1 9", "2,3,1,4,2 2,3,1,4,2 12");
+    table(&rt, rt.alloc(), Told::Asked(Question::Sum), three);
+    table(&rt, rt.alloc(), Told::Asked(Question::Sum), five);
 }

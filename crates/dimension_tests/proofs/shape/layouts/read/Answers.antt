@@ -7,8 +7,8 @@ use Rattle.nd_base.specs.Signed.{signed, all_signed}
 use Rattle.nd_base.proofs.laws.IsIndex.{length_of_index}
 use Rattle.nd_base.proofs.laws.NonzeroSize.{entry_le_nonzero_size}
 use Rattle.nd_base.proofs.laws.Reach.{farthest_offset_le}
-use Rattle.shape_tests.proofs.layouts.read.Given.{Over}
-use Rattle.shape_tests.proofs.layouts.read.Goals as goal
+use Rattle.dimension_tests.proofs.shape.layouts.read.Given.{Over}
+use Rattle.dimension_tests.proofs.shape.layouts.read.Goals as goal
 
 -- an offset that is given is that of an index
 index_of_offset : (shape : List ℕ) (strides : List ℤ) (index : List ℕ) (offset : ℤ) → checked_offset shape strides index ≡ Some offset → is_index shape index ≡ true

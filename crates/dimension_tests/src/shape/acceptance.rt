@@ -1,11 +1,15 @@
 //! Which shapes with an order or with strides are accepted over data.
 //!
-//! A row is the size of an element, a count of them, a shape, strides and an index that is not asked
-//! for; then, behind an arrow, the fault. Where the shape or the strides alone are asked for, they
+//! A row is a shape, strides, an index that is not asked for, and the size of an element and a count of
+//! them; then, behind an arrow, the fault. Where the shape or the strides alone are asked for, they
 //! stand twice.
-use crate::questions::{Asked, Question, Type, holds_at, table};
+use crate::dim::lists::{List, Lists};
+use crate::dim::told::{Told, holds_at, table};
+use crate::shape::questions::Question;
 use CanIndexCheckMode::{OwnedMutable, ReadOnly};
-use ErrorKind::{OutOfBounds, Overflow, Unsupported};
+use ErrorKind::{
+    IncompatibleLayout, IncompatibleShape, OutOfBounds, Overflow, RangeLimited, Unsupported,
+};
 use nd_dim::{Dimension, ErrorKind, ShapeError};
 use nd_shape::{
     CanIndexCheckMode, Strides, can_index_slice, can_index_slice_not_custom,
@@ -15,19 +19,22 @@ use nd_testing::fault_of;
 use std::alloc::{AllocError, Global};
 use std::process::Abort;
 
-/// The fault that a word names, if any.
-fn kind_of(word: &str) -> Option<ErrorKind> {
-    match word {
-        "OutOfBounds" => Some(OutOfBounds),
-        "Overflow" => Some(Overflow),
-        "Unsupported" => Some(Unsupported),
-        _ => None,
+/// The name of a fault, if there is one.
+pub(crate) fn name_of(fault: Option<ErrorKind>) -> &'static str {
+    match fault {
+        None => "none",
+        Some(IncompatibleLayout) => "IncompatibleLayout",
+        Some(IncompatibleShape) => "IncompatibleShape",
+        Some(OutOfBounds) => "OutOfBounds",
+        Some(Overflow) => "Overflow",
+        Some(RangeLimited) => "RangeLimited",
+        Some(Unsupported) => "Unsupported",
     }
 }
 
 /// Whether a call names this fault.
 fn is_fault(answer: Result<(), ShapeError>, fault: &str) -> bool {
-    fault_of(answer) == kind_of(fault)
+    name_of(fault_of(answer)) == fault
 }
 
 /// Whether a shape by the strides of an order, over data of `len` elements of one byte, has this
@@ -45,14 +52,14 @@ fn has_order_fault<D: Dimension>(len: usize, dim: &D, order: &Strides<D>, fault:
 }
 
 /// Whether a shape has this fault by its own strides, in either order and mode.
-pub fn has_order_faults<D: Dimension>(len: usize, dim: &D, fault: &str) -> bool {
+pub(crate) fn has_order_faults<D: Dimension>(len: usize, dim: &D, fault: &str) -> bool {
     is_fault(can_index_slice_not_custom(len, dim), fault)
         && has_order_fault(len, dim, &Strides::C, fault)
         && has_order_fault(len, dim, &Strides::F, fault)
 }
 
 /// Whether a shape with given strides has this fault.
-pub fn has_fault<D: Dimension>(
+pub(crate) fn has_fault<D: Dimension>(
     len: usize,
     dim: &D,
     strides: D,
@@ -68,62 +75,65 @@ pub fn has_fault<D: Dimension>(
 }
 
 const ORDERS_OF_TWO: &str = "\
-1 6 2,3 2,3 - => none
-1 5 2,3 2,3 - => OutOfBounds
-1 0 0,9223372036854775807 0,0 - => none
-1 9 0,9223372036854775808 0,0 - => Overflow";
+2,3 2,3 - 1,6 => none
+2,3 2,3 - 1,5 => OutOfBounds
+0,9223372036854775807 0,0 - 1,0 => none
+0,9223372036854775808 0,0 - 1,9 => Overflow";
 
 const ORDERS_OF_FIVE: &str = "\
-1 24 2,3,1,2,2 2,3,1,2,2 - => none
-1 23 2,3,1,2,2 2,3,1,2,2 - => OutOfBounds";
+2,3,1,2,2 2,3,1,2,2 - 1,24 => none
+2,3,1,2,2 2,3,1,2,2 - 1,23 => OutOfBounds";
 
 #[test]
 fn r3_rows_of_standard_shapes(rt: HostRuntime) {
     table(
         &rt,
         rt.alloc(),
-        Type::Of(2),
-        Question::Orders,
+        Told::Asked(Question::Orders),
         ORDERS_OF_TWO,
     );
-    table(&rt, rt.alloc(), Type::Any, Question::Orders, ORDERS_OF_FIVE);
+    table(
+        &rt,
+        rt.alloc(),
+        Told::Asked(Question::Orders),
+        ORDERS_OF_FIVE,
+    );
 }
 
 const OWNED: &str = "\
-1 8 3,2 2,3 - => Unsupported
-1 6 3,2 -2,1 - => none";
+3,2 2,3 - 1,8 => Unsupported
+3,2 -2,1 - 1,6 => none";
 
 const READ: &str = "\
-1 8 3,2 2,3 - => none
-1 7 3,2 2,3 - => OutOfBounds";
+3,2 2,3 - 1,8 => none
+3,2 2,3 - 1,7 => OutOfBounds";
 
 #[test]
 fn r3_rows_of_given_strides(rt: HostRuntime) {
-    table(&rt, rt.alloc(), Type::Of(2), Question::Owned, OWNED);
-    table(&rt, rt.alloc(), Type::Of(2), Question::Read, READ);
+    table(&rt, rt.alloc(), Told::Asked(Question::Owned), OWNED);
+    table(&rt, rt.alloc(), Told::Asked(Question::Read), READ);
 }
 
 /// Whether strides have this fault, as they lead back, or none.
-pub fn has_sign_fault<D: Dimension>(strides: &D, fault: &str) -> bool {
+pub(crate) fn has_sign_fault<D: Dimension>(strides: &D, fault: &str) -> bool {
     is_fault(strides_non_negative(strides), fault)
 }
 
 const SIGNS: &str = "\
-1 0 - - - => none
-1 0 3,0 3,0 - => none
-1 0 0,1 -9223372036854775808,1 - => Unsupported
-1 0 4,3,2,1,0 4,3,2,1,9223372036854775807 - => none
-1 0 4,3,0,1,0 4,3,-2,1,0 - => Unsupported";
+- - - 1,0 => none
+3,0 3,0 - 1,0 => none
+0,1 -9223372036854775808,1 - 1,0 => Unsupported
+4,3,2,1,0 4,3,2,1,9223372036854775807 - 1,0 => none
+4,3,0,1,0 4,3,-2,1,0 - 1,0 => Unsupported";
 
 #[test]
 fn r3_rows_of_signs(rt: HostRuntime) {
-    table(&rt, rt.alloc(), Type::Any, Question::Signs, SIGNS);
+    table(&rt, rt.alloc(), Told::Asked(Question::Signs), SIGNS);
     table(
         &rt,
         rt.alloc(),
-        Type::Of(2),
-        Question::Signs,
-        "1 0 3,1 -3,1 - => Unsupported",
+        Told::Asked(Question::Signs),
+        "3,1 -3,1 - 1,0 => Unsupported",
     );
 }
 
@@ -143,36 +153,34 @@ fn is_accepted_along<D: Dimension>(dim: &D, strides: Result<D, AllocError>) -> b
 }
 
 /// The same along its own strides, in both orders.
-pub fn is_accepted_along_its_own<D: Dimension>(alloc: Global, dim: &D) -> bool {
+pub(crate) fn is_accepted_along_its_own<D: Dimension>(alloc: Global, dim: &D) -> bool {
     dim.size_checked().is_some()
         && is_accepted_along(dim, dim.default_strides(alloc))
         && is_accepted_along(dim, dim.fortran_strides(alloc))
 }
 
-/// A list of its own.
-fn copy(rt: &impl Abort, alloc: Global, lens: &[usize]) -> Vec<usize> {
-    Vec::from_slice(alloc, lens).expect(rt, "memory")
-}
-
-/// The same of lengths, at a type.
-fn are_accepted(rt: &impl Abort, alloc: Global, at: Type, lens: &[usize]) -> bool {
-    let asked = Asked {
-        elem_size: 1,
-        len: 0,
-        shape: copy(rt, alloc, lens),
-        strides: copy(rt, alloc, lens),
-        index: copy(rt, alloc, lens),
+/// The same of lengths, at the type of so many axes.
+fn are_accepted(rt: &impl Abort, alloc: Global, ndim: Option<usize>, lens: &[usize]) -> bool {
+    let Some(list) = List::of(lens) else {
+        return false;
     };
-    holds_at(rt, alloc, at, Question::OwnStrides, &asked, "")
+    let row = Lists {
+        first: list,
+        second: list,
+        third: list,
+        fourth: list,
+        answer: "",
+    };
+    holds_at(rt, Told::Asked(Question::OwnStrides), alloc, ndim, &row)
 }
 
 /// The same of no axes, the first one, the first two and all three.
 fn three_are_accepted(rt: &impl Abort, alloc: Global, lens: [usize; 3]) -> bool {
-    are_accepted(rt, alloc, Type::Of(3), &lens)
-        && are_accepted(rt, alloc, Type::Any, &lens[..0])
-        && are_accepted(rt, alloc, Type::Any, &lens[..1])
-        && are_accepted(rt, alloc, Type::Any, &lens[..2])
-        && are_accepted(rt, alloc, Type::Any, &lens)
+    are_accepted(rt, alloc, Some(3), &lens)
+        && are_accepted(rt, alloc, None, &lens[..0])
+        && are_accepted(rt, alloc, None, &lens[..1])
+        && are_accepted(rt, alloc, None, &lens[..2])
+        && are_accepted(rt, alloc, None, &lens)
 }
 
 #[test]

@@ -1,0 +1,11 @@
+//! Tests of `nd_shape`, by its public calls.
+mod acceptance;
+mod axes;
+mod broadcast;
+mod indexes;
+mod indexing;
+mod layout;
+mod layouts;
+mod merge;
+pub(crate) mod questions;
+mod shapes;
