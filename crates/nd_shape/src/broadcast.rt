@@ -12,7 +12,6 @@ use std::alloc::Global;
 fn go_together(len: usize, other: usize) -> bool
     ensures { result ≡ is_some (common_length len other) }
 {
-    // (without branches: which of the three holds can't be foreseen)
     (len == other) | (len == 1) | (other == 1)
 }
 
@@ -23,13 +22,13 @@ fn have_common_shape(longer: &[usize], shorter: &[usize]) -> bool
     requires { length shorter.now ≤ length longer.now }
     ensures { result ≡ is_some (common_shape longer.now shorter.now) }
 {
+    // (all axes are looked at, without branches: which lengths are 1 can't be foreseen)
     let first = longer.len() - shorter.len();
+    let mut fits = true;
     for axis in 0..shorter.len() {
-        if !go_together(longer[first + axis], shorter[axis]) {
-            return false;
-        }
+        fits &= go_together(longer[first + axis], shorter[axis]);
     }
-    true
+    fits
 }
 
 /// The length of an axis, which is the other one where it is 1.

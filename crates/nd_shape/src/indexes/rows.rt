@@ -115,17 +115,21 @@ fn index_behind<D: Dimension + Copy>(dim: D, index: D, left: usize) -> Option<D>
         then Some (index_of_rank (D.list dim) (rank (D.list dim) (D.list index) + 1))
         else None) }
 {
-    // (the end is told by the count and not by the step, so that the compiler keeps a branch for the
-    // end of a row, which can be foreseen: a walk over two axes runs in less than half the time so)
     let mut next = index;
     if step_in_row(dim.slice(), next.slice_mut()) {
         return Some(next);
     }
-    if left == 0 {
+    // (of two axes the count tells the end before the step does: so the compiler keeps a branch for the
+    // end of a row, which can be foreseen, and the walk runs in half the time; of more it keeps one anyway)
+    if dim.ndim() == 2 && left == 0 {
         return None;
     }
-    step_by_rows(dim.slice(), next.slice_mut());
-    Some(next)
+    let has_more = step_by_rows(dim.slice(), next.slice_mut());
+    if dim.ndim() == 2 || has_more {
+        Some(next)
+    } else {
+        None
+    }
 }
 
 impl<D: Dimension + Copy> Iterator for IndicesIter<D> {
