@@ -1,11 +1,13 @@
 //! Shapes that a view can be read as one of, and the strides that it has then.
-ghost use Rattle.std.specs.Prelude.{◌≡◌, ◌≤◌, length};
+ghost use Rattle.std.specs.Prelude.{◌≡◌, ◌≤◌, length, IfOk, IsOk};
+ghost use Rattle.nd_base.specs.Lengths.{NeedsNoMemory};
 ghost use Rattle.std.specs.Result.{result_err};
 ghost use Rattle.nd_base.specs.Signed.{all_signed};
 ghost use Rattle.ndarray_layout.specs.BroadcastView.{broadcast_fault, broadcast_strides, takes_in};
 
 use nd_dim::{Dimension, ErrorKind, ShapeError, from_kind};
 use nd_shape::size_of_shape_checked;
+use std::alloc::{AllocError, Global};
 
 /// Whether a shape can be stretched to another one: each of its axes has a length of 1, or that of the
 /// axis of the other that lies as far from the last.
@@ -41,7 +43,7 @@ pub fn check_broadcast<E: Dimension>(view_shape: &[usize], shape: &E) -> Result<
 /// Writes the strides along which a view is read as one of a shape with no fewer axes: 0 for new axes and
 /// for those of another length, the view's own for the others.
 #[inline(always)]
-pub fn stretch_strides(
+fn stretch_strides(
     shape: &[usize],
     view_shape: &[usize],
     strides: &[usize],
@@ -59,4 +61,25 @@ pub fn stretch_strides(
         let stays = shape[new_axes + axis] == view_shape[axis];
         new_strides[new_axes + axis] = if stays { strides[axis] } else { 0 };
     }
+}
+
+/// The same as a value of the type of the shape.
+///
+/// Errors: want of memory, and none where the type fixes the count or there are at most 4 axes.
+#[inline(always)]
+pub fn stretched<E: Dimension>(
+    alloc: Global,
+    shape: &E,
+    view_shape: &[usize],
+    strides: &[usize],
+) -> Result<E, AllocError>
+    requires fewer { length view_shape.now ≤ length (E.list shape.now) }
+    requires counts { length view_shape.now ≡ length strides.now }
+    ensures strides { IfOk result (λ d. all_signed (E.list d) ≡
+        broadcast_strides (E.list shape.now) view_shape.now (all_signed strides.now)) }
+    ensures memory { NeedsNoMemory E.NDIM (length (E.list shape.now)) → IsOk result }
+{
+    let mut new_strides = E::zeros(alloc, shape.ndim())?;
+    stretch_strides(shape.slice(), view_shape, strides, new_strides.slice_mut());
+    Ok(new_strides)
 }

@@ -27,7 +27,7 @@ ghost use Rattle.ndarray_layout.specs.SlicedView.{IsSliceOf, counts_differ, slic
 ghost use Rattle.ndarray_layout.specs.View.{IsView, LiesWithin};
 ghost use Rattle.ndarray_layout.specs.View.{view_of, checked_place, place_at, view_places};
 
-use crate::broadcasting::{check_broadcast, stretch_strides};
+use crate::broadcasting::{check_broadcast, stretched};
 use crate::collapsing::has_entry;
 use crate::merging::check_axes;
 use crate::places::{offset_place, push_places};
@@ -303,13 +303,7 @@ impl<D: Dimension> Strided<D> {
     {
         let view_shape = self.dim.slice();
         check_broadcast(view_shape, shape)?;
-        let mut strides = E::zeros(alloc, shape.ndim())?;
-        stretch_strides(
-            shape.slice(),
-            view_shape,
-            self.strides.slice(),
-            strides.slice_mut(),
-        );
+        let strides = stretched(alloc, shape, view_shape, self.strides.slice())?;
         Ok(Strided {
             start: self.start,
             dim: shape.duplicate(alloc)?,

@@ -249,7 +249,7 @@ fn in_order<D: Dimension>(view: &Strided<D>) -> Answer {
     Answer::InOrder(is_layout_c(dim, strides), is_layout_f(dim, strides))
 }
 
-/// The same of a slice of two axes of the view of a layout.
+/// The same of a slice of the view of a layout, of as many axes.
 fn slice_in_order<D: Dimension>(
     rt: &impl Abort,
     alloc: Global,
@@ -257,10 +257,8 @@ fn slice_in_order<D: Dimension>(
     argument: &Argument,
 ) -> Answer {
     let view = view::<D>(rt, alloc, layout).expect(rt, "refused");
-    let slice: Strided<Ix2> = view
-        .slice(alloc, &argument.elems, argument.fit)
-        .expect(rt, "refused");
-    in_order(&slice)
+    let slice: Result<Strided<D>, LayoutError> = view.slice(alloc, &argument.elems, argument.fit);
+    in_order(&slice.expect(rt, "refused"))
 }
 
 /// The answer of a layout at a dimension type.

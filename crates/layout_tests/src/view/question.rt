@@ -45,7 +45,7 @@ pub enum Question {
     Merge(Axis, Axis),
     /// The same data as a view of a shape, of the type of so many axes.
     Broadcast(Option<usize>, Vec<usize>),
-    /// Whether the places of a slice of two axes lie in order, by rows and by columns.
+    /// Whether the places of a slice of as many axes lie in order, by rows and by columns.
     InOrder(Argument),
 }
 

@@ -1,6 +1,5 @@
 -- What was written is the broadcast view, and so all that is known of broadcast views holds of it.
-use Rattle.std.proofs.Common.{◌≡◌, None, length, sym, ap, subst, ◌∙◌, refl}
-use Rattle.nd_base.specs.Signed.{all_signed}
+use Rattle.std.proofs.Common.{◌≡◌, None, sym, subst, refl}
 use Rattle.ndarray_layout.specs.BroadcastView.{broadcast_fault, broadcast_of, broadcast_source}
 use Rattle.ndarray_layout.specs.KeepsPlaces.{KeepsPlaces}
 use Rattle.ndarray_layout.specs.View.{View, IsView, LiesWithin, view_of}
@@ -9,10 +8,10 @@ use Rattle.ndarray_layout.proofs.strided.Strided.broadcast.Given.{Over}
 use Rattle.ndarray_layout.proofs.strided.Strided.broadcast.Goals as goal
 use Rattle.ndarray_layout.proofs.strided.Strided.broadcast.Goals.{In_ok-duplicate}
 
-pub stretch_strides-requires-clause-fewer : goal.stretch_strides-requires-clause-fewer
-stretch_strides-requires-clause-fewer g c =
+pub stretched-requires-clause-fewer : goal.stretched-requires-clause-fewer
+stretched-requires-clause-fewer g c =
     let none : broadcast_fault (g.E.Lengths.list c.args.shape.now) (g.D.Lengths.list c.self.inside.dim) ≡ None = rw c.slice-view_shape.ensures.list at (sym c.in_ok-check_broadcast.ensures) in
-    rw (c.slice-view_shape.ensures.list, c.slice.ensures.list) (no_fewer_axes (g.E.Lengths.list c.args.shape.now) (g.D.Lengths.list c.self.inside.dim) none)
+    rw c.slice-view_shape.ensures.list (no_fewer_axes (g.E.Lengths.list c.args.shape.now) (g.D.Lengths.list c.self.inside.dim) none)
 
 -- the view that is broadcast is one, and the shape takes it in
 whole : (g : Over) (c : In_ok-duplicate g) → IsView c.args.self.now
@@ -24,10 +23,9 @@ none g c =
     subst (λ (view : View). broadcast_fault (g.E.Lengths.list c.args.shape.now) view.shape ≡ None) c.self.view_is here
 
 -- the shape and the strides that were written are those of the broadcast view
-written : (g : Over) (c : In_ok-duplicate g) → view_of c.self.inside.start (g.E.Lengths.list c.in_ok-duplicate.field-0) (g.E.Lengths.list (g.E.Lengths.with_list c.in_ok-strides.strides c.stretch_strides.new.new_strides)) ≡ broadcast_of (g.E.Lengths.list c.args.shape.now) c.args.self.now
+written : (g : Over) (c : In_ok-duplicate g) → view_of c.self.inside.start (g.E.Lengths.list c.in_ok-duplicate.field-0) (g.E.Lengths.list c.in_ok-strides.strides) ≡ broadcast_of (g.E.Lengths.list c.args.shape.now) c.args.self.now
 written g c =
-    let ensured = rw (c.slice-view_shape.ensures.list, c.slice.ensures.list, c.slice-2.ensures.list) at c.stretch_strides.ensures in
-    let strides = ap all_signed (g.met.E.Lengths.list_of_with_list c.in_ok-strides.strides c.stretch_strides.new.new_strides (c.stretch_strides.auto.new_strides ∙ ap length c.slice_mut.ensures.list)) ∙ ensured in
+    let strides = rw (c.slice-view_shape.ensures.list, c.slice.ensures.list) at c.in_ok-strides.ensures.strides in
     rw (← c.self.view_is, c.in_ok-duplicate.ensures.list, strides) refl
 
 pub invariant_of-result : goal.invariant_of-result
