@@ -1,6 +1,6 @@
 //! Two axes as one.
 ghost use Rattle.std.specs.Bool.{OnTrue};
-ghost use Rattle.std.specs.Prelude.{◌≡◌, ◌≢◌, ◌<◌, ◌↔◌, pos, ◌*ℤ◌, if◌then◌else◌, IsTrue, IfSome, IsSome, Some, length, slice_index};
+ghost use Rattle.std.specs.Prelude.{◌≡◌, ◌≢◌, ◌<◌, ◌^◌, ◌↔◌, pos, ◌*ℤ◌, if◌then◌else◌, IsTrue, IfSome, IsSome, Some, length, slice_index};
 ghost use Rattle.nd_base.specs.Signed.{signed as signed_reading, all_signed};
 ghost use Rattle.nd_base.specs.ValidLayout.{IsValidLayout};
 ghost use Rattle.nd_shape.specs.Merge.{IsMergedStride, MergeFits, merged_stride as stride_of_both, merged_shape, merged_strides};
@@ -10,9 +10,11 @@ use nd_dim::{Axis, Dimension, signed};
 /// Whether a stride is as long as that many steps of another.
 #[inline(always)]
 fn is_multiple(stride: usize, count: usize, step: usize) -> bool
+    requires { count < 2 ^ 63 }
     ensures { IsTrue result ↔ (signed_reading stride ≡ pos count *ℤ signed_reading step) }
 {
-    signed(stride) as i128 == count as i128 * signed(step) as i128
+    // (both signed, so that their product is one instruction)
+    signed(stride) as i128 == count as isize as i128 * signed(step) as i128
 }
 
 /// The stride of both axes as one, where some stride serves.
@@ -23,6 +25,7 @@ fn merged_stride(
     into_len: usize,
     into_stride: usize,
 ) -> Option<usize>
+    requires { into_len < 2 ^ 63 }
     ensures fits { IsSome result ↔ MergeFits
         take_len
         (signed_reading take_stride)
