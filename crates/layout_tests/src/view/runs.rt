@@ -43,23 +43,32 @@ fn ends(
     stopped == taken && (view.start(), view.dim().slice(), view.strides().slice()) == left
 }
 
-/// The first row of two joined axes, and then a step that doesn't fit.
+/// Whether a run of these steps from the whole grid ends so.
+fn stops(
+    rt: &impl Abort,
+    alloc: Global,
+    steps: &[Step],
+    taken: Option<(usize, Option<ErrorKind>)>,
+    left: (usize, &[usize], &[usize]),
+) -> bool {
+    ends(run(alloc, grid(rt, alloc), steps), taken, left)
+}
+
+/// The first row of two joined axes, and then steps that don't fit.
 #[test]
 fn r8_rows(rt: HostRuntime) {
-    let steps = [
+    let all = [
         Step::Collapse(Axis(1), 2),
         Step::Merge(Axis(0), Axis(1)),
         Step::Merge(Axis(2), Axis(1)),
         Step::Collapse(Axis(9), 9),
     ];
+    let steps = all.as_slice();
     let left: (usize, &[usize], &[usize]) = (8, &[1, 2, 4], &[12, 12, 1]);
-    let done = run(rt.alloc(), grid(&rt, rt.alloc()), &steps[..2]);
-    assert!(rt; ends(done, None, left));
-    let stopped = run(rt.alloc(), grid(&rt, rt.alloc()), &steps);
-    assert!(rt; ends(stopped, Some((2, Some(IncompatibleLayout))), left));
-    let stopped = run(rt.alloc(), grid(&rt, rt.alloc()), &steps[3..]);
+    assert!(rt; stops(&rt, rt.alloc(), &steps[..2], None, left));
+    assert!(rt; stops(&rt, rt.alloc(), steps, Some((2, Some(IncompatibleLayout))), left));
     let whole: (usize, &[usize], &[usize]) = (0, &[2, 3, 4], &[12, 4, 1]);
-    assert!(rt; ends(stopped, Some((0, Some(OutOfBounds))), whole));
+    assert!(rt; stops(&rt, rt.alloc(), &steps[3..], Some((0, Some(OutOfBounds))), whole));
 }
 
 /// Every other entry of the first two axes from the back, and of the last one.
