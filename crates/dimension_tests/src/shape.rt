@@ -8,4 +8,4 @@ mod layout;
 mod layouts;
 mod merge;
 pub(crate) mod questions;
-mod shapes;
+pub(crate) mod shapes;

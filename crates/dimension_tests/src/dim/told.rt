@@ -12,6 +12,7 @@ use crate::dim::memory::{Call, asks, serves};
 use crate::dim::operators::{Operator, calculates, scales};
 use crate::dim::steps::{has_columns, has_rows};
 use crate::shape::questions::{Question, is_answered};
+use crate::shape::shapes::dimension_builds;
 use nd_dim::{
     Dimension, IntoDimension, Ix0, Ix1, Ix2, Ix3, Ix4, Ix5, Ix6, IxDyn, Lengths, RemoveAxis,
 };
@@ -66,6 +67,8 @@ pub(crate) enum Told {
     Written,
     /// Lengths, and an axis: how a call goes about memory.
     Memory(Call),
+    /// Lengths, and their strides by columns: what a dimension builds.
+    Built,
     /// A layout, and what is asked of it.
     Asked(Question),
 }
@@ -158,6 +161,7 @@ where
         },
         Told::Written => rewrites::<D>(rt, alloc, row),
         Told::Memory(call) => serves(alloc, call, dim, row.second.at(0)),
+        Told::Built => dimension_builds(rt, alloc, dim, row),
         Told::Asked(question) => is_answered(rt, alloc, question, dim, row),
         _ => tells_of_indices(rt, told, alloc, dim, row),
     }

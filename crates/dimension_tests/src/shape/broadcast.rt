@@ -5,7 +5,7 @@ use crate::dim::lists::Lists;
 use crate::dim::told::{Told, row_holds_at_any_count, table};
 use crate::shape::acceptance::name_of;
 use crate::shape::questions::Question;
-use nd_dim::{Dimension, Ix2, Ix3, LayoutError, new_ix2, new_ix3};
+use nd_dim::{Dimension, Ix2, Ix3, IxDyn, LayoutError, new_ix2, new_ix3};
 use nd_shape::co_broadcast;
 use nd_testing::grants;
 use std::alloc::Global;
@@ -81,7 +81,10 @@ fn r5_rows(rt: HostRuntime) {
 #[test]
 fn r5_rows_of_fixed_types(rt: HostRuntime) {
     let (shape, other) = (new_ix2(2, 3), new_ix3(4, 1, 3));
-    assert!(rt; is_common::<Ix2, Ix3, Ix3>(rt.alloc(), &shape, &other, &[4, 2, 3], ""));
+    assert!(rt;
+        is_common::<Ix2, Ix3, Ix3>(rt.alloc(), &shape, &other, &[4, 2, 3], "")
+            && is_common::<Ix2, Ix3, IxDyn>(rt.alloc(), &shape, &other, &[4, 2, 3], "")
+    );
 }
 
 // More than four axes ask for memory. To make the two shapes takes the first two requests.

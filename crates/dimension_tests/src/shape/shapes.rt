@@ -5,7 +5,8 @@ ghost use Rattle.nd_base.specs.Signed.{all_signed};
 ghost use Rattle.nd_base.specs.ValidLayout.{IsValidLayout};
 ghost use Rattle.nd_shape.specs.ShapeBuilder.{strides_list};
 
-use crate::dim::lists::dim_of;
+use crate::dim::lists::{Lists, dim_of};
+use crate::dim::told::{Told, table};
 use nd_dim::{Dimension, IntoDimension, Ix2, IxDyn, new_ix2};
 use nd_shape::{
     CanIndexCheckMode, Shape, ShapeBuilder, StrideShape, Strides, can_index_slice_with_strides,
@@ -235,63 +236,77 @@ fn r3_rows_of_builders_of_two_axes(rt: HostRuntime) {
     );
 }
 
-/// Lengths, their product, and their strides by rows and by columns.
+/// What is asked of a list of lengths, which may stand for strides as well, as a builder.
 #[derive(Clone, Copy)]
-struct Lists<'a> {
-    lens: &'a [usize],
-    size: usize,
-    by_rows: &'a [usize],
-    by_columns: &'a [usize],
+enum OfList<'a> {
+    /// That it builds shapes of so many indices, and with these strides.
+    Builds(usize, &'a [usize]),
+    /// That a call of it asks for memory.
+    Asks(Call),
 }
 
-/// Whether a list of lengths, which may stand for strides as well, builds shapes of them.
+/// Whether a list of lengths builds shapes of this size and with these strides.
 fn list_builds<D: Dimension, T: ShapeBuilder<Dim = D, Strides = T> + Copy>(
     rt: &impl Abort,
     alloc: Global,
     builder: T,
-    lists: Lists<'_>,
+    dim: &D,
+    size: usize,
+    strides: &[usize],
 ) -> bool {
-    let dim: D = dim_of(rt, alloc, lists.lens);
-    let strides: D = dim_of(rt, alloc, lists.by_rows);
+    let strides: D = dim_of(rt, alloc, strides);
     let built = Built {
-        dim: &dim,
-        size: lists.size,
+        dim,
+        size,
         is_c: true,
-        given: &dim,
+        given: dim,
         strides: &strides,
     };
     is_builder(alloc, builder, builder, &built)
 }
 
-/// Whether a dimension of these lengths builds shapes of them.
-fn dimension_builds<D: Dimension + IntoDimension<Dim = D>>(
+/// Whether this holds of a list of lengths.
+fn list_holds<D: Dimension, T: ShapeBuilder<Dim = D, Strides = T> + Copy>(
     rt: &impl Abort,
     alloc: Global,
-    lists: Lists<'_>,
+    builder: T,
+    lens: &[usize],
+    of_list: OfList<'_>,
 ) -> bool {
-    let dim: D = dim_of(rt, alloc, lists.lens);
-    let strides: D = dim_of(rt, alloc, lists.by_columns);
-    let builder: D = dim_of(rt, alloc, lists.lens);
-    let given: D = dim_of(rt, alloc, lists.by_columns);
-    builds_along(alloc, builder, given, &strides)
-        && builds_columns(alloc, dim_of::<D>(rt, alloc, lists.lens), &dim, &strides)
+    match of_list {
+        OfList::Builds(size, strides) => {
+            let dim: D = dim_of(rt, alloc, lens);
+            list_builds(rt, alloc, builder, &dim, size, strides)
+        },
+        OfList::Asks(call) => asks(alloc, call, builder),
+    }
 }
 
-/// The same of any number of axes.
-fn any_build(rt: &impl Abort, alloc: Global, lists: Lists<'_>) -> bool {
-    list_builds::<IxDyn, _>(rt, alloc, lists.lens, lists)
-        && dimension_builds::<IxDyn>(rt, alloc, lists)
+/// The same at its type.
+fn holds_of_list(rt: &impl Abort, alloc: Global, lens: &[usize], of_list: OfList<'_>) -> bool {
+    list_holds::<IxDyn, _>(rt, alloc, lens, lens, of_list)
+}
+
+/// Whether a dimension builds shapes of its lengths: along given strides, and with its own by columns.
+pub(crate) fn dimension_builds<D: Dimension + IntoDimension<Dim = D>>(
+    rt: &impl Abort,
+    alloc: Global,
+    dim: &D,
+    row: &Lists<'_>,
+) -> bool {
+    let (lens, by_columns) = (row.first.as_slice(), row.second.as_slice());
+    let strides: D = dim_of(rt, alloc, by_columns);
+    let builder: D = dim_of(rt, alloc, lens);
+    let given: D = dim_of(rt, alloc, by_columns);
+    builds_along(alloc, builder, given, &strides)
+        && builds_columns(alloc, dim_of::<D>(rt, alloc, lens), dim, &strides)
 }
 
 #[test]
 fn r3_rows_of_builders_of_any_number_of_axes(rt: HostRuntime) {
-    let lists = Lists {
-        lens: &[2, 3, 1, 2, 2],
-        size: 24,
-        by_rows: &[12, 4, 4, 2, 1],
-        by_columns: &[1, 2, 6, 6, 12],
-    };
-    assert!(rt; any_build(&rt, rt.alloc(), lists));
+    let (alloc, built) = (rt.alloc(), OfList::Builds(24, &[12, 4, 4, 2, 1]));
+    assert!(rt; holds_of_list(&rt, alloc, &[2, 3, 1, 2, 2], built));
+    table(&rt, alloc, Told::Built, "2,3,1,2,2 1,2,6,6,12");
 }
 
 #[test]
@@ -309,13 +324,9 @@ fn shapes_are_copied(rt: HostRuntime) {
 // Builders of at most four axes are never refused.
 #[test]
 fn r9_rows_of_builders(rt: HostRuntime) {
-    let lists = Lists {
-        lens: &[2, 3, 1, 2],
-        size: 12,
-        by_rows: &[6, 2, 2, 1],
-        by_columns: &[1, 2, 6, 6],
-    };
-    assert!(rt; any_build(&rt, rt.alloc(), lists));
+    let (alloc, built) = (rt.alloc(), OfList::Builds(12, &[6, 2, 2, 1]));
+    assert!(rt; holds_of_list(&rt, alloc, &[2, 3, 1, 2], built));
+    table(&rt, alloc, Told::Built, "2,3,1,2 1,2,6,6");
 }
 
 /// A call of a builder.
@@ -353,21 +364,21 @@ fn asks<D: Dimension, T: ShapeBuilder<Dim = D, Strides = T> + Copy>(
 }
 
 /// The same of a list of five lengths.
-fn five_ask(alloc: Global, call: Call) -> bool {
-    asks::<IxDyn, _>(alloc, call, [2, 3, 1, 2, 2].as_slice())
+fn five_ask(rt: &impl Abort, alloc: Global, call: Call) -> bool {
+    holds_of_list(rt, alloc, &[2, 3, 1, 2, 2], OfList::Asks(call))
 }
 
 #[test]
 fn memory_of_orders(rt: HostRuntime) {
-    assert!(rt; five_ask(rt.alloc(), Call::Orders));
+    assert!(rt; five_ask(&rt, rt.alloc(), Call::Orders));
 }
 
 #[test]
 fn memory_of_given_strides(rt: HostRuntime) {
-    assert!(rt; five_ask(rt.alloc(), Call::GivenStrides));
+    assert!(rt; five_ask(&rt, rt.alloc(), Call::GivenStrides));
 }
 
 #[test]
 fn memory_of_shapes(rt: HostRuntime) {
-    assert!(rt; five_ask(rt.alloc(), Call::OwnStrides));
+    assert!(rt; five_ask(&rt, rt.alloc(), Call::OwnStrides));
 }
