@@ -66,9 +66,25 @@ fn r8_rows(rt: HostRuntime) {
     let steps = all.as_slice();
     let left: (usize, &[usize], &[usize]) = (8, &[1, 2, 4], &[12, 12, 1]);
     assert!(rt; stops(&rt, rt.alloc(), &steps[..2], None, left));
-    assert!(rt; stops(&rt, rt.alloc(), steps, Some((2, Some(IncompatibleLayout))), left));
+    assert!(rt;
+        stops(
+            &rt,
+            rt.alloc(),
+            steps,
+            Some((2, Some(IncompatibleLayout))),
+            left
+        )
+    );
     let whole: (usize, &[usize], &[usize]) = (0, &[2, 3, 4], &[12, 4, 1]);
-    assert!(rt; stops(&rt, rt.alloc(), &steps[3..], Some((0, Some(OutOfBounds))), whole));
+    assert!(rt;
+        stops(
+            &rt,
+            rt.alloc(),
+            &steps[3..],
+            Some((0, Some(OutOfBounds))),
+            whole
+        )
+    );
 }
 
 /// Every other entry of the first two axes from the back, and of the last one.

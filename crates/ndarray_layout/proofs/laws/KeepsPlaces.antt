@@ -35,6 +35,7 @@ KeepsPlaces-in_turn source more view between result first second = λ index here
     let near = second index here in
     let far = first (more index) near.0 in
     (far.0, near.1 ∙ far.1)
+
 contained : (f : List ℕ → ℤ) (xs : List (List ℕ)) (x : List ℕ) → Contains xs x → Contains (map f xs) (f x)
 contained f xs x here = (here.0, omega (arith, length-map xs f, here.1), get_or-map f xs here.0 x ∙ ap f here.2)
 
@@ -47,4 +48,3 @@ places_are_kept order source view result keeps =
     subst (Contains places) (sym kept.1) (contained (place_at view) (indices_in order view.shape) (source index) (Contains-indices_in order view.shape (source index) kept.0)) in
     let indices = indices_in order result.shape in
     All-map (Contains places) (place_at result) indices (All-weaker (λ index. is_index result.shape index ≡ true) (λ index. Contains places (place_at result index)) stays indices (All-indices_in order result.shape))
-
