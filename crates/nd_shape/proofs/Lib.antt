@@ -8,4 +8,5 @@ pub mod OrderRule
 pub mod OwnedRule
 pub mod SumLoop
 pub mod WalkOrder
+pub mod WrappedProduct
 pub mod laws

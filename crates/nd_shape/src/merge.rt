@@ -1,20 +1,24 @@
 //! Two axes as one.
 ghost use Rattle.std.specs.Bool.{OnTrue};
-ghost use Rattle.std.specs.Prelude.{◌≡◌, ◌≢◌, ◌<◌, ◌^◌, ◌↔◌, pos, ◌*ℤ◌, if◌then◌else◌, IsTrue, IfSome, IsSome, Some, length, slice_index};
-ghost use Rattle.nd_base.specs.Signed.{signed as signed_reading, all_signed};
+ghost use Rattle.std.specs.Prelude.{◌≡◌, ◌≢◌, ◌+◌, ◌<◌, ◌≤◌, ◌^◌, ◌↔◌, pos, ◌*ℤ◌, if◌then◌else◌, IsTrue, IfSome, IsSome, Some, length, slice_index};
+ghost use Rattle.nd_base.specs.Signed.{signed as signed_reading, all_signed, magnitude};
+ghost use Rattle.nd_base.specs.Size.{limit};
+ghost use Rattle.nd_base.specs.Span.{reach};
 ghost use Rattle.nd_base.specs.ValidLayout.{IsValidLayout};
 ghost use Rattle.nd_shape.specs.Merge.{IsMergedStride, MergeFits, merged_stride as stride_of_both, merged_shape, merged_strides};
 
-use nd_dim::{Axis, Dimension, signed};
+use nd_dim::{Axis, Dimension};
 
-/// Whether a stride is as long as that many steps of another.
+/// Whether a stride is as long as that many steps of another, of two axes of a valid layout.
 #[inline(always)]
 fn is_multiple(stride: usize, count: usize, step: usize) -> bool
-    requires { count < 2 ^ 63 }
+    requires count { count < 2 ^ 63 }
+    requires more { 1 < count }
+    requires near { reach count (signed_reading step) + magnitude (signed_reading stride) ≤ limit }
     ensures { IsTrue result ↔ (signed_reading stride ≡ pos count *ℤ signed_reading step) }
 {
-    // (both signed, so that their product is one instruction)
-    signed(stride) as i128 == count as isize as i128 * signed(step) as i128
+    // (where a layout is valid, 64 bits of the product tell as much as all)
+    stride == count.wrapping_mul(step)
 }
 
 /// The stride of both axes as one, where some stride serves.
@@ -25,7 +29,9 @@ fn merged_stride(
     into_len: usize,
     into_stride: usize,
 ) -> Option<usize>
-    requires { into_len < 2 ^ 63 }
+    requires len { into_len < 2 ^ 63 }
+    requires near { reach into_len (signed_reading into_stride)
+        + reach take_len (signed_reading take_stride) ≤ limit }
     ensures fits { IsSome result ↔ MergeFits
         take_len
         (signed_reading take_stride)
