@@ -67,21 +67,9 @@ goes_on order shape index next n h s e =
     }
 
 -- ---- what a walk stands at, if anything
--- at first the first index, if there is one
-pub starts_at : (order : Order) (shape index : List ℕ) (n : ℕ) (first : Option (List ℕ)) → (n ≡ 0 → ⊥) → first ≡ Some index → index ≡ replicate (length shape) 0 → n ≡ size shape → StandsAtFirst order shape n first
-starts_at order shape index n None some h e m = absurd (cc)
-starts_at order shape index n (Some first) some h e m =
-    let same : first ≡ index = cc in
-    (pos_of_ne-zero some, starts order shape first n (same ∙ e) m)
-
--- or nothing
-pub starts_at_none : (order : Order) (shape : List ℕ) (n : ℕ) (first : Option (List ℕ)) → n ≡ 0 → first ≡ None → StandsAtFirst order shape n first
-starts_at_none order shape n None z h = z
-starts_at_none order shape n (Some first) z h = absurd (cc)
-
--- the same of a flag that says whether it stands at an index
-pub starts_at_flag : (order : Order) (shape index : List ℕ) (n : ℕ) → index ≡ replicate (length shape) 0 → n ≡ size shape → StandsAtFirst order shape n (cond (not (eqb n 0)) (Some index) None)
-starts_at_flag order shape index n e m = by (eqb n 0) refl
+-- at first the first index, if a flag says that there is one, or nothing
+pub starts_at : (order : Order) (shape index : List ℕ) (n : ℕ) → index ≡ replicate (length shape) 0 → n ≡ size shape → StandsAtFirst order shape n (cond (not (eqb n 0)) (Some index) None)
+starts_at order shape index n e m = by (eqb n 0) refl
   where
     by : (b : Bool) → eqb n 0 ≡ b → StandsAtFirst order shape n (cond (not b) (Some index) None)
     by true z = eqb-true n 0 z
@@ -101,9 +89,9 @@ none_left order shape n (Some index) s e = absurd (cc)
 pub stands_at : (order : Order) (shape index : List ℕ) (n : ℕ) (first : Option (List ℕ)) → StandsAtFirst order shape n first → first ≡ Some index → (0 < n) × StandsAt order shape n index
 stands_at order shape index n first s e = subst (StandsAtFirst order shape n) e s
 
--- behind an index it stands at the one of the next rank, if that is one
-pub goes_on_to : (order : Order) (shape index : List ℕ) (next : Option (List ℕ)) (n : ℕ) → 0 < n → StandsAt order shape n index → next ≡ cond (nat_lt (rank_in order shape index + 1) (size shape)) (Some (index_of_rank_in order shape (rank_in order shape index + 1))) None → StandsAtFirst order shape (n - 1) next
-goes_on_to order shape index next n h s e = by next (nat_lt (rank_in order shape index + 1) (size shape)) refl e
+-- behind an index it stands at the one of the next rank, if a step gives one
+pub goes_on_to : (order : Order) (shape index : List ℕ) (next given : Option (List ℕ)) (n : ℕ) → 0 < n → StandsAt order shape n index → given ≡ next → given ≡ cond (nat_lt (rank_in order shape index + 1) (size shape)) (Some (index_of_rank_in order shape (rank_in order shape index + 1))) None → StandsAtFirst order shape (n - 1) next
+goes_on_to order shape index next given n h s is e = by next (nat_lt (rank_in order shape index + 1) (size shape)) refl (sym is ∙ e)
   where
     by : (x : Option (List ℕ)) (b : Bool) → nat_lt (rank_in order shape index + 1) (size shape) ≡ b → x ≡ cond b (Some (index_of_rank_in order shape (rank_in order shape index + 1))) None → StandsAtFirst order shape (n - 1) x
     by (Some x) true t g =
