@@ -4,7 +4,7 @@ use Rattle.std.specs.List.{slice_get}
 use Rattle.std.specs.Prelude.{nat_lt, IsTrue}
 use Rattle.std.proofs.lemmas.Bool.{eqb-false, ltb-true, ltb-false}
 use Rattle.nd_base.specs.declared.order.Order.{Order}
-use Rattle.nd_base.specs.declared.order.Order.TheVariants.{RowMajor, ColumnMajor}
+use Rattle.nd_base.specs.declared.order.Order.TheVariants.{RowMajor}
 use Rattle.nd_base.specs.Dim.{lengths, rewritten, lengths_rewritten}
 use Rattle.nd_base.specs.declared.dim.Dim.{Dim}
 use Rattle.nd_base.specs.Indices.{is_index}
@@ -89,35 +89,22 @@ none_left order shape n (Some index) s e = absurd (cc)
 pub stands_at : (order : Order) (shape index : List ℕ) (n : ℕ) (first : Option (List ℕ)) → StandsAtFirst order shape n first → first ≡ Some index → (0 < n) × StandsAt order shape n index
 stands_at order shape index n first s e = subst (StandsAtFirst order shape n) e s
 
--- behind an index it stands at the one of the next rank, if a step gives one
-pub goes_on_to : (order : Order) (shape index : List ℕ) (next given : Option (List ℕ)) (n : ℕ) → 0 < n → StandsAt order shape n index → given ≡ next → given ≡ cond (nat_lt (rank_in order shape index + 1) (size shape)) (Some (index_of_rank_in order shape (rank_in order shape index + 1))) None → StandsAtFirst order shape (n - 1) next
-goes_on_to order shape index next given n h s is e = by next (nat_lt (rank_in order shape index + 1) (size shape)) refl (sym is ∙ e)
-  where
-    by : (x : Option (List ℕ)) (b : Bool) → nat_lt (rank_in order shape index + 1) (size shape) ≡ b → x ≡ cond b (Some (index_of_rank_in order shape (rank_in order shape index + 1))) None → StandsAtFirst order shape (n - 1) x
-    by (Some x) true t g =
-        let same : x ≡ index_of_rank_in order shape (rank_in order shape index + 1) = cc in
-        let more = ltb-true (rank_in order shape index + 1) (size shape) t in
-        (omega (arith, rank_here order shape index n h s), goes_on order shape index x n h s (λ _. same))
-    by None true t g = absurd (cc)
-    by (Some x) false t g = absurd (cc)
-    by None false t g = omega (arith, s.within, rank_here order shape index n h s, ltb-false (rank_in order shape index + 1) (size shape) t)
-
--- the same of a step that says whether there is one
-pub column_goes_on : (shape index next : List ℕ) (n : ℕ) (more : Bool) → 0 < n → StandsAt ColumnMajor shape n index → (IsTrue more ↔ (rank_in ColumnMajor shape index + 1 < size shape)) → next ≡ cond more (index_of_rank_in ColumnMajor shape (rank_in ColumnMajor shape index + 1)) (replicate (length shape) 0) → StandsAtFirst ColumnMajor shape (n - 1) (cond more (Some next) None)
-column_goes_on shape index next n true h s is e =
-    let more : rank_in ColumnMajor shape index + 1 < size shape = is.0 refl in
-    (omega (arith, rank_here ColumnMajor shape index n h s), goes_on ColumnMajor shape index next n h s (λ _. e))
-column_goes_on shape index next n false h s is e = ended n refl
+-- behind an index it stands at the one of the next rank, if a step says that there is one
+pub goes_on_to : (order : Order) (shape index next : List ℕ) (n : ℕ) (more : Bool) → 0 < n → StandsAt order shape n index → (IsTrue more ↔ (rank_in order shape index + 1 < size shape)) → next ≡ cond more (index_of_rank_in order shape (rank_in order shape index + 1)) (replicate (length shape) 0) → StandsAtFirst order shape (n - 1) (cond more (Some next) None)
+goes_on_to order shape index next n true h s is e =
+    let more : rank_in order shape index + 1 < size shape = is.0 refl in
+    (omega (arith, rank_here order shape index n h s), goes_on order shape index next n h s (λ _. e))
+goes_on_to order shape index next n false h s is e = ended n refl
   where
     ended : (k : ℕ) → k ≡ n → n - 1 ≡ 0
-    ended k z = by (nat_lt (rank_in ColumnMajor shape index + 1) (size shape)) refl
+    ended k z = by (nat_lt (rank_in order shape index + 1) (size shape)) refl
       where
-        by : (b : Bool) → nat_lt (rank_in ColumnMajor shape index + 1) (size shape) ≡ b → n - 1 ≡ 0
-        by true t = absurd (wrong (is.1 (ltb-true (rank_in ColumnMajor shape index + 1) (size shape) t)))
+        by : (b : Bool) → nat_lt (rank_in order shape index + 1) (size shape) ≡ b → n - 1 ≡ 0
+        by true t = absurd (wrong (is.1 (ltb-true (rank_in order shape index + 1) (size shape) t)))
           where
             wrong : IsTrue false → ⊥
             wrong g = absurd (cc)
-        by false t = omega (arith, s.within, rank_here ColumnMajor shape index n h s, ltb-false (rank_in ColumnMajor shape index + 1) (size shape) t)
+        by false t = omega (arith, s.within, rank_here order shape index n h s, ltb-false (rank_in order shape index + 1) (size shape) t)
 
 -- ---- a cursor, which moves on before it lends
 -- behind the index that was lent last it stands at the next one

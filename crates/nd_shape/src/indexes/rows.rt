@@ -7,7 +7,7 @@ ghost use Rattle.nd_base.specs.Indices.{indices_in};
 ghost use Rattle.nd_base.specs.Lengths.{NeedsNoMemory};
 ghost use Rattle.nd_base.specs.Size.{size};
 
-use nd_dim::Dimension;
+use nd_dim::{Dimension, step_by_rows};
 use std::alloc::{AllocError, Global};
 use std::iter::FusedIterator;
 use std::marker::Model;
@@ -119,11 +119,12 @@ impl<D: Dimension + Copy> Iterator for IndicesIter<D> {
         }
         self.left -= 1;
         let index = self.index;
-        // (behind the last index the old one is kept: so the compiler keeps a branch for the end of a row, which
-        // can be foreseen, and the walk over two axes runs in half the time)
-        match self.dim.next_for(index) {
-            Some(next) => self.index = next,
-            None => self.has_remaining = false,
+        let mut next = index;
+        self.has_remaining = step_by_rows(self.dim.slice(), next.slice_mut());
+        // (of two axes the last index is kept: so the compiler keeps a branch for the end of a row, which can
+        // be foreseen, and the walk runs in half the time; of more it keeps one anyway)
+        if self.has_remaining || self.dim.ndim() != 2 {
+            self.index = next;
         }
         Some(index.into_pattern())
     }
