@@ -1,11 +1,11 @@
 //! Two axes as one.
 ghost use Rattle.std.specs.Bool.{OnTrue};
-ghost use Rattle.std.specs.Prelude.{◌≡◌, ◌≢◌, ◌+◌, ◌<◌, ◌≤◌, ◌^◌, ◌↔◌, pos, ◌*ℤ◌, if◌then◌else◌, IsTrue, IfSome, IsSome, Some, length, slice_index};
+ghost use Rattle.std.specs.Prelude.{◌≡◌, ◌≢◌, ◌+◌, ◌<◌, ◌≤◌, ◌^◌, ◌↔◌, pos, ◌*ℤ◌, if◌then◌else◌, IsTrue, length, slice_index};
 ghost use Rattle.nd_base.specs.Signed.{signed as signed_reading, all_signed, magnitude};
 ghost use Rattle.nd_base.specs.Size.{limit};
 ghost use Rattle.nd_base.specs.Span.{reach};
 ghost use Rattle.nd_base.specs.ValidLayout.{IsValidLayout};
-ghost use Rattle.nd_shape.specs.Merge.{IsMergedStride, MergeFits, merged_stride as stride_of_both, merged_shape, merged_strides};
+ghost use Rattle.nd_shape.specs.Merge.{IsMergedStride, MergeFits, merged_shape, merged_strides};
 
 use nd_dim::{Axis, Dimension};
 
@@ -19,43 +19,6 @@ fn is_multiple(stride: usize, count: usize, step: usize) -> bool
 {
     // (where a layout is valid, 64 bits of the product tell as much as all)
     stride == count.wrapping_mul(step)
-}
-
-/// The stride of both axes as one, where some stride serves.
-#[inline(always)]
-fn merged_stride(
-    take_len: usize,
-    take_stride: usize,
-    into_len: usize,
-    into_stride: usize,
-) -> Option<usize>
-    requires len { into_len < 2 ^ 63 }
-    requires near { reach into_len (signed_reading into_stride)
-        + reach take_len (signed_reading take_stride) ≤ limit }
-    ensures fits { IsSome result ↔ MergeFits
-        take_len
-        (signed_reading take_stride)
-        into_len
-        (signed_reading into_stride) }
-    ensures stride { IfSome result (λ stride.
-        stride ≡ stride_of_both take_len take_stride into_len into_stride) }
-    ensures serves { IfSome result (λ stride.
-        IsMergedStride
-        take_len
-        (signed_reading take_stride)
-        into_len
-        (signed_reading into_stride)
-        (signed_reading stride)) }
-{
-    if take_len <= 1 {
-        Some(into_stride)
-    } else if into_len <= 1 {
-        Some(take_stride)
-    } else if is_multiple(take_stride, into_len, into_stride) {
-        Some(into_stride)
-    } else {
-        None
-    }
 }
 
 /// Merges an axis into another where that fits.
@@ -81,13 +44,20 @@ fn merge_fitting(shape: &mut [usize], strides: &mut [usize], take: usize, into: 
         (signed_reading (slice_index strides.new into))) }
 {
     let (take_len, into_len) = (shape[take], shape[into]);
-    let Some(stride) = merged_stride(take_len, strides[take], into_len, strides[into]) else {
+    let (take_stride, into_stride) = (strides[take], strides[into]);
+    // (one test of both lengths, since each is a branch that is hard to foresee)
+    if take_len.min(into_len) <= 1 {
+        strides[into] = if take_len <= 1 {
+            into_stride
+        } else {
+            take_stride
+        };
+    } else if !is_multiple(take_stride, into_len, into_stride) {
         return false;
-    };
+    }
     let merged_len = into_len * take_len;
     shape[into] = merged_len;
     shape[take] = if merged_len == 0 { 0 } else { 1 };
-    strides[into] = stride;
     true
 }
 

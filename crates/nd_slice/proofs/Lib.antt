@@ -1,6 +1,5 @@
 pub mod Every
 pub mod Axis
-pub mod Counts
 pub mod Ends
 pub mod Picks
 pub mod Slicing

@@ -16,9 +16,12 @@ use nd_dim::Dimension;
 pub fn in_ndim_of(list: &[SliceInfoElem]) -> usize
     ensures { result ≡ in_count list.now }
 {
-    list.iter()
-        .filter(|elem| !matches!(elem, SliceInfoElem::NewAxis))
-        .count()
+    // (a loop that adds 0 or 1 has no branch, and unrolls where the count of elements is known)
+    let mut count = 0;
+    for elem in list {
+        count += usize::from(!matches!(elem, SliceInfoElem::NewAxis));
+    }
+    count
 }
 
 /// How many axes a slice argument leaves: one for each element but an index. Upstream's
@@ -27,9 +30,11 @@ pub fn in_ndim_of(list: &[SliceInfoElem]) -> usize
 pub fn out_ndim_of(list: &[SliceInfoElem]) -> usize
     ensures { result ≡ out_count list.now }
 {
-    list.iter()
-        .filter(|elem| !matches!(elem, SliceInfoElem::Index(_)))
-        .count()
+    let mut count = 0;
+    for elem in list {
+        count += usize::from(!matches!(elem, SliceInfoElem::Index(_)));
+    }
+    count
 }
 
 /// Whether the elements of a slice argument fit the lengths of a shape. Refused with
