@@ -26,4 +26,4 @@ pub use nd_base::{
 };
 pub use remove_axis::RemoveAxis;
 pub use shape_arg::ShapeArg;
-pub use steps::{step_by_rows, step_in_row};
+pub use steps::step_by_rows;

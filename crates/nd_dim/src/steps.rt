@@ -1,5 +1,4 @@
 //! Steps from one index of a shape to the next.
-ghost use Rattle.std.specs.Bool.{OnTrue};
 ghost use Rattle.std.specs.Prelude.{◌≡◌, ◌+◌, ◌<◌, ◌↔◌, if◌then◌else◌, true, length, replicate, IsTrue};
 ghost use Rattle.nd_base.specs.declared.order.Order.TheVariants.{ColumnMajor};
 ghost use Rattle.nd_base.specs.Indices.{is_index};
@@ -27,29 +26,6 @@ pub fn step_by_rows(shape: &[usize], index: &mut [usize]) -> bool
         index[axis] = 0;
     }
     false
-}
-
-/// Moves an index of a shape to the next one in its row, where the last axis moves, and says so; the
-/// last index of a row stays, with `false`, and so does the index of no axes.
-#[inline(always)]
-pub fn step_in_row(shape: &[usize], index: &mut [usize]) -> bool
-    requires { is_index shape.now index.old ≡ true }
-    ensures more { OnTrue result (rank shape.now index.old + 1 < size shape.now) }
-    ensures next { index.new ≡ (if result
-        then index_of_rank shape.now (rank shape.now index.old + 1)
-        else index.old) }
-{
-    let ndim = shape.len();
-    if ndim == 0 {
-        return false;
-    }
-    let last = ndim - 1;
-    let next = index[last] + 1;
-    if next >= shape[last] {
-        return false;
-    }
-    index[last] = next;
-    true
 }
 
 /// Moves an index of a shape to the next one in column-major order, where the first axis moves

@@ -4,7 +4,7 @@ use Rattle.std.specs.List.{slice_get}
 use Rattle.std.specs.Prelude.{nat_lt, IsTrue}
 use Rattle.std.proofs.lemmas.Bool.{eqb-false, ltb-true, ltb-false}
 use Rattle.nd_base.specs.declared.order.Order.{Order}
-use Rattle.nd_base.specs.declared.order.Order.TheVariants.{RowMajor, ColumnMajor}
+use Rattle.nd_base.specs.declared.order.Order.TheVariants.{RowMajor}
 use Rattle.nd_base.specs.Dim.{lengths, rewritten, lengths_rewritten}
 use Rattle.nd_base.specs.declared.dim.Dim.{Dim}
 use Rattle.nd_base.specs.Indices.{is_index}
@@ -67,21 +67,9 @@ goes_on order shape index next n h s e =
     }
 
 -- ---- what a walk stands at, if anything
--- at first the first index, if there is one
-pub starts_at : (order : Order) (shape index : List ℕ) (n : ℕ) (first : Option (List ℕ)) → (n ≡ 0 → ⊥) → first ≡ Some index → index ≡ replicate (length shape) 0 → n ≡ size shape → StandsAtFirst order shape n first
-starts_at order shape index n None some h e m = absurd (cc)
-starts_at order shape index n (Some first) some h e m =
-    let same : first ≡ index = cc in
-    (pos_of_ne-zero some, starts order shape first n (same ∙ e) m)
-
--- or nothing
-pub starts_at_none : (order : Order) (shape : List ℕ) (n : ℕ) (first : Option (List ℕ)) → n ≡ 0 → first ≡ None → StandsAtFirst order shape n first
-starts_at_none order shape n None z h = z
-starts_at_none order shape n (Some first) z h = absurd (cc)
-
--- the same of a flag that says whether it stands at an index
-pub starts_at_flag : (order : Order) (shape index : List ℕ) (n : ℕ) → index ≡ replicate (length shape) 0 → n ≡ size shape → StandsAtFirst order shape n (cond (not (eqb n 0)) (Some index) None)
-starts_at_flag order shape index n e m = by (eqb n 0) refl
+-- at first the first index, if a flag says that there is one, or nothing
+pub starts_at : (order : Order) (shape index : List ℕ) (n : ℕ) → index ≡ replicate (length shape) 0 → n ≡ size shape → StandsAtFirst order shape n (cond (not (eqb n 0)) (Some index) None)
+starts_at order shape index n e m = by (eqb n 0) refl
   where
     by : (b : Bool) → eqb n 0 ≡ b → StandsAtFirst order shape n (cond (not b) (Some index) None)
     by true z = eqb-true n 0 z
@@ -101,35 +89,22 @@ none_left order shape n (Some index) s e = absurd (cc)
 pub stands_at : (order : Order) (shape index : List ℕ) (n : ℕ) (first : Option (List ℕ)) → StandsAtFirst order shape n first → first ≡ Some index → (0 < n) × StandsAt order shape n index
 stands_at order shape index n first s e = subst (StandsAtFirst order shape n) e s
 
--- behind an index it stands at the one of the next rank, if that is one
-pub goes_on_to : (order : Order) (shape index : List ℕ) (next : Option (List ℕ)) (n : ℕ) → 0 < n → StandsAt order shape n index → next ≡ cond (nat_lt (rank_in order shape index + 1) (size shape)) (Some (index_of_rank_in order shape (rank_in order shape index + 1))) None → StandsAtFirst order shape (n - 1) next
-goes_on_to order shape index next n h s e = by next (nat_lt (rank_in order shape index + 1) (size shape)) refl e
-  where
-    by : (x : Option (List ℕ)) (b : Bool) → nat_lt (rank_in order shape index + 1) (size shape) ≡ b → x ≡ cond b (Some (index_of_rank_in order shape (rank_in order shape index + 1))) None → StandsAtFirst order shape (n - 1) x
-    by (Some x) true t g =
-        let same : x ≡ index_of_rank_in order shape (rank_in order shape index + 1) = cc in
-        let more = ltb-true (rank_in order shape index + 1) (size shape) t in
-        (omega (arith, rank_here order shape index n h s), goes_on order shape index x n h s (λ _. same))
-    by None true t g = absurd (cc)
-    by (Some x) false t g = absurd (cc)
-    by None false t g = omega (arith, s.within, rank_here order shape index n h s, ltb-false (rank_in order shape index + 1) (size shape) t)
-
--- the same of a step that says whether there is one
-pub column_goes_on : (shape index next : List ℕ) (n : ℕ) (more : Bool) → 0 < n → StandsAt ColumnMajor shape n index → (IsTrue more ↔ (rank_in ColumnMajor shape index + 1 < size shape)) → next ≡ cond more (index_of_rank_in ColumnMajor shape (rank_in ColumnMajor shape index + 1)) (replicate (length shape) 0) → StandsAtFirst ColumnMajor shape (n - 1) (cond more (Some next) None)
-column_goes_on shape index next n true h s is e =
-    let more : rank_in ColumnMajor shape index + 1 < size shape = is.0 refl in
-    (omega (arith, rank_here ColumnMajor shape index n h s), goes_on ColumnMajor shape index next n h s (λ _. e))
-column_goes_on shape index next n false h s is e = ended n refl
+-- behind an index it stands at the one of the next rank, if a step says that there is one
+pub goes_on_to : (order : Order) (shape index next : List ℕ) (n : ℕ) (more : Bool) → 0 < n → StandsAt order shape n index → (IsTrue more ↔ (rank_in order shape index + 1 < size shape)) → next ≡ cond more (index_of_rank_in order shape (rank_in order shape index + 1)) (replicate (length shape) 0) → StandsAtFirst order shape (n - 1) (cond more (Some next) None)
+goes_on_to order shape index next n true h s is e =
+    let more : rank_in order shape index + 1 < size shape = is.0 refl in
+    (omega (arith, rank_here order shape index n h s), goes_on order shape index next n h s (λ _. e))
+goes_on_to order shape index next n false h s is e = ended n refl
   where
     ended : (k : ℕ) → k ≡ n → n - 1 ≡ 0
-    ended k z = by (nat_lt (rank_in ColumnMajor shape index + 1) (size shape)) refl
+    ended k z = by (nat_lt (rank_in order shape index + 1) (size shape)) refl
       where
-        by : (b : Bool) → nat_lt (rank_in ColumnMajor shape index + 1) (size shape) ≡ b → n - 1 ≡ 0
-        by true t = absurd (wrong (is.1 (ltb-true (rank_in ColumnMajor shape index + 1) (size shape) t)))
+        by : (b : Bool) → nat_lt (rank_in order shape index + 1) (size shape) ≡ b → n - 1 ≡ 0
+        by true t = absurd (wrong (is.1 (ltb-true (rank_in order shape index + 1) (size shape) t)))
           where
             wrong : IsTrue false → ⊥
             wrong g = absurd (cc)
-        by false t = omega (arith, s.within, rank_here ColumnMajor shape index n h s, ltb-false (rank_in ColumnMajor shape index + 1) (size shape) t)
+        by false t = omega (arith, s.within, rank_here order shape index n h s, ltb-false (rank_in order shape index + 1) (size shape) t)
 
 -- ---- a cursor, which moves on before it lends
 -- behind the index that was lent last it stands at the next one

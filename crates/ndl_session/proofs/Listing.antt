@@ -9,7 +9,7 @@ use Rattle.ndl_session.specs.Answer.{Reply, listing, unless, reply_to_run, reply
 use Rattle.ndl_session.specs.Script.{ScriptValue}
 use Rattle.ndl_text.specs.Text.{line, listed}
 
--- a place is not negative, so it prints without a sign
+-- a place is not negative, so with a sign it prints as it does without
 printed_places : (places : List ℕ) → map signed_decimal (map pos places) ≡ map decimal places
 printed_places [] = refl
 printed_places (place ∷ places) = ap (λ texts. decimal place ∷ texts) (printed_places places)
@@ -18,18 +18,19 @@ printed_places (place ∷ places) = ap (λ texts. decimal place ∷ texts) (prin
 three_lines : (t0 t1 t2 t3 a b c : List ℕ) → t0 ≡ [] → t1 ≡ t0 ++ a → t2 ≡ t1 ++ b → t3 ≡ t2 ++ c → t3 ≡ a ++ b ++ c
 three_lines t0 t1 t2 t3 a b c e0 e1 e2 e3 = e3 ∙ ap (λ t. t ++ c) (e2 ∙ ap (λ t. t ++ b) (e1 ∙ ap (λ t. t ++ a) e0))
 
-pub listing_text : (view : View) (t0 t1 t2 t3 : List ℕ) (shape : List ℕ) (strides : List ℤ) (places : List ℕ)
-    → shape ≡ view.shape → strides ≡ view.strides → map pos places ≡ view_places RowMajor view
+pub places_texts : (view : View) (places : List ℕ) → map pos places ≡ view_places RowMajor view → map decimal places ≡ map signed_decimal (view_places RowMajor view)
+places_texts view places same = sym (printed_places places) ∙ ap (map signed_decimal) same
+
+pub listing_text : (view : View) (t0 t1 t2 t3 : List ℕ) (shape : List ℕ) → shape ≡ view.shape
     → t0 ≡ []
     → t1 ≡ t0 ++ line (codes "shape") (listed (codes ",") (map decimal shape))
-    → t2 ≡ t1 ++ line (codes "strides") (listed (codes ",") (map signed_decimal strides))
-    → t3 ≡ t2 ++ line (codes "places") (listed (codes " ") (map decimal places))
+    → t2 ≡ t1 ++ line (codes "strides") (listed (codes ",") (map signed_decimal view.strides))
+    → t3 ≡ t2 ++ line (codes "places") (listed (codes " ") (map signed_decimal (view_places RowMajor view)))
     → t3 ≡ (listing view).text
-listing_text view t0 t1 t2 t3 shape strides places same_shape same_strides same_places e0 e1 e2 e3 =
+listing_text view t0 t1 t2 t3 shape same e0 e1 e2 e3 =
     three_lines t0 t1 t2 t3 _ _ _ e0
-    (e1 ∙ ap (λ lens. t0 ++ line (codes "shape") (listed (codes ",") (map decimal lens))) same_shape)
-    (e2 ∙ ap (λ lens. t1 ++ line (codes "strides") (listed (codes ",") (map signed_decimal lens))) same_strides)
-    (e3 ∙ ap (λ texts. t2 ++ line (codes "places") (listed (codes " ") texts)) (sym (printed_places places) ∙ ap (map signed_decimal) same_places))
+    (e1 ∙ ap (λ lens. t0 ++ line (codes "shape") (listed (codes ",") (map decimal lens))) same)
+    e2 e3
 
 unless_small : (step : ℕ) (fault : Option ErrorKind) (reply : Reply) → reply.status ≤ 2 → (unless step fault reply).status ≤ 2
 unless_small step None reply small = small

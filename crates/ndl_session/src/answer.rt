@@ -1,15 +1,19 @@
 //! The answer to a whole input: its text and its status.
-ghost use Rattle.std.specs.Prelude.{◌≡◌, ◌≤◌, map, IfOk};
+ghost use Rattle.std.specs.Prelude.{◌≡◌, ◌≤◌, ◌++◌, codes, map, string_bytes, IfOk, OnOk};
+ghost use Rattle.std.specs.Fmt.{signed_decimal};
 ghost use Rattle.nd_base.specs.Signed.{all_signed};
+ghost use Rattle.nd_base.specs.declared.order.Order.TheVariants.{RowMajor};
 ghost use Rattle.ndl_session.specs.Answer.{answer_of, listing, refused as refusal, IsReply};
 ghost use Rattle.ndl_session.specs.Answer.{reply_to_script, reply_to_steps, unreadable as unreadable_reply};
 ghost use Rattle.ndl_session.specs.Script.{script_value};
 ghost use Rattle.ndarray_layout.specs.Step.{step_value};
+ghost use Rattle.ndarray_layout.specs.View.{view_places};
+ghost use Rattle.ndl_text.specs.Text.{line, listed};
 
 use crate::script::{ReadError, Script, read_script};
 use crate::strides::kept_strides;
 use ndarray_layout::{
-    IxDyn, LayoutError, Lengths, Order, ShapeError, Step, Stopped, Strided, new_ixdyn, run, signed,
+    IxDyn, LayoutError, Lengths, Order, ShapeError, Step, Strided, new_ixdyn, run, signed,
 };
 use ndl_text::push_line;
 use std::alloc::{AllocError, Global};
@@ -81,16 +85,9 @@ fn answer_to_steps(
 {
     match run(alloc, view, steps) {
         Ok(view) => list(alloc, &view),
-        Err(stopped) => {
-            let Stopped {
-                at,
-                fault,
-                view: _left,
-            } = stopped;
-            match fault {
-                LayoutError::Shape(fault) => refused(alloc, at + 1, &fault),
-                LayoutError::Memory(error) => Err(error),
-            }
+        Err(stopped) => match &stopped.fault {
+            LayoutError::Shape(fault) => refused(alloc, stopped.at + 1, fault),
+            LayoutError::Memory(_) => Err(AllocError),
         },
     }
 }
@@ -102,15 +99,32 @@ fn signed_strides(alloc: Global, strides: &[usize]) -> Result<Vec<isize>, AllocE
     strides.iter().map(|stride| signed(*stride)).collect(alloc)
 }
 
+/// Appends the line of a view's strides.
+fn push_strides(alloc: Global, text: &mut String, view: &Strided<IxDyn>) -> Result<(), AllocError>
+    ensures { OnOk result (string_bytes text.new ≡ string_bytes text.old
+        ++ line (codes "strides") (listed (codes ",") (map signed_decimal view.now.strides))) }
+{
+    let strides = signed_strides(alloc, view.strides().slice())?;
+    push_line(text, "strides", ",", strides.as_slice())
+}
+
+/// Appends the line of the places of a view's elements.
+fn push_places(alloc: Global, text: &mut String, view: &Strided<IxDyn>) -> Result<(), AllocError>
+    ensures { OnOk result (string_bytes text.new ≡ string_bytes text.old
+        ++ line (codes "places")
+        (listed (codes " ") (map signed_decimal (view_places RowMajor view.now)))) }
+{
+    let places = view.places(alloc, Order::RowMajor)?;
+    push_line(text, "places", " ", places.as_slice())
+}
+
 /// The answer that lists a view.
 fn list(alloc: Global, view: &Strided<IxDyn>) -> Result<Answer, AllocError>
     ensures { IfOk result (λ answer. IsReply answer (listing view.now)) }
 {
-    let strides = signed_strides(alloc, view.strides().slice())?;
-    let places = view.places(alloc, Order::RowMajor)?;
     let mut text = String::new(alloc);
     push_line(&mut text, "shape", ",", view.dim().slice())?;
-    push_line(&mut text, "strides", ",", strides.as_slice())?;
-    push_line(&mut text, "places", " ", places.as_slice())?;
+    push_strides(alloc, &mut text, view)?;
+    push_places(alloc, &mut text, view)?;
     Ok(Answer { text, status: 0 })
 }

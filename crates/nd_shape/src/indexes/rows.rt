@@ -1,15 +1,13 @@
 //! The walk over the indices of a shape in row-major order.
-ghost use Rattle.std.specs.Option.{option_map};
-ghost use Rattle.std.specs.Prelude.{◌≡◌, ◌+◌, ◌<◌, ◌≤◌, ◌^◌, if◌then◌else◌, true, nat_lt, Some, None, length, replicate, IfSome, IsOk, IfOk, ⊤};
+ghost use Rattle.std.specs.Prelude.{◌≡◌, ◌<◌, ◌≤◌, ◌^◌, Some, length, replicate, IfSome, IsOk, IfOk, ⊤};
 ghost use Rattle.std.specs.Iterator.{UpTo, YieldsFirstBy, item_count};
 ghost use Rattle.std.specs.Iterator.SizeHint.{IsWithinCount};
 ghost use Rattle.nd_base.specs.declared.order.Order.TheVariants.{RowMajor};
-ghost use Rattle.nd_base.specs.Indices.{indices_in, is_index};
+ghost use Rattle.nd_base.specs.Indices.{indices_in};
 ghost use Rattle.nd_base.specs.Lengths.{NeedsNoMemory};
-ghost use Rattle.nd_base.specs.Rank.{rank, index_of_rank};
 ghost use Rattle.nd_base.specs.Size.{size};
 
-use nd_dim::{Dimension, step_by_rows, step_in_row};
+use nd_dim::{Dimension, step_by_rows};
 use std::alloc::{AllocError, Global};
 use std::iter::FusedIterator;
 use std::marker::Model;
@@ -55,22 +53,23 @@ impl<D: Dimension + Copy> Copy for Indices<D> {}
 #[derive(Drop)]
 pub struct IndicesIter<D: Dimension> {
     dim: D,
-    // The next index, if there is one, and how many are left.
-    index: Option<D>,
+    // The next index, where there is one, and how many are left.
+    index: D,
+    has_remaining: bool,
     left: usize,
 }
 
 impl<D: Dimension> Model for IndicesIter<D> {
-    ghost use Rattle.std.specs.Prelude.{ℕ, List};
+    ghost use Rattle.std.specs.Prelude.{ℕ, List, Some, None, if◌then◌else◌};
     ghost use Rattle.nd_base.specs.declared.order.Order.TheVariants.{RowMajor};
-    ghost use Rattle.std.specs.Option.{option_map};
     ghost use Rattle.nd_shape.specs.IndicesLeft.{indices_left, StandsAtFirst};
 
     ghost Value = { List (List ℕ) };
 
     ghost view = { λ walk. indices_left RowMajor (D.list walk.dim) walk.left };
 
-    ghost invariant = { λ walk. StandsAtFirst RowMajor (D.list walk.dim) walk.left (option_map D.list walk.index) };
+    ghost invariant = { λ walk. StandsAtFirst RowMajor (D.list walk.dim) walk.left
+        (if walk.has_remaining then Some (D.list walk.index) else None) };
 }
 
 impl<D: Dimension + Copy> IntoIterator for Indices<D> {
@@ -84,7 +83,8 @@ impl<D: Dimension + Copy> IntoIterator for Indices<D> {
         let left = self.dim.size();
         IndicesIter {
             dim: self.dim,
-            index: if left == 0 { None } else { Some(self.start) },
+            index: self.start,
+            has_remaining: left != 0,
             left,
         }
     }
@@ -99,36 +99,9 @@ impl<D: Dimension + Copy> Clone for IndicesIter<D> {
         Ok(IndicesIter {
             dim: self.dim,
             index: self.index,
+            has_remaining: self.has_remaining,
             left: self.left,
         })
-    }
-}
-
-/// The index behind one of the shape in row-major order, behind which `left` are left; `None` behind
-/// the last one.
-#[inline(always)]
-fn index_behind<D: Dimension + Copy>(dim: D, index: D, left: usize) -> Option<D>
-    requires index { is_index (D.list dim) (D.list index) ≡ true }
-    requires left { rank (D.list dim) (D.list index) + 1 + left ≡ size (D.list dim) }
-    ensures { option_map D.list result ≡
-        (if nat_lt (rank (D.list dim) (D.list index) + 1) (size (D.list dim))
-        then Some (index_of_rank (D.list dim) (rank (D.list dim) (D.list index) + 1))
-        else None) }
-{
-    let mut next = index;
-    if step_in_row(dim.slice(), next.slice_mut()) {
-        return Some(next);
-    }
-    // (of two axes the count tells the end before the step does: so the compiler keeps a branch for the
-    // end of a row, which can be foreseen, and the walk runs in half the time; of more it keeps one anyway)
-    if dim.ndim() == 2 && left == 0 {
-        return None;
-    }
-    let has_more = step_by_rows(dim.slice(), next.slice_mut());
-    if dim.ndim() == 2 || has_more {
-        Some(next)
-    } else {
-        None
     }
 }
 
@@ -141,9 +114,18 @@ impl<D: Dimension + Copy> Iterator for IndicesIter<D> {
 
     #[inline]
     fn next(&mut self) -> Option<D::Pattern> {
-        let index = self.index?;
+        if !self.has_remaining {
+            return None;
+        }
         self.left -= 1;
-        self.index = index_behind(self.dim, index, self.left);
+        let index = self.index;
+        let mut next = index;
+        self.has_remaining = step_by_rows(self.dim.slice(), next.slice_mut());
+        // (of two axes the last index is kept: so the compiler keeps a branch for the end of a row, which can
+        // be foreseen, and the walk runs in half the time; of more it keeps one anyway)
+        if self.has_remaining || self.dim.ndim() != 2 {
+            self.index = next;
+        }
         Some(index.into_pattern())
     }
 

@@ -1,3 +1,4 @@
+use Rattle.std.proofs.Common.{inl, inr, arith}
 use Rattle.ndl_session.proofs.over_devices.session.Goals as goal
 use Rattle.ndl_session.proofs.over_devices.session.Goals.{in-Ok, in-Err-ReadFailed, in-Err-OutOfMemory}
 
@@ -20,4 +21,28 @@ returns-else-write_failed-clause-input g c read_failed written =
           rw is (w.write_whole-in-Err-ReadFailed.ensures.whole (rw is at written)))
       | in-Err-OutOfMemory w ↦ absurd (let other = w.in-Err-OutOfMemory.ensures.failed.0 read_failed in
           let this = w.in-Err-OutOfMemory.field-0-is in cc)
+    ]
+
+-- A status of 4 with all written is that of the arm of a failed read.
+pub returns-else-write_failed-clause-failed : goal.returns-else-write_failed-clause-failed
+returns-else-write_failed-clause-failed g c =
+    let written = c.if-write_failed.false in
+    let told = c.failed-write_failed.ensures in
+    elim c.match-answer_input.branch [
+      | in-Ok w ↦ (
+        λ is_four. inl (absurd (let small = w.in-Ok.ensures.small in omega arith)),
+        λ failed. elim failed [
+          | inl read_failed ↦ absurd (let other = w.in-Ok.ensures.failed.0 read_failed in cc)
+          | inr write_failed ↦ absurd (cc)
+        ],
+      )
+      | in-Err-ReadFailed w ↦ (λ is_four. inl (w.in-Err-ReadFailed.ensures.failed.1 (let this = w.in-Err-ReadFailed.field-0-is in cc)), λ failed. w.status-is)
+      | in-Err-OutOfMemory w ↦ (
+        λ is_four. inl (absurd (let this = w.status-is in omega arith)),
+        λ failed. elim failed [
+          | inl read_failed ↦ absurd (let other = w.in-Err-OutOfMemory.ensures.failed.0 read_failed in
+              let this = w.in-Err-OutOfMemory.field-0-is in cc)
+          | inr write_failed ↦ absurd (cc)
+        ],
+      )
     ]

@@ -2,14 +2,14 @@
 use Rattle.std.proofs.Common.{replicate, ap, ◌∙◌}
 use Rattle.nd_base.specs.declared.order.Order.TheVariants.{ColumnMajor}
 use Rattle.nd_shape.specs.IndicesLeft.{indices_left}
-use Rattle.nd_shape.proofs.IndicesWalk.{starts_at_flag}
+use Rattle.nd_shape.proofs.IndicesWalk.{starts_at}
 use Rattle.nd_shape.proofs.laws.IndicesLeft.{indices_left-whole}
 use Rattle.nd_shape.proofs.indexes.columns.IndicesIterF.new.Goals as goal
 
 pub invariant_of-result : goal.invariant_of-result
 invariant_of-result g c =
     let shape = g.D.Lengths.list c.args.dim in
-    starts_at_flag ColumnMajor shape (g.D.Lengths.list c.in_ok-index.index) c.size-left.result (c.in_ok-index.ensures.list ∙ ap (λ n. replicate n 0) c.ndim.ensures.count) c.size-left.ensures
+    starts_at ColumnMajor shape (g.D.Lengths.list c.in_ok-index.index) c.size-left.result (c.in_ok-index.ensures.list ∙ ap (λ n. replicate n 0) c.ndim.ensures.count) c.size-left.ensures
 
 pub returns-clause-items : goal.returns-clause-items
 returns-clause-items g c =

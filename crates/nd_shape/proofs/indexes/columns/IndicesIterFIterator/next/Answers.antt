@@ -1,7 +1,7 @@
 -- The index that the walk stands at comes, and it moves on to the next one.
 use Rattle.std.proofs.Common.{cond, Some, None, length, ap, arith}
 use Rattle.nd_base.specs.declared.order.Order.TheVariants.{ColumnMajor}
-use Rattle.nd_shape.proofs.IndicesWalk.{column_goes_on, gives, gives_none, none_left, stands_at, stands_at_index}
+use Rattle.nd_shape.proofs.IndicesWalk.{gives, gives_none, goes_on_to, none_left, stands_at, stands_at_index}
 use Rattle.nd_shape.proofs.indexes.columns.IndicesIterFIterator.next.Goals as goal
 
 pub returns-then-not-self-clause-steps : goal.returns-then-not-self-clause-steps
@@ -24,7 +24,7 @@ invariant_of-self g c =
     let shape = g.D.Lengths.list c.self.inside.dim in
     let index = g.D.Lengths.list c.self.inside.index in
     let at = stands_at ColumnMajor shape index c.self.inside.left (cond c.self.inside.has_remaining (Some index) None) c.self.invariant (ap (λ b. cond b (Some index) None) c.if-not-self.false) in
-    column_goes_on shape index (g.D.Lengths.list c.next_for_f-self-inside.new.index) c.self.inside.left c.next_for_f-self-inside.result at.0 at.1 c.next_for_f-self-inside.ensures.more c.next_for_f-self-inside.ensures.next
+    goes_on_to ColumnMajor shape index (g.D.Lengths.list c.next_for_f-self-inside.new.index) c.self.inside.left c.next_for_f-self-inside.result at.0 at.1 c.next_for_f-self-inside.ensures.more c.next_for_f-self-inside.ensures.next
 
 pub returns-clause-steps : goal.returns-clause-steps
 returns-clause-steps g c =

@@ -1,45 +1,61 @@
 -- The index that the walk stands at comes, and it moves on to the next one.
-use Rattle.std.proofs.Common.{length, ap, arith}
-use Rattle.std.specs.Option.{option_map}
+use Rattle.std.proofs.Common.{ℕ, ◌-◌, Bool, cond, List, Some, None, length, ap, sym, subst, ◌∙◌, arith}
 use Rattle.nd_base.specs.declared.order.Order.TheVariants.{RowMajor}
-use Rattle.nd_shape.proofs.IndicesWalk.{gives, gives_none, goes_on_to, none_left, rank_here, stands_at, stands_at_index}
+use Rattle.nd_shape.specs.IndicesLeft.{StandsAtFirst}
+use Rattle.nd_shape.proofs.IndicesWalk.{gives, gives_none, goes_on_to, none_left, stands_at, stands_at_index}
 use Rattle.nd_shape.proofs.indexes.rows.IndicesIterIterator.next.Goals as goal
+use Rattle.nd_shape.proofs.indexes.rows.IndicesIterIterator.next.Goals.{then-self, else-self+else-ndim-ne2}
 
-pub returns-in_err-index-clause-steps : goal.returns-in_err-index-clause-steps
-returns-in_err-index-clause-steps g c =
+pub returns-then-not-self-clause-steps : goal.returns-then-not-self-clause-steps
+returns-then-not-self-clause-steps g c =
     let shape = g.D.Lengths.list c.self.inside.dim in
-    let first = option_map g.D.Lengths.list c.self.inside.index in
-    let none = none_left RowMajor shape c.self.inside.left first c.self.invariant (ap (option_map g.D.Lengths.list) c.in_err-index.was) in
+    let index = Some (g.D.Lengths.list c.self.inside.index) in
+    let none = none_left RowMajor shape c.self.inside.left (cond c.self.inside.has_remaining index None) c.self.invariant (ap (λ b. cond b index None) c.if-not-self.true) in
     let nothing = gives_none RowMajor shape c.self.inside.left c.args.self.now none c.self.view_is in
-    rw c.from_residual.ensures (nothing, nothing)
+    (nothing, nothing)
 
-pub index_behind-self-inside-requires-clause-index : goal.index_behind-self-inside-requires-clause-index
-index_behind-self-inside-requires-clause-index g c =
+pub step_by_rows-self-inside-requires : goal.step_by_rows-self-inside-requires
+step_by_rows-self-inside-requires g c =
     let shape = g.D.Lengths.list c.self.inside.dim in
-    let index = g.D.Lengths.list c.in_ok-index.index in
-    let at = stands_at RowMajor shape index c.self.inside.left (option_map g.D.Lengths.list c.self.inside.index) c.self.invariant (ap (option_map g.D.Lengths.list) c.in_ok-index.was) in
-    stands_at_index RowMajor shape index c.self.inside.left at.0 at.1
+    let index = g.D.Lengths.list c.self.inside.index in
+    let at = stands_at RowMajor shape index c.self.inside.left (cond c.self.inside.has_remaining (Some index) None) c.self.invariant (ap (λ b. cond b (Some index) None) c.if-not-self.false) in
+    rw (c.slice.ensures.list, c.slice_mut.ensures.list) (stands_at_index RowMajor shape index c.self.inside.left at.0 at.1)
 
-pub index_behind-self-inside-requires-clause-left : goal.index_behind-self-inside-requires-clause-left
-index_behind-self-inside-requires-clause-left g c =
-    let shape = g.D.Lengths.list c.self.inside.dim in
-    let index = g.D.Lengths.list c.in_ok-index.index in
-    let at = stands_at RowMajor shape index c.self.inside.left (option_map g.D.Lengths.list c.self.inside.index) c.self.invariant (ap (option_map g.D.Lengths.list) c.in_ok-index.was) in
-    omega (arith, at.0, at.1.within, rank_here RowMajor shape index c.self.inside.left at.0 at.1)
+pub invariant_of-self-then-self : goal.invariant_of-self-then-self
+invariant_of-self-then-self g c =
+    let list = g.D.Lengths.list in
+    let shape = list c.self.inside.dim in
+    let index = list c.self.inside.index in
+    let next = c.step_by_rows-self-inside.new.index in
+    let more = c.step_by_rows-self-inside.result in
+    let at = stands_at RowMajor shape index c.self.inside.left (cond c.self.inside.has_remaining (Some index) None) c.self.invariant (ap (λ b. cond b (Some index) None) c.if-not-self.false) in
+    let there = goes_on_to RowMajor shape index next c.self.inside.left more at.0 at.1 (rw (← c.slice.ensures.list, ← c.slice_mut.ensures.list) c.step_by_rows-self-inside.ensures.more) (rw (← c.slice.ensures.list, ← c.slice_mut.ensures.list) c.step_by_rows-self-inside.ensures.next) in
+    let kept = g.met.D.Lengths.list_of_with_list c.self.inside.index next (c.step_by_rows-self-inside.auto.index ∙ ap length c.slice_mut.ensures.list) in
+    subst (λ xs. StandsAtFirst RowMajor shape (c.self.inside.left - 1) (cond more (Some xs) None)) (sym kept) there
 
+-- (behind the last index the flag says that there is no next one)
 pub invariant_of-self : goal.invariant_of-self
 invariant_of-self g c =
-    let shape = g.D.Lengths.list c.self.inside.dim in
-    let index = g.D.Lengths.list c.in_ok-index.index in
-    let at = stands_at RowMajor shape index c.self.inside.left (option_map g.D.Lengths.list c.self.inside.index) c.self.invariant (ap (option_map g.D.Lengths.list) c.in_ok-index.was) in
-    goes_on_to RowMajor shape index (option_map g.D.Lengths.list c.index_behind-self-inside.result) c.self.inside.left at.0 at.1 c.index_behind-self-inside.ensures
+    let list = g.D.Lengths.list in
+    let shape = list c.self.inside.dim in
+    let index = list c.self.inside.index in
+    let next = c.step_by_rows-self-inside.new.index in
+    let more = c.step_by_rows-self-inside.result in
+    let at = stands_at RowMajor shape index c.self.inside.left (cond c.self.inside.has_remaining (Some index) None) c.self.invariant (ap (λ b. cond b (Some index) None) c.if-not-self.false) in
+    let there = goes_on_to RowMajor shape index next c.self.inside.left more at.0 at.1 (rw (← c.slice.ensures.list, ← c.slice_mut.ensures.list) c.step_by_rows-self-inside.ensures.more) (rw (← c.slice.ensures.list, ← c.slice_mut.ensures.list) c.step_by_rows-self-inside.ensures.next) in
+    let ends = λ (b : Bool) (xs : List ℕ). StandsAtFirst RowMajor shape (c.self.inside.left - 1) (cond b (Some xs) None) in
+    subst (λ b. ends b index) (sym c.if-self.false) (subst (λ b. ends b next) c.if-self.false there)
 
 pub returns-clause-steps : goal.returns-clause-steps
 returns-clause-steps g c =
     let shape = g.D.Lengths.list c.self.inside.dim in
-    let index = g.D.Lengths.list c.in_ok-index.index in
-    let at = stands_at RowMajor shape index c.self.inside.left (option_map g.D.Lengths.list c.self.inside.index) c.self.invariant (ap (option_map g.D.Lengths.list) c.in_ok-index.was) in
-    gives RowMajor shape index (g.D.Pattern.IntoDimension.lens c.into_pattern.result) c.self.inside.left c.args.self.now at.0 at.1 c.into_pattern.ensures c.self.view_is
+    let index = g.D.Lengths.list c.self.inside.index in
+    let at = stands_at RowMajor shape index c.self.inside.left (cond c.self.inside.has_remaining (Some index) None) c.self.invariant (ap (λ b. cond b (Some index) None) c.if-not-self.false) in
+    let left = gives RowMajor shape index (g.D.Pattern.IntoDimension.lens c.into_pattern.result) c.self.inside.left c.args.self.now at.0 at.1 c.into_pattern.ensures c.self.view_is in
+    elim c.if-self.branch [
+      | then-self w ↦ rw w.self-is left
+      | else-self+else-ndim-ne2 w ↦ rw w.self-is left
+    ]
 
 pub returns-clause-goes : goal.returns-clause-goes
 returns-clause-goes g c =

@@ -1,5 +1,4 @@
-use Rattle.std.proofs.Common.{Some, length, ap, sym, ◌∙◌, arith}
-use Rattle.std.specs.Option.{option_map}
+use Rattle.std.proofs.Common.{cond, Some, None, length, ap, sym, ◌∙◌, arith}
 use Rattle.nd_base.specs.declared.order.Order.TheVariants.{RowMajor}
 use Rattle.nd_shape.proofs.IndicesWalk.{within_shape}
 use Rattle.nd_shape.proofs.laws.IndicesLeft.{length-indices_left}
@@ -7,7 +6,7 @@ use Rattle.nd_shape.proofs.indexes.rows.IndicesIterIterator.size_hint.Goals as g
 
 pub returns-clause-exact : goal.returns-clause-exact
 returns-clause-exact g c =
-    let left = sym (length-indices_left RowMajor (g.D.Lengths.list c.self.inside.dim) c.self.inside.left (within_shape RowMajor (g.D.Lengths.list c.self.inside.dim) c.self.inside.left (option_map g.D.Lengths.list c.self.inside.index) c.self.invariant)) ∙ ap length c.self.view_is in
+    let left = sym (length-indices_left RowMajor (g.D.Lengths.list c.self.inside.dim) c.self.inside.left (within_shape RowMajor (g.D.Lengths.list c.self.inside.dim) c.self.inside.left (cond c.self.inside.has_remaining (Some (g.D.Lengths.list c.self.inside.index)) None) c.self.invariant)) ∙ ap length c.self.view_is in
     (left, ap Some left)
 
 pub returns-clause-lower : goal.returns-clause-lower
