@@ -6,9 +6,6 @@ use Rattle.nd_slice.proofs.checks.check_elems.Goals as goal
 pub bounds-shape-axis : goal.bounds-shape-axis
 bounds-shape-axis c = grind (arith, common_steps)
 
-pub bounds-shape-axis-in-Index : goal.bounds-shape-axis-in-Index
-bounds-shape-axis-in-Index c = grind (arith, common_steps)
-
 pub overflow_add-axis : goal.overflow_add-axis
 overflow_add-axis c = grind (arith, common_steps)
 
