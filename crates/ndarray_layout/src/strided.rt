@@ -32,13 +32,13 @@ use crate::collapsing::has_entry;
 use crate::merging::check_axes;
 use crate::places::{offset_place, push_places};
 use crate::sizes::picked_size;
-use crate::slicing::{has_other_counts, may_want_memory, slice_axes};
+use crate::slicing::{has_other_counts, sliced_axes};
 use nd_dim::{Axis, Dimension, ErrorKind, LayoutError, Order, ShapeError, from_kind};
 use nd_shape::{
     Axes, CanIndexCheckMode, NdIndex, StrideShape, axes_of, can_index_slice,
     can_index_slice_with_strides, merge_axes, offset_from_low_addr_ptr_to_logical_ptr,
 };
-use nd_slice::{Fit, SliceElems, SliceInfoElem, check_elems, do_collapse_axis, out_ndim_of};
+use nd_slice::{Fit, SliceElems, SliceInfoElem, check_elems, do_collapse_axis};
 use std::alloc::{AllocError, Global};
 use std::marker::Model;
 
@@ -324,8 +324,7 @@ impl<D: Dimension> Strided<D> {
         Ok(picked_size(shape, elems, fit))
     }
 
-    /// The slice by an argument of fitting counts. Faults come before want of memory, so where memory
-    /// may be wanted the elements are checked first.
+    /// The slice by an argument of fitting counts.
     #[inline(always)]
     fn counted_slice<E: Dimension>(
         &self,
@@ -338,26 +337,9 @@ impl<D: Dimension> Strided<D> {
         ensures memory { first_fault fit self.now.shape elems.now ≡ None →
             NeedsNoMemory E.NDIM (out_count elems.now) → IsOk result }
         ensures sliced { IfOk result (λ v. IsSliceOf fit elems.now self.now v) }
-        ensures is_view { IfOk result (λ v. IsView v) }
-        ensures places { IfOk result (λ v.
-            KeepsPlaces (selected fit elems.now self.now.shape) self.now v) }
-        ensures inside { IfOk result (λ v. (len : ℕ) → LiesWithin len self.now → LiesWithin len v) }
-        ensures distinct { IfOk result (λ v. HasDistinctPlaces self.now → HasDistinctPlaces v) }
     {
-        let ndim = out_ndim_of(elems);
-        if may_want_memory(E::NDIM, ndim) {
-            check_elems(self.dim.slice(), elems, fit)?;
-        }
-        let mut dim = E::zeros(alloc, ndim)?;
-        let mut strides = E::zeros(alloc, ndim)?;
-        let offset = slice_axes(
-            elems,
-            self.dim.slice(),
-            self.strides.slice(),
-            dim.slice_mut(),
-            strides.slice_mut(),
-            fit,
-        )?;
+        let (dim, strides, offset) =
+            sliced_axes(alloc, elems, self.dim.slice(), self.strides.slice(), fit)?;
         let start = offset_place(self.start, offset);
         Ok(Strided {
             start,

@@ -1,65 +1,50 @@
--- What was written is the slice of the view, and so all that is known of slices holds of it.
-use Rattle.std.proofs.Common.{rules, ◌≡◌, None, length, FitsSigned, pos, ◌+ℤ◌, sym, ap, ◌∙◌, subst, refl}
+-- What was written is the slice of the view, and a slice of a view is one.
+use Rattle.std.proofs.Common.{rules, ◌≡◌, ℕ, Option, None, false, FitsSigned, List, ℤ, pos, ◌+ℤ◌, ◌≤ℤ◌, sym, ap, ◌∙◌, refl}
 use Rattle.std.specs.Int.{w64}
 use Rattle.std.proofs.lemmas.Int.{to_z-of_z}
 use Rattle.nd_base.specs.Signed.{all_signed, magnitude}
-use Rattle.nd_slice.specs.SliceFault.{argument_fault}
-use Rattle.ndarray_layout.specs.DistinctPlaces.{HasDistinctPlaces}
-use Rattle.nd_slice.specs.Selected.{selected}
-use Rattle.ndarray_layout.specs.KeepsPlaces.{KeepsPlaces}
-use Rattle.ndarray_layout.specs.SlicedView.{IsSliceOf}
-use Rattle.ndarray_layout.specs.View.{IsView, LiesWithin, view_of}
-use Rattle.ndarray_layout.proofs.laws.SlicedView.{fits_of_counts, sliced_start_within, IsView-slice_of, KeepsPlaces-slice_of, LiesWithin-slice_of, HasDistinctPlaces-slice_of}
-use Rattle.ndarray_layout.proofs.strided.Strided.counted_slice.Given.{Over}
+use Rattle.nd_base.specs.Size.{limit}
+use Rattle.nd_slice.specs.declared.fit.Fit.{Fit}
+use Rattle.nd_slice.specs.declared.slice.SliceInfoElem.{SliceInfoElem}
+use Rattle.nd_slice.specs.SliceFault.{first_fault}
+use Rattle.nd_slice.specs.Sliced.{sliced_shape, sliced_strides, sliced_offset}
+use Rattle.ndarray_layout.specs.SlicedView.{IsSliceOf, counts_differ}
+use Rattle.ndarray_layout.specs.View.{View, IsView, view_of}
+use Rattle.ndarray_layout.proofs.laws.SlicedView.{fits_of_counts, sliced_start_within, IsView-slice_of}
 use Rattle.ndarray_layout.proofs.strided.Strided.counted_slice.Goals as goal
-use Rattle.ndarray_layout.proofs.strided.Strided.counted_slice.Goals.{After-offset_place-start}
+
+-- an argument that fits a view leaves a first index within it
+record Begins (fit : Fit) (elems : List SliceInfoElem) (view : View) (shape strides : List ℕ) (offset : ℤ) : Type 0 where
+  low : pos 0 ≤ℤ (pos view.start +ℤ offset)
+  high : (pos view.start +ℤ offset) ≤ℤ pos limit
+  made : (start : ℕ) (dim kept : List ℕ) → pos start ≡ pos view.start +ℤ offset → dim ≡ sliced_shape fit elems shape → all_signed kept ≡ sliced_strides fit elems shape (all_signed strides) → IsSliceOf fit elems view (view_of start dim kept) × IsView (view_of start dim kept)
+
+begins : (fit : Fit) (fixed : Option ℕ) (elems : List SliceInfoElem) (start : ℕ) (dim kept shape strides : List ℕ) (view : View) (offset : ℤ) → shape ≡ dim → strides ≡ kept → view_of start dim kept ≡ view → IsView (view_of start dim kept) → counts_differ fixed view.shape elems ≡ false → None ≡ first_fault fit shape elems → offset ≡ sliced_offset fit elems shape (all_signed strides) → Begins fit elems (view_of start dim kept) shape strides offset
+begins fit fixed elems start dim kept shape strides view offset same also is whole counts none moved =
+    let v = view_of start dim kept in
+    let fits = fits_of_counts fit fixed dim elems (rw (← is) at counts) (rw same at (sym none)) in
+    let here = rw (same, also) at moved in
+    let within = sliced_start_within fit elems v whole fits in
+    record {
+      low = rw here within.0;
+      high = rw here within.1;
+      made = λ first lens steps begin lengths strided.
+          let made : IsSliceOf fit elems v (view_of first lens steps) = rw (ap magnitude (begin ∙ ap (λ z. pos start +ℤ z) here), rw same at lengths, rw (same, also) at strided) refl in
+          (made, rw made (IsView-slice_of fit elems v whole fits));
+    }
 
 pub offset_place-start-requires-clause-low : goal.offset_place-start-requires-clause-low
 offset_place-start-requires-clause-low g c =
-    let view = view_of c.self.inside.start (g.D.Lengths.list c.self.inside.dim) (g.D.Lengths.list c.self.inside.strides) in
-    let f : FitsSigned w64 c.in_ok-offset.offset = search rules in
-    let known = rw (c.slice-2.ensures.list, c.slice-3.ensures.list) at c.in_ok-offset.ensures in
-    let fits = fits_of_counts c.args.fit g.E.FixedCount.NDIM view.shape c.args.elems.now (rw (← c.self.view_is) at c.requires) (sym known.fault) in
-    rw (to_z-of_z w64 c.in_ok-offset.offset f, known.offset) (sliced_start_within c.args.fit c.args.elems.now view c.self.invariant fits).0
+    let f : FitsSigned w64 c.in_ok-dim.offset = search rules in
+    rw (to_z-of_z w64 c.in_ok-dim.offset f) (begins c.args.fit g.E.FixedCount.NDIM c.args.elems.now c.self.inside.start (g.D.Lengths.list c.self.inside.dim) (g.D.Lengths.list c.self.inside.strides) c.slice.result.now c.slice-2.result.now c.args.self.now c.in_ok-dim.offset c.slice.ensures.list c.slice-2.ensures.list c.self.view_is c.self.invariant c.requires c.in_ok-dim.ensures.fault c.in_ok-dim.ensures.offset).low
 
 pub offset_place-start-requires-clause-high : goal.offset_place-start-requires-clause-high
 offset_place-start-requires-clause-high g c =
-    let view = view_of c.self.inside.start (g.D.Lengths.list c.self.inside.dim) (g.D.Lengths.list c.self.inside.strides) in
-    let f : FitsSigned w64 c.in_ok-offset.offset = search rules in
-    let known = rw (c.slice-2.ensures.list, c.slice-3.ensures.list) at c.in_ok-offset.ensures in
-    let fits = fits_of_counts c.args.fit g.E.FixedCount.NDIM view.shape c.args.elems.now (rw (← c.self.view_is) at c.requires) (sym known.fault) in
-    rw (to_z-of_z w64 c.in_ok-offset.offset f, known.offset) (sliced_start_within c.args.fit c.args.elems.now view c.self.invariant fits).1
-
--- the view that is sliced is one, and the argument fits it
-whole : (g : Over) (c : After-offset_place-start g) → IsView c.args.self.now
-whole g c = subst IsView c.self.view_is c.self.invariant
-
-fits : (g : Over) (c : After-offset_place-start g) → argument_fault c.args.fit c.args.self.now.shape c.args.elems.now ≡ None
-fits g c =
-    let known = rw (c.slice-2.ensures.list) at c.in_ok-offset.ensures.fault in
-    fits_of_counts c.args.fit g.E.FixedCount.NDIM c.args.self.now.shape c.args.elems.now c.requires (rw (← c.self.view_is) (sym known))
-
--- the start, the shape and the strides that were written are those of the slice
-sliced : (g : Over) (c : After-offset_place-start g) → IsSliceOf c.args.fit c.args.elems.now c.args.self.now (view_of c.offset_place-start.result (g.E.Lengths.list (g.E.Lengths.with_list c.in_ok-dim.dim c.slice_axes.new.new_shape)) (g.E.Lengths.list (g.E.Lengths.with_list c.in_ok-strides.strides c.slice_axes.new.new_strides)))
-sliced g c =
-    let f : FitsSigned w64 c.in_ok-offset.offset = search rules in
-    let ensured = rw (c.slice-2.ensures.list, c.slice-3.ensures.list) at c.in_ok-offset.ensures in
-    let shape = g.met.E.Lengths.list_of_with_list c.in_ok-dim.dim c.slice_axes.new.new_shape (c.slice_axes.auto.new_shape ∙ ap length c.slice_mut.ensures.list) ∙ ensured.shape in
-    let strides = ap all_signed (g.met.E.Lengths.list_of_with_list c.in_ok-strides.strides c.slice_axes.new.new_strides (c.slice_axes.auto.new_strides ∙ ap length c.slice_mut-2.ensures.list)) ∙ ensured.strides in
-    let start = ap magnitude (c.offset_place-start.ensures ∙ ap (λ z. pos c.self.inside.start +ℤ z) (to_z-of_z w64 c.in_ok-offset.offset f ∙ ensured.offset)) in
-    rw (← c.self.view_is, start, shape, strides) refl
+    let f : FitsSigned w64 c.in_ok-dim.offset = search rules in
+    rw (to_z-of_z w64 c.in_ok-dim.offset f) (begins c.args.fit g.E.FixedCount.NDIM c.args.elems.now c.self.inside.start (g.D.Lengths.list c.self.inside.dim) (g.D.Lengths.list c.self.inside.strides) c.slice.result.now c.slice-2.result.now c.args.self.now c.in_ok-dim.offset c.slice.ensures.list c.slice-2.ensures.list c.self.view_is c.self.invariant c.requires c.in_ok-dim.ensures.fault c.in_ok-dim.ensures.offset).high
 
 pub invariant_of-result : goal.invariant_of-result
-invariant_of-result g c = rw (sliced g c) (IsView-slice_of c.args.fit c.args.elems.now c.args.self.now (whole g c) (fits g c))
-
-pub returns-clause-is_view : goal.returns-clause-is_view
-returns-clause-is_view g c = subst IsView (sym (sliced g c)) (IsView-slice_of c.args.fit c.args.elems.now c.args.self.now (whole g c) (fits g c))
-
-pub returns-clause-places : goal.returns-clause-places
-returns-clause-places g c = subst (KeepsPlaces (selected c.args.fit c.args.elems.now c.args.self.now.shape) c.args.self.now) (sym (sliced g c)) (KeepsPlaces-slice_of c.args.fit c.args.elems.now c.args.self.now (whole g c) (fits g c))
-
-pub returns-clause-inside : goal.returns-clause-inside
-returns-clause-inside g c = λ len within. subst (LiesWithin len) (sym (sliced g c)) (LiesWithin-slice_of c.args.fit len c.args.elems.now c.args.self.now (whole g c) (fits g c) within)
-
-pub returns-clause-distinct : goal.returns-clause-distinct
-returns-clause-distinct g c = λ distinct. subst HasDistinctPlaces (sym (sliced g c)) (HasDistinctPlaces-slice_of c.args.fit c.args.elems.now c.args.self.now (whole g c) (fits g c) distinct)
+invariant_of-result g c =
+    let f : FitsSigned w64 c.in_ok-dim.offset = search rules in
+    let start = rw (to_z-of_z w64 c.in_ok-dim.offset f) at c.offset_place-start.ensures in
+    ((begins c.args.fit g.E.FixedCount.NDIM c.args.elems.now c.self.inside.start (g.D.Lengths.list c.self.inside.dim) (g.D.Lengths.list c.self.inside.strides) c.slice.result.now c.slice-2.result.now c.args.self.now c.in_ok-dim.offset c.slice.ensures.list c.slice-2.ensures.list c.self.view_is c.self.invariant c.requires c.in_ok-dim.ensures.fault c.in_ok-dim.ensures.offset).made c.offset_place-start.result (g.E.Lengths.list c.in_ok-dim.dim) (g.E.Lengths.list c.in_ok-dim.strides) start c.in_ok-dim.ensures.shape c.in_ok-dim.ensures.strides).1
