@@ -27,7 +27,7 @@ ghost use Rattle.ndarray_layout.specs.SlicedView.{IsSliceOf, counts_differ, slic
 ghost use Rattle.ndarray_layout.specs.View.{IsView, LiesWithin};
 ghost use Rattle.ndarray_layout.specs.View.{view_of, checked_place, place_at, view_places};
 
-use crate::broadcasting::{check_broadcast, stretched};
+use crate::broadcasting::broadcast_axes;
 use crate::collapsing::has_entry;
 use crate::merging::check_axes;
 use crate::places::{offset_place, push_places};
@@ -301,12 +301,11 @@ impl<D: Dimension> Strided<D> {
         ensures places { IfOk result (λ v. KeepsPlaces (broadcast_source self.now.shape) self.now v) }
         ensures inside { IfOk result (λ v. (len : ℕ) → LiesWithin len self.now → LiesWithin len v) }
     {
-        let view_shape = self.dim.slice();
-        check_broadcast(view_shape, shape)?;
-        let strides = stretched(alloc, shape, view_shape, self.strides.slice())?;
+        let (dim, strides) =
+            broadcast_axes(alloc, shape, self.dim.slice(), self.strides.slice())?;
         Ok(Strided {
             start: self.start,
-            dim: shape.duplicate(alloc)?,
+            dim,
             strides,
         })
     }
