@@ -175,6 +175,13 @@ pub fn sliced_axes<E: Dimension>(
     check_before_memory(E::NDIM, ndim, elems, shape, fit)?;
     let mut dim = E::zeros(alloc, ndim)?;
     let mut kept = E::zeros(alloc, ndim)?;
-    let offset = slice_axes(elems, shape, strides, dim.slice_mut(), kept.slice_mut(), fit)?;
+    let offset = slice_axes(
+        elems,
+        shape,
+        strides,
+        dim.slice_mut(),
+        kept.slice_mut(),
+        fit,
+    )?;
     Ok((dim, kept, offset))
 }

@@ -301,8 +301,7 @@ impl<D: Dimension> Strided<D> {
         ensures places { IfOk result (λ v. KeepsPlaces (broadcast_source self.now.shape) self.now v) }
         ensures inside { IfOk result (λ v. (len : ℕ) → LiesWithin len self.now → LiesWithin len v) }
     {
-        let (dim, strides) =
-            broadcast_axes(alloc, shape, self.dim.slice(), self.strides.slice())?;
+        let (dim, strides) = broadcast_axes(alloc, shape, self.dim.slice(), self.strides.slice())?;
         Ok(Strided {
             start: self.start,
             dim,
@@ -337,8 +336,13 @@ impl<D: Dimension> Strided<D> {
             NeedsNoMemory E.NDIM (out_count elems.now) → IsOk result }
         ensures sliced { IfOk result (λ v. IsSliceOf fit elems.now self.now v) }
     {
-        let (dim, strides, offset) =
-            sliced_axes(alloc, elems, self.dim.slice(), self.strides.slice(), fit)?;
+        let (dim, strides, offset) = sliced_axes(
+            alloc,
+            elems,
+            self.dim.slice(),
+            self.strides.slice(),
+            fit,
+        )?;
         let start = offset_place(self.start, offset);
         Ok(Strided {
             start,
