@@ -11,9 +11,9 @@ ghost use Rattle.nd_slice.specs.Picks.{picks};
 ghost use Rattle.nd_slice.specs.SliceFault.{slice_fault, first_fault, in_count, out_count};
 ghost use Rattle.nd_slice.specs.Sliced.{picked_stride, first_offset};
 ghost use Rattle.nd_slice.specs.Sliced.{sliced_shape, sliced_strides, sliced_offset};
-ghost use Rattle.ndarray_layout.specs.SlicedView.{counts_differ};
+ghost use Rattle.ndarray_layout.specs.SlicedView.{counts_differ, slice_refusal};
 
-use nd_dim::{Dimension, LayoutError, ShapeError, stride_offset};
+use nd_dim::{Dimension, ErrorKind, LayoutError, ShapeError, from_kind, stride_offset};
 use nd_slice::{
     Fit, Slice, SliceInfoElem, check_elems, do_slice, entry_of, in_ndim_of, out_ndim_of,
 };
@@ -22,7 +22,7 @@ use std::alloc::Global;
 /// Whether a slice argument is for more axes or fewer than a shape has, or leaves more or fewer than a
 /// type fixes, if it fixes a count.
 #[inline(always)]
-pub fn has_other_counts(fixed: Option<usize>, shape: &[usize], elems: &[SliceInfoElem]) -> bool
+fn has_other_counts(fixed: Option<usize>, shape: &[usize], elems: &[SliceInfoElem]) -> bool
     ensures { result ≡ counts_differ fixed shape.now elems.now }
 {
     in_ndim_of(elems) != shape.len() || matches!(fixed, Some(ndim) if ndim != out_ndim_of(elems))
@@ -152,7 +152,7 @@ fn check_before_memory(
 /// first index left lies behind the first index before. Refused as the first element at fault is, and
 /// then for want of memory.
 #[inline(always)]
-pub fn sliced_axes<E: Dimension>(
+fn sliced_axes<E: Dimension>(
     alloc: Global,
     elems: &[SliceInfoElem],
     shape: &[usize],
@@ -184,4 +184,32 @@ pub fn sliced_axes<E: Dimension>(
         fit,
     )?;
     Ok((dim, kept, offset))
+}
+
+/// The lengths and the strides that an argument leaves, and how many elements the first index left lies
+/// behind the first index before. Refused with `IncompatibleShape` for counts that do not fit, then as
+/// the first element at fault is, and then for want of memory.
+#[inline(always)]
+pub fn counted_axes<E: Dimension>(
+    alloc: Global,
+    elems: &[SliceInfoElem],
+    shape: &[usize],
+    strides: &[usize],
+    fit: Fit,
+) -> Result<(E, E, isize), LayoutError>
+    requires { IsValidLayout shape.now (all_signed strides.now) }
+    ensures fault { shape_fault result ≡ slice_refusal fit E.NDIM shape.now elems.now }
+    ensures memory { slice_refusal fit E.NDIM shape.now elems.now ≡ None →
+        NeedsNoMemory E.NDIM (out_count elems.now) → IsOk result }
+    ensures shape { IfOk result (λ (dim, kept, offset).
+        E.list dim ≡ sliced_shape fit elems.now shape.now) }
+    ensures strides { IfOk result (λ (dim, kept, offset). all_signed (E.list kept) ≡
+        sliced_strides fit elems.now shape.now (all_signed strides.now)) }
+    ensures offset { IfOk result (λ (dim, kept, offset).
+        offset ≡ sliced_offset fit elems.now shape.now (all_signed strides.now)) }
+{
+    if has_other_counts(E::NDIM, shape, elems) {
+        return Err(LayoutError::Shape(from_kind(ErrorKind::IncompatibleShape)));
+    }
+    sliced_axes(alloc, elems, shape, strides, fit)
 }
