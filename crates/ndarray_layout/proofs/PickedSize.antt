@@ -1,7 +1,7 @@
 -- The product of the lengths that are left, element by element.
 use Rattle.std.proofs.Common.{◌≡◌, ℕ, ◌+◌, ◌*◌, ◌<◌, ◌≤◌, ℤ, List, ◌∷◌, length, get_or, drop, None, Bool, true, false, cond, eqb, arith, refl, ap, sym, ◌∙◌, subst, pos_of_ne-zero}
 use Rattle.std.proofs.lemmas.Bool.{eqb-true, eqb-false}
-use Rattle.std.proofs.lemmas.List.{length-drop, drop_more}
+use Rattle.std.proofs.lemmas.List.{length-drop, drop_all, drop_more}
 use Rattle.std.proofs.Math.Nat.{mul-le-mul_left, mul-le-mul_right, le-mul_of_pos_right, mul_assoc, one-mul}
 use Rattle.nd_base.specs.Size.{limit, nonzero_size, size}
 use Rattle.nd_base.proofs.laws.NonzeroSize.{nonzero_size_pos}
@@ -10,8 +10,9 @@ use Rattle.nd_slice.specs.declared.slice.Slice.{Slice}
 use Rattle.nd_slice.specs.declared.slice.SliceInfoElem.{SliceInfoElem}
 use Rattle.nd_slice.specs.declared.slice.SliceInfoElem.TheVariants as elem
 use Rattle.nd_slice.specs.Picks.{picks}
-use Rattle.nd_slice.specs.SliceFault.{slice_fault, index_fault, in_count, first_fault}
+use Rattle.nd_slice.specs.SliceFault.{argument_fault, slice_fault, index_fault, in_count, first_fault}
 use Rattle.nd_slice.specs.Sliced.{sliced_shape}
+use Rattle.nd_slice.proofs.laws.SliceFault.{elements_of_no_fault}
 use Rattle.ndarray_layout.proofs.PicksFit.{picks_fit}
 use Rattle.ndarray_layout.proofs.Slices.{or_none}
 
@@ -21,6 +22,22 @@ pub record PickedSoFar (fit : Fit) (elems : List SliceInfoElem) (shape : List �
   pub fits : first_fault fit lens rest ≡ None
   pub size_is : n * size (sliced_shape fit rest lens) ≡ size (sliced_shape fit elems shape)
   pub within : n * nonzero_size lens ≤ nonzero_size shape
+
+-- before the first element, and after the last
+pub none_picked : (fit : Fit) (elems : List SliceInfoElem) (shape : List ℕ) → argument_fault fit shape elems ≡ None → PickedSoFar fit elems shape elems shape 1
+none_picked fit elems shape none =
+    let parts = elements_of_no_fault fit shape elems none in
+    record {
+      counts = parts.0;
+      fits = parts.1;
+      size_is = one-mul (size (sliced_shape fit elems shape));
+      within = omega arith;
+    }
+
+pub all_picked : (fit : Fit) (elems : List SliceInfoElem) (shape lens : List ℕ) (k n : ℕ) → length elems ≤ k → PickedSoFar fit elems shape (drop k elems) lens n → n ≡ size (sliced_shape fit elems shape)
+all_picked fit elems shape lens k n h s =
+    let all = subst (λ (rest : List SliceInfoElem). PickedSoFar fit elems shape rest lens n) (drop_all k elems h) s in
+    omega (arith, all.size_is)
 
 -- no more entries of an axis than it has
 one_axis : (n count len : ℕ) (lens : List ℕ) → count ≤ len → (n * count) * nonzero_size lens ≤ n * nonzero_size (len ∷ lens)
@@ -89,3 +106,7 @@ axis_there fit elems shape rest k n h s = omega (arith, s.counts, length-drop k 
 pub next_axis : (fit : Fit) (elems : List SliceInfoElem) (shape : List ℕ) (rest : List SliceInfoElem) (k n : ℕ) → 0 < in_count rest → PickedSoFar fit elems shape rest (drop k shape) n → PickedSoFar fit elems shape rest (get_or shape k 0 ∷ drop (k + 1) shape) n
 next_axis fit elems shape rest k n h s =
     subst (λ (lens : List ℕ). PickedSoFar fit elems shape rest lens n) (drop_more shape k 0 (axis_there fit elems shape rest k n h s)) s
+
+-- a slice that is there fits its axis
+pub fits_axis : (fit : Fit) (elems : List SliceInfoElem) (shape : List ℕ) (rest : List SliceInfoElem) (lens : List ℕ) (n : ℕ) (slice : Slice) (len : ℕ) → PickedSoFar fit elems shape (elem.Slice slice.start slice.end slice.step ∷ rest) (len ∷ lens) n → slice_fault fit len slice ≡ None
+fits_axis fit elems shape rest lens n slice len s = (or_none (slice_fault fit len slice) (first_fault fit lens rest) s.fits).0

@@ -7,7 +7,7 @@ use Rattle.std.proofs.lemmas.Int.{ints, to_z-of_z}
 use Rattle.std.proofs.lemmas.Bool.{eqb-true, eqb-false}
 use Rattle.std.proofs.Math.ListN.{get_or-map}
 use Rattle.std.proofs.Math.Nat.{mul-le-mul_left, mul-le-mul_right}
-use Rattle.std.proofs.lemmas.List.{map-append, length-set, length-drop, drop_more, take_more_set}
+use Rattle.std.proofs.lemmas.List.{map-append, length-map, length-set, length-drop, append-nil, drop_all, drop_more, take_all, take_more_set}
 use Rattle.nd_base.specs.declared.error.ErrorKind.{ErrorKind}
 use Rattle.nd_base.specs.Signed.{magnitude, signed, all_signed}
 use Rattle.nd_base.specs.Size.{limit, nonzero_size}
@@ -40,6 +40,41 @@ pub record SlicedSoFar (fit : Fit) (elems : List SliceInfoElem) (shape : List �
   pub low : pos (low_span lens steps) ≤ℤ (pos (low_span shape strides) +ℤ offset)
   pub high : (offset +ℤ pos (high_span lens steps)) ≤ℤ pos (high_span shape strides)
 
+-- ---- the first element, and the end
+pub none_sliced : (fit : Fit) (elems : List SliceInfoElem) (shape : List ℕ) (strides : List ℤ) (ns nt : List ℕ) → IsValidLayout shape strides → in_count elems ≡ length shape → length ns ≡ out_count elems → length nt ≡ out_count elems → SlicedSoFar fit elems shape strides elems shape strides 0 ns nt (pos 0)
+none_sliced fit elems shape strides ns nt valid counts room also = record {
+  same_count = valid.same_count;
+  counts = counts;
+  room = omega (arith, room);
+  same_room = omega (arith, room, also);
+  fault = refl;
+  shape_is = refl;
+  strides_is = refl;
+  offset_is = omega (arith, ints);
+  low = omega (arith, ints);
+  high = omega (arith, ints);
+}
+
+pub record AllSliced (fit : Fit) (elems : List SliceInfoElem) (shape : List ℕ) (strides : List ℤ) (ns nt : List ℕ) (offset : ℤ) : Type 0 where
+  pub fault : None ≡ first_fault fit shape elems
+  pub shape_is : ns ≡ sliced_shape fit elems shape
+  pub strides_is : all_signed nt ≡ sliced_strides fit elems shape strides
+  pub offset_is : offset ≡ sliced_offset fit elems shape strides
+
+none_left : (fit : Fit) (elems : List SliceInfoElem) (shape : List ℕ) (strides : List ℤ) (lens : List ℕ) (steps : List ℤ) (new : ℕ) (ns nt : List ℕ) (offset : ℤ) → SlicedSoFar fit elems shape strides [] lens steps new ns nt offset → AllSliced fit elems shape strides ns nt offset
+none_left fit elems shape strides [] steps new ns nt offset s = record {
+  fault = s.fault;
+  shape_is = sym (take_all new ns (omega (arith, s.room))) ∙ sym (append-nil (take new ns)) ∙ s.shape_is;
+  strides_is = ap all_signed (sym (take_all new nt (omega (arith, s.room, s.same_room)))) ∙ sym (append-nil (all_signed (take new nt))) ∙ s.strides_is;
+  offset_is = omega (arith, ints, s.offset_is);
+}
+none_left fit elems shape strides (len ∷ lens) steps new ns nt offset s = absurd (omega (arith, s.counts))
+
+pub all_sliced : (fit : Fit) (elems : List SliceInfoElem) (shape : List ℕ) (strides : List ℤ) (k : ℕ) (lens : List ℕ) (steps : List ℤ) (new : ℕ) (ns nt : List ℕ) (offset : ℤ) → length elems ≤ k → SlicedSoFar fit elems shape strides (drop k elems) lens steps new ns nt offset → AllSliced fit elems shape strides ns nt offset
+all_sliced fit elems shape strides k lens steps new ns nt offset h s =
+    let P = λ (rest : List SliceInfoElem). SlicedSoFar fit elems shape strides rest lens steps new ns nt offset in
+    none_left fit elems shape strides lens steps new ns nt offset (subst P (drop_all k elems h) s)
+
 -- ---- the next element and the next axis
 pub at_elem : (fit : Fit) (elems : List SliceInfoElem) (shape : List ℕ) (strides : List ℤ) (k : ℕ) (lens : List ℕ) (steps : List ℤ) (new : ℕ) (ns nt : List ℕ) (offset : ℤ) (one other : SliceInfoElem) → k < length elems → get_or elems k other ≡ one → SlicedSoFar fit elems shape strides (drop k elems) lens steps new ns nt offset → SlicedSoFar fit elems shape strides (one ∷ drop (k + 1) elems) lens steps new ns nt offset
 at_elem fit elems shape strides k lens steps new ns nt offset one other h e s =
@@ -55,6 +90,18 @@ at_axis fit elems shape strides rest k new ns nt offset same h s =
     let P = λ (lens : List ℕ). SlicedSoFar fit elems shape strides rest lens (drop k strides) new ns nt offset in
     let Q = λ (steps : List ℤ). SlicedSoFar fit elems shape strides rest (get_or shape k 0 ∷ drop (k + 1) shape) steps new ns nt offset in
     subst Q (drop_more strides k (pos 0) (omega arith)) (subst P (drop_more shape k 0 below) s)
+
+-- an element that is for an axis has one, and one that leaves an axis has room for it
+pub axis_there : (fit : Fit) (elems : List SliceInfoElem) (shape strides : List ℕ) (one other : SliceInfoElem) (k axis : ℕ) (new : ℕ) (ns nt : List ℕ) (offset : ℤ) → IsValidLayout shape (all_signed strides) → k < length elems → get_or elems k other ≡ one → 0 < in_count (one ∷ drop (k + 1) elems) → SlicedSoFar fit elems shape (all_signed strides) (drop k elems) (drop axis shape) (drop axis (all_signed strides)) new ns nt offset → (axis < length shape) × (axis < length strides)
+axis_there fit elems shape strides one other k axis new ns nt offset valid h e some s =
+    let here = at_elem fit elems shape (all_signed strides) k (drop axis shape) (drop axis (all_signed strides)) new ns nt offset one other h e s in
+    let below = axis_below fit elems shape (all_signed strides) (one ∷ drop (k + 1) elems) axis (drop axis (all_signed strides)) new ns nt offset some here in
+    (below, omega (arith, below, valid.same_count, length-map strides signed))
+
+pub room_there : (fit : Fit) (elems : List SliceInfoElem) (shape : List ℕ) (strides : List ℤ) (one other : SliceInfoElem) (k : ℕ) (lens : List ℕ) (steps : List ℤ) (new : ℕ) (ns nt : List ℕ) (offset : ℤ) → k < length elems → get_or elems k other ≡ one → 0 < out_count (one ∷ drop (k + 1) elems) → SlicedSoFar fit elems shape strides (drop k elems) lens steps new ns nt offset → (new < length ns) × (new < length nt)
+room_there fit elems shape strides one other k lens steps new ns nt offset h e some s =
+    let here = at_elem fit elems shape strides k lens steps new ns nt offset one other h e s in
+    (omega (arith, here.room), omega (arith, here.room, here.same_room))
 
 -- ---- what is written
 wrote_len : (new v : ℕ) (ns out whole : List ℕ) → new < length ns → take new ns ++ (v ∷ out) ≡ whole → take (new + 1) (set ns new v) ++ out ≡ whole

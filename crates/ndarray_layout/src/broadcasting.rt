@@ -1,11 +1,12 @@
 //! Shapes that a view can be read as one of, and the strides that it has then.
-ghost use Rattle.std.specs.Prelude.{◌≡◌, ◌≤◌, length, IfOk, IsOk};
+ghost use Rattle.std.specs.Prelude.{◌≡◌, ◌≤◌, None, length, IfOk, IsOk};
 ghost use Rattle.nd_base.specs.Lengths.{NeedsNoMemory};
 ghost use Rattle.std.specs.Result.{result_err};
+ghost use Rattle.nd_base.specs.ShapeFault.{shape_fault};
 ghost use Rattle.nd_base.specs.Signed.{all_signed};
 ghost use Rattle.ndarray_layout.specs.BroadcastView.{broadcast_fault, broadcast_strides, takes_in};
 
-use nd_dim::{Dimension, ErrorKind, ShapeError, from_kind};
+use nd_dim::{Dimension, ErrorKind, LayoutError, ShapeError, from_kind};
 use nd_shape::size_of_shape_checked;
 use std::alloc::{AllocError, Global};
 
@@ -30,7 +31,7 @@ fn stretches_to(view_shape: &[usize], shape: &[usize]) -> bool
 /// Whether a view of a shape can be read as one of another: `IncompatibleShape` where the other is not
 /// the shape that both have in common, and then `Overflow` where it is too large.
 #[inline(always)]
-pub fn check_broadcast<E: Dimension>(view_shape: &[usize], shape: &E) -> Result<(), ShapeError>
+fn check_broadcast<E: Dimension>(view_shape: &[usize], shape: &E) -> Result<(), ShapeError>
     ensures { result_err result ≡ broadcast_fault (E.list shape.now) view_shape.now }
 {
     if !stretches_to(view_shape, shape.slice()) {
@@ -67,7 +68,7 @@ fn stretch_strides(
 ///
 /// Errors: want of memory, and none where the type fixes the count or there are at most 4 axes.
 #[inline(always)]
-pub fn stretched<E: Dimension>(
+fn stretched<E: Dimension>(
     alloc: Global,
     shape: &E,
     view_shape: &[usize],
@@ -82,4 +83,28 @@ pub fn stretched<E: Dimension>(
     let mut new_strides = E::zeros(alloc, shape.ndim())?;
     stretch_strides(shape.slice(), view_shape, strides, new_strides.slice_mut());
     Ok(new_strides)
+}
+
+/// The lengths and the strides with which a view is read as one of a shape. Refused as `check_broadcast`
+/// refuses it, and then for want of memory, but not where the type fixes the count or there are at most 4
+/// axes.
+#[inline(always)]
+pub fn broadcast_axes<E: Dimension>(
+    alloc: Global,
+    shape: &E,
+    view_shape: &[usize],
+    strides: &[usize],
+) -> Result<(E, E), LayoutError>
+    requires counts { length view_shape.now ≡ length strides.now }
+    ensures fault { shape_fault result ≡ broadcast_fault (E.list shape.now) view_shape.now }
+    ensures memory { broadcast_fault (E.list shape.now) view_shape.now ≡ None →
+        NeedsNoMemory E.NDIM (length (E.list shape.now)) → IsOk result }
+    ensures shape { IfOk result (λ (dim, kept). E.list dim ≡ E.list shape.now) }
+    ensures strides { IfOk result (λ (dim, kept). all_signed (E.list kept) ≡
+        broadcast_strides (E.list shape.now) view_shape.now (all_signed strides.now)) }
+{
+    check_broadcast(view_shape, shape)?;
+    let kept = stretched(alloc, shape, view_shape, strides)?;
+    let dim = shape.duplicate(alloc)?;
+    Ok((dim, kept))
 }

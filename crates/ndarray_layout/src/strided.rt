@@ -15,7 +15,7 @@ ghost use Rattle.nd_base.specs.Rank.{index_of_rank_in};
 ghost use Rattle.nd_base.specs.ShapeFault.{shape_fault};
 ghost use Rattle.nd_base.specs.Size.{size};
 ghost use Rattle.nd_base.specs.Span.{low_span};
-ghost use Rattle.nd_slice.specs.SliceFault.{argument_fault, first_fault, out_count};
+ghost use Rattle.nd_slice.specs.SliceFault.{argument_fault, out_count};
 ghost use Rattle.nd_slice.specs.Sliced.{sliced_shape};
 ghost use Rattle.nd_slice.specs.Selected.{selected};
 ghost use Rattle.ndarray_layout.specs.BroadcastView.{broadcast_fault, broadcast_of, broadcast_source};
@@ -23,22 +23,22 @@ ghost use Rattle.ndarray_layout.specs.CollapsedView.{collapse_fault, collapse_of
 ghost use Rattle.ndarray_layout.specs.DistinctPlaces.{HasDistinctPlaces};
 ghost use Rattle.ndarray_layout.specs.KeepsPlaces.{KeepsPlaces};
 ghost use Rattle.ndarray_layout.specs.MergedView.{HasMergedStride, axes_fault, merge_of, merge_source};
-ghost use Rattle.ndarray_layout.specs.SlicedView.{IsSliceOf, counts_differ, slice_refusal};
+ghost use Rattle.ndarray_layout.specs.SlicedView.{IsSliceOf, slice_refusal};
 ghost use Rattle.ndarray_layout.specs.View.{IsView, LiesWithin};
 ghost use Rattle.ndarray_layout.specs.View.{view_of, checked_place, place_at, view_places};
 
-use crate::broadcasting::{check_broadcast, stretched};
+use crate::broadcasting::broadcast_axes;
 use crate::collapsing::has_entry;
 use crate::merging::check_axes;
 use crate::places::{offset_place, push_places};
 use crate::sizes::picked_size;
-use crate::slicing::{has_other_counts, may_want_memory, slice_axes};
+use crate::slicing::counted_axes;
 use nd_dim::{Axis, Dimension, ErrorKind, LayoutError, Order, ShapeError, from_kind};
 use nd_shape::{
     Axes, CanIndexCheckMode, NdIndex, StrideShape, axes_of, can_index_slice,
     can_index_slice_with_strides, merge_axes, offset_from_low_addr_ptr_to_logical_ptr,
 };
-use nd_slice::{Fit, SliceElems, SliceInfoElem, check_elems, do_collapse_axis, out_ndim_of};
+use nd_slice::{Fit, SliceElems, check_elems, do_collapse_axis};
 use std::alloc::{AllocError, Global};
 use std::marker::Model;
 
@@ -234,11 +234,14 @@ impl<D: Dimension> Strided<D> {
         ensures inside { IfOk result (λ v. (len : ℕ) → LiesWithin len self.now → LiesWithin len v) }
         ensures distinct { IfOk result (λ v. HasDistinctPlaces self.now → HasDistinctPlaces v) }
     {
-        let elems = slices.elems();
-        if has_other_counts(E::NDIM, self.dim.slice(), elems) {
-            return Err(LayoutError::Shape(from_kind(ErrorKind::IncompatibleShape)));
-        }
-        self.counted_slice(alloc, elems, fit)
+        let (shape, strides) = (self.dim.slice(), self.strides.slice());
+        let (dim, strides, offset) = counted_axes(alloc, slices.elems(), shape, strides, fit)?;
+        let start = offset_place(self.start, offset);
+        Ok(Strided {
+            start,
+            dim,
+            strides,
+        })
     }
 
     /// Takes one entry of an axis: the axis has a length of 1 then, and keeps its stride. Refused with
@@ -301,12 +304,10 @@ impl<D: Dimension> Strided<D> {
         ensures places { IfOk result (λ v. KeepsPlaces (broadcast_source self.now.shape) self.now v) }
         ensures inside { IfOk result (λ v. (len : ℕ) → LiesWithin len self.now → LiesWithin len v) }
     {
-        let view_shape = self.dim.slice();
-        check_broadcast(view_shape, shape)?;
-        let strides = stretched(alloc, shape, view_shape, self.strides.slice())?;
+        let (dim, strides) = broadcast_axes(alloc, shape, self.dim.slice(), self.strides.slice())?;
         Ok(Strided {
             start: self.start,
-            dim: shape.duplicate(alloc)?,
+            dim,
             strides,
         })
     }
@@ -322,47 +323,5 @@ impl<D: Dimension> Strided<D> {
         let (shape, elems) = (self.dim.slice(), slices.elems());
         check_elems(shape, elems, fit)?;
         Ok(picked_size(shape, elems, fit))
-    }
-
-    /// The slice by an argument of fitting counts. Faults come before want of memory, so where memory
-    /// may be wanted the elements are checked first.
-    #[inline(always)]
-    fn counted_slice<E: Dimension>(
-        &self,
-        alloc: Global,
-        elems: &[SliceInfoElem],
-        fit: Fit,
-    ) -> Result<Strided<E>, LayoutError>
-        requires { counts_differ E.NDIM self.now.shape elems.now ≡ false }
-        ensures refusal { shape_fault result ≡ first_fault fit self.now.shape elems.now }
-        ensures memory { first_fault fit self.now.shape elems.now ≡ None →
-            NeedsNoMemory E.NDIM (out_count elems.now) → IsOk result }
-        ensures sliced { IfOk result (λ v. IsSliceOf fit elems.now self.now v) }
-        ensures is_view { IfOk result (λ v. IsView v) }
-        ensures places { IfOk result (λ v.
-            KeepsPlaces (selected fit elems.now self.now.shape) self.now v) }
-        ensures inside { IfOk result (λ v. (len : ℕ) → LiesWithin len self.now → LiesWithin len v) }
-        ensures distinct { IfOk result (λ v. HasDistinctPlaces self.now → HasDistinctPlaces v) }
-    {
-        let ndim = out_ndim_of(elems);
-        if may_want_memory(E::NDIM, ndim) {
-            check_elems(self.dim.slice(), elems, fit)?;
-        }
-        let mut dim = E::zeros(alloc, ndim)?;
-        let mut strides = E::zeros(alloc, ndim)?;
-        let offset = slice_axes(
-            elems,
-            self.dim.slice(),
-            self.strides.slice(),
-            dim.slice_mut(),
-            strides.slice_mut(),
-            fit,
-        )?;
-        let start = offset_place(self.start, offset);
-        Ok(Strided {
-            start,
-            dim,
-            strides,
-        })
     }
 }

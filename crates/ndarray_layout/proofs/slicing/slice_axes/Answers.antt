@@ -3,7 +3,7 @@ use Rattle.std.specs.Int.{w64}
 use Rattle.std.specs.Result.{result_err}
 use Rattle.std.proofs.lemmas.Int.{to_z-of_z}
 use Rattle.nd_base.specs.Signed.{all_signed}
-use Rattle.ndarray_layout.proofs.SliceSteps.{at_elem, at_both, slice_arm, slice_at_fault, index_arm, index_at_fault, index_within, new_axis_step}
+use Rattle.ndarray_layout.proofs.SliceSteps.{none_sliced, all_sliced, axis_there, room_there, at_elem, at_both, slice_arm, slice_at_fault, index_arm, index_at_fault, index_within, new_axis_step}
 use Rattle.ndarray_layout.proofs.slicing.slice_axes.Goals as goal
 use Rattle.ndarray_layout.proofs.slicing.slice_axes.Goals.{in-Slice+in_ok-len-in-Slice, in-Index+in_ok-entry-in-Index, in-NewAxis}
 
@@ -89,3 +89,42 @@ loop-elem-preserved c =
           let here = at_elem c.args.fit c.args.elems.now c.args.shape.now (all_signed c.args.strides.now) c.loop-elem.elem-index _ _ _ _ _ _ _ _ c.loop-elem-test.true w.in-NewAxis.is c.loop-elem.invariant in
           rw (w.old_axis-is, w.new_axis-is, w.new_shape-is, w.new_strides-is, w.offset-is) (new_axis_step _ _ _ _ _ _ _ _ _ _ _ here)
     ]
+
+pub loop-elem-init : goal.loop-elem-init
+loop-elem-init c = none_sliced c.args.fit c.args.elems.now c.args.shape.now (all_signed c.args.strides.now) c.args.new_shape.now c.args.new_strides.now c.requires.valid c.requires.counts c.requires.shape_room c.requires.strides_room
+
+pub returns-clause-fault : goal.returns-clause-fault
+returns-clause-fault c = (all_sliced c.args.fit c.args.elems.now c.args.shape.now (all_signed c.args.strides.now) c.loop-elem.elem-index _ _ _ _ _ _ c.loop-elem-test.false c.loop-elem.invariant).fault
+
+pub returns-clause-shape : goal.returns-clause-shape
+returns-clause-shape c = (all_sliced c.args.fit c.args.elems.now c.args.shape.now (all_signed c.args.strides.now) c.loop-elem.elem-index _ _ _ _ _ _ c.loop-elem-test.false c.loop-elem.invariant).shape_is
+
+pub returns-clause-strides : goal.returns-clause-strides
+returns-clause-strides c = (all_sliced c.args.fit c.args.elems.now c.args.shape.now (all_signed c.args.strides.now) c.loop-elem.elem-index _ _ _ _ _ _ c.loop-elem-test.false c.loop-elem.invariant).strides_is
+
+pub returns-clause-offset : goal.returns-clause-offset
+returns-clause-offset c = (all_sliced c.args.fit c.args.elems.now c.args.shape.now (all_signed c.args.strides.now) c.loop-elem.elem-index _ _ _ _ _ _ c.loop-elem-test.false c.loop-elem.invariant).offset_is
+
+pub bounds-shape-old_axis : goal.bounds-shape-old_axis
+bounds-shape-old_axis c = (axis_there c.args.fit c.args.elems.now c.args.shape.now c.args.strides.now _ _ c.loop-elem.elem-index c.loop-elem.old_axis c.loop-elem.new_axis c.loop-elem.new_shape c.loop-elem.new_strides _ c.requires.valid c.loop-elem-test.true c.in-Slice.is (omega arith) c.loop-elem.invariant).0
+
+pub bounds-strides-old_axis : goal.bounds-strides-old_axis
+bounds-strides-old_axis c = (axis_there c.args.fit c.args.elems.now c.args.shape.now c.args.strides.now _ _ c.loop-elem.elem-index c.loop-elem.old_axis c.loop-elem.new_axis c.loop-elem.new_shape c.loop-elem.new_strides _ c.requires.valid c.loop-elem-test.true c.in-Slice.is (omega arith) c.loop-elem.invariant).1
+
+pub bounds-new_shape-new_axis : goal.bounds-new_shape-new_axis
+bounds-new_shape-new_axis c = (room_there c.args.fit c.args.elems.now c.args.shape.now (all_signed c.args.strides.now) _ _ c.loop-elem.elem-index _ _ c.loop-elem.new_axis c.loop-elem.new_shape c.loop-elem.new_strides _ c.loop-elem-test.true c.in-Slice.is (omega arith) c.loop-elem.invariant).0
+
+pub bounds-new_strides-new_axis : goal.bounds-new_strides-new_axis
+bounds-new_strides-new_axis c = (room_there c.args.fit c.args.elems.now c.args.shape.now (all_signed c.args.strides.now) _ _ c.loop-elem.elem-index _ _ c.loop-elem.new_axis c.loop-elem.new_shape c.loop-elem.new_strides _ c.loop-elem-test.true c.in-Slice.is (omega arith) c.loop-elem.invariant).1
+
+pub bounds-shape-old_axis-in-Index : goal.bounds-shape-old_axis-in-Index
+bounds-shape-old_axis-in-Index c = (axis_there c.args.fit c.args.elems.now c.args.shape.now c.args.strides.now _ _ c.loop-elem.elem-index c.loop-elem.old_axis c.loop-elem.new_axis c.loop-elem.new_shape c.loop-elem.new_strides _ c.requires.valid c.loop-elem-test.true c.in-Index.is (omega arith) c.loop-elem.invariant).0
+
+pub bounds-strides-old_axis-in-Index : goal.bounds-strides-old_axis-in-Index
+bounds-strides-old_axis-in-Index c = (axis_there c.args.fit c.args.elems.now c.args.shape.now c.args.strides.now _ _ c.loop-elem.elem-index c.loop-elem.old_axis c.loop-elem.new_axis c.loop-elem.new_shape c.loop-elem.new_strides _ c.requires.valid c.loop-elem-test.true c.in-Index.is (omega arith) c.loop-elem.invariant).1
+
+pub bounds-new_shape-new_axis-in-NewAxis : goal.bounds-new_shape-new_axis-in-NewAxis
+bounds-new_shape-new_axis-in-NewAxis c = (room_there c.args.fit c.args.elems.now c.args.shape.now (all_signed c.args.strides.now) _ _ c.loop-elem.elem-index _ _ c.loop-elem.new_axis c.loop-elem.new_shape c.loop-elem.new_strides _ c.loop-elem-test.true c.in-NewAxis.is (omega arith) c.loop-elem.invariant).0
+
+pub bounds-new_strides-new_axis-in-NewAxis : goal.bounds-new_strides-new_axis-in-NewAxis
+bounds-new_strides-new_axis-in-NewAxis c = (room_there c.args.fit c.args.elems.now c.args.shape.now (all_signed c.args.strides.now) _ _ c.loop-elem.elem-index _ _ c.loop-elem.new_axis c.loop-elem.new_shape c.loop-elem.new_strides _ c.loop-elem-test.true c.in-NewAxis.is (omega arith) c.loop-elem.invariant).1
