@@ -5,7 +5,7 @@ use crate::dim::lists::Lists;
 use crate::dim::told::{Told, row_holds_at_any_count, table};
 use crate::shape::acceptance::name_of;
 use crate::shape::questions::Question;
-use nd_dim::{Dimension, Ix2, Ix3, IxDyn, LayoutError, new_ix2, new_ix3};
+use nd_dim::{Dimension, IxDyn, LayoutError, new_ix2, new_ix3};
 use nd_shape::co_broadcast;
 use nd_testing::grants;
 use std::alloc::Global;
@@ -78,13 +78,22 @@ fn r5_rows(rt: HostRuntime) {
     table(&rt, rt.alloc(), Told::Asked(Question::Common), COMMON);
 }
 
+/// Whether shapes of two types have these lengths in common, in the type of the other one and in that of
+/// any number of axes.
+fn types_share<D1: Dimension, D2: Dimension>(
+    alloc: Global,
+    shape: &D1,
+    other: &D2,
+    lens: &[usize],
+) -> bool {
+    is_common::<D1, D2, D2>(alloc, shape, other, lens, "")
+        && is_common::<D1, D2, IxDyn>(alloc, shape, other, lens, "")
+}
+
 #[test]
 fn r5_rows_of_fixed_types(rt: HostRuntime) {
     let (shape, other) = (new_ix2(2, 3), new_ix3(4, 1, 3));
-    assert!(rt;
-        is_common::<Ix2, Ix3, Ix3>(rt.alloc(), &shape, &other, &[4, 2, 3], "")
-            && is_common::<Ix2, Ix3, IxDyn>(rt.alloc(), &shape, &other, &[4, 2, 3], "")
-    );
+    assert!(rt; types_share(rt.alloc(), &shape, &other, &[4, 2, 3]));
 }
 
 // More than four axes ask for memory. To make the two shapes takes the first two requests.
