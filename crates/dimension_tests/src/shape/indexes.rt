@@ -77,57 +77,79 @@ fn yields<T: IntoDimension, W: ExactSizeIterator<Item = T> + Drop>(
     is_end(alloc, walk.next()) && is_end(alloc, walk.next()) && walk.size_hint() == (0, Some(0))
 }
 
-/// A cursor over the indices of a shape, by rows or by columns.
-#[derive(Drop)]
-enum Cursor {
-    Rows(IndexCursor),
-    Columns(IndexCursorF),
+/// What lends the indices of a shape, in either order.
+trait LendingWalk {
+    fn lend(&mut self) -> Option<&[usize]>;
+
+    fn left(&self) -> usize;
 }
 
-impl Cursor {
-    fn next(&mut self) -> Option<&[usize]> {
-        match self {
-            Cursor::Rows(cursor) => cursor.next(),
-            Cursor::Columns(cursor) => cursor.next(),
-        }
+impl LendingWalk for IndexCursor {
+    fn lend(&mut self) -> Option<&[usize]> {
+        self.next()
     }
 
-    fn len(&self) -> usize {
-        match self {
-            Cursor::Rows(cursor) => cursor.len(),
-            Cursor::Columns(cursor) => cursor.len(),
-        }
+    fn left(&self) -> usize {
+        self.len()
     }
 }
 
-/// The cursor over a shape. (It is made here alone, since what is ensured of it is dear.)
-fn cursor_of(alloc: Global, order: Order, dim: IxDyn) -> Result<Cursor, AllocError> {
+impl LendingWalk for IndexCursorF {
+    fn lend(&mut self) -> Option<&[usize]> {
+        self.next()
+    }
+
+    fn left(&self) -> usize {
+        self.len()
+    }
+}
+
+/// The cursor over a shape by rows. (It is made here alone, since what is ensured of it is dear.)
+fn row_cursor(alloc: Global, dim: IxDyn) -> Result<IndexCursor, AllocError> {
     if dim.size_checked().is_none() {
         return Err(AllocError);
     }
-    match order {
-        Order::RowMajor => Ok(Cursor::Rows(IndexCursor::new(alloc, dim)?)),
-        Order::ColumnMajor => Ok(Cursor::Columns(IndexCursorF::new(alloc, dim)?)),
+    IndexCursor::new(alloc, dim)
+}
+
+/// The cursor over a shape by columns.
+fn column_cursor(alloc: Global, dim: IxDyn) -> Result<IndexCursorF, AllocError> {
+    if dim.size_checked().is_none() {
+        return Err(AllocError);
     }
+    IndexCursorF::new(alloc, dim)
 }
 
 /// Whether the next index that a cursor lends is that of a row, and so many are left.
-fn lends_next(alloc: Global, cursor: &mut Cursor, row: &mut Row<'_>, left: usize) -> bool {
-    let is_told = match cursor.next() {
+fn lends_next<C: LendingWalk>(
+    alloc: Global,
+    cursor: &mut C,
+    row: &mut Row<'_>,
+    left: usize,
+) -> bool {
+    let is_told = match cursor.lend() {
         Some(index) => tells(alloc, row, index),
         None => false,
     };
-    is_told && cursor.len() == left
+    is_told && cursor.left() == left
 }
 
 /// Whether the indices that a cursor lends are those of a row, and none follow.
-fn lends_all(alloc: Global, cursor: &mut Cursor, row: &mut Row<'_>, count: usize) -> bool {
+fn lends_all<C: LendingWalk + Drop>(
+    alloc: Global,
+    cursor: Result<C, AllocError>,
+    row: &mut Row<'_>,
+    count: usize,
+) -> bool {
+    let Ok(mut cursor) = cursor else {
+        return false;
+    };
     for left in (0..count).rev() {
-        if !lends_next(alloc, cursor, row, left) {
+        if !lends_next(alloc, &mut cursor, row, left) {
             return false;
         }
     }
-    cursor.next().is_none() && cursor.next().is_none() && cursor.len() == 0
+    cursor.lend().is_none() && cursor.lend().is_none() && cursor.left() == 0
 }
 
 /// What a row tells of the walks over a shape.
@@ -205,9 +227,9 @@ fn lends(alloc: Global, order: Order, line: &str) -> bool {
     let Ok(dim) = new_ixdyn(alloc, lens.as_slice()) else {
         return false;
     };
-    match cursor_of(alloc, order, dim) {
-        Ok(mut cursor) => lends_all(alloc, &mut cursor, &mut row, count),
-        Err(_) => false,
+    match order {
+        Order::RowMajor => lends_all(alloc, row_cursor(alloc, dim), &mut row, count),
+        Order::ColumnMajor => lends_all(alloc, column_cursor(alloc, dim), &mut row, count),
     }
 }
 
@@ -291,16 +313,21 @@ fn met<T: IntoDimension, W: Iterator<Item = T> + Drop>(alloc: Global, walk: W) -
     (count, told)
 }
 
-/// Whether a loop over a copy of a walk meets the items that are still to come, as many as it tells.
-fn folds<D: Dimension + Copy>(alloc: Global, dim: D, gone: usize) -> bool {
-    let Some(mut walk) = by_rows(alloc, dim) else {
-        return false;
-    };
+/// The walk over a shape by rows, once so many indices are gone.
+fn left_by_rows<D: Dimension + Copy>(alloc: Global, dim: D, gone: usize) -> Option<IndicesIter<D>> {
+    let mut walk = by_rows(alloc, dim)?;
     for _ in 0..gone {
         is_end(alloc, walk.next());
     }
-    let len = walk.len();
-    let copy: Result<_, _> = walk.clone();
+    Some(walk)
+}
+
+/// Whether a loop over a copy of a walk meets the items that are still to come, as many as it tells.
+fn folds<D: Dimension + Copy>(alloc: Global, dim: D, gone: usize) -> bool {
+    let Some(walk) = left_by_rows(alloc, dim, gone) else {
+        return false;
+    };
+    let (len, copy): (_, Result<_, _>) = (walk.len(), walk.clone());
     match copy {
         Ok(copy) => {
             let told = met(alloc, copy);
@@ -343,16 +370,17 @@ fn rank_of<T: IntoDimension>(alloc: Global, lens: List, item: T) -> usize {
 fn folded<T: IntoDimension, W: Iterator<Item = T> + Drop>(
     alloc: Global,
     walk: W,
-    lens: List,
+    lens: &[usize],
     factor: usize,
-) -> usize
+) -> Option<usize>
     requires can { (state : W) → W.can_next state }
     requires ends { IsFinite (W.remaining walk) }
 {
-    walk.fold(1_usize, move |told, item| {
+    let lens = List::of(lens)?;
+    Some(walk.fold(1_usize, move |told, item| {
         told.wrapping_mul(factor)
             .wrapping_add(rank_of(alloc, lens, item))
-    })
+    }))
 }
 
 /// Whether a fold over the indices that are left makes what a row tells.
@@ -363,14 +391,13 @@ fn is_folded<D: Dimension + Copy>(
     factor: usize,
     row: &mut Row<'_>,
 ) -> bool {
-    let (Some(lens), Some(mut walk)) = (List::of(lens), by_rows(alloc, dim)) else {
+    let Some(walk) = left_by_rows(alloc, dim, row.length().unwrap_or(0)) else {
         return false;
     };
-    for _ in 0..row.length().unwrap_or(0) {
-        is_end(alloc, walk.next());
+    match (folded(alloc, walk, lens, factor), row.length()) {
+        (Some(folded), Ok(wanted)) => folded == wanted,
+        _ => false,
     }
-    let folded = folded(alloc, walk, lens, factor);
-    row.length().is_ok_and(|wanted| wanted == folded)
 }
 
 const RANKS_FOLDED: &str = "\
@@ -395,9 +422,12 @@ fn r7_rows_of_folded_ranks(rt: HostRuntime) {
 
 /// Whether the cursor over a shape is made.
 fn is_made(alloc: Global, order: Order, lens: &[usize]) -> bool {
-    match new_ixdyn(alloc, lens) {
-        Ok(dim) => cursor_of(alloc, order, dim).is_ok(),
-        Err(_) => false,
+    let Ok(dim) = new_ixdyn(alloc, lens) else {
+        return false;
+    };
+    match order {
+        Order::RowMajor => row_cursor(alloc, dim).is_ok(),
+        Order::ColumnMajor => column_cursor(alloc, dim).is_ok(),
     }
 }
 
@@ -419,12 +449,17 @@ fn memory_of_cursors_of_four_axes(rt: HostRuntime) {
     assert!(rt; are_made(rt.alloc(), &[1, 2, 3, 4]));
 }
 
+/// How many indices a cursor is to lend, if there was memory for it.
+fn len_of<C: LendingWalk + Drop>(cursor: Result<C, AllocError>) -> Result<usize, AllocError> {
+    Ok(cursor?.left())
+}
+
 // To make the two shapes takes the first two requests.
 #[test]
 fn late_memory_of_cursors(rt: HostRuntime) {
     let (alloc, lens) = (rt.alloc(), [1, 2, 3, 2, 1]);
     let (dim, other): (IxDyn, IxDyn) = (dim_of(&rt, alloc, &lens), dim_of(&rt, alloc, &lens));
-    let rows = cursor_of(alloc, Order::RowMajor, dim);
-    let columns = cursor_of(alloc, Order::ColumnMajor, other);
+    let rows = len_of(row_cursor(alloc, dim));
+    let columns = len_of(column_cursor(alloc, other));
     assert!(rt; asked(alloc, rows, columns));
 }

@@ -1,126 +1,146 @@
 //! What can index an array, each at its types.
-use crate::dim::lists::dim_of;
+ghost use Rattle.std.specs.Prelude.{IsTrue};
+ghost use Rattle.nd_base.specs.Signed.{all_signed};
+ghost use Rattle.nd_base.specs.ValidLayout.{IsValidLayout};
+
 use nd_dim::{
-    Dimension, Ix0, Ix1, Ix2, Ix3, Ix4, Ix5, Ix6, IxDyn, new_ix0, new_ix1, new_ix2, new_ix3,
-    new_ix4, new_ix5, new_ix6, unsigned,
+    Dimension, Ix0, Ix1, Ix2, Ix3, Ix4, Ix5, Ix6, IxDyn, Lengths, new_ix0, new_ix1, new_ix2,
+    new_ix3, new_ix4, new_ix5, new_ix6, new_ixdyn, unsigned,
 };
 use nd_shape::{CanIndexCheckMode, NdIndex, can_index_slice};
+use std::alloc::Global;
 
-/// Whether an index of a layout lies here, with a test and without; `None` for one that is none of its
-/// indices.
-fn lies<E: Dimension, I: NdIndex<E>>(
-    dim: &E,
-    strides: &E,
-    index: &I,
-    wanted: Option<isize>,
-) -> bool {
-    match can_index_slice(1, 120, dim, strides, CanIndexCheckMode::ReadOnly) {
-        Ok(()) => match index.index_checked(dim, strides) {
-            Some(checked) => {
-                let unchecked = index.index_unchecked(strides);
-                unchecked == checked && wanted == Some(checked)
-            },
-            None => wanted == None,
-        },
-        Err(_) => false,
+/// Whether the indices of a shape can lie along these strides.
+fn is_layout(alloc: Global, shape: &[usize], strides: &[usize]) -> bool
+    ensures { IsTrue result → IsValidLayout shape.now (all_signed strides.now) }
+{
+    match (new_ixdyn(alloc, shape), new_ixdyn(alloc, strides)) {
+        (Ok(shape), Ok(strides)) => {
+            can_index_slice(1, 120, &shape, &strides, CanIndexCheckMode::ReadOnly).is_ok()
+        }
+        _ => false,
     }
 }
 
-fn rows_of_no_axis_hold(dim: &Ix0, strides: &Ix0) -> bool {
-    lies(dim, strides, &(), Some(0)) && lies(dim, strides, &[], Some(0))
+/// Where an index lies, with a test and without, by its bound alone.
+fn place_of<E: Dimension, I: NdIndex<E>>(dim: &E, strides: &E, index: &I) -> Option<(isize, isize)>
+    requires valid { IsValidLayout (E.list dim.now) (all_signed (E.list strides.now)) }
+{
+    match index.index_checked(dim, strides) {
+        Some(checked) => Some((checked, index.index_unchecked(strides))),
+        None => None,
+    }
 }
 
-fn rows_of_one_axis_hold(dim: &Ix1, strides: &Ix1) -> bool {
-    lies(dim, strides, &3, Some(-6))
-        && lies(dim, strides, &[3], Some(-6))
-        && lies(dim, strides, &4, None)
+fn rows_of_no_axis_hold(alloc: Global, dim: &Ix0, strides: &Ix0) -> bool {
+    is_layout(alloc, dim.slice(), strides.slice())
+        && ().index_checked(dim, strides) == Some(0)
+        && [].index_checked(dim, strides) == Some(0)
+}
+
+fn rows_of_one_axis_hold(alloc: Global, dim: &Ix1, strides: &Ix1) -> bool {
+    is_layout(alloc, dim.slice(), strides.slice())
+        && 3.index_checked(dim, strides) == Some(-6)
+        && [3].index_checked(dim, strides) == Some(-6)
+        && 4.index_checked(dim, strides) == None
 }
 
 #[test]
 fn at_few_axes(rt: HostRuntime) {
-    assert!(rt;
-        rows_of_no_axis_hold(&new_ix0(), &new_ix0())
-            && rows_of_one_axis_hold(&new_ix1(4), &new_ix1(unsigned(-2)))
-    );
+    assert!(rt; rows_of_no_axis_hold(rt.alloc(), &new_ix0(), &new_ix0()));
+    assert!(rt; rows_of_one_axis_hold(rt.alloc(), &new_ix1(4), &new_ix1(unsigned(-2))));
 }
 
-fn rows_of_two_axes_hold(dim: &Ix2, strides: &Ix2) -> bool {
-    lies(dim, strides, &[1, 2], Some(-1))
-        && lies(dim, strides, &(1, 3), None)
-        && lies(dim, strides, &(1, 2), Some(-1))
+fn rows_of_two_axes_hold(alloc: Global, dim: &Ix2, strides: &Ix2) -> bool {
+    is_layout(alloc, dim.slice(), strides.slice())
+        && [1, 2].index_checked(dim, strides) == Some(-1)
+        && (1, 3).index_checked(dim, strides) == None
+        && place_of(dim, strides, &(1, 2)) == Some((-1, -1))
 }
 
-fn rows_of_three_axes_hold(dim: &Ix3, strides: &Ix3) -> bool {
-    lies(dim, strides, &(1, 2, 3), Some(7))
-        && lies(dim, strides, &[1, 2, 3], Some(7))
-        && lies(dim, strides, &(1, 3, 0), None)
+fn rows_of_three_axes_hold(alloc: Global, dim: &Ix3, strides: &Ix3) -> bool {
+    is_layout(alloc, dim.slice(), strides.slice())
+        && (1, 2, 3).index_checked(dim, strides) == Some(7)
+        && [1, 2, 3].index_checked(dim, strides) == Some(7)
+        && (1, 3, 0).index_checked(dim, strides) == None
 }
 
 #[test]
 fn at_two_and_three_axes(rt: HostRuntime) {
-    assert!(rt;
-        rows_of_two_axes_hold(&new_ix2(2, 3), &new_ix2(unsigned(-3), 1))
-            && rows_of_three_axes_hold(&new_ix3(2, 3, 4), &new_ix3(12, unsigned(-4), 1))
-    );
+    let alloc = rt.alloc();
+    assert!(rt; rows_of_two_axes_hold(alloc, &new_ix2(2, 3), &new_ix2(unsigned(-3), 1)));
+    let strides = new_ix3(12, unsigned(-4), 1);
+    assert!(rt; rows_of_three_axes_hold(alloc, &new_ix3(2, 3, 4), &strides));
 }
 
-fn rows_of_four_axes_hold(dim: &Ix4, strides: &Ix4) -> bool {
-    lies(dim, strides, &(1, 2, 3, 4), Some(89))
-        && lies(dim, strides, &[1, 2, 3, 4], Some(89))
-        && lies(dim, strides, &(1, 2, 4, 0), None)
+fn rows_of_four_axes_hold(alloc: Global, dim: &Ix4, strides: &Ix4) -> bool {
+    is_layout(alloc, dim.slice(), strides.slice())
+        && (1, 2, 3, 4).index_checked(dim, strides) == Some(89)
+        && [1, 2, 3, 4].index_checked(dim, strides) == Some(89)
+        && (1, 2, 4, 0).index_checked(dim, strides) == None
 }
 
-fn rows_of_five_axes_hold(dim: &Ix5, strides: &Ix5) -> bool {
-    lies(dim, strides, &(1, 0, 2, 1, 1), Some(-1))
-        && lies(dim, strides, &[1, 0, 2, 1, 1], Some(-1))
-        && lies(dim, strides, &(0, 1, 0, 0, 0), None)
+fn rows_of_five_axes_hold(alloc: Global, dim: &Ix5, strides: &Ix5) -> bool {
+    is_layout(alloc, dim.slice(), strides.slice())
+        && (1, 0, 2, 1, 1).index_checked(dim, strides) == Some(-1)
+        && [1, 0, 2, 1, 1].index_checked(dim, strides) == Some(-1)
+        && (0, 1, 0, 0, 0).index_checked(dim, strides) == None
 }
 
-fn rows_of_six_axes_hold(dim: &Ix6, strides: &Ix6) -> bool {
-    lies(dim, strides, &(1, 0, 2, 1, 1, 1), Some(-10))
-        && lies(dim, strides, &[1, 0, 2, 1, 1, 1], Some(-10))
-        && lies(dim, strides, &(0, 0, 3, 0, 0, 0), None)
+fn rows_of_six_axes_hold(alloc: Global, dim: &Ix6, strides: &Ix6) -> bool {
+    is_layout(alloc, dim.slice(), strides.slice())
+        && (1, 0, 2, 1, 1, 1).index_checked(dim, strides) == Some(-10)
+        && [1, 0, 2, 1, 1, 1].index_checked(dim, strides) == Some(-10)
+        && (0, 0, 3, 0, 0, 0).index_checked(dim, strides) == None
 }
 
 #[test]
 fn at_more_axes(rt: HostRuntime) {
     let strides = new_ix4(60, 20, unsigned(-5), 1);
-    assert!(rt; rows_of_four_axes_hold(&new_ix4(2, 3, 4, 5), &strides));
+    assert!(rt; rows_of_four_axes_hold(rt.alloc(), &new_ix4(2, 3, 4, 5), &strides));
     let strides = new_ix5(unsigned(-12), 7, 4, 2, 1);
-    assert!(rt; rows_of_five_axes_hold(&new_ix5(2, 1, 3, 2, 2), &strides));
+    assert!(rt; rows_of_five_axes_hold(rt.alloc(), &new_ix5(2, 1, 3, 2, 2), &strides));
     let strides = new_ix6(unsigned(-48), 7, 16, 8, unsigned(-4), 2);
-    assert!(rt; rows_of_six_axes_hold(&new_ix6(2, 1, 3, 2, 2, 2), &strides));
+    assert!(rt; rows_of_six_axes_hold(rt.alloc(), &new_ix6(2, 1, 3, 2, 2, 2), &strides));
 }
 
 /// Lists that are no `IxDyn`, on two axes.
-fn rows_of_lists_hold(dim: &IxDyn, strides: &IxDyn) -> bool {
-    lies(dim, strides, &[1, 2], Some(5))
-        && lies(dim, strides, &[1], None)
-        && lies(dim, strides, &[1, 2].as_slice(), Some(5))
-        && lies(dim, strides, &[1, 2, 0].as_slice(), None)
-        && lies(dim, strides, &new_ix2(1, 2), Some(5))
-        && lies(dim, strides, &new_ix1(1), None)
-        && lies(dim, strides, &1, None)
+fn rows_of_lists_hold(alloc: Global, dim: &IxDyn, strides: &IxDyn) -> bool {
+    is_layout(alloc, dim.slice(), strides.slice())
+        && [1, 2].index_checked(dim, strides) == Some(5)
+        && [1].index_checked(dim, strides) == None
+        && [1, 2].as_slice().index_checked(dim, strides) == Some(5)
+        && [1, 2, 0].as_slice().index_checked(dim, strides) == None
+        && new_ix2(1, 2).index_checked(dim, strides) == Some(5)
+        && new_ix1(1).index_checked(dim, strides) == None
+        && 1.index_checked(dim, strides) == None
 }
 
 /// Entries and dimensions, on one axis.
-fn rows_of_entries_hold(dim: &IxDyn, strides: &IxDyn) -> bool {
-    lies(dim, strides, &3, Some(9))
-        && lies(dim, strides, &4, None)
-        && lies(dim, strides, &dim, None)
-        && lies(dim, strides, &strides, Some(9))
+fn rows_of_entries_hold(alloc: Global, dim: &IxDyn, strides: &IxDyn) -> bool {
+    is_layout(alloc, dim.slice(), strides.slice())
+        && 3.index_checked(dim, strides) == Some(9)
+        && 4.index_checked(dim, strides) == None
+        && (&dim).index_checked(dim, strides) == None
+        && place_of(dim, strides, &strides) == Some((9, 9))
 }
 
 #[test]
 fn r3_rows(rt: HostRuntime) {
-    let dim: IxDyn = dim_of(&rt, rt.alloc(), &[2, 3]);
-    let strides: IxDyn = dim_of(&rt, rt.alloc(), &[3, 1]);
-    assert!(rt; rows_of_lists_hold(&dim, &strides));
+    let alloc = rt.alloc();
+    let is_made = match (new_ixdyn(alloc, &[2, 3]), new_ixdyn(alloc, &[3, 1])) {
+        (Ok(dim), Ok(strides)) => rows_of_lists_hold(alloc, &dim, &strides),
+        _ => false,
+    };
+    assert!(rt; is_made);
 }
 
 #[test]
 fn at_one_of_any_number_of_axes(rt: HostRuntime) {
-    let dim: IxDyn = dim_of(&rt, rt.alloc(), &[4]);
-    let strides: IxDyn = dim_of(&rt, rt.alloc(), &[3]);
-    assert!(rt; rows_of_entries_hold(&dim, &strides));
+    let alloc = rt.alloc();
+    let is_made = match (new_ixdyn(alloc, &[4]), new_ixdyn(alloc, &[3])) {
+        (Ok(dim), Ok(strides)) => rows_of_entries_hold(alloc, &dim, &strides),
+        _ => false,
+    };
+    assert!(rt; is_made);
 }
