@@ -8,11 +8,12 @@ use crate::dim::lists::{Lists, made};
 use crate::dim::told::{Told, table};
 use crate::shape::questions::Question;
 use CanIndexCheckMode::{OwnedMutable, ReadOnly};
-use nd_dim::{Dimension, ErrorKind, ShapeError};
+use nd_dim::{Dimension, ErrorKind};
 use nd_shape::{
     CanIndexCheckMode, NdIndex, can_index_slice, dim_stride_overlap, max_abs_offset_check_overflow,
     offset_from_low_addr_ptr_to_logical_ptr, size_of_shape_checked,
 };
+use nd_testing::or_fault;
 use std::alloc::Global;
 use std::process::Abort;
 
@@ -29,14 +30,6 @@ type Answer = (
     Result<(), ErrorKind>,
     Result<Extent, ErrorKind>,
 );
-
-/// The answer of a call, or of what kind its refusal is.
-fn or_kind<T: Drop>(answer: Result<T, ShapeError>) -> Result<T, ErrorKind> {
-    match answer {
-        Ok(answer) => Ok(answer),
-        Err(fault) => Err(fault.kind()),
-    }
-}
 
 /// What is told of a layout, where data may be read through it.
 fn read<D: Dimension>(data: Data, dim: &D, strides: &D, index: &D) -> Result<Extent, ErrorKind> {
@@ -58,9 +51,9 @@ fn read<D: Dimension>(data: Data, dim: &D, strides: &D, index: &D) -> Result<Ext
 fn ask<D: Dimension>(data: Data, dim: &D, strides: &D, index: &D) -> Answer {
     let (elem_size, len) = data;
     (
-        or_kind(size_of_shape_checked(dim)),
-        or_kind(max_abs_offset_check_overflow(elem_size, dim, strides)),
-        or_kind(can_index_slice(elem_size, len, dim, strides, OwnedMutable)),
+        or_fault(size_of_shape_checked(dim)),
+        or_fault(max_abs_offset_check_overflow(elem_size, dim, strides)),
+        or_fault(can_index_slice(elem_size, len, dim, strides, OwnedMutable)),
         read(data, dim, strides, index),
     )
 }
