@@ -249,17 +249,22 @@ pub(crate) fn row_holds_at_any_count(
     }
 }
 
+/// Fails, and tells the row, where it doesn't hold.
+pub(crate) fn demand(rt: &impl Abort, holds: bool, line: &str) {
+    assert!(rt; holds, "{line}");
+}
+
 /// The rows of a table, one by one, at their types alone.
 pub(crate) fn table_at_its_type(rt: &impl Abort, alloc: Global, told: Told, table: &str) {
     for line in rows(table) {
-        assert!(rt; row_holds_at_its_type(rt, told, alloc, line), "{line}");
+        demand(rt, row_holds_at_its_type(rt, told, alloc, line), line);
     }
 }
 
 /// The rows of a table, one by one.
 pub(crate) fn table(rt: &impl Abort, alloc: Global, told: Told, table: &str) {
     for line in rows(table) {
-        assert!(rt; row_holds_at_any_count(rt, alloc, told, line), "{line}");
-        assert!(rt; row_holds_at_its_type(rt, told, alloc, line), "{line}");
+        demand(rt, row_holds_at_any_count(rt, alloc, told, line), line);
+        demand(rt, row_holds_at_its_type(rt, told, alloc, line), line);
     }
 }

@@ -2,6 +2,7 @@
 ghost use Rattle.std.specs.Iterator.{IsFinite};
 
 use crate::dim::lists::{List, dim_of};
+use crate::dim::told::demand;
 use nd_dim::{Dimension, IntoDimension, Ix0, Ix1, Ix2, Ix3, Ix4, IxDyn, Lengths, Order, new_ixdyn};
 use nd_shape::{IndexCursor, IndexCursorF, IndicesIter, IndicesIterF, all_indices, indices_iter_f};
 use nd_testing::{Row, asked, rows};
@@ -235,11 +236,12 @@ fn lends(alloc: Global, order: Order, line: &str) -> bool {
 
 fn table(rt: &impl Abort, alloc: Global, order: Order, table: &str) {
     for line in rows(table) {
-        assert!(rt;
+        demand(
+            rt,
             holds_at_its_type(rt, alloc, Walk::All(order), line),
-            "{line}"
+            line,
         );
-        assert!(rt; lends(alloc, order, line), "{line}");
+        demand(rt, lends(alloc, order, line), line);
     }
 }
 
@@ -348,9 +350,10 @@ const FOLDED: &str = "\
 #[test]
 fn r7_rows_of_folds(rt: HostRuntime) {
     for line in rows(FOLDED) {
-        assert!(rt;
+        demand(
+            &rt,
             holds_at_its_type(&rt, rt.alloc(), Walk::Folds, line),
-            "{line}"
+            line,
         );
     }
 }
@@ -411,9 +414,10 @@ const RANKS_FOLDED: &str = "\
 #[test]
 fn r7_rows_of_folded_ranks(rt: HostRuntime) {
     for line in rows(RANKS_FOLDED) {
-        assert!(rt;
+        demand(
+            &rt,
             holds_at_its_type(&rt, rt.alloc(), Walk::Folded, line),
-            "{line}"
+            line,
         );
     }
 }

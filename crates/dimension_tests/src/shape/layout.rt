@@ -102,9 +102,15 @@ fn r5_rows_of_two_sets_of_bits(rt: HostRuntime) {
         Layout::CPREFER,
         Layout::FPREFER,
     ];
+    let c = Layout::c();
     assert_eq!(rt; flags, [1, 2, 4, 8]);
     assert_eq!(rt;
-        flags.map(|flag| Layout::c().is(flag)),
+        [
+            c.is(Layout::CORDER),
+            c.is(Layout::FORDER),
+            c.is(Layout::CPREFER),
+            c.is(Layout::FPREFER)
+        ],
         [true, false, true, false]
     );
 }
