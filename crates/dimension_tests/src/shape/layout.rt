@@ -72,6 +72,16 @@ fn r5_rows_of_bits(rt: HostRuntime) {
     prints(&rt, alloc, Layout::fpref(), "f (0x8)", -1);
 }
 
+/// Whether a set has each of the bits.
+fn bits_of(layout: Layout) -> [bool; 4] {
+    [
+        layout.is(Layout::CORDER),
+        layout.is(Layout::FORDER),
+        layout.is(Layout::CPREFER),
+        layout.is(Layout::FPREFER),
+    ]
+}
+
 #[test]
 fn r5_rows_of_two_sets_of_bits(rt: HostRuntime) {
     let alloc = rt.alloc();
@@ -102,15 +112,6 @@ fn r5_rows_of_two_sets_of_bits(rt: HostRuntime) {
         Layout::CPREFER,
         Layout::FPREFER,
     ];
-    let c = Layout::c();
     assert_eq!(rt; flags, [1, 2, 4, 8]);
-    assert_eq!(rt;
-        [
-            c.is(Layout::CORDER),
-            c.is(Layout::FORDER),
-            c.is(Layout::CPREFER),
-            c.is(Layout::FPREFER)
-        ],
-        [true, false, true, false]
-    );
+    assert_eq!(rt; bits_of(Layout::c()), [true, false, true, false]);
 }
