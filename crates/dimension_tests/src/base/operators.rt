@@ -40,26 +40,31 @@ fn r2_rows_of_one_axis(rt: HostRuntime) {
     assert!(rt; five == new_ix1(5) && one == new_ix1(1));
 }
 
-/// Every operator of a dimension of any number of axes that the rows have, on (3, 5).
-fn calculates(alloc: Global, dim: IxDyn, ones: IxDyn) -> bool
+/// The operators that make a dimension of any number of axes, on (3, 5).
+fn makes(alloc: Global, dim: IxDyn, ones: IxDyn) -> bool
     requires dim_is { lengths dim ≡ 3 ∷ 5 ∷ [] }
     requires ones_are { lengths ones ≡ 1 ∷ 1 ∷ [] }
 {
-    let sum = dim + ones;
-    if sum != ixdyn(alloc, &[4, 6]) {
-        return false;
-    }
-    let mut dim = sum * 2;
-    let is_twice = dim == ixdyn(alloc, &[8, 12]);
+    dim + ones == ixdyn(alloc, &[4, 6])
+}
+
+/// The operators that write one, on (8, 12).
+fn writes(alloc: Global, mut dim: IxDyn) -> bool
+    requires { lengths dim ≡ 8 ∷ 12 ∷ [] }
+{
     dim *= ixdyn(alloc, &[2, 1]);
     dim -= &ixdyn(alloc, &[6, 2]);
-    is_twice && dim == ixdyn(alloc, &[10, 10])
+    dim == ixdyn(alloc, &[10, 10])
 }
 
 #[test]
 fn r2_rows_of_any_count(rt: HostRuntime) {
     let alloc = rt.alloc();
-    assert!(rt; calculates(alloc, ixdyn(alloc, &[3, 5]), ixdyn(alloc, &[1, 1])));
+    assert!(rt;
+        makes(alloc, ixdyn(alloc, &[3, 5]), ixdyn(alloc, &[1, 1]))
+            && ixdyn(alloc, &[4, 6]) * 2 == ixdyn(alloc, &[8, 12])
+            && writes(alloc, ixdyn(alloc, &[8, 12]))
+    );
 }
 
 #[test]

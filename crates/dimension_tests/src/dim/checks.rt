@@ -78,39 +78,39 @@ pub(crate) fn is_incompatible<D: Dimension>(
 }
 
 /// An axis more, as a value of this type.
-pub(crate) fn widens<D: Dimension<Larger = L>, L: Lengths>(
+pub(crate) fn widens<D: Dimension>(
     rt: &impl Abort,
     alloc: Global,
     dim: &D,
     axis: usize,
     larger: &[usize],
 ) -> bool {
-    let larger: L = dim_of(rt, alloc, larger);
+    let larger: D::Larger = dim_of(rt, alloc, larger);
     axis <= dim.ndim() && makes(dim.insert_axis(alloc, Axis(axis)), &larger)
 }
 
 /// An axis less, as a value of this type. No axes stay none.
-pub(crate) fn tries_to_narrow<D: Dimension<Smaller = S>, S: Lengths>(
+pub(crate) fn tries_to_narrow<D: Dimension>(
     rt: &impl Abort,
     alloc: Global,
     dim: &D,
     axis: usize,
     smaller: &[usize],
 ) -> bool {
-    let smaller: S = dim_of(rt, alloc, smaller);
+    let smaller: D::Smaller = dim_of(rt, alloc, smaller);
     (axis < dim.ndim() || dim.ndim() == 0)
         && makes(dim.try_remove_axis(alloc, Axis(axis)), &smaller)
 }
 
 /// An axis less, where there is one.
-pub(crate) fn narrows<D: RemoveAxis + Dimension<Smaller = S>, S: Lengths>(
+pub(crate) fn narrows<D: RemoveAxis>(
     rt: &impl Abort,
     alloc: Global,
     dim: &D,
     axis: usize,
     smaller: &[usize],
 ) -> bool {
-    let smaller: S = dim_of(rt, alloc, smaller);
+    let smaller: D::Smaller = dim_of(rt, alloc, smaller);
     axis >= dim.ndim() || makes(dim.remove_axis(alloc, Axis(axis)), &smaller)
 }
 

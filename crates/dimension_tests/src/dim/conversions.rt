@@ -37,26 +37,30 @@ fn r2_rows_into_patterns(rt: HostRuntime) {
     );
 }
 
-#[test]
-fn r2_rows_from_patterns(rt: HostRuntime) {
-    let alloc = rt.alloc();
-    assert!(rt; converts(alloc, (), &new_ix0()) && converts(alloc, 2, &new_ix1(2)));
-    assert!(rt; converts(alloc, (2, 3), &new_ix2(2, 3)));
-    assert!(rt; converts(alloc, (2, 3, 4), &new_ix3(2, 3, 4)));
-    assert!(rt; converts(alloc, (2, 3, 4, 5), &new_ix4(2, 3, 4, 5)));
-    assert!(rt; converts(alloc, (2, 3, 4, 5, 6), &new_ix5(2, 3, 4, 5, 6)));
-    assert!(rt; converts(alloc, (2, 3, 4, 5, 6, 7), &new_ix6(2, 3, 4, 5, 6, 7)));
+/// A pattern and an array make this dimension.
+fn both_convert<D, P, A>(alloc: Global, pattern: P, array: A, wanted: &D) -> bool
+where
+    D: Lengths,
+    P: IntoDimension<Dim = D>,
+    A: IntoDimension<Dim = D>,
+{
+    let is_pattern = converts(alloc, pattern, wanted);
+    converts(alloc, array, wanted) && is_pattern
 }
 
 #[test]
-fn r2_rows_from_arrays(rt: HostRuntime) {
+fn r2_rows_from_patterns_and_arrays(rt: HostRuntime) {
     let alloc = rt.alloc();
-    assert!(rt; converts(alloc, [0; 0], &new_ix0()) && converts(alloc, (2,), &new_ix1(2)));
-    assert!(rt; converts(alloc, [2], &new_ix1(2)) && converts(alloc, [2, 3], &new_ix2(2, 3)));
-    assert!(rt; converts(alloc, [2, 3, 4], &new_ix3(2, 3, 4)));
-    assert!(rt; converts(alloc, [2, 3, 4, 5], &new_ix4(2, 3, 4, 5)));
-    assert!(rt; converts(alloc, [2, 3, 4, 5, 6], &new_ix5(2, 3, 4, 5, 6)));
-    assert!(rt; converts(alloc, [2, 3, 4, 5, 6, 7], &new_ix6(2, 3, 4, 5, 6, 7)));
+    assert!(rt; both_convert(alloc, (), [0; 0], &new_ix0()));
+    assert!(rt; both_convert(alloc, 2, [2], &new_ix1(2)) && converts(alloc, (2,), &new_ix1(2)));
+    assert!(rt; both_convert(alloc, (2, 3), [2, 3], &new_ix2(2, 3)));
+    assert!(rt; both_convert(alloc, (2, 3, 4), [2, 3, 4], &new_ix3(2, 3, 4)));
+    let wanted = new_ix4(2, 3, 4, 5);
+    assert!(rt; both_convert(alloc, (2, 3, 4, 5), [2, 3, 4, 5], &wanted));
+    let wanted = new_ix5(2, 3, 4, 5, 6);
+    assert!(rt; both_convert(alloc, (2, 3, 4, 5, 6), [2, 3, 4, 5, 6], &wanted));
+    let wanted = new_ix6(2, 3, 4, 5, 6, 7);
+    assert!(rt; both_convert(alloc, (2, 3, 4, 5, 6, 7), [2, 3, 4, 5, 6, 7], &wanted));
 }
 
 /// A vector makes the dimension of its items.

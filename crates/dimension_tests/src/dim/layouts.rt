@@ -68,12 +68,6 @@ const NOT_CONTIGUOUS: &str = "\
 2,2,2,2,2,2 32,16,8,4,1,1
 4611686018427387903,2 1,-4611686018427387904";
 
-#[test]
-fn r2_rows_of_contiguous_layouts(rt: HostRuntime) {
-    table(&rt, rt.alloc(), Told::Contiguous(true), CONTIGUOUS);
-    table(&rt, rt.alloc(), Told::Contiguous(false), NOT_CONTIGUOUS);
-}
-
 /// Whether an index has this offset in a layout, as it is kept, with a test and without; or none.
 fn has_offset<D: Dimension>(dim: &D, strides: &D, index: &D, wanted: &[usize]) -> bool {
     match can_index_slice(1, usize::MAX, dim, strides, CanIndexCheckMode::ReadOnly) {
@@ -130,22 +124,12 @@ const OFFSETS: &str = "\
 2,3,1,2,5,2 60,20,7,-10,2,-1 1,2,0,1,4,2 -
 2,3,1,2,5,2 60,20,7,-10,2,-1 1,2,0,1,4 -";
 
-#[test]
-fn answers_of_stride_offset_checked(rt: HostRuntime) {
-    table(&rt, rt.alloc(), Told::Offset, OFFSETS);
-}
-
 const OFFSETS_AT_THE_ENDS: &str = "\
 2,1 9223372036854775807,-9223372036854775808 0,0 0
 2,1 9223372036854775807,-9223372036854775808 1,0 9223372036854775807
 2,1 9223372036854775807,-9223372036854775808 1,1 -
 9223372036854775807 -1 9223372036854775806 -9223372036854775806
 9223372036854775807 -1 9223372036854775807 -";
-
-#[test]
-fn answers_of_stride_offset_checked_at_the_ends(rt: HostRuntime) {
-    table(&rt, rt.alloc(), Told::Offset, OFFSETS_AT_THE_ENDS);
-}
 
 /// Of each layout the last index, and the lengths, which are no index of it.
 const LAST_INDICES: &str = "\
@@ -165,6 +149,15 @@ const LAST_INDICES: &str = "\
 1,2,3,4,5,6 720,360,120,30,6,1 1,2,3,4,5,6 -";
 
 #[test]
-fn r2_rows_of_offsets(rt: HostRuntime) {
-    table(&rt, rt.alloc(), Told::Offset, LAST_INDICES);
+fn r2_rows(rt: HostRuntime) {
+    let tables = [
+        (Told::Contiguous(true), CONTIGUOUS),
+        (Told::Contiguous(false), NOT_CONTIGUOUS),
+        (Told::Offset, OFFSETS),
+        (Told::Offset, OFFSETS_AT_THE_ENDS),
+        (Told::Offset, LAST_INDICES),
+    ];
+    for (told, rows) in tables {
+        table(&rt, rt.alloc(), told, rows);
+    }
 }

@@ -32,6 +32,13 @@ impl List {
         })
     }
 
+    /// Adds a number, where there is room for it.
+    fn push(&mut self, number: usize) -> Option<()> {
+        *self.entries.get_mut(self.count)? = number;
+        self.count += 1;
+        Some(())
+    }
+
     /// The number at a place, or none that is an axis.
     pub(crate) fn at(&self, place: usize) -> usize {
         self.as_slice().get(place).copied().unwrap_or(usize::MAX)
@@ -54,25 +61,24 @@ impl<'a> Lists<'a> {
         let (lists, answer) = line.split_once(" => ").unwrap_or((line, ""));
         let mut row = Row::new(lists);
         Some(Lists {
-            first: read_list(row.word().unwrap_or("-"))?,
-            second: read_list(row.word().unwrap_or("-"))?,
-            third: read_list(row.word().unwrap_or("-"))?,
-            fourth: read_list(row.word().unwrap_or("-"))?,
+            first: next_list(&mut row)?,
+            second: next_list(&mut row)?,
+            third: next_list(&mut row)?,
+            fourth: next_list(&mut row)?,
             answer,
         })
     }
 }
 
-/// A word as a list.
-fn read_list(word: &str) -> Option<List> {
-    let (mut entries, mut count) = ([0; 16], 0usize);
-    for part in word.split(',') {
+/// The next word of a row as a list, or the empty one behind the last word.
+fn next_list(row: &mut Row<'_>) -> Option<List> {
+    let mut list = List::of(&[])?;
+    for part in row.word().unwrap_or("-").split(',') {
         if part != "-" {
-            *entries.get_mut(count)? = entry(part)?;
-            count += 1;
+            list.push(entry(part)?)?;
         }
     }
-    Some(List { entries, count })
+    Some(list)
 }
 
 /// A length, or a stride as it is kept.

@@ -5,7 +5,7 @@
 //! twice, before one small request. To make a list of more than four lengths is a request itself.
 use crate::dim::checks::is_one;
 use crate::dim::lists::made;
-use crate::dim::told::{Told, row_holds_at_any_count, table_at_its_type};
+use crate::dim::told::{Told, demand, row_holds_at_any_count, table_at_its_type};
 use nd_dim::{
     Axis, Dimension, FixedCount, IntoDimension, IxDyn, IxDynImpl, Lengths, RemoveAxis, ShapeArg,
     new_dim, new_ixdyn,
@@ -200,10 +200,8 @@ pub(crate) fn asks<D: RemoveAxis + IntoDimension<Dim = D>>(
 /// The rows of a table, at the type of any number of axes.
 fn hold_at_any_count(rt: &impl Abort, alloc: Global, call: Call, table: &str) {
     for line in rows(table) {
-        assert!(rt;
-            row_holds_at_any_count(rt, alloc, Told::Memory(call), line),
-            "{line}"
-        );
+        let holds = row_holds_at_any_count(rt, alloc, Told::Memory(call), line);
+        demand(rt, holds, line);
     }
 }
 

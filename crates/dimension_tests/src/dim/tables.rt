@@ -31,11 +31,6 @@ const SIZES: &str = "\
 5,0,7,1 0
 4,3,2,1,0 0";
 
-#[test]
-fn r2_rows_of_sizes(rt: HostRuntime) {
-    table(&rt, rt.alloc(), Told::Size, SIZES);
-}
-
 const STRIDES: &str = "\
 5 1 1
 2,3 3,1 1,2
@@ -63,11 +58,6 @@ const STRIDES: &str = "\
 1,18446744073709551615 -1,1 1,1
 2,2,2,2,2,2 32,16,8,4,2,1 1,2,4,8,16,32";
 
-#[test]
-fn r2_rows_of_strides(rt: HostRuntime) {
-    table(&rt, rt.alloc(), Told::Strides, STRIDES);
-}
-
 const EQUIVALENT: &str = "\
 - - -
 5 -1 -1
@@ -92,12 +82,6 @@ const NOT_EQUIVALENT: &str = "\
 3,2 2,3 1,1,1,1
 2,3 3,1 1,3
 2,3 3,1 3";
-
-#[test]
-fn r2_rows_of_equivalent_strides(rt: HostRuntime) {
-    table(&rt, rt.alloc(), Told::Equivalent(true), EQUIVALENT);
-    table(&rt, rt.alloc(), Told::Equivalent(false), NOT_EQUIVALENT);
-}
 
 const INSERTED: &str = "\
 3,4,5 2 3,4,1,5
@@ -134,11 +118,6 @@ const INSERTED: &str = "\
 18446744073709551615,0,3,1,2,9 0 1,18446744073709551615,0,3,1,2,9
 18446744073709551615,0,3,1,2,9 3 18446744073709551615,0,3,1,1,2,9";
 
-#[test]
-fn r2_rows_of_insertion(rt: HostRuntime) {
-    table(&rt, rt.alloc(), Told::Inserted, INSERTED);
-}
-
 const REMOVED: &str = "\
 - 3 -
 5 0 -
@@ -173,11 +152,6 @@ const REMOVED: &str = "\
 18446744073709551615,0,3,1,2,9 0 0,3,1,2,9
 18446744073709551615,0,3,1,2,9 3 18446744073709551615,0,3,2,9
 18446744073709551615,0,3,1,2,9 5 18446744073709551615,0,3,1,2";
-
-#[test]
-fn r2_rows_of_removal(rt: HostRuntime) {
-    table(&rt, rt.alloc(), Told::Removed, REMOVED);
-}
 
 const STRIDE_AXES: &str = "\
 5 -1 0,0
@@ -214,11 +188,6 @@ const STRIDE_AXES: &str = "\
 2,3,4,5 0,-60,20,0 3,1
 2,3,4,5,6 -360,120,30,-6,1 4,0";
 
-#[test]
-fn r2_rows_of_stride_axes(rt: HostRuntime) {
-    table(&rt, rt.alloc(), Told::StrideAxes, STRIDE_AXES);
-}
-
 const ORDERS: &str = "\
 -1 0
 -3,-1 1,0
@@ -246,11 +215,6 @@ const ORDERS: &str = "\
 -3,3,2,-2,1,-1 4,5,2,3,0,1
 24,-12,4,0 3,2,1,0";
 
-#[test]
-fn r2_rows_of_stride_order(rt: HostRuntime) {
-    table(&rt, rt.alloc(), Told::Order, ORDERS);
-}
-
 const VALUES: &str = "\
 -
 5
@@ -261,11 +225,6 @@ const VALUES: &str = "\
 1,2,3,4,5,6
 3,2";
 
-#[test]
-fn r2_rows_of_values(rt: HostRuntime) {
-    table(&rt, rt.alloc(), Told::Values, VALUES);
-}
-
 const DIMENSIONS: &str = "\
 -
 2
@@ -274,11 +233,6 @@ const DIMENSIONS: &str = "\
 2,3,4,5
 2,3,4,5,6
 2,3,4,5,6,7";
-
-#[test]
-fn r2_rows_from_dimensions(rt: HostRuntime) {
-    table(&rt, rt.alloc(), Told::Values, DIMENSIONS);
-}
 
 #[test]
 fn r2_rows_of_other_types(rt: HostRuntime) {
@@ -297,11 +251,6 @@ const ZEROS: &str = "\
 2,3,4,5,6 0,0,0,0,0
 1,2,3,4,5,6 0,0,0,0,0,0
 3,2 0,0";
-
-#[test]
-fn r2_rows_of_zeros(rt: HostRuntime) {
-    table(&rt, rt.alloc(), Told::Zeros, ZEROS);
-}
 
 /// Of the types of no axes, of one to six axes, and of any number, for which seven stand.
 const DEFAULTS: &str = "\
@@ -330,11 +279,6 @@ const LAST_LENGTHS: &str = "\
 1,2,3,4,5,6 6
 3,2 2";
 
-#[test]
-fn r2_rows_of_last_lengths(rt: HostRuntime) {
-    table(&rt, rt.alloc(), Told::Last, LAST_LENGTHS);
-}
-
 const LAST_LENGTHS_WRITTEN: &str = "\
 3,4 7 3,7
 5 9 9
@@ -344,11 +288,6 @@ const LAST_LENGTHS_WRITTEN: &str = "\
 2,3,4,5,6 9 2,3,4,5,9
 1,2,3,4,5,6 9 1,2,3,4,5,9
 3,2 9 3,9";
-
-#[test]
-fn r2_rows_of_last_lengths_written(rt: HostRuntime) {
-    table(&rt, rt.alloc(), Told::LastWritten, LAST_LENGTHS_WRITTEN);
-}
 
 const WRITTEN: &str = "\
 3,3 1,7 3,7
@@ -369,6 +308,24 @@ const WRITTEN: &str = "\
 3,2 0,8 8,2";
 
 #[test]
-fn r2_rows_of_entries(rt: HostRuntime) {
-    table(&rt, rt.alloc(), Told::Written, WRITTEN);
+fn r2_rows(rt: HostRuntime) {
+    let tables = [
+        (Told::Size, SIZES),
+        (Told::Strides, STRIDES),
+        (Told::Equivalent(true), EQUIVALENT),
+        (Told::Equivalent(false), NOT_EQUIVALENT),
+        (Told::Inserted, INSERTED),
+        (Told::Removed, REMOVED),
+        (Told::StrideAxes, STRIDE_AXES),
+        (Told::Order, ORDERS),
+        (Told::Values, VALUES),
+        (Told::Values, DIMENSIONS),
+        (Told::Zeros, ZEROS),
+        (Told::Last, LAST_LENGTHS),
+        (Told::LastWritten, LAST_LENGTHS_WRITTEN),
+        (Told::Written, WRITTEN),
+    ];
+    for (told, rows) in tables {
+        table(&rt, rt.alloc(), told, rows);
+    }
 }

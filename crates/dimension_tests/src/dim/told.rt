@@ -130,13 +130,14 @@ fn tells_of_indices<D: Dimension>(
     }
 }
 
-/// Whether a row tells what the calls answer at a type, whose smaller and larger types are these.
-fn tells<D, S, L>(rt: &impl Abort, told: Told, alloc: Global, dim: &D, row: &Lists<'_>) -> bool
-where
-    D: Dimension<Smaller = S, Larger = L> + IntoDimension<Dim = D>,
-    S: Lengths,
-    L: Lengths,
-{
+/// Whether a row tells what the calls answer at a type.
+fn tells<D: Dimension + IntoDimension<Dim = D>>(
+    rt: &impl Abort,
+    told: Told,
+    alloc: Global,
+    dim: &D,
+    row: &Lists<'_>,
+) -> bool {
     let (first, second, third) = (
         row.first.as_slice(),
         row.second.as_slice(),
@@ -153,8 +154,8 @@ where
         Told::Size => has_size(dim, second),
         Told::Strides => has_strides(alloc, dim, second, third),
         Told::Equivalent(answer) => is_equivalent(rt, alloc, dim, second, third) == answer,
-        Told::Inserted => widens::<D, L>(rt, alloc, dim, row.second.at(0), third),
-        Told::Removed => tries_to_narrow::<D, S>(rt, alloc, dim, row.second.at(0), third),
+        Told::Inserted => widens::<D>(rt, alloc, dim, row.second.at(0), third),
+        Told::Removed => tries_to_narrow::<D>(rt, alloc, dim, row.second.at(0), third),
         Told::Last => [dim.last_elem()].as_slice() == second,
         Told::LastWritten => {
             writes_last(dim_of::<D>(rt, alloc, first), row.second.at(0), third)
@@ -175,34 +176,34 @@ fn may_want_memory<D: Lengths>(told: Told, row: &Lists<'_>) -> bool {
     }
 }
 
-/// Whether a row tells what the calls answer at a type, whose smaller and larger types are these.
-fn holds<D, S, L>(rt: &impl Abort, told: Told, alloc: Global, row: &Lists<'_>) -> bool
-where
-    D: Dimension<Smaller = S, Larger = L> + IntoDimension<Dim = D>,
-    S: Lengths,
-    L: Lengths,
-{
+/// Whether a row tells what the calls answer at a type.
+fn holds<D: Dimension + IntoDimension<Dim = D>>(
+    rt: &impl Abort,
+    told: Told,
+    alloc: Global,
+    row: &Lists<'_>,
+) -> bool {
     match made::<D>(alloc, row.first.as_slice()) {
-        Some(dim) => tells::<D, S, L>(rt, told, alloc, &dim, row),
+        Some(dim) => tells::<D>(rt, told, alloc, &dim, row),
         None => may_want_memory::<D>(told, row),
     }
 }
 
 /// The same at a type that can have an axis to remove.
-fn holds_with_axes<D, S, L>(rt: &impl Abort, told: Told, alloc: Global, row: &Lists<'_>) -> bool
-where
-    D: RemoveAxis + Dimension<Smaller = S, Larger = L> + IntoDimension<Dim = D>,
-    S: Lengths,
-    L: Lengths,
-{
+fn holds_with_axes<D: RemoveAxis + IntoDimension<Dim = D>>(
+    rt: &impl Abort,
+    told: Told,
+    alloc: Global,
+    row: &Lists<'_>,
+) -> bool {
     match made::<D>(alloc, row.first.as_slice()) {
         Some(dim) => match told {
             Told::Removed => {
-                narrows::<D, S>(rt, alloc, &dim, row.second.at(0), row.third.as_slice())
-                    && tells::<D, S, L>(rt, told, alloc, &dim, row)
+                narrows::<D>(rt, alloc, &dim, row.second.at(0), row.third.as_slice())
+                    && tells::<D>(rt, told, alloc, &dim, row)
             },
             Told::Memory(call) => asks(alloc, call, &dim, row.second.at(0)),
-            _ => tells::<D, S, L>(rt, told, alloc, &dim, row),
+            _ => tells::<D>(rt, told, alloc, &dim, row),
         },
         None => may_want_memory::<D>(told, row),
     }
@@ -217,14 +218,14 @@ pub(crate) fn holds_at(
     row: &Lists<'_>,
 ) -> bool {
     match ndim {
-        Some(0) => holds::<Ix0, Ix0, Ix1>(rt, told, alloc, row),
-        Some(1) => holds_with_axes::<Ix1, Ix0, Ix2>(rt, told, alloc, row),
-        Some(2) => holds_with_axes::<Ix2, Ix1, Ix3>(rt, told, alloc, row),
-        Some(3) => holds_with_axes::<Ix3, Ix2, Ix4>(rt, told, alloc, row),
-        Some(4) => holds_with_axes::<Ix4, Ix3, Ix5>(rt, told, alloc, row),
-        Some(5) => holds_with_axes::<Ix5, Ix4, Ix6>(rt, told, alloc, row),
-        Some(6) => holds_with_axes::<Ix6, Ix5, IxDyn>(rt, told, alloc, row),
-        _ => holds_with_axes::<IxDyn, IxDyn, IxDyn>(rt, told, alloc, row),
+        Some(0) => holds::<Ix0>(rt, told, alloc, row),
+        Some(1) => holds_with_axes::<Ix1>(rt, told, alloc, row),
+        Some(2) => holds_with_axes::<Ix2>(rt, told, alloc, row),
+        Some(3) => holds_with_axes::<Ix3>(rt, told, alloc, row),
+        Some(4) => holds_with_axes::<Ix4>(rt, told, alloc, row),
+        Some(5) => holds_with_axes::<Ix5>(rt, told, alloc, row),
+        Some(6) => holds_with_axes::<Ix6>(rt, told, alloc, row),
+        _ => holds_with_axes::<IxDyn>(rt, told, alloc, row),
     }
 }
 
@@ -248,17 +249,22 @@ pub(crate) fn row_holds_at_any_count(
     }
 }
 
+/// Fails, and tells the row, where it doesn't hold.
+pub(crate) fn demand(rt: &impl Abort, holds: bool, line: &str) {
+    assert!(rt; holds, "{line}");
+}
+
 /// The rows of a table, one by one, at their types alone.
 pub(crate) fn table_at_its_type(rt: &impl Abort, alloc: Global, told: Told, table: &str) {
     for line in rows(table) {
-        assert!(rt; row_holds_at_its_type(rt, told, alloc, line), "{line}");
+        demand(rt, row_holds_at_its_type(rt, told, alloc, line), line);
     }
 }
 
 /// The rows of a table, one by one.
 pub(crate) fn table(rt: &impl Abort, alloc: Global, told: Told, table: &str) {
     for line in rows(table) {
-        assert!(rt; row_holds_at_any_count(rt, alloc, told, line), "{line}");
-        assert!(rt; row_holds_at_its_type(rt, told, alloc, line), "{line}");
+        demand(rt, row_holds_at_any_count(rt, alloc, told, line), line);
+        demand(rt, row_holds_at_its_type(rt, told, alloc, line), line);
     }
 }

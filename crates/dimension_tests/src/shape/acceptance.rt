@@ -84,22 +84,6 @@ const ORDERS_OF_FIVE: &str = "\
 2,3,1,2,2 2,3,1,2,2 - 1,24 => none
 2,3,1,2,2 2,3,1,2,2 - 1,23 => OutOfBounds";
 
-#[test]
-fn r3_rows_of_standard_shapes(rt: HostRuntime) {
-    table(
-        &rt,
-        rt.alloc(),
-        Told::Asked(Question::Orders),
-        ORDERS_OF_TWO,
-    );
-    table(
-        &rt,
-        rt.alloc(),
-        Told::Asked(Question::Orders),
-        ORDERS_OF_FIVE,
-    );
-}
-
 const OWNED: &str = "\
 3,2 2,3 - 1,8 => Unsupported
 3,2 -2,1 - 1,6 => none";
@@ -107,12 +91,6 @@ const OWNED: &str = "\
 const READ: &str = "\
 3,2 2,3 - 1,8 => none
 3,2 2,3 - 1,7 => OutOfBounds";
-
-#[test]
-fn r3_rows_of_given_strides(rt: HostRuntime) {
-    table(&rt, rt.alloc(), Told::Asked(Question::Owned), OWNED);
-    table(&rt, rt.alloc(), Told::Asked(Question::Read), READ);
-}
 
 /// Whether strides have this fault, as they lead back, or none.
 pub(crate) fn has_sign_fault<D: Dimension>(strides: &D, fault: &str) -> bool {
@@ -124,17 +102,21 @@ const SIGNS: &str = "\
 3,0 3,0 - 1,0 => none
 0,1 -9223372036854775808,1 - 1,0 => Unsupported
 4,3,2,1,0 4,3,2,1,9223372036854775807 - 1,0 => none
-4,3,0,1,0 4,3,-2,1,0 - 1,0 => Unsupported";
+4,3,0,1,0 4,3,-2,1,0 - 1,0 => Unsupported
+3,1 -3,1 - 1,0 => Unsupported";
 
 #[test]
-fn r3_rows_of_signs(rt: HostRuntime) {
-    table(&rt, rt.alloc(), Told::Asked(Question::Signs), SIGNS);
-    table(
-        &rt,
-        rt.alloc(),
-        Told::Asked(Question::Signs),
-        "3,1 -3,1 - 1,0 => Unsupported",
-    );
+fn r3_rows(rt: HostRuntime) {
+    let tables = [
+        (Question::Orders, ORDERS_OF_TWO),
+        (Question::Orders, ORDERS_OF_FIVE),
+        (Question::Owned, OWNED),
+        (Question::Read, READ),
+        (Question::Signs, SIGNS),
+    ];
+    for (question, rows) in tables {
+        table(&rt, rt.alloc(), Told::Asked(question), rows);
+    }
 }
 
 /// Whether a shape by its own strides is accepted over the same data as along these strides, where

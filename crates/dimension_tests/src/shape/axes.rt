@@ -29,12 +29,6 @@ pub(crate) fn is_in_turn<D: Dimension>(dim: &D, strides: &D) -> bool {
     dim.ndim() == strides.ndim() && are_in_turn(axes_of(dim, strides))
 }
 
-#[test]
-fn r3_rows(rt: HostRuntime) {
-    let row = "2,3,4 12,-4,1";
-    table(&rt, rt.alloc(), Told::Asked(Question::InTurn), row);
-}
-
 /// Whether so many axes are left.
 fn are_left(axes: Axes<'_>, count: usize) -> bool {
     axes.len() == count && axes.size_hint() == (count, Some(count))
@@ -52,12 +46,6 @@ fn have_lengths(mut axes: Axes<'_>) -> bool {
 /// The same of the axes of a layout.
 pub(crate) fn has_lengths<D: Dimension>(dim: &D, strides: &D) -> bool {
     dim.ndim() == strides.ndim() && have_lengths(axes_of(dim, strides))
-}
-
-#[test]
-fn lengths_of_walks(rt: HostRuntime) {
-    let row = "2,3,4 2,3,4";
-    table(&rt, rt.alloc(), Told::Asked(Question::Lengths), row);
 }
 
 /// The lengths of all axes together, by one walk along them, where they fit.
@@ -78,8 +66,14 @@ pub(crate) fn has_sum<D: Dimension>(dim: &D, strides: &D, total: usize) -> bool 
 }
 
 #[test]
-fn a_walk_adds_lengths(rt: HostRuntime) {
-    let (three, five) = ("2,3,4 12,4,1 9", "2,3,1,4,2 2,3,1,4,2 12");
-    table(&rt, rt.alloc(), Told::Asked(Question::Sum), three);
-    table(&rt, rt.alloc(), Told::Asked(Question::Sum), five);
+fn r3_rows(rt: HostRuntime) {
+    let rows = [
+        (Question::InTurn, "2,3,4 12,-4,1"),
+        (Question::Lengths, "2,3,4 2,3,4"),
+        (Question::Sum, "2,3,4 12,4,1 9"),
+        (Question::Sum, "2,3,1,4,2 2,3,1,4,2 12"),
+    ];
+    for (question, row) in rows {
+        table(&rt, rt.alloc(), Told::Asked(question), row);
+    }
 }

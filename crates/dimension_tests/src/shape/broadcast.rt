@@ -24,6 +24,14 @@ fn common<D1: Dimension, D2: Dimension, Output: Dimension>(
     }
 }
 
+/// Whether this is the fault of two shapes.
+fn is_fault(error: LayoutError, fault: &str) -> bool {
+    match error {
+        LayoutError::Shape(error) => name_of(Some(error.kind())) == fault,
+        LayoutError::Memory(_) => false,
+    }
+}
+
 /// Whether two shapes have these lengths in common, or this fault.
 fn is_common<D1: Dimension, D2: Dimension, Output: Dimension>(
     alloc: Global,
@@ -34,8 +42,7 @@ fn is_common<D1: Dimension, D2: Dimension, Output: Dimension>(
 ) -> bool {
     match common::<D1, D2, Output>(alloc, shape1, shape2) {
         Some(Ok(common)) => common.slice() == lens && fault.is_empty(),
-        Some(Err(LayoutError::Shape(error))) => name_of(Some(error.kind())) == fault,
-        Some(Err(LayoutError::Memory(_error))) => false,
+        Some(Err(error)) => is_fault(error, fault),
         None => false,
     }
 }
@@ -78,13 +85,21 @@ fn r5_rows(rt: HostRuntime) {
     table(&rt, rt.alloc(), Told::Asked(Question::Common), COMMON);
 }
 
+/// Whether shapes of two types have these lengths in common, in the type of the other one and in a third.
+fn types_share<D1: Dimension, D2: Dimension, D3: Dimension>(
+    alloc: Global,
+    shape: &D1,
+    other: &D2,
+    lens: &[usize],
+) -> bool {
+    is_common::<D1, D2, D2>(alloc, shape, other, lens, "")
+        && is_common::<D1, D2, D3>(alloc, shape, other, lens, "")
+}
+
 #[test]
 fn r5_rows_of_fixed_types(rt: HostRuntime) {
     let (shape, other) = (new_ix2(2, 3), new_ix3(4, 1, 3));
-    assert!(rt;
-        is_common::<Ix2, Ix3, Ix3>(rt.alloc(), &shape, &other, &[4, 2, 3], "")
-            && is_common::<Ix2, Ix3, IxDyn>(rt.alloc(), &shape, &other, &[4, 2, 3], "")
-    );
+    assert!(rt; types_share::<Ix2, Ix3, IxDyn>(rt.alloc(), &shape, &other, &[4, 2, 3]));
 }
 
 // More than four axes ask for memory. To make the two shapes takes the first two requests.

@@ -1,10 +1,9 @@
 //! Walks over all indices of a shape, in either order.
 ghost use Rattle.std.specs.Iterator.{IsFinite};
 
-use crate::dim::lists::dim_of;
-use nd_dim::{
-    Dimension, IntoDimension, Ix0, Ix1, Ix2, Ix3, Ix4, IxDyn, Lengths, new_ix2, new_ix3, new_ixdyn,
-};
+use crate::dim::lists::{List, dim_of};
+use crate::dim::told::demand;
+use nd_dim::{Dimension, IntoDimension, Ix0, Ix1, Ix2, Ix3, Ix4, IxDyn, Lengths, Order, new_ixdyn};
 use nd_shape::{IndexCursor, IndexCursorF, IndicesIter, IndicesIterF, all_indices, indices_iter_f};
 use nd_testing::{Row, asked, rows};
 use std::alloc::{AllocError, Global};
@@ -79,6 +78,33 @@ fn yields<T: IntoDimension, W: ExactSizeIterator<Item = T> + Drop>(
     is_end(alloc, walk.next()) && is_end(alloc, walk.next()) && walk.size_hint() == (0, Some(0))
 }
 
+/// What lends the indices of a shape, in either order.
+trait LendingWalk {
+    fn lend(&mut self) -> Option<&[usize]>;
+
+    fn left(&self) -> usize;
+}
+
+impl LendingWalk for IndexCursor {
+    fn lend(&mut self) -> Option<&[usize]> {
+        self.next()
+    }
+
+    fn left(&self) -> usize {
+        self.len()
+    }
+}
+
+impl LendingWalk for IndexCursorF {
+    fn lend(&mut self) -> Option<&[usize]> {
+        self.next()
+    }
+
+    fn left(&self) -> usize {
+        self.len()
+    }
+}
+
 /// The cursor over a shape by rows. (It is made here alone, since what is ensured of it is dear.)
 fn row_cursor(alloc: Global, dim: IxDyn) -> Result<IndexCursor, AllocError> {
     if dim.size_checked().is_none() {
@@ -95,51 +121,49 @@ fn column_cursor(alloc: Global, dim: IxDyn) -> Result<IndexCursorF, AllocError> 
     IndexCursorF::new(alloc, dim)
 }
 
-/// Whether the indices that a cursor lends by rows are those of a row, and none follow.
-fn lends_rows(alloc: Global, dim: IxDyn, row: &mut Row<'_>, count: usize) -> bool {
-    let Ok(mut cursor) = row_cursor(alloc, dim) else {
-        return false;
+/// Whether the next index that a cursor lends is that of a row, and so many are left.
+fn lends_next<C: LendingWalk>(
+    alloc: Global,
+    cursor: &mut C,
+    row: &mut Row<'_>,
+    left: usize,
+) -> bool {
+    let is_told = match cursor.lend() {
+        Some(index) => tells(alloc, row, index),
+        None => false,
     };
-    for left in (0..count).rev() {
-        match cursor.next() {
-            Some(index) if tells(alloc, row, index) => {}
-            _ => return false,
-        }
-        if cursor.len() != left {
-            return false;
-        }
-    }
-    cursor.next().is_none() && cursor.next().is_none() && cursor.len() == 0
+    is_told && cursor.left() == left
 }
 
-/// The same by columns.
-fn lends_columns(alloc: Global, dim: IxDyn, row: &mut Row<'_>, count: usize) -> bool {
-    let Ok(mut cursor) = column_cursor(alloc, dim) else {
+/// Whether the indices that a cursor lends are those of a row, and none follow.
+fn lends_all<C: LendingWalk + Drop>(
+    alloc: Global,
+    cursor: Result<C, AllocError>,
+    row: &mut Row<'_>,
+    count: usize,
+) -> bool {
+    let Ok(mut cursor) = cursor else {
         return false;
     };
     for left in (0..count).rev() {
-        match cursor.next() {
-            Some(index) if tells(alloc, row, index) => {}
-            _ => return false,
-        }
-        if cursor.len() != left {
+        if !lends_next(alloc, &mut cursor, row, left) {
             return false;
         }
     }
-    cursor.next().is_none() && cursor.next().is_none() && cursor.len() == 0
+    cursor.lend().is_none() && cursor.lend().is_none() && cursor.left() == 0
 }
 
 /// What a row tells of the walks over a shape.
 #[derive(Clone, Copy)]
 enum Walk {
-    /// How many indices it has, and these by rows.
-    Rows,
-    /// The same by columns.
-    Columns,
+    /// How many indices it has, and these in an order.
+    All(Order),
     /// How many indices it has, and the first one.
     Starts,
     /// That a loop over a copy of a walk meets what is left.
     Folds,
+    /// A factor, how many indices are gone, and what a fold makes of the others.
+    Folded,
 }
 
 /// Whether the walk over a shape has so many indices, and a row tells the first one.
@@ -165,16 +189,17 @@ fn holds<D: Dimension + Copy>(
     let dim: D = dim_of(rt, alloc, lens);
     let count = row.length().unwrap_or(0);
     match walk {
-        Walk::Rows => match by_rows(alloc, dim) {
+        Walk::All(Order::RowMajor) => match by_rows(alloc, dim) {
             Some(walk) => yields(alloc, walk, row, count),
             None => false,
         },
-        Walk::Columns => match by_columns(alloc, dim) {
+        Walk::All(Order::ColumnMajor) => match by_columns(alloc, dim) {
             Some(walk) => yields(alloc, walk, row, count),
             None => false,
         },
         Walk::Starts => starts(alloc, dim, row, count),
         Walk::Folds => folds(alloc, dim, 0) && folds(alloc, dim, 1) && folds(alloc, dim, 2),
+        Walk::Folded => is_folded(alloc, dim, lens, count, row),
     }
 }
 
@@ -195,7 +220,7 @@ fn holds_at_its_type(rt: &impl Abort, alloc: Global, walk: Walk, line: &str) -> 
 }
 
 /// The same of a cursor.
-fn lends(alloc: Global, walk: Walk, line: &str) -> bool {
+fn lends(alloc: Global, order: Order, line: &str) -> bool {
     let mut row = Row::new(line);
     let (Ok(lens), Ok(count)) = (row.lengths(alloc), row.length()) else {
         return false;
@@ -203,17 +228,20 @@ fn lends(alloc: Global, walk: Walk, line: &str) -> bool {
     let Ok(dim) = new_ixdyn(alloc, lens.as_slice()) else {
         return false;
     };
-    match walk {
-        Walk::Rows => lends_rows(alloc, dim, &mut row, count),
-        Walk::Columns => lends_columns(alloc, dim, &mut row, count),
-        _ => false,
+    match order {
+        Order::RowMajor => lends_all(alloc, row_cursor(alloc, dim), &mut row, count),
+        Order::ColumnMajor => lends_all(alloc, column_cursor(alloc, dim), &mut row, count),
     }
 }
 
-fn table(rt: &impl Abort, alloc: Global, walk: Walk, table: &str) {
+fn table(rt: &impl Abort, alloc: Global, order: Order, table: &str) {
     for line in rows(table) {
-        assert!(rt; holds_at_its_type(rt, alloc, walk, line), "{line}");
-        assert!(rt; lends(alloc, walk, line), "{line}");
+        demand(
+            rt,
+            holds_at_its_type(rt, alloc, Walk::All(order), line),
+            line,
+        );
+        demand(rt, lends(alloc, order, line), line);
     }
 }
 
@@ -242,17 +270,17 @@ const THREE_AXES_BY_COLUMNS: &str = "\
 #[test]
 fn r7_rows(rt: HostRuntime) {
     let alloc = rt.alloc();
-    table(&rt, alloc, Walk::Rows, "- 1 -");
-    table(&rt, alloc, Walk::Rows, TWO_AXES_BY_ROWS);
-    table(&rt, alloc, Walk::Rows, THREE_AXES_BY_ROWS);
+    table(&rt, alloc, Order::RowMajor, "- 1 -");
+    table(&rt, alloc, Order::RowMajor, TWO_AXES_BY_ROWS);
+    table(&rt, alloc, Order::RowMajor, THREE_AXES_BY_ROWS);
 }
 
 #[test]
 fn r7_rows_by_columns(rt: HostRuntime) {
     let alloc = rt.alloc();
-    table(&rt, alloc, Walk::Columns, "- 1 -");
-    table(&rt, alloc, Walk::Columns, TWO_AXES_BY_COLUMNS);
-    table(&rt, alloc, Walk::Columns, THREE_AXES_BY_COLUMNS);
+    table(&rt, alloc, Order::ColumnMajor, "- 1 -");
+    table(&rt, alloc, Order::ColumnMajor, TWO_AXES_BY_COLUMNS);
+    table(&rt, alloc, Order::ColumnMajor, THREE_AXES_BY_COLUMNS);
 }
 
 #[test]
@@ -274,29 +302,41 @@ fn number_of<T: IntoDimension>(alloc: Global, item: T) -> usize {
     number
 }
 
-/// Whether a loop over a copy of a walk meets the items that are still to come, as many as it tells.
-fn folds<D: Dimension + Copy>(alloc: Global, dim: D, gone: usize) -> bool {
-    let Some(mut walk) = by_rows(alloc, dim) else {
-        return false;
-    };
+/// How many items a walk has, and a number that tells them from others.
+fn met<T: IntoDimension, W: Iterator<Item = T> + Drop>(alloc: Global, walk: W) -> (usize, usize)
+    requires can { (state : W) → W.can_next state }
+    requires ends { IsFinite (W.remaining walk) }
+{
+    let (mut count, mut told) = (0_usize, 0_usize);
+    for item in walk {
+        count = count.wrapping_add(1);
+        told = told.wrapping_mul(31).wrapping_add(number_of(alloc, item));
+    }
+    (count, told)
+}
+
+/// The walk over a shape by rows, once so many indices are gone.
+fn left_by_rows<D: Dimension + Copy>(alloc: Global, dim: D, gone: usize) -> Option<IndicesIter<D>> {
+    let mut walk = by_rows(alloc, dim)?;
     for _ in 0..gone {
         is_end(alloc, walk.next());
     }
-    let len = walk.len();
-    let copy: Result<_, _> = walk.clone();
-    let Ok(copy) = copy else {
+    Some(walk)
+}
+
+/// Whether a loop over a copy of a walk meets the items that are still to come, as many as it tells.
+fn folds<D: Dimension + Copy>(alloc: Global, dim: D, gone: usize) -> bool {
+    let Some(walk) = left_by_rows(alloc, dim, gone) else {
         return false;
     };
-    let (mut count, mut met) = (0_usize, 0_usize);
-    for item in copy {
-        count = count.wrapping_add(1);
-        met = met.wrapping_mul(31).wrapping_add(number_of(alloc, item));
+    let (len, copy): (_, Result<_, _>) = (walk.len(), walk.clone());
+    match copy {
+        Ok(copy) => {
+            let told = met(alloc, copy);
+            told.0 == len && met(alloc, walk) == told
+        },
+        Err(_) => false,
     }
-    let mut sum = 0_usize;
-    for item in walk {
-        sum = sum.wrapping_mul(31).wrapping_add(number_of(alloc, item));
-    }
-    (count, met) == (len, sum)
 }
 
 const FOLDED: &str = "\
@@ -310,34 +350,94 @@ const FOLDED: &str = "\
 #[test]
 fn r7_rows_of_folds(rt: HostRuntime) {
     for line in rows(FOLDED) {
-        assert!(rt;
+        demand(
+            &rt,
             holds_at_its_type(&rt, rt.alloc(), Walk::Folds, line),
-            "{line}"
+            line,
+        );
+    }
+}
+
+/// The rank of an index in a shape.
+fn rank_of<T: IntoDimension>(alloc: Global, lens: List, item: T) -> usize {
+    let mut rank = 0_usize;
+    if let Ok(index) = item.into_dimension(alloc) {
+        for (len, entry) in lens.as_slice().iter().zip(index.slice()) {
+            rank = rank.wrapping_mul(*len).wrapping_add(*entry);
+        }
+    }
+    rank
+}
+
+/// What a fold over a walk makes of the ranks of its items in a shape.
+fn folded<T: IntoDimension, W: Iterator<Item = T> + Drop>(
+    alloc: Global,
+    walk: W,
+    lens: &[usize],
+    factor: usize,
+) -> Option<usize>
+    requires can { (state : W) → W.can_next state }
+    requires ends { IsFinite (W.remaining walk) }
+{
+    let lens = List::of(lens)?;
+    Some(walk.fold(1_usize, move |told, item| {
+        told.wrapping_mul(factor)
+            .wrapping_add(rank_of(alloc, lens, item))
+    }))
+}
+
+/// Whether a fold over the indices that are left makes what a row tells.
+fn is_folded<D: Dimension + Copy>(
+    alloc: Global,
+    dim: D,
+    lens: &[usize],
+    factor: usize,
+    row: &mut Row<'_>,
+) -> bool {
+    let Some(walk) = left_by_rows(alloc, dim, row.length().unwrap_or(0)) else {
+        return false;
+    };
+    match (folded(alloc, walk, lens, factor), row.length()) {
+        (Some(folded), Ok(wanted)) => folded == wanted,
+        _ => false,
+    }
+}
+
+const RANKS_FOLDED: &str = "\
+2,3 10 0 1012345
+2,3 10 1 112345
+2,3 10 2 12345
+2,3,4 31 0 9080093417489650957
+2,3,4 31 1 6872714081735186155
+2,3,4 31 2 14177832400027191308";
+
+#[test]
+fn r7_rows_of_folded_ranks(rt: HostRuntime) {
+    for line in rows(RANKS_FOLDED) {
+        demand(
+            &rt,
+            holds_at_its_type(&rt, rt.alloc(), Walk::Folded, line),
+            line,
         );
     }
 }
 
 // ---- memory
 
-/// Whether the cursor over a shape by rows is made.
-fn rows_are_made(alloc: Global, lens: &[usize]) -> bool {
-    match new_ixdyn(alloc, lens) {
-        Ok(dim) => row_cursor(alloc, dim).is_ok(),
-        Err(_) => false,
-    }
-}
-
-/// The same by columns.
-fn columns_are_made(alloc: Global, lens: &[usize]) -> bool {
-    match new_ixdyn(alloc, lens) {
-        Ok(dim) => column_cursor(alloc, dim).is_ok(),
-        Err(_) => false,
+/// Whether the cursor over a shape is made.
+fn is_made(alloc: Global, order: Order, lens: &[usize]) -> bool {
+    let Ok(dim) = new_ixdyn(alloc, lens) else {
+        return false;
+    };
+    match order {
+        Order::RowMajor => row_cursor(alloc, dim).is_ok(),
+        Order::ColumnMajor => column_cursor(alloc, dim).is_ok(),
     }
 }
 
 /// Whether the cursors over a shape are made.
 fn are_made(alloc: Global, lens: &[usize]) -> bool {
-    rows_are_made(alloc, lens) && columns_are_made(alloc, lens)
+    is_made(alloc, Order::RowMajor, lens) && is_made(alloc, Order::ColumnMajor, lens)
 }
 
 #[test]
@@ -354,63 +454,16 @@ fn memory_of_cursors_of_four_axes(rt: HostRuntime) {
 }
 
 /// How many indices a cursor is to lend, if there was memory for it.
-fn len_of_rows(cursor: Result<IndexCursor, AllocError>) -> Result<usize, AllocError> {
-    Ok(cursor?.len())
-}
-
-fn len_of_columns(cursor: Result<IndexCursorF, AllocError>) -> Result<usize, AllocError> {
-    Ok(cursor?.len())
+fn len_of<C: LendingWalk + Drop>(cursor: Result<C, AllocError>) -> Result<usize, AllocError> {
+    Ok(cursor?.left())
 }
 
 // To make the two shapes takes the first two requests.
 #[test]
 fn late_memory_of_cursors(rt: HostRuntime) {
-    let alloc = rt.alloc();
-    let lens = [1, 2, 3, 2, 1].as_slice();
-    let (dim, other) = (new_ixdyn(alloc, lens), new_ixdyn(alloc, lens));
-    let (Ok(dim), Ok(other)) = (dim, other) else {
-        panic!(rt; "memory");
-    };
-    let rows = len_of_rows(row_cursor(alloc, dim));
-    let columns = len_of_columns(column_cursor(alloc, other));
+    let (alloc, lens) = (rt.alloc(), [1, 2, 3, 2, 1]);
+    let (dim, other): (IxDyn, IxDyn) = (dim_of(&rt, alloc, &lens), dim_of(&rt, alloc, &lens));
+    let rows = len_of(row_cursor(alloc, dim));
+    let columns = len_of(column_cursor(alloc, other));
     assert!(rt; asked(alloc, rows, columns));
-}
-
-// ---- folds of what is left
-
-/// What a fold over the indices of two axes of 2 and 3 entries that are left makes of their ranks.
-fn folded_of_two(walk: &IndicesIter<Ix2>) -> usize {
-    walk.clone().unwrap().fold(1_usize, |told, (i, j)| {
-        let rank = i.wrapping_mul(3).wrapping_add(j);
-        told.wrapping_mul(10).wrapping_add(rank)
-    })
-}
-
-/// The same of three axes of 2, 3 and 4 entries, with what does not fit cut off.
-fn folded_of_three(walk: &IndicesIter<Ix3>) -> usize {
-    walk.clone().unwrap().fold(1_usize, |told, (i, j, k)| {
-        let row = i.wrapping_mul(3).wrapping_add(j);
-        let rank = row.wrapping_mul(4).wrapping_add(k);
-        told.wrapping_mul(31).wrapping_add(rank)
-    })
-}
-
-#[test]
-fn r7_rows_of_folds_of_two_axes(rt: HostRuntime) {
-    let mut walk = by_rows(rt.alloc(), new_ix2(2, 3)).expect(&rt, "a walk");
-    assert_eq!(rt; folded_of_two(&walk), 1012345);
-    walk.next();
-    assert_eq!(rt; folded_of_two(&walk), 112345);
-    walk.next();
-    assert_eq!(rt; folded_of_two(&walk), 12345);
-}
-
-#[test]
-fn r7_rows_of_folds_of_three_axes(rt: HostRuntime) {
-    let mut walk = by_rows(rt.alloc(), new_ix3(2, 3, 4)).expect(&rt, "a walk");
-    assert_eq!(rt; folded_of_three(&walk), 9080093417489650957);
-    walk.next();
-    assert_eq!(rt; folded_of_three(&walk), 6872714081735186155);
-    walk.next();
-    assert_eq!(rt; folded_of_three(&walk), 14177832400027191308);
 }

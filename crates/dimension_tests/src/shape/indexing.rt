@@ -3,9 +3,10 @@ ghost use Rattle.std.specs.Prelude.{IsTrue};
 ghost use Rattle.nd_base.specs.Signed.{all_signed};
 ghost use Rattle.nd_base.specs.ValidLayout.{IsValidLayout};
 
+use crate::dim::lists::{dim_of, made};
 use nd_dim::{
     Dimension, Ix0, Ix1, Ix2, Ix3, Ix4, Ix5, Ix6, IxDyn, Lengths, new_ix0, new_ix1, new_ix2,
-    new_ix3, new_ix4, new_ix5, new_ix6, new_ixdyn, unsigned,
+    new_ix3, new_ix4, new_ix5, new_ix6, unsigned,
 };
 use nd_shape::{CanIndexCheckMode, NdIndex, can_index_slice};
 use std::alloc::Global;
@@ -14,9 +15,10 @@ use std::alloc::Global;
 fn is_layout(alloc: Global, shape: &[usize], strides: &[usize]) -> bool
     ensures { IsTrue result → IsValidLayout shape.now (all_signed strides.now) }
 {
-    match (new_ixdyn(alloc, shape), new_ixdyn(alloc, strides)) {
-        (Ok(shape), Ok(strides)) => {
-            can_index_slice(1, 120, &shape, &strides, CanIndexCheckMode::ReadOnly).is_ok()
+    let (shape, strides) = (made::<IxDyn>(alloc, shape), made::<IxDyn>(alloc, strides));
+    match (&shape, &strides) {
+        (Some(shape), Some(strides)) => {
+            can_index_slice(1, 120, shape, strides, CanIndexCheckMode::ReadOnly).is_ok()
         }
         _ => false,
     }
@@ -127,20 +129,14 @@ fn rows_of_entries_hold(alloc: Global, dim: &IxDyn, strides: &IxDyn) -> bool {
 
 #[test]
 fn r3_rows(rt: HostRuntime) {
-    let alloc = rt.alloc();
-    let is_made = match (new_ixdyn(alloc, &[2, 3]), new_ixdyn(alloc, &[3, 1])) {
-        (Ok(dim), Ok(strides)) => rows_of_lists_hold(alloc, &dim, &strides),
-        _ => false,
-    };
-    assert!(rt; is_made);
+    let dim: IxDyn = dim_of(&rt, rt.alloc(), &[2, 3]);
+    let strides: IxDyn = dim_of(&rt, rt.alloc(), &[3, 1]);
+    assert!(rt; rows_of_lists_hold(rt.alloc(), &dim, &strides));
 }
 
 #[test]
 fn at_one_of_any_number_of_axes(rt: HostRuntime) {
-    let alloc = rt.alloc();
-    let is_made = match (new_ixdyn(alloc, &[4]), new_ixdyn(alloc, &[3])) {
-        (Ok(dim), Ok(strides)) => rows_of_entries_hold(alloc, &dim, &strides),
-        _ => false,
-    };
-    assert!(rt; is_made);
+    let dim: IxDyn = dim_of(&rt, rt.alloc(), &[4]);
+    let strides: IxDyn = dim_of(&rt, rt.alloc(), &[3]);
+    assert!(rt; rows_of_entries_hold(rt.alloc(), &dim, &strides));
 }

@@ -72,6 +72,16 @@ fn r5_rows_of_bits(rt: HostRuntime) {
     prints(&rt, alloc, Layout::fpref(), "f (0x8)", -1);
 }
 
+/// Whether a set has each of the bits.
+fn bits_of(layout: Layout) -> [bool; 4] {
+    [
+        layout.is(Layout::CORDER),
+        layout.is(Layout::FORDER),
+        layout.is(Layout::CPREFER),
+        layout.is(Layout::FPREFER),
+    ]
+}
+
 #[test]
 fn r5_rows_of_two_sets_of_bits(rt: HostRuntime) {
     let alloc = rt.alloc();
@@ -103,8 +113,5 @@ fn r5_rows_of_two_sets_of_bits(rt: HostRuntime) {
         Layout::FPREFER,
     ];
     assert_eq!(rt; flags, [1, 2, 4, 8]);
-    assert_eq!(rt;
-        flags.map(|flag| Layout::c().is(flag)),
-        [true, false, true, false]
-    );
+    assert_eq!(rt; bits_of(Layout::c()), [true, false, true, false]);
 }

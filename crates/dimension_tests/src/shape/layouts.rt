@@ -8,11 +8,12 @@ use crate::dim::lists::{Lists, made};
 use crate::dim::told::{Told, table};
 use crate::shape::questions::Question;
 use CanIndexCheckMode::{OwnedMutable, ReadOnly};
-use nd_dim::{Dimension, ErrorKind, ShapeError};
+use nd_dim::{Dimension, ErrorKind};
 use nd_shape::{
     CanIndexCheckMode, NdIndex, can_index_slice, dim_stride_overlap, max_abs_offset_check_overflow,
     offset_from_low_addr_ptr_to_logical_ptr, size_of_shape_checked,
 };
+use nd_testing::or_fault;
 use std::alloc::Global;
 use std::process::Abort;
 
@@ -29,14 +30,6 @@ type Answer = (
     Result<(), ErrorKind>,
     Result<Extent, ErrorKind>,
 );
-
-/// The answer of a call, or of what kind its refusal is.
-fn or_kind<T: Drop>(answer: Result<T, ShapeError>) -> Result<T, ErrorKind> {
-    match answer {
-        Ok(answer) => Ok(answer),
-        Err(fault) => Err(fault.kind()),
-    }
-}
 
 /// What is told of a layout, where data may be read through it.
 fn read<D: Dimension>(data: Data, dim: &D, strides: &D, index: &D) -> Result<Extent, ErrorKind> {
@@ -58,9 +51,9 @@ fn read<D: Dimension>(data: Data, dim: &D, strides: &D, index: &D) -> Result<Ext
 fn ask<D: Dimension>(data: Data, dim: &D, strides: &D, index: &D) -> Answer {
     let (elem_size, len) = data;
     (
-        or_kind(size_of_shape_checked(dim)),
-        or_kind(max_abs_offset_check_overflow(elem_size, dim, strides)),
-        or_kind(can_index_slice(elem_size, len, dim, strides, OwnedMutable)),
+        or_fault(size_of_shape_checked(dim)),
+        or_fault(max_abs_offset_check_overflow(elem_size, dim, strides)),
+        or_fault(can_index_slice(elem_size, len, dim, strides, OwnedMutable)),
         read(data, dim, strides, index),
     )
 }
@@ -85,11 +78,6 @@ pub(crate) fn is_laid_out<D: Dimension>(
         Some(index) => is_told(rt, alloc, ask(data, dim, strides, &index), row.answer),
         None => D::NDIM.is_some(),
     }
-}
-
-/// A table of layouts.
-fn tells(rt: &impl Abort, alloc: Global, layouts: &str) {
-    table(rt, alloc, Told::Asked(Question::Layout), layouts);
 }
 
 /// Layouts of one axis and of two, and indices of the shape 2, 3.
@@ -122,11 +110,6 @@ const R1: &str = "\
 2,3 3,1 1,2 1,6 => (Ok(6), Ok(5), Ok(()), Ok((false, 0, Some((5, 5)))))
 2,3 3,1 1,3 1,6 => (Ok(6), Ok(5), Ok(()), Ok((false, 0, None)))
 2,3 3,1 2,0 1,6 => (Ok(6), Ok(5), Ok(()), Ok((false, 0, None)))";
-
-#[test]
-fn r1_rows(rt: HostRuntime) {
-    tells(&rt, rt.alloc(), R1);
-}
 
 /// Layouts of no axes and of three: how far they reach, and which of their indices may share
 /// an element.
@@ -177,12 +160,6 @@ const SMALL: &str = "\
 1 1 0 0,1 => (Ok(1), Ok(0), Ok(()), Ok((false, 0, Some((0, 0)))))
 2,1 1,0 1,0 0,2 => (Ok(2), Ok(1), Ok(()), Ok((false, 0, Some((1, 1)))))
 1 1 0 0,0 => (Ok(1), Ok(0), Err(OutOfBounds), Err(OutOfBounds))";
-
-#[test]
-fn r3_rows(rt: HostRuntime) {
-    tells(&rt, rt.alloc(), REACH);
-    tells(&rt, rt.alloc(), SMALL);
-}
 
 /// Layouts in which no two indices share an element: over as many elements as they span, over one
 /// more, and with elements so large that the span in bytes passes the limit.
@@ -241,13 +218,6 @@ const INDICES: &str = "\
 2,3,1,2,2 24,-8,5,2,-1 1,2,0,1 4,2305843009213693951 \
   => (Ok(24), Ok(43), Ok(()), Ok((false, 17, None)))";
 
-#[test]
-fn rows_at_every_dimension_type(rt: HostRuntime) {
-    tells(&rt, rt.alloc(), APART);
-    tells(&rt, rt.alloc(), SHARED_AND_EMPTY);
-    tells(&rt, rt.alloc(), INDICES);
-}
-
 /// Sizes that pass the limit and sizes that do not; spans and offsets at the limit and beyond it;
 /// and fewer strides than lengths.
 const LIMITS: &str = "\
@@ -280,6 +250,8 @@ const LIMITS: &str = "\
   => (Ok(6), Err(IncompatibleLayout), Err(IncompatibleLayout), Err(IncompatibleLayout))";
 
 #[test]
-fn limits(rt: HostRuntime) {
-    tells(&rt, rt.alloc(), LIMITS);
+fn r3_rows(rt: HostRuntime) {
+    for layouts in [R1, REACH, SMALL, APART, SHARED_AND_EMPTY, INDICES, LIMITS] {
+        table(&rt, rt.alloc(), Told::Asked(Question::Layout), layouts);
+    }
 }

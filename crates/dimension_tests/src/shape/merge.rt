@@ -66,11 +66,6 @@ const MERGED: &str = "\
 3,2 2,1 1,1 3,2,2,1 => no two axes
 3,2 2,1 0,2 3,2,2,1 => no two axes";
 
-#[test]
-fn r5_rows(rt: HostRuntime) {
-    table(&rt, rt.alloc(), Told::Asked(Question::Merged), MERGED);
-}
-
 /// Whether a layout is this one once its least stride is moved to the end.
 pub(crate) fn moves<D: Dimension>(alloc: Global, dim: &D, mut strides: D, row: &Lists<'_>) -> bool {
     let Ok(mut dim) = dim.duplicate(alloc) else {
@@ -103,6 +98,7 @@ const MOVED: &str = "\
 2,3,4,5 9,1,8,2 2,5,4,3 9,2,8,1";
 
 #[test]
-fn r5_rows_of_moved_axes(rt: HostRuntime) {
+fn r5_rows(rt: HostRuntime) {
+    table(&rt, rt.alloc(), Told::Asked(Question::Merged), MERGED);
     table(&rt, rt.alloc(), Told::Asked(Question::Moved), MOVED);
 }

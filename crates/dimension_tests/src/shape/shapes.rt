@@ -216,9 +216,30 @@ fn shape_builds<D: Dimension + Copy>(
     }
 }
 
+/// Whether this is built of lengths and strides in two forms, of the dimension itself and of its shape; and
+/// these are the strides of that shape by columns.
+fn all_build<D, P, A>(
+    alloc: Global,
+    patterns: (P, P),
+    arrays: (A, A),
+    by_columns: &D,
+    built: &Built<'_, D>,
+) -> bool
+where
+    D: Dimension + IntoDimension<Dim = D> + Copy,
+    P: IntoDimension<Dim = D> + Copy,
+    A: IntoDimension<Dim = D> + Copy,
+{
+    let (dim, given) = (*built.dim, *built.given);
+    is_builder(alloc, patterns.0, patterns.1, built)
+        && is_builder(alloc, arrays.0, arrays.1, built)
+        && is_builder(alloc, dim, given, built)
+        && is_builder(alloc, Shape::from(dim), given, built)
+        && shape_builds(alloc, dim, built.size, given, by_columns)
+}
+
 #[test]
 fn r3_rows_of_builders_of_two_axes(rt: HostRuntime) {
-    let alloc = rt.alloc();
     let (dim, given) = (new_ix2(2, 3), new_ix2(4, 7));
     let built = Built {
         dim: &dim,
@@ -227,13 +248,8 @@ fn r3_rows_of_builders_of_two_axes(rt: HostRuntime) {
         given: &given,
         strides: &new_ix2(3, 1),
     };
-    assert!(rt;
-        is_builder(alloc, (2, 3), (4, 7), &built)
-            && is_builder(alloc, [2, 3], [4, 7], &built)
-            && is_builder(alloc, dim, given, &built)
-            && is_builder(alloc, Shape::from(dim), given, &built)
-            && shape_builds(alloc, dim, 6, given, &new_ix2(1, 2))
-    );
+    let (patterns, arrays) = (((2, 3), (4, 7)), ([2, 3], [4, 7]));
+    assert!(rt; all_build(rt.alloc(), patterns, arrays, &new_ix2(1, 2), &built));
 }
 
 /// What is asked of a list of lengths, which may stand for strides as well, as a builder.
