@@ -1,5 +1,6 @@
 //! What views answer, at any dimension type.
-use crate::view::question::{Argument, Asked, Question, lens, strides};
+use crate::view::question::{Argument, Asked, Made, Question, lens, strides};
+use crate::view::rows::{broadcast, sliced};
 use ErrorKind::{IncompatibleShape, OutOfBounds, Overflow, Unsupported};
 use Order::{ColumnMajor, RowMajor};
 use nd_testing::Row;
@@ -132,35 +133,52 @@ fn told_of_slice<D: Dimension, E: Dimension>(
     view: &Strided<D>,
     argument: &Argument,
 ) -> Answer {
-    told::<E>(rt, alloc, view.slice(alloc, &argument.elems, argument.fit))
+    told::<E>(
+        rt,
+        alloc,
+        sliced(alloc, view, &argument.elems, argument.fit),
+    )
 }
 
-/// The slice of a view, into the type that its argument asks for.
-fn slice<D: Dimension>(
+/// What is told of a view as one of a shape of a dimension type.
+fn told_of_broadcast<D: Dimension, E: Dimension>(
     rt: &impl Abort,
     alloc: Global,
     view: &Strided<D>,
-    argument: &Argument,
+    shape: &[usize],
 ) -> Answer {
-    match argument.ndim {
-        Some(1) => told_of_slice::<D, Ix1>(rt, alloc, view, argument),
-        Some(2) => told_of_slice::<D, Ix2>(rt, alloc, view, argument),
-        Some(3) => told_of_slice::<D, Ix3>(rt, alloc, view, argument),
-        Some(5) => told_of_slice::<D, Ix5>(rt, alloc, view, argument),
-        Some(6) => told_of_slice::<D, Ix6>(rt, alloc, view, argument),
-        _ => told_of_slice::<D, IxDyn>(rt, alloc, view, argument),
-    }
+    told::<E>(rt, alloc, broadcast(alloc, view, &dim(rt, alloc, shape)))
 }
 
-/// The slice of the view of a layout.
-fn slice_of_layout<D: Dimension>(
+/// What is told of a view that is made of the view of a layout, at a dimension type.
+fn told_of_made<D: Dimension, E: Dimension>(
     rt: &impl Abort,
     alloc: Global,
     layout: &Asked,
-    argument: &Argument,
+    made: &Made,
 ) -> Answer {
     let view = view::<D>(rt, alloc, layout).expect(rt, "refused");
-    slice(rt, alloc, &view, argument)
+    match made {
+        Made::Slice(argument) => told_of_slice::<D, E>(rt, alloc, &view, argument),
+        Made::Broadcast(_ndim, shape) => told_of_broadcast::<D, E>(
+            rt,
+            alloc,
+            &view,
+            shape.as_slice(),
+        ),
+    }
+}
+
+/// The same at the dimension type that it is to be of. (A type is dear where a view is lent too.)
+fn made<D: Dimension>(rt: &impl Abort, alloc: Global, layout: &Asked, made: &Made) -> Answer {
+    match made.ndim() {
+        Some(1) => told_of_made::<D, Ix1>(rt, alloc, layout, made),
+        Some(2) => told_of_made::<D, Ix2>(rt, alloc, layout, made),
+        Some(3) => told_of_made::<D, Ix3>(rt, alloc, layout, made),
+        Some(5) => told_of_made::<D, Ix5>(rt, alloc, layout, made),
+        Some(6) => told_of_made::<D, Ix6>(rt, alloc, layout, made),
+        _ => told_of_made::<D, IxDyn>(rt, alloc, layout, made),
+    }
 }
 
 /// How many places of the view of a layout a slice picks.
@@ -208,38 +226,6 @@ fn merge<D: Dimension>(
     }
 }
 
-/// What is told of a view as one of a shape of a dimension type.
-fn told_of_broadcast<D: Dimension, E: Dimension>(
-    rt: &impl Abort,
-    alloc: Global,
-    view: &Strided<D>,
-    shape: &[usize],
-) -> Answer {
-    told::<E>(
-        rt,
-        alloc,
-        view.broadcast(alloc, &dim::<E>(rt, alloc, shape)),
-    )
-}
-
-/// The view of a layout as one of a shape, at the type of so many axes.
-fn broadcast<D: Dimension>(
-    rt: &impl Abort,
-    alloc: Global,
-    layout: &Asked,
-    ndim: Option<usize>,
-    shape: &[usize],
-) -> Answer {
-    let view = view::<D>(rt, alloc, layout).expect(rt, "refused");
-    match ndim {
-        Some(1) => told_of_broadcast::<D, Ix1>(rt, alloc, &view, shape),
-        Some(2) => told_of_broadcast::<D, Ix2>(rt, alloc, &view, shape),
-        Some(3) => told_of_broadcast::<D, Ix3>(rt, alloc, &view, shape),
-        Some(6) => told_of_broadcast::<D, Ix6>(rt, alloc, &view, shape),
-        _ => told_of_broadcast::<D, IxDyn>(rt, alloc, &view, shape),
-    }
-}
-
 /// Whether the places of a view lie in order, by rows and by columns.
 fn in_order<D: Dimension>(view: &Strided<D>) -> Answer {
     let (dim, strides) = (view.dim(), view.strides());
@@ -257,7 +243,12 @@ fn slice_in_order<D: Dimension>(
     argument: &Argument,
 ) -> Answer {
     let view = view::<D>(rt, alloc, layout).expect(rt, "refused");
-    let slice: Result<Strided<D>, LayoutError> = view.slice(alloc, &argument.elems, argument.fit);
+    let slice: Result<Strided<D>, LayoutError> = sliced(
+        alloc,
+        &view,
+        &argument.elems,
+        argument.fit,
+    );
     in_order(&slice.expect(rt, "refused"))
 }
 
@@ -277,11 +268,8 @@ fn ask<D: Dimension>(
         Question::Picked(argument) => picked::<D>(rt, alloc, layout, argument),
         Question::Collapse(axis, index) => collapse::<D>(rt, alloc, layout, *axis, *index),
         Question::Merge(take, into) => merge::<D>(rt, alloc, layout, *take, *into),
-        Question::Broadcast(ndim, shape) => {
-            broadcast::<D>(rt, alloc, layout, *ndim, shape.as_slice())
-        },
         Question::InOrder(argument) => slice_in_order::<D>(rt, alloc, layout, argument),
-        Question::Slice(argument) => slice_of_layout::<D>(rt, alloc, layout, argument),
+        Question::Made(other) => made::<D>(rt, alloc, layout, other),
     }
 }
 

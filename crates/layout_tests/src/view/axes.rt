@@ -3,7 +3,7 @@
 //! A row is a dimension type, a layout (size of an element, length and use of the data, shape,
 //! strides), a question and its answer. After `merge` stand the axis to take and the one to merge into,
 //! after `broadcast` the dimension type of the shape, and the shape.
-use crate::view::rows::{hold, is_told, owned};
+use crate::view::rows::{broadcast, hold, is_told, owned};
 use nd_testing::grants;
 use ndarray_layout::{
     Axis, Dimension, ErrorKind, IxDyn, LayoutError, Strided, from_kind, new_ix2, new_ix3, new_ixdyn,
@@ -90,26 +90,45 @@ fn r5_rows_of_layouts(rt: HostRuntime) {
 
 // ---- one step after another
 
-/// The second entry of the first axis, merged into the second, as a view of a shape.
+/// Keeps the second entry of the first axis, merged into the second.
+fn keep_second_row<D: Dimension>(view: &mut Strided<D>) -> Result<(), LayoutError> {
+    view.collapse(Axis(0), 1)?;
+    if view.merge(Axis(0), Axis(1))? {
+        Ok(())
+    } else {
+        Err(from_kind(ErrorKind::IncompatibleLayout).into())
+    }
+}
+
+/// The second row of a shape and strides over six elements, as a view of a shape.
 fn second_row_as<D: Dimension, E: Dimension>(
     alloc: Global,
-    view: Result<Strided<D>, LayoutError>,
+    dim: D,
+    strides: D,
     shape: &E,
 ) -> Result<Strided<E>, LayoutError> {
-    let mut view = view?;
-    view.collapse(Axis(0), 1)?;
-    if !view.merge(Axis(0), Axis(1))? {
-        return Err(from_kind(ErrorKind::IncompatibleLayout).into());
-    }
-    view.broadcast(alloc, shape)
+    let mut view = owned(dim, strides, 6)?;
+    keep_second_row(&mut view)?;
+    broadcast(alloc, &view, shape)
+}
+
+/// Whether it is told by a row.
+fn second_row_is_told<D: Dimension, E: Dimension>(
+    rt: &impl Abort,
+    alloc: Global,
+    layout: (D, D),
+    shape: &E,
+    row: &str,
+) -> bool {
+    let (dim, strides) = layout;
+    is_told(rt, alloc, second_row_as(alloc, dim, strides, shape), row)
 }
 
 #[test]
 fn r5_rows_of_steps(rt: HostRuntime) {
     let row = "is 2,2,3 0,0,1 3 3,4,5,3,4,5,3,4,5,3,4,5 3,3,3,3,4,4,4,4,5,5,5,5";
-    let view = owned(new_ix2(2, 3), new_ix2(3, 1), 6);
-    let told = second_row_as(rt.alloc(), view, &new_ix3(2, 2, 3));
-    assert!(rt; is_told(&rt, rt.alloc(), told, row));
+    let (dim, strides, shape) = (new_ix2(2, 3), new_ix2(3, 1), new_ix3(2, 2, 3));
+    assert!(rt; second_row_is_told(&rt, rt.alloc(), (dim, strides), &shape, row));
 }
 
 // ---- refused memory
@@ -122,28 +141,29 @@ enum Outcome {
     Refused,
 }
 
-/// What came of it.
-fn outcome_of<E: Dimension>(view: Result<Strided<E>, LayoutError>) -> Outcome {
-    match view {
+/// A shape and strides over two elements, as a view of a shape.
+fn read_as<D: Dimension, E: Dimension>(
+    alloc: Global,
+    dim: D,
+    strides: D,
+    shape: &E,
+) -> Result<Strided<E>, LayoutError> {
+    let view = owned(dim, strides, 2)?;
+    broadcast(alloc, &view, shape)
+}
+
+/// What comes of it.
+fn outcome_as<D: Dimension, E: Dimension>(alloc: Global, dim: D, strides: D, shape: &E) -> Outcome {
+    match read_as(alloc, dim, strides, shape) {
         Ok(_view) => Outcome::Made,
         Err(LayoutError::Memory(_error)) => Outcome::OutOfMemory,
         Err(LayoutError::Shape(_fault)) => Outcome::Refused,
     }
 }
 
-/// A view, as one of a shape.
-fn read_as<D: Dimension, E: Dimension>(
-    alloc: Global,
-    view: Result<Strided<D>, LayoutError>,
-    shape: &E,
-) -> Result<Strided<E>, LayoutError> {
-    let view = view?;
-    view.broadcast(alloc, shape)
-}
-
 /// What comes of reading two columns as a view of a shape.
 fn columns_as<E: Dimension>(alloc: Global, shape: &E) -> Outcome {
-    outcome_of(read_as(alloc, owned(new_ix2(1, 2), new_ix2(2, 1), 2), shape))
+    outcome_as(alloc, new_ix2(1, 2), new_ix2(2, 1), shape)
 }
 
 /// The same of any number of axes.

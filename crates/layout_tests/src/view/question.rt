@@ -26,6 +26,25 @@ pub struct Argument {
     pub fit: Fit,
 }
 
+/// How a view of another type is made of one.
+#[derive(Drop)]
+pub enum Made {
+    /// The slice into the type of so many axes.
+    Slice(Argument),
+    /// The same data as a view of a shape, of the type of so many axes.
+    Broadcast(Option<usize>, Vec<usize>),
+}
+
+impl Made {
+    /// The count of axes that the type of the view fixes.
+    pub fn ndim(&self) -> Option<usize> {
+        match self {
+            Made::Slice(argument) => argument.ndim,
+            Made::Broadcast(ndim, _shape) => *ndim,
+        }
+    }
+}
+
 /// What is asked of a layout.
 #[derive(Drop)]
 pub enum Question {
@@ -35,16 +54,14 @@ pub enum Question {
     Span,
     /// The place of an index.
     Place(Vec<usize>),
-    /// The slice into the type of so many axes.
-    Slice(Argument),
+    /// A view that is made of it.
+    Made(Made),
     /// How many places it picks.
     Picked(Argument),
     /// One entry of an axis.
     Collapse(Axis, usize),
     /// An axis merged into another.
     Merge(Axis, Axis),
-    /// The same data as a view of a shape, of the type of so many axes.
-    Broadcast(Option<usize>, Vec<usize>),
     /// Whether the places of a slice of as many axes lie in order, by rows and by columns.
     InOrder(Argument),
 }
@@ -113,9 +130,9 @@ pub fn read_question(rt: &impl Abort, alloc: Global, row: &mut Row<'_>) -> Quest
         "clamp_picked" => Question::Picked(read_argument(rt, alloc, row, Clamp)),
         "collapse" => Question::Collapse(Axis(number(rt, row)), number(rt, row)),
         "merge" => Question::Merge(Axis(number(rt, row)), Axis(number(rt, row))),
-        "broadcast" => Question::Broadcast(fixed_count(rt, row), lens(rt, alloc, row)),
+        "broadcast" => Question::Made(Made::Broadcast(fixed_count(rt, row), lens(rt, alloc, row))),
         "in_order" => Question::InOrder(read_argument(rt, alloc, row, Strict)),
-        "clamp" => Question::Slice(read_argument(rt, alloc, row, Clamp)),
-        _ => Question::Slice(read_argument(rt, alloc, row, Strict)),
+        "clamp" => Question::Made(Made::Slice(read_argument(rt, alloc, row, Clamp))),
+        _ => Question::Made(Made::Slice(read_argument(rt, alloc, row, Strict))),
     }
 }

@@ -1,13 +1,27 @@
 //! What a caller of a walk over a view's indices can prove from its contracts alone.
-ghost use Rattle.std.specs.Prelude.{◌≡◌, ◌<◌, ◌^◌, map, nat_abs, sum, IfOk};
+ghost use Rattle.std.specs.Prelude.{◌≡◌, ◌<◌, ◌^◌, true, map, nat_abs, sum, IfOk};
 ghost use Rattle.nd_base.specs.declared.order.Order.TheVariants.{RowMajor};
-ghost use Rattle.ndarray_layout.specs.View.{view_places};
+ghost use Rattle.nd_base.specs.Indices.{is_index};
+ghost use Rattle.ndarray_layout.specs.View.{place_at, view_places};
 
 use CanIndexCheckMode::OwnedMutable;
 use nd_dim::{Dimension, IntoDimension, new_ix2};
 use nd_shape::all_indices;
 use ndarray_layout::{CanIndexCheckMode, Strided};
 use std::alloc::{AllocError, Global};
+
+/// The place of an index of a view, as a walk over all of them gives it.
+fn place_of<D: Dimension>(
+    alloc: Global,
+    view: &Strided<D>,
+    item: D::Pattern,
+) -> Result<usize, AllocError>
+    requires { is_index view.now.shape (D.Pattern.lens item) ≡ true }
+    ensures { IfOk result (λ place. place ≡ nat_abs (place_at view.now (D.Pattern.lens item))) }
+{
+    let index = item.into_dimension(alloc)?;
+    Ok(view.place(&index).unwrap())
+}
 
 /// The places of all indices of a view together, by one walk over the indices.
 fn sum_of_places<D: Dimension + Copy>(alloc: Global, view: &Strided<D>) -> Result<usize, AllocError>
@@ -18,8 +32,7 @@ fn sum_of_places<D: Dimension + Copy>(alloc: Global, view: &Strided<D>) -> Resul
     let dim = *view.dim();
     let indices = all_indices(alloc, dim.into_pattern())?;
     for item in indices {
-        let index = item.into_dimension(alloc)?;
-        total += view.place(&index).unwrap();
+        total += place_of(alloc, view, item)?;
     }
     Ok(total)
 }

@@ -6,14 +6,9 @@ use Fit::Strict;
 use Order::RowMajor;
 use SliceInfoElem::{Index, NewAxis, Slice};
 use nd_testing::grants;
-use ndarray_layout::{Dimension, Fit, Ix2, Order, SliceInfoElem, Strided, new_ix2};
+use ndarray_layout::{Dimension, Fit, Ix2, LayoutError, Order, SliceInfoElem, Strided, new_ix2};
 use std::alloc::{AllocError, Global};
 use std::process::Abort;
-
-/// Two rows of three elements.
-fn two_rows(rt: &impl Abort) -> Strided<Ix2> {
-    owned(new_ix2(2, 3), new_ix2(3, 1), 6).expect(rt, "refused")
-}
 
 /// A range up to the end of an axis.
 const fn from(start: isize) -> SliceInfoElem {
@@ -24,10 +19,21 @@ const fn from(start: isize) -> SliceInfoElem {
     }
 }
 
+/// The shape, the strides and the start of a slice of a shape and strides over six elements.
+fn parts_of_slice<D: Dimension, E: Dimension + Copy>(
+    alloc: Global,
+    dim: D,
+    strides: D,
+    elems: &[SliceInfoElem],
+) -> Result<(E, E, usize), LayoutError> {
+    let slice: Strided<E> = sliced(alloc, &owned(dim, strides, 6)?, &elems, Strict)?;
+    Ok((*slice.dim(), *slice.strides(), slice.start()))
+}
+
 /// A slice has this shape, strides and start.
 fn leaves(rt: &impl Abort, alloc: Global, elems: &[SliceInfoElem], left: (Ix2, Ix2, usize)) {
-    let slice: Strided<Ix2> = sliced(alloc, &two_rows(rt), elems, Strict).expect(rt, "refused");
-    assert_eq!(rt; (*slice.dim(), *slice.strides(), slice.start()), left);
+    let parts = parts_of_slice::<Ix2, Ix2>(alloc, new_ix2(2, 3), new_ix2(3, 1), elems);
+    assert_eq!(rt; parts.expect(rt, "refused"), left);
 }
 
 #[test]
@@ -42,8 +48,14 @@ fn memory_of_slice(rt: HostRuntime) {
     leaves(&rt, rt.alloc(), &[from(0), from(1)], left);
 }
 
-/// The places of a view.
-fn by_rows<D: Dimension>(alloc: Global, view: &Strided<D>) -> Result<Vec<usize>, AllocError> {
+/// The places of a shape and strides over six elements.
+fn by_rows<D: Dimension>(
+    rt: &impl Abort,
+    alloc: Global,
+    dim: D,
+    strides: D,
+) -> Result<Vec<usize>, AllocError> {
+    let view = owned(dim, strides, 6).expect(rt, "refused");
     view.places(alloc, RowMajor)
 }
 
@@ -57,6 +69,6 @@ fn lists_six_places(rt: &impl Abort, places: Result<Vec<usize>, AllocError>, gra
 
 #[test]
 fn memory_of_places(rt: HostRuntime) {
-    let places = by_rows(rt.alloc(), &two_rows(&rt));
+    let places = by_rows(&rt, rt.alloc(), new_ix2(2, 3), new_ix2(3, 1));
     lists_six_places(&rt, places, grants(rt.alloc()));
 }
