@@ -6,9 +6,21 @@ ghost use Rattle.ndarray_layout.specs.View.{place_at, view_places};
 
 use CanIndexCheckMode::OwnedMutable;
 use nd_dim::{Dimension, IntoDimension, new_ix2};
-use nd_shape::all_indices;
+use nd_shape::{Indices, all_indices};
 use ndarray_layout::{CanIndexCheckMode, Strided};
 use std::alloc::{AllocError, Global};
+
+/// The walk over all indices of a view.
+#[tactic(auto, using(nd_base::proofs::laws::NonzeroSize::size_le_nonzero_size))]
+fn indices_of<D: Dimension + Copy>(
+    alloc: Global,
+    view: &Strided<D>,
+) -> Result<Indices<D>, AllocError>
+    ensures { IfOk result (λ indices. D.list indices.dim ≡ view.now.shape) }
+{
+    let dim = *view.dim();
+    all_indices(alloc, dim.into_pattern())
+}
 
 /// The place of an index of a view, as a walk over all of them gives it.
 fn place_of<D: Dimension>(
@@ -29,9 +41,7 @@ fn sum_of_places<D: Dimension + Copy>(alloc: Global, view: &Strided<D>) -> Resul
     ensures { IfOk result (λ total. total ≡ sum (map nat_abs (view_places RowMajor view.now))) }
 {
     let mut total = 0usize;
-    let dim = *view.dim();
-    let indices = all_indices(alloc, dim.into_pattern())?;
-    for item in indices {
+    for item in indices_of(alloc, view)? {
         total += place_of(alloc, view, item)?;
     }
     Ok(total)
