@@ -1,15 +1,16 @@
 //! What views answer, at any dimension type.
+use crate::types::{AtType, at_type};
 use crate::view::question::{Argument, Asked, Made, Question, lens, strides};
 use crate::view::rows::{broadcast, sliced};
 use ErrorKind::{IncompatibleShape, OutOfBounds, Overflow, Unsupported};
 use Order::{ColumnMajor, RowMajor};
 use nd_testing::Row;
 use ndarray_layout::{
-    Axis, Dimension, ErrorKind, Ix1, Ix2, Ix3, Ix5, Ix6, IxDyn, LayoutError, Lengths, Order,
-    Strided, is_layout_c, is_layout_f, max_abs_offset_check_overflow, new_ixdyn,
-    size_of_shape_checked,
+    Axis, Dimension, ErrorKind, LayoutError, Lengths, Order, Strided, is_layout_c, is_layout_f,
+    max_abs_offset_check_overflow, new_ixdyn, size_of_shape_checked,
 };
 use std::alloc::Global;
+use std::marker::PhantomData;
 use std::process::Abort;
 
 /// All that a view tells.
@@ -169,16 +170,26 @@ fn told_of_made<D: Dimension, E: Dimension>(
     }
 }
 
-/// The same at the dimension type that it is to be of. (A type is dear where a view is lent too.)
-fn made<D: Dimension>(rt: &impl Abort, alloc: Global, layout: &Asked, made: &Made) -> Answer {
-    match made.ndim() {
-        Some(1) => told_of_made::<D, Ix1>(rt, alloc, layout, made),
-        Some(2) => told_of_made::<D, Ix2>(rt, alloc, layout, made),
-        Some(3) => told_of_made::<D, Ix3>(rt, alloc, layout, made),
-        Some(5) => told_of_made::<D, Ix5>(rt, alloc, layout, made),
-        Some(6) => told_of_made::<D, Ix6>(rt, alloc, layout, made),
-        _ => told_of_made::<D, IxDyn>(rt, alloc, layout, made),
+/// What is told of a view that is made of the view of a layout at a dimension type, at another.
+#[derive(Drop)]
+struct OfMade<'a, D: Dimension> {
+    from: PhantomData<D>,
+    layout: &'a Asked,
+    made: &'a Made,
+}
+
+impl<D: Dimension> AtType for OfMade<'_, D> {
+    type Answer = Answer;
+
+    fn at<E: Dimension>(&self, rt: &impl Abort, alloc: Global) -> Answer {
+        told_of_made::<D, E>(rt, alloc, self.layout, self.made)
     }
+}
+
+/// The same at the dimension type that it is to be of.
+fn made<D: Dimension>(rt: &impl Abort, alloc: Global, layout: &Asked, made: &Made) -> Answer {
+    let from = PhantomData::<D>;
+    at_type(rt, alloc, made.ndim(), &OfMade { from, layout, made })
 }
 
 /// How many places of the view of a layout a slice picks.
@@ -273,6 +284,21 @@ fn ask<D: Dimension>(
     }
 }
 
+/// What is asked of a layout at a dimension type.
+#[derive(Drop)]
+struct OfLayout<'a> {
+    layout: &'a Asked,
+    question: &'a Question,
+}
+
+impl AtType for OfLayout<'_> {
+    type Answer = Answer;
+
+    fn at<D: Dimension>(&self, rt: &impl Abort, alloc: Global) -> Answer {
+        ask::<D>(rt, alloc, self.layout, self.question)
+    }
+}
+
 /// The answer of a layout at the dimension type of so many axes.
 pub fn answer_at(
     rt: &impl Abort,
@@ -281,11 +307,5 @@ pub fn answer_at(
     layout: &Asked,
     question: &Question,
 ) -> Answer {
-    match ndim {
-        Some(1) => ask::<Ix1>(rt, alloc, layout, question),
-        Some(2) => ask::<Ix2>(rt, alloc, layout, question),
-        Some(3) => ask::<Ix3>(rt, alloc, layout, question),
-        Some(6) => ask::<Ix6>(rt, alloc, layout, question),
-        _ => ask::<IxDyn>(rt, alloc, layout, question),
-    }
+    at_type(rt, alloc, ndim, &OfLayout { layout, question })
 }

@@ -1,0 +1,32 @@
+//! Questions that are asked at a dimension type of as many axes as a row tells.
+//!
+//! Each type is named in this one place, since the check takes seconds for each function that names one.
+use nd_dim::{Dimension, Ix1, Ix2, Ix3, Ix5, Ix6, IxDyn};
+use std::alloc::Global;
+use std::process::Abort;
+
+/// What can be asked at any dimension type.
+pub trait AtType {
+    /// What is answered.
+    type Answer;
+
+    /// The answer at the type `D`.
+    fn at<D: Dimension>(&self, rt: &impl Abort, alloc: Global) -> Self::Answer;
+}
+
+/// The answer at the type of so many axes, or of any number.
+pub fn at_type<A: AtType>(
+    rt: &impl Abort,
+    alloc: Global,
+    ndim: Option<usize>,
+    asked: &A,
+) -> A::Answer {
+    match ndim {
+        Some(1) => asked.at::<Ix1>(rt, alloc),
+        Some(2) => asked.at::<Ix2>(rt, alloc),
+        Some(3) => asked.at::<Ix3>(rt, alloc),
+        Some(5) => asked.at::<Ix5>(rt, alloc),
+        Some(6) => asked.at::<Ix6>(rt, alloc),
+        _ => asked.at::<IxDyn>(rt, alloc),
+    }
+}
