@@ -1,12 +1,14 @@
 //! Which slice arguments fit a shape, and the first fault of any other, however the elements are kept.
+use crate::types::{AtType, at_type, dim_of};
 use ErrorKind::{IncompatibleShape, OutOfBounds, Unsupported};
 use Fit::{Clamp, Strict};
 use SliceInfoElem::{Index, NewAxis};
-use nd_base::{ErrorKind, Ix1, Ix2, Ix3, Ix6, new_ix1, new_ix2, new_ix3, new_ix6, new_ixdyn};
+use nd_base::ErrorKind;
 use nd_dim::Dimension;
 use nd_slice::{Fit, SliceInfoElem, check_elems, check_slice, in_ndim_of, out_ndim_of};
 use nd_testing::fault_of;
 use std::alloc::Global;
+use std::process::Abort;
 
 /// The whole of an axis.
 const ALL: SliceInfoElem = SliceInfoElem::Slice {
@@ -87,9 +89,38 @@ fn counts_by_kind(rt: HostRuntime) {
     );
 }
 
-/// The same at one axis, and at each other count below.
-fn one_has_faults(alloc: Global, dim: &Ix1, rows: &[Row]) -> bool {
-    have_faults(alloc, dim, rows, Strict)
+/// Arguments and their faults on a shape.
+#[derive(Drop)]
+struct Faults<'a> {
+    lens: &'a [usize],
+    rows: &'a [Row<'a>],
+    fit: Fit,
+}
+
+impl AtType for Faults<'_> {
+    type Answer = bool;
+
+    fn at<D: Dimension>(&self, rt: &impl Abort, alloc: Global) -> bool {
+        let dim: D = dim_of(rt, alloc, self.lens).expect(rt, "memory");
+        have_faults(alloc, &dim, self.rows, self.fit)
+    }
+}
+
+/// Whether arguments have these faults on a shape of the type of as many axes.
+fn fixed_have_faults(
+    rt: &impl Abort,
+    alloc: Global,
+    lens: &[usize],
+    rows: &[Row],
+    fit: Fit,
+) -> bool {
+    at_type(rt, alloc, Some(lens.len()), &Faults { lens, rows, fit })
+}
+
+/// The same on a shape of the type of any number of axes.
+fn any_have_faults(rt: &impl Abort, alloc: Global, lens: &[usize], rows: &[Row]) -> bool {
+    let fit = Strict;
+    at_type(rt, alloc, None, &Faults { lens, rows, fit })
 }
 
 #[test]
@@ -99,11 +130,7 @@ fn one_axis(rt: HostRuntime) {
         (&[Index(-5)], Some(OutOfBounds)),
         (&[from(4, 0)], Some(Unsupported)),
     ];
-    assert!(rt; one_has_faults(rt.alloc(), &new_ix1(4), &rows));
-}
-
-fn two_have_faults(alloc: Global, dim: &Ix2, rows: &[Row], fit: Fit) -> bool {
-    have_faults(alloc, dim, rows, fit)
+    assert!(rt; fixed_have_faults(&rt, rt.alloc(), &[4], &rows, Strict));
 }
 
 #[test]
@@ -114,7 +141,7 @@ fn r1_rows(rt: HostRuntime) {
         (&[from(5, 0), ALL], Some(OutOfBounds)),
         (&[from(4, 0), Index(5)], Some(Unsupported)),
     ];
-    assert!(rt; two_have_faults(rt.alloc(), &new_ix2(4, 5), &rows, Strict));
+    assert!(rt; fixed_have_faults(&rt, rt.alloc(), &[4, 5], &rows, Strict));
 }
 
 #[test]
@@ -124,7 +151,7 @@ fn r4_rows(rt: HostRuntime) {
         (&[from(9, 1), from(0, 0)], Some(OutOfBounds)),
         (&[from(0, 0), from(9, 1)], Some(Unsupported)),
     ];
-    assert!(rt; two_have_faults(rt.alloc(), &new_ix2(4, 5), &rows, Strict));
+    assert!(rt; fixed_have_faults(&rt, rt.alloc(), &[4, 5], &rows, Strict));
 }
 
 #[test]
@@ -136,11 +163,7 @@ fn r14_rows(rt: HostRuntime) {
         (&[Index(-5), from(9, 0)], Some(OutOfBounds)),
         (&[from(9, 0), Index(9)], Some(Unsupported)),
     ];
-    assert!(rt; two_have_faults(rt.alloc(), &new_ix2(4, 5), &rows, Clamp));
-}
-
-fn three_have_faults(alloc: Global, dim: &Ix3, rows: &[Row]) -> bool {
-    have_faults(alloc, dim, rows, Strict)
+    assert!(rt; fixed_have_faults(&rt, rt.alloc(), &[4, 5], &rows, Clamp));
 }
 
 #[test]
@@ -151,13 +174,9 @@ fn three_axes(rt: HostRuntime) {
         (&[NewAxis, ALL, Index(2), from(0, 0)], Some(Unsupported)),
     ];
     assert!(rt;
-        three_have_faults(rt.alloc(), &new_ix3(2, 3, 4), &rows)
-            && three_have_faults(rt.alloc(), &new_ix3(2, 0, 4), &[])
+        fixed_have_faults(&rt, rt.alloc(), &[2, 3, 4], &rows, Strict)
+            && fixed_have_faults(&rt, rt.alloc(), &[2, 0, 4], &[], Strict)
     );
-}
-
-fn six_have_faults(alloc: Global, dim: &Ix6, rows: &[Row]) -> bool {
-    have_faults(alloc, dim, rows, Strict)
 }
 
 #[test]
@@ -170,14 +189,7 @@ fn six_axes(rt: HostRuntime) {
         (&outside, Some(OutOfBounds)),
         (&step, Some(Unsupported)),
     ];
-    assert!(rt; six_have_faults(rt.alloc(), &new_ix6(2, 1, 3, 2, 2, 4), &rows));
-}
-
-fn any_have_faults(alloc: Global, lens: &[usize], rows: &[Row]) -> bool {
-    match new_ixdyn(alloc, lens) {
-        Ok(dim) => have_faults(alloc, &dim, rows, Strict),
-        Err(_) => false,
-    }
+    assert!(rt; fixed_have_faults(&rt, rt.alloc(), &[2, 1, 3, 2, 2, 4], &rows, Strict));
 }
 
 #[test]
@@ -191,8 +203,8 @@ fn any_number_of_axes(rt: HostRuntime) {
         (&step, Some(Unsupported)),
     ];
     assert!(rt;
-        any_have_faults(rt.alloc(), &[], &[])
-            && any_have_faults(rt.alloc(), &[2, 3], &[])
-            && any_have_faults(rt.alloc(), &[2, 3, 1, 2, 4], &rows)
+        any_have_faults(&rt, rt.alloc(), &[], &[])
+            && any_have_faults(&rt, rt.alloc(), &[2, 3], &[])
+            && any_have_faults(&rt, rt.alloc(), &[2, 3, 1, 2, 4], &rows)
     );
 }

@@ -1,5 +1,6 @@
 //! Slice arguments whose type tells the shapes before and after.
-use nd_base::{ErrorKind, FixedCount, Ix0, Ix1, Ix2, Ix3, Ix6, IxDyn, ShapeError, new_ix2};
+use nd_base::{Dim, ErrorKind, FixedCount, Ix0, Ix1, Ix2, Ix3, Ix6, IxDyn, ShapeError, new_ix2};
+use nd_dim::Dimension;
 use nd_slice::{Fit, NewAxis, SliceArg, SliceElems, SliceInfo, SliceInfoElem, check_slice};
 use nd_testing::or_fault;
 use std::alloc::Global;
@@ -76,14 +77,33 @@ fn told<D: FixedCount, S: SliceArg<D>>(arg: &S) -> (usize, usize) {
     (arg.in_ndim(), arg.out_ndim())
 }
 
-/// What an argument from two axes to one tells, kept in a `T`: its counts, for shapes of two axes and
-/// of any number; and its first element.
-fn parts<T: SliceElems>(info: &SliceInfo<T, Ix2, Ix1>) -> ((usize, usize), (usize, usize), usize) {
+/// The counts of an argument for shapes of its own type and of any number of axes, and how many elements
+/// it has.
+type Parts = ((usize, usize), (usize, usize), usize);
+
+/// What an argument tells, kept in a `T`.
+fn parts<T: SliceElems, Dout: Dimension, const N: usize>(
+    info: &SliceInfo<T, Dim<[usize; N]>, Dout>,
+) -> Parts {
     (
-        told::<Ix2, _>(info),
+        told::<Dim<[usize; N]>, _>(info),
         told::<IxDyn, _>(info),
         info.elems().len(),
     )
+}
+
+/// Whether an argument tells this, and keeps these elements.
+fn is_of<T: SliceElems, Dout: Dimension, const N: usize>(
+    info: &SliceInfo<T, Dim<[usize; N]>, Dout>,
+    told: Parts,
+    elems: &[SliceInfoElem],
+) -> bool {
+    parts(info) == told && info.indices().elems() == elems
+}
+
+/// Whether an argument fits a shape.
+fn fits<D: Dimension, S: SliceElems>(shape: &D, arg: &S) -> bool {
+    check_slice(shape, arg, Fit::Strict).is_ok()
 }
 
 /// The argument of an index and a range.
@@ -96,15 +116,10 @@ fn an_argument_by_its_type(rt: HostRuntime) {
     let info = made().expect(&rt, "the counts fit");
     let lent: SliceInfo<&[SliceInfoElem], Ix2, Ix1> = SliceInfo::from(&info);
     let (copy, clone) = (info, info.clone().unwrap());
-    let told = ((2, 1), (2, 1), 2);
-    assert!(rt; parts(&info) == told && parts(&lent) == told && parts(&copy) == told);
-    assert!(rt;
-        *info.indices() == row_of_a_matrix()
-            && *clone.indices() == row_of_a_matrix()
-            && *lent.indices() == row_of_a_matrix().as_slice()
-            && check_slice(&new_ix2(3, 4), &info, Fit::Strict).is_ok()
-            && check_slice(&new_ix2(0, 4), &lent, Fit::Strict).is_err()
-    );
+    let (told, elems) = (((2, 1), (2, 1), 2), row_of_a_matrix());
+    assert!(rt; is_of(&info, told, &elems) && is_of(&copy, told, &elems));
+    assert!(rt; is_of(&lent, told, &elems) && is_of(&clone, told, &elems));
+    assert!(rt; fits(&new_ix2(3, 4), &info) && !fits(&new_ix2(0, 4), &lent));
 }
 
 #[test]

@@ -1,13 +1,12 @@
 //! What views answer, at any dimension type.
-use crate::types::{AtType, at_type};
-use crate::view::question::{Argument, Asked, Made, Question, lens, strides};
-use crate::view::rows::{broadcast, sliced};
-use ErrorKind::{IncompatibleShape, OutOfBounds, Overflow, Unsupported};
+use crate::types::{AtType, at_type, dim_of};
+use crate::view::question::{Argument, Asked, Made, OfView, Question, lens, strides};
+use ErrorKind::{IncompatibleLayout, IncompatibleShape, OutOfBounds, Overflow, Unsupported};
 use Order::{ColumnMajor, RowMajor};
 use nd_testing::Row;
 use ndarray_layout::{
-    Axis, Dimension, ErrorKind, LayoutError, Lengths, Order, Strided, is_layout_c, is_layout_f,
-    max_abs_offset_check_overflow, new_ixdyn, size_of_shape_checked,
+    Axis, Dimension, ErrorKind, LayoutError, Lengths, Order, ShapeError, Strided, is_layout_c,
+    is_layout_f, max_abs_offset_check_overflow, size_of_shape_checked,
 };
 use std::alloc::Global;
 use std::marker::PhantomData;
@@ -93,9 +92,7 @@ pub fn told<D: Dimension>(
 
 /// The value of a dimension type that stands for a list.
 fn dim<D: Dimension>(rt: &impl Abort, alloc: Global, lens: &[usize]) -> D {
-    let dim = new_ixdyn(alloc, lens).expect(rt, "memory");
-    let same = D::from_dimension(alloc, &dim).expect(rt, "memory");
-    same.expect(rt, "another count of axes")
+    dim_of(rt, alloc, lens).expect(rt, "memory")
 }
 
 /// The view of a layout.
@@ -120,10 +117,9 @@ fn span<D: Dimension>(rt: &impl Abort, alloc: Global, layout: &Asked) -> Option<
 fn place<D: Dimension>(
     rt: &impl Abort,
     alloc: Global,
-    layout: &Asked,
+    view: &Strided<D>,
     index: &[usize],
 ) -> Option<usize> {
-    let view = view::<D>(rt, alloc, layout).expect(rt, "refused");
     view.place(&dim::<D>(rt, alloc, index))
 }
 
@@ -134,11 +130,7 @@ fn told_of_slice<D: Dimension, E: Dimension>(
     view: &Strided<D>,
     argument: &Argument,
 ) -> Answer {
-    told::<E>(
-        rt,
-        alloc,
-        sliced(alloc, view, &argument.elems, argument.fit),
-    )
+    told::<E>(rt, alloc, view.slice(alloc, &argument.elems, argument.fit))
 }
 
 /// What is told of a view as one of a shape of a dimension type.
@@ -148,7 +140,31 @@ fn told_of_broadcast<D: Dimension, E: Dimension>(
     view: &Strided<D>,
     shape: &[usize],
 ) -> Answer {
-    told::<E>(rt, alloc, broadcast(alloc, view, &dim(rt, alloc, shape)))
+    told::<E>(
+        rt,
+        alloc,
+        view.broadcast(alloc, &dim::<E>(rt, alloc, shape)),
+    )
+}
+
+/// Keeps the second entry of the first axis, merged into the second, if one stride has the entries of both.
+fn keep_second_row<D: Dimension>(view: &mut Strided<D>) -> Result<bool, ShapeError> {
+    view.collapse(Axis(0), 1)?;
+    view.merge(Axis(0), Axis(1))
+}
+
+/// What is told of the second row of a view as one of a shape of a dimension type.
+fn told_of_second_row<D: Dimension, E: Dimension>(
+    rt: &impl Abort,
+    alloc: Global,
+    view: &mut Strided<D>,
+    shape: &[usize],
+) -> Answer {
+    match keep_second_row(view) {
+        Ok(true) => told_of_broadcast::<D, E>(rt, alloc, view, shape),
+        Ok(false) => Answer::Refused(IncompatibleLayout),
+        Err(fault) => Answer::Refused(fault.kind()),
+    }
 }
 
 /// What is told of a view that is made of the view of a layout, at a dimension type.
@@ -158,8 +174,14 @@ fn told_of_made<D: Dimension, E: Dimension>(
     layout: &Asked,
     made: &Made,
 ) -> Answer {
-    let view = view::<D>(rt, alloc, layout).expect(rt, "refused");
+    let mut view = view::<D>(rt, alloc, layout).expect(rt, "refused");
     match made {
+        Made::SecondRow(_ndim, shape) => told_of_second_row::<D, E>(
+            rt,
+            alloc,
+            &mut view,
+            shape.as_slice(),
+        ),
         Made::Slice(argument) => told_of_slice::<D, E>(rt, alloc, &view, argument),
         Made::Broadcast(_ndim, shape) => told_of_broadcast::<D, E>(
             rt,
@@ -192,47 +214,39 @@ fn made<D: Dimension>(rt: &impl Abort, alloc: Global, layout: &Asked, made: &Mad
     at_type(rt, alloc, made.ndim(), &OfMade { from, layout, made })
 }
 
-/// How many places of the view of a layout a slice picks.
-fn picked<D: Dimension>(
-    rt: &impl Abort,
-    alloc: Global,
-    layout: &Asked,
-    argument: &Argument,
-) -> Answer {
-    let view = view::<D>(rt, alloc, layout).expect(rt, "refused");
+/// How many places of a view a slice picks.
+fn picked<D: Dimension>(view: &Strided<D>, argument: &Argument) -> Answer {
     match view.picked(&argument.elems, argument.fit) {
         Ok(count) => Answer::Number(Some(count)),
         Err(fault) => Answer::Refused(fault.kind()),
     }
 }
 
-/// What is left of the view of a layout by one entry of an axis.
+/// What is left of a view by one entry of an axis.
 fn collapse<D: Dimension>(
     rt: &impl Abort,
     alloc: Global,
-    layout: &Asked,
+    view: &mut Strided<D>,
     axis: Axis,
     index: usize,
 ) -> Answer {
-    let mut view = view::<D>(rt, alloc, layout).expect(rt, "refused");
     match view.collapse(axis, index) {
-        Ok(()) => Answer::View(look(rt, alloc, &view)),
+        Ok(()) => Answer::View(look(rt, alloc, view)),
         Err(fault) => Answer::Refused(fault.kind()),
     }
 }
 
-/// What is left of the view of a layout where an axis is merged into another, or the view where it isn't.
+/// What is left of a view where an axis is merged into another, or the view where it isn't.
 fn merge<D: Dimension>(
     rt: &impl Abort,
     alloc: Global,
-    layout: &Asked,
+    view: &mut Strided<D>,
     take: Axis,
     into: Axis,
 ) -> Answer {
-    let mut view = view::<D>(rt, alloc, layout).expect(rt, "refused");
     match view.merge(take, into) {
-        Ok(true) => Answer::View(look(rt, alloc, &view)),
-        Ok(false) => Answer::Unmerged(look(rt, alloc, &view)),
+        Ok(true) => Answer::View(look(rt, alloc, view)),
+        Ok(false) => Answer::Unmerged(look(rt, alloc, view)),
         Err(fault) => Answer::Refused(fault.kind()),
     }
 }
@@ -246,21 +260,32 @@ fn in_order<D: Dimension>(view: &Strided<D>) -> Answer {
     Answer::InOrder(is_layout_c(dim, strides), is_layout_f(dim, strides))
 }
 
-/// The same of a slice of the view of a layout, of as many axes.
+/// The same of a slice of a view, of as many axes.
 fn slice_in_order<D: Dimension>(
     rt: &impl Abort,
     alloc: Global,
-    layout: &Asked,
+    view: &Strided<D>,
     argument: &Argument,
 ) -> Answer {
-    let view = view::<D>(rt, alloc, layout).expect(rt, "refused");
-    let slice: Result<Strided<D>, LayoutError> = sliced(
-        alloc,
-        &view,
-        &argument.elems,
-        argument.fit,
-    );
+    let slice: Result<Strided<D>, LayoutError> = view.slice(alloc, &argument.elems, argument.fit);
     in_order(&slice.expect(rt, "refused"))
+}
+
+/// The answer of the view of a layout at a dimension type.
+fn ask_view<D: Dimension>(
+    rt: &impl Abort,
+    alloc: Global,
+    layout: &Asked,
+    asked: &OfView,
+) -> Answer {
+    let mut view = view::<D>(rt, alloc, layout).expect(rt, "refused");
+    match asked {
+        OfView::Place(index) => Answer::Number(place(rt, alloc, &view, index.as_slice())),
+        OfView::Picked(argument) => picked(&view, argument),
+        OfView::Collapse(axis, index) => collapse(rt, alloc, &mut view, *axis, *index),
+        OfView::Merge(take, into) => merge(rt, alloc, &mut view, *take, *into),
+        OfView::InOrder(argument) => slice_in_order(rt, alloc, &view, argument),
+    }
 }
 
 /// The answer of a layout at a dimension type.
@@ -273,13 +298,7 @@ fn ask<D: Dimension>(
     match question {
         Question::View => told(rt, alloc, view::<D>(rt, alloc, layout)),
         Question::Span => Answer::Number(span::<D>(rt, alloc, layout)),
-        Question::Place(index) => {
-            Answer::Number(place::<D>(rt, alloc, layout, index.as_slice()))
-        },
-        Question::Picked(argument) => picked::<D>(rt, alloc, layout, argument),
-        Question::Collapse(axis, index) => collapse::<D>(rt, alloc, layout, *axis, *index),
-        Question::Merge(take, into) => merge::<D>(rt, alloc, layout, *take, *into),
-        Question::InOrder(argument) => slice_in_order::<D>(rt, alloc, layout, argument),
+        Question::Of(asked) => ask_view::<D>(rt, alloc, layout, asked),
         Question::Made(other) => made::<D>(rt, alloc, layout, other),
     }
 }

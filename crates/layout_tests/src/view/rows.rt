@@ -3,7 +3,7 @@ use crate::view::answer::{answer_at, expected, told};
 use crate::view::question::{fixed_count, read_layout, read_question};
 use CanIndexCheckMode::OwnedMutable;
 use nd_testing::{Row, rows};
-use ndarray_layout::{CanIndexCheckMode, Dimension, Fit, LayoutError, SliceElems, Strided};
+use ndarray_layout::{CanIndexCheckMode, Dimension, LayoutError, Strided};
 use std::alloc::Global;
 use std::process::Abort;
 
@@ -29,25 +29,6 @@ pub fn owned<D: Dimension>(dim: D, strides: D, len: usize) -> Result<Strided<D>,
     Ok(Strided::new(dim, strides, 1, len, OwnedMutable)?)
 }
 
-/// The slice of a view.
-pub fn sliced<D: Dimension, E: Dimension, S: SliceElems>(
-    alloc: Global,
-    view: &Strided<D>,
-    elems: &S,
-    fit: Fit,
-) -> Result<Strided<E>, LayoutError> {
-    view.slice(alloc, elems, fit)
-}
-
-/// A view as one of a shape.
-pub fn broadcast<D: Dimension, E: Dimension>(
-    alloc: Global,
-    view: &Strided<D>,
-    shape: &E,
-) -> Result<Strided<E>, LayoutError> {
-    view.broadcast(alloc, shape)
-}
-
 /// Whether a call that makes a view answers so.
 pub fn is_told<D: Dimension>(
     rt: &impl Abort,
@@ -56,16 +37,4 @@ pub fn is_told<D: Dimension>(
     answer: &str,
 ) -> bool {
     told(rt, alloc, view) == expected(rt, alloc, &mut Row::new(answer))
-}
-
-/// Whether the view in owned mode of elements of one byte is answered so.
-pub fn owned_is_told<D: Dimension>(
-    rt: &impl Abort,
-    alloc: Global,
-    dim: D,
-    strides: D,
-    len: usize,
-    answer: &str,
-) -> bool {
-    is_told(rt, alloc, owned(dim, strides, len), answer)
 }
