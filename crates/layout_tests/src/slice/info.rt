@@ -101,9 +101,19 @@ fn is_of<T: SliceElems, Dout: Dimension, const N: usize>(
     parts(info) == told && info.indices().elems() == elems
 }
 
-/// Whether an argument fits a shape.
-fn fits<D: Dimension, S: SliceElems>(shape: &D, arg: &S) -> bool {
-    check_slice(shape, arg, Fit::Strict).is_ok()
+/// Whether an argument, and the same with its elements lent, tells this, keeps these elements, and fits the
+/// first of two shapes alone.
+fn is_of_both<T: SliceElems, Dout: Dimension, D: Dimension, const N: usize>(
+    info: &SliceInfo<T, Dim<[usize; N]>, Dout>,
+    told: Parts,
+    elems: &[SliceInfoElem],
+    shapes: (&D, &D),
+) -> bool {
+    let lent = SliceInfo::<&[SliceInfoElem], Dim<[usize; N]>, Dout>::from(info);
+    is_of(info, told, elems)
+        && is_of(&lent, told, elems)
+        && check_slice(shapes.0, info, Fit::Strict).is_ok()
+        && check_slice(shapes.1, &lent, Fit::Strict).is_err()
 }
 
 /// The argument of an index and a range.
@@ -114,12 +124,12 @@ fn made() -> Result<SliceInfo<[SliceInfoElem; 2], Ix2, Ix1>, ErrorKind> {
 #[test]
 fn an_argument_by_its_type(rt: HostRuntime) {
     let info = made().expect(&rt, "the counts fit");
-    let lent: SliceInfo<&[SliceInfoElem], Ix2, Ix1> = SliceInfo::from(&info);
     let (copy, clone) = (info, info.clone().unwrap());
     let (told, elems) = (((2, 1), (2, 1), 2), row_of_a_matrix());
-    assert!(rt; is_of(&info, told, &elems) && is_of(&copy, told, &elems));
-    assert!(rt; is_of(&lent, told, &elems) && is_of(&clone, told, &elems));
-    assert!(rt; fits(&new_ix2(3, 4), &info) && !fits(&new_ix2(0, 4), &lent));
+    let shapes = (new_ix2(3, 4), new_ix2(0, 4));
+    for argument in [info, copy, clone] {
+        assert!(rt; is_of_both(&argument, told, &elems, (&shapes.0, &shapes.1)));
+    }
 }
 
 #[test]

@@ -1,12 +1,12 @@
 //! What views answer, at any dimension type.
 use crate::types::{AtType, at_type, dim_of};
 use crate::view::question::{Argument, Asked, Made, OfView, Question, lens, strides};
-use ErrorKind::{IncompatibleLayout, IncompatibleShape, OutOfBounds, Overflow, Unsupported};
+use ErrorKind::{IncompatibleShape, OutOfBounds, Overflow, Unsupported};
 use Order::{ColumnMajor, RowMajor};
 use nd_testing::Row;
 use ndarray_layout::{
-    Axis, Dimension, ErrorKind, LayoutError, Lengths, Order, ShapeError, Strided, is_layout_c,
-    is_layout_f, max_abs_offset_check_overflow, size_of_shape_checked,
+    Axis, Dimension, ErrorKind, LayoutError, Lengths, Order, Strided, is_layout_c, is_layout_f,
+    max_abs_offset_check_overflow, size_of_shape_checked,
 };
 use std::alloc::Global;
 use std::marker::PhantomData;
@@ -147,23 +147,34 @@ fn told_of_broadcast<D: Dimension, E: Dimension>(
     )
 }
 
-/// Keeps the second entry of the first axis, merged into the second, if one stride has the entries of both.
-fn keep_second_row<D: Dimension>(view: &mut Strided<D>) -> Result<bool, ShapeError> {
-    view.collapse(Axis(0), 1)?;
-    view.merge(Axis(0), Axis(1))
+/// Keeps the second entry of the first axis of a view, merged into the second.
+fn keep_second_row<D: Dimension>(rt: &impl Abort, view: &mut Strided<D>) {
+    view.collapse(Axis(0), 1).expect(rt, "no such entry");
+    let merged = view.merge(Axis(0), Axis(1)).expect(rt, "no such axes");
+    assert!(rt; merged, "no one stride has the entries of both axes");
 }
 
-/// What is told of the second row of a view as one of a shape of a dimension type.
-fn told_of_second_row<D: Dimension, E: Dimension>(
+/// The view of a layout that another is made of: the whole, or the second row.
+fn read<D: Dimension>(rt: &impl Abort, alloc: Global, layout: &Asked, made: &Made) -> Strided<D> {
+    let mut view = view::<D>(rt, alloc, layout).expect(rt, "refused");
+    if let Made::SecondRow(_ndim, _shape) = made {
+        keep_second_row(rt, &mut view);
+    }
+    view
+}
+
+/// What is told of a view that is made of another.
+fn told_of_view<D: Dimension, E: Dimension>(
     rt: &impl Abort,
     alloc: Global,
-    view: &mut Strided<D>,
-    shape: &[usize],
+    view: &Strided<D>,
+    made: &Made,
 ) -> Answer {
-    match keep_second_row(view) {
-        Ok(true) => told_of_broadcast::<D, E>(rt, alloc, view, shape),
-        Ok(false) => Answer::Refused(IncompatibleLayout),
-        Err(fault) => Answer::Refused(fault.kind()),
+    match made {
+        Made::Slice(argument) => told_of_slice::<D, E>(rt, alloc, view, argument),
+        Made::Broadcast(_ndim, shape) | Made::SecondRow(_ndim, shape) => {
+            told_of_broadcast::<D, E>(rt, alloc, view, shape.as_slice())
+        }
     }
 }
 
@@ -174,22 +185,7 @@ fn told_of_made<D: Dimension, E: Dimension>(
     layout: &Asked,
     made: &Made,
 ) -> Answer {
-    let mut view = view::<D>(rt, alloc, layout).expect(rt, "refused");
-    match made {
-        Made::SecondRow(_ndim, shape) => told_of_second_row::<D, E>(
-            rt,
-            alloc,
-            &mut view,
-            shape.as_slice(),
-        ),
-        Made::Slice(argument) => told_of_slice::<D, E>(rt, alloc, &view, argument),
-        Made::Broadcast(_ndim, shape) => told_of_broadcast::<D, E>(
-            rt,
-            alloc,
-            &view,
-            shape.as_slice(),
-        ),
-    }
+    told_of_view::<D, E>(rt, alloc, &read::<D>(rt, alloc, layout, made), made)
 }
 
 /// What is told of a view that is made of the view of a layout at a dimension type, at another.
@@ -271,21 +267,31 @@ fn slice_in_order<D: Dimension>(
     in_order(&slice.expect(rt, "refused"))
 }
 
-/// The answer of the view of a layout at a dimension type.
+/// The answer of a view.
 fn ask_view<D: Dimension>(
+    rt: &impl Abort,
+    alloc: Global,
+    view: &mut Strided<D>,
+    asked: &OfView,
+) -> Answer {
+    match asked {
+        OfView::Place(index) => Answer::Number(place(rt, alloc, view, index.as_slice())),
+        OfView::Picked(argument) => picked(view, argument),
+        OfView::Collapse(axis, index) => collapse(rt, alloc, view, *axis, *index),
+        OfView::Merge(take, into) => merge(rt, alloc, view, *take, *into),
+        OfView::InOrder(argument) => slice_in_order(rt, alloc, view, argument),
+    }
+}
+
+/// The answer of the view of a layout at a dimension type.
+fn ask_viewed<D: Dimension>(
     rt: &impl Abort,
     alloc: Global,
     layout: &Asked,
     asked: &OfView,
 ) -> Answer {
     let mut view = view::<D>(rt, alloc, layout).expect(rt, "refused");
-    match asked {
-        OfView::Place(index) => Answer::Number(place(rt, alloc, &view, index.as_slice())),
-        OfView::Picked(argument) => picked(&view, argument),
-        OfView::Collapse(axis, index) => collapse(rt, alloc, &mut view, *axis, *index),
-        OfView::Merge(take, into) => merge(rt, alloc, &mut view, *take, *into),
-        OfView::InOrder(argument) => slice_in_order(rt, alloc, &view, argument),
-    }
+    ask_view(rt, alloc, &mut view, asked)
 }
 
 /// The answer of a layout at a dimension type.
@@ -298,7 +304,7 @@ fn ask<D: Dimension>(
     match question {
         Question::View => told(rt, alloc, view::<D>(rt, alloc, layout)),
         Question::Span => Answer::Number(span::<D>(rt, alloc, layout)),
-        Question::Of(asked) => ask_view::<D>(rt, alloc, layout, asked),
+        Question::Of(asked) => ask_viewed::<D>(rt, alloc, layout, asked),
         Question::Made(other) => made::<D>(rt, alloc, layout, other),
     }
 }
