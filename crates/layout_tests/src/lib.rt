@@ -5,4 +5,6 @@
 #[cfg(test)]
 mod slice;
 #[cfg(test)]
+mod types;
+#[cfg(test)]
 mod view;

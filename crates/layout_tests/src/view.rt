@@ -2,7 +2,7 @@
 mod answer;
 mod axes;
 pub mod elems;
-mod question;
+pub mod question;
 mod rows;
 mod runs;
 mod shapes;

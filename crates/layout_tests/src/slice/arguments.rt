@@ -1,12 +1,16 @@
 //! Which slice arguments fit a shape, and the first fault of any other, however the elements are kept.
+use crate::types::{AtType, at_type, dim_of};
+use crate::view::elems::elems;
+use crate::view::question::{fixed_count, lens};
 use ErrorKind::{IncompatibleShape, OutOfBounds, Unsupported};
 use Fit::{Clamp, Strict};
 use SliceInfoElem::{Index, NewAxis};
-use nd_base::{ErrorKind, Ix1, Ix2, Ix3, Ix6, new_ix1, new_ix2, new_ix3, new_ix6, new_ixdyn};
+use nd_base::ErrorKind;
 use nd_dim::Dimension;
 use nd_slice::{Fit, SliceInfoElem, check_elems, check_slice, in_ndim_of, out_ndim_of};
-use nd_testing::fault_of;
+use nd_testing::{Row, fault_of, rows};
 use std::alloc::Global;
+use std::process::Abort;
 
 /// The whole of an axis.
 const ALL: SliceInfoElem = SliceInfoElem::Slice {
@@ -15,21 +19,14 @@ const ALL: SliceInfoElem = SliceInfoElem::Slice {
     step: 1,
 };
 
-/// From an entry on, with a step.
-const fn from(start: isize, step: isize) -> SliceInfoElem {
-    SliceInfoElem::Slice {
-        start,
-        end: None,
-        step,
-    }
-}
-
-/// The elements of an argument, and its fault.
-type Row<'a> = (&'a [SliceInfoElem], Option<ErrorKind>);
-
 /// Whether an argument has this fault, or none, with its elements in a slice and in a vector.
-fn has_fault<D: Dimension>(alloc: Global, dim: &D, row: Row, fit: Fit) -> bool {
-    let (elems, fault) = row;
+fn has_fault<D: Dimension>(
+    alloc: Global,
+    dim: &D,
+    elems: &[SliceInfoElem],
+    fault: Option<ErrorKind>,
+    fit: Fit,
+) -> bool {
     match elems.to_vec(alloc) {
         Ok(kept) => {
             fault_of(check_slice(dim, &elems, fit)) == fault
@@ -42,18 +39,12 @@ fn has_fault<D: Dimension>(alloc: Global, dim: &D, row: Row, fit: Fit) -> bool {
 /// Whole axes.
 const WHOLE: [SliceInfoElem; 7] = [ALL; 7];
 
-/// Whether arguments have these faults on a shape, and one of whole axes fits it if it is of as many
-/// axes.
-fn have_faults<D: Dimension>(alloc: Global, dim: &D, rows: &[Row], fit: Fit) -> bool {
-    for row in rows {
-        if !has_fault(alloc, dim, *row, fit) {
-            return false;
-        }
-    }
+/// Whether an argument of whole axes fits a shape if it is of as many axes.
+fn whole_axes_fit<D: Dimension>(alloc: Global, dim: &D, fit: Fit) -> bool {
     for count in 0..=WHOLE.len() {
         let fits = dim.ndim() == count;
         let fault = if fits { None } else { Some(IncompatibleShape) };
-        if !has_fault(alloc, dim, (&WHOLE[..count], fault), fit) {
+        if !has_fault(alloc, dim, &WHOLE[..count], fault, fit) {
             return false;
         }
     }
@@ -87,112 +78,142 @@ fn counts_by_kind(rt: HostRuntime) {
     );
 }
 
-/// The same at one axis, and at each other count below.
-fn one_has_faults(alloc: Global, dim: &Ix1, rows: &[Row]) -> bool {
-    have_faults(alloc, dim, rows, Strict)
+/// An argument and its fault on a shape.
+#[derive(Drop)]
+struct Checked<'a> {
+    lens: &'a [usize],
+    elems: &'a [SliceInfoElem],
+    fault: Option<ErrorKind>,
+    fit: Fit,
 }
 
-#[test]
-fn one_axis(rt: HostRuntime) {
-    let rows: [Row; 3] = [
-        (&[from(-4, -2)], None),
-        (&[Index(-5)], Some(OutOfBounds)),
-        (&[from(4, 0)], Some(Unsupported)),
-    ];
-    assert!(rt; one_has_faults(rt.alloc(), &new_ix1(4), &rows));
-}
+impl AtType for Checked<'_> {
+    type Answer = bool;
 
-fn two_have_faults(alloc: Global, dim: &Ix2, rows: &[Row], fit: Fit) -> bool {
-    have_faults(alloc, dim, rows, fit)
-}
-
-#[test]
-fn r1_rows(rt: HostRuntime) {
-    let rows: [Row; 4] = [
-        (&[ALL, ALL], None),
-        (&[Index(-4), from(5, 1)], None),
-        (&[from(5, 0), ALL], Some(OutOfBounds)),
-        (&[from(4, 0), Index(5)], Some(Unsupported)),
-    ];
-    assert!(rt; two_have_faults(rt.alloc(), &new_ix2(4, 5), &rows, Strict));
-}
-
-#[test]
-fn r4_rows(rt: HostRuntime) {
-    let rows: [Row; 3] = [
-        (&[ALL], Some(IncompatibleShape)),
-        (&[from(9, 1), from(0, 0)], Some(OutOfBounds)),
-        (&[from(0, 0), from(9, 1)], Some(Unsupported)),
-    ];
-    assert!(rt; two_have_faults(rt.alloc(), &new_ix2(4, 5), &rows, Strict));
-}
-
-#[test]
-fn r14_rows(rt: HostRuntime) {
-    let rows: [Row; 5] = [
-        (&[from(9, 1), from(-9, 2)], None),
-        (&[from(9, 1), from(0, 0)], Some(Unsupported)),
-        (&[from(9, 1), Index(5)], Some(OutOfBounds)),
-        (&[Index(-5), from(9, 0)], Some(OutOfBounds)),
-        (&[from(9, 0), Index(9)], Some(Unsupported)),
-    ];
-    assert!(rt; two_have_faults(rt.alloc(), &new_ix2(4, 5), &rows, Clamp));
-}
-
-fn three_have_faults(alloc: Global, dim: &Ix3, rows: &[Row]) -> bool {
-    have_faults(alloc, dim, rows, Strict)
-}
-
-#[test]
-fn three_axes(rt: HostRuntime) {
-    let rows: [Row; 3] = [
-        (&[from(2, 1), NewAxis, Index(2), from(-4, 3)], None),
-        (&[Index(1), ALL, Index(4)], Some(OutOfBounds)),
-        (&[NewAxis, ALL, Index(2), from(0, 0)], Some(Unsupported)),
-    ];
-    assert!(rt;
-        three_have_faults(rt.alloc(), &new_ix3(2, 3, 4), &rows)
-            && three_have_faults(rt.alloc(), &new_ix3(2, 0, 4), &[])
-    );
-}
-
-fn six_have_faults(alloc: Global, dim: &Ix6, rows: &[Row]) -> bool {
-    have_faults(alloc, dim, rows, Strict)
-}
-
-#[test]
-fn six_axes(rt: HostRuntime) {
-    let fits = [Index(1), ALL, from(3, 1), Index(-2), from(0, -1), Index(3)];
-    let outside = [ALL, ALL, ALL, Index(1), ALL, from(-5, 1)];
-    let step = [ALL, Index(0), ALL, ALL, ALL, from(0, 0)];
-    let rows: [Row; 3] = [
-        (&fits, None),
-        (&outside, Some(OutOfBounds)),
-        (&step, Some(Unsupported)),
-    ];
-    assert!(rt; six_have_faults(rt.alloc(), &new_ix6(2, 1, 3, 2, 2, 4), &rows));
-}
-
-fn any_have_faults(alloc: Global, lens: &[usize], rows: &[Row]) -> bool {
-    match new_ixdyn(alloc, lens) {
-        Ok(dim) => have_faults(alloc, &dim, rows, Strict),
-        Err(_) => false,
+    fn at<D: Dimension>(&self, rt: &impl Abort, alloc: Global) -> bool {
+        let dim: D = dim_of(rt, alloc, self.lens).expect(rt, "memory");
+        has_fault(alloc, &dim, self.elems, self.fault, self.fit)
+            && whole_axes_fit(alloc, &dim, self.fit)
     }
 }
 
+/// The fault that a word names, or none.
+fn fault(rt: &impl Abort, word: &str) -> Option<ErrorKind> {
+    match word {
+        "IncompatibleShape" => Some(IncompatibleShape),
+        "OutOfBounds" => Some(OutOfBounds),
+        "Unsupported" => Some(Unsupported),
+        _ => {
+            assert!(rt; word == "fits", "a fault");
+            None
+        }
+    }
+}
+
+/// A row holds: a dimension type, a shape, an argument, and its fault or `fits`; and arguments of whole axes
+/// fit the shape if they are of as many.
+fn holds(rt: &impl Abort, alloc: Global, line: &str, fit: Fit) {
+    let mut row = Row::new(line);
+    let ndim = fixed_count(rt, &mut row);
+    let lens = lens(rt, alloc, &mut row);
+    let elems = elems(rt, alloc, &mut row);
+    let fault = fault(rt, row.word().expect(rt, "an answer"));
+    let (lens, elems) = (lens.as_slice(), elems.as_slice());
+    let checked = Checked {
+        lens,
+        elems,
+        fault,
+        fit,
+    };
+    assert!(rt; at_type(rt, alloc, ndim, &checked), "{line}");
+}
+
+/// All rows of a table hold.
+fn hold(rt: &impl Abort, alloc: Global, table: &str, fit: Fit) {
+    for line in rows(table) {
+        holds(rt, alloc, line, fit);
+    }
+}
+
+/// One axis.
+const ONE: &str = "\
+Ix1 4 -4..;-2 fits
+Ix1 4 -5 OutOfBounds
+Ix1 4 4..;0 Unsupported";
+
+#[test]
+fn one_axis(rt: HostRuntime) {
+    hold(&rt, rt.alloc(), ONE, Strict);
+}
+
+/// Two axes: bounds at the ends, and the first fault of two.
+const TWO: &str = "\
+Ix2 4,5 ..,.. fits
+Ix2 4,5 -4,5.. fits
+Ix2 4,5 5..;0,.. OutOfBounds
+Ix2 4,5 4..;0,5 Unsupported";
+
+#[test]
+fn r1_rows(rt: HostRuntime) {
+    hold(&rt, rt.alloc(), TWO, Strict);
+}
+
+/// The order of faults.
+const ORDER: &str = "\
+Ix2 4,5 .. IncompatibleShape
+Ix2 4,5 9..,..;0 OutOfBounds
+Ix2 4,5 ..;0,9.. Unsupported";
+
+#[test]
+fn r4_rows(rt: HostRuntime) {
+    hold(&rt, rt.alloc(), ORDER, Strict);
+}
+
+/// Bounds that are moved to the ends of their axis.
+const CLAMPED: &str = "\
+Ix2 4,5 9..,-9..;2 fits
+Ix2 4,5 9..,..;0 Unsupported
+Ix2 4,5 9..,5 OutOfBounds
+Ix2 4,5 -5,9..;0 OutOfBounds
+Ix2 4,5 9..;0,9 Unsupported";
+
+#[test]
+fn r14_rows(rt: HostRuntime) {
+    hold(&rt, rt.alloc(), CLAMPED, Clamp);
+}
+
+/// Three axes.
+const THREE: &str = "\
+Ix3 2,3,4 2..,NewAxis,2,-4..;3 fits
+Ix3 2,3,4 1,..,4 OutOfBounds
+Ix3 2,3,4 NewAxis,..,2,..;0 Unsupported
+Ix3 2,0,4 ..,..,.. fits";
+
+#[test]
+fn three_axes(rt: HostRuntime) {
+    hold(&rt, rt.alloc(), THREE, Strict);
+}
+
+/// Six axes.
+const SIX: &str = "\
+Ix6 2,1,3,2,2,4 1,..,3..,-2,..;-1,3 fits
+Ix6 2,1,3,2,2,4 ..,..,..,1,..,-5.. OutOfBounds
+Ix6 2,1,3,2,2,4 ..,0,..,..,..,..;0 Unsupported";
+
+#[test]
+fn six_axes(rt: HostRuntime) {
+    hold(&rt, rt.alloc(), SIX, Strict);
+}
+
+/// Any number of axes.
+const ANY: &str = "\
+IxDyn - - fits
+IxDyn 2,3 ..,.. fits
+IxDyn 2,3,1,2,4 -1,..,0,NewAxis,2..;-1,-4 fits
+IxDyn 2,3,1,2,4 ..,..,1,..,..;0 OutOfBounds
+IxDyn 2,3,1,2,4 ..,..,NewAxis,..,..,..;0 Unsupported";
+
 #[test]
 fn any_number_of_axes(rt: HostRuntime) {
-    let fits = [Index(-1), ALL, Index(0), NewAxis, from(2, -1), Index(-4)];
-    let outside = [ALL, ALL, Index(1), ALL, from(0, 0)];
-    let step = [ALL, ALL, NewAxis, ALL, ALL, from(0, 0)];
-    let rows: [Row; 3] = [
-        (&fits, None),
-        (&outside, Some(OutOfBounds)),
-        (&step, Some(Unsupported)),
-    ];
-    assert!(rt;
-        any_have_faults(rt.alloc(), &[], &[])
-            && any_have_faults(rt.alloc(), &[2, 3], &[])
-            && any_have_faults(rt.alloc(), &[2, 3, 1, 2, 4], &rows)
-    );
+    hold(&rt, rt.alloc(), ANY, Strict);
 }

@@ -1,5 +1,6 @@
 //! Slice arguments whose type tells the shapes before and after.
-use nd_base::{ErrorKind, FixedCount, Ix0, Ix1, Ix2, Ix3, Ix6, IxDyn, ShapeError, new_ix2};
+use nd_base::{Dim, ErrorKind, FixedCount, Ix0, Ix1, Ix2, Ix3, Ix6, IxDyn, ShapeError, new_ix2};
+use nd_dim::Dimension;
 use nd_slice::{Fit, NewAxis, SliceArg, SliceElems, SliceInfo, SliceInfoElem, check_slice};
 use nd_testing::or_fault;
 use std::alloc::Global;
@@ -76,14 +77,43 @@ fn told<D: FixedCount, S: SliceArg<D>>(arg: &S) -> (usize, usize) {
     (arg.in_ndim(), arg.out_ndim())
 }
 
-/// What an argument from two axes to one tells, kept in a `T`: its counts, for shapes of two axes and
-/// of any number; and its first element.
-fn parts<T: SliceElems>(info: &SliceInfo<T, Ix2, Ix1>) -> ((usize, usize), (usize, usize), usize) {
+/// The counts of an argument for shapes of its own type and of any number of axes, and how many elements
+/// it has.
+type Parts = ((usize, usize), (usize, usize), usize);
+
+/// What an argument tells, kept in a `T`.
+fn parts<T: SliceElems, Dout: Dimension, const N: usize>(
+    info: &SliceInfo<T, Dim<[usize; N]>, Dout>,
+) -> Parts {
     (
-        told::<Ix2, _>(info),
+        told::<Dim<[usize; N]>, _>(info),
         told::<IxDyn, _>(info),
         info.elems().len(),
     )
+}
+
+/// Whether an argument tells this, and keeps these elements.
+fn is_of<T: SliceElems, Dout: Dimension, const N: usize>(
+    info: &SliceInfo<T, Dim<[usize; N]>, Dout>,
+    told: Parts,
+    elems: &[SliceInfoElem],
+) -> bool {
+    parts(info) == told && info.indices().elems() == elems
+}
+
+/// Whether an argument, and the same with its elements lent, tells this, keeps these elements, and fits the
+/// first of two shapes alone.
+fn is_of_both<T: SliceElems, Dout: Dimension, D: Dimension, const N: usize>(
+    info: &SliceInfo<T, Dim<[usize; N]>, Dout>,
+    told: Parts,
+    elems: &[SliceInfoElem],
+    shapes: (&D, &D),
+) -> bool {
+    let lent = SliceInfo::<&[SliceInfoElem], Dim<[usize; N]>, Dout>::from(info);
+    is_of(info, told, elems)
+        && is_of(&lent, told, elems)
+        && check_slice(shapes.0, info, Fit::Strict).is_ok()
+        && check_slice(shapes.1, &lent, Fit::Strict).is_err()
 }
 
 /// The argument of an index and a range.
@@ -94,17 +124,12 @@ fn made() -> Result<SliceInfo<[SliceInfoElem; 2], Ix2, Ix1>, ErrorKind> {
 #[test]
 fn an_argument_by_its_type(rt: HostRuntime) {
     let info = made().expect(&rt, "the counts fit");
-    let lent: SliceInfo<&[SliceInfoElem], Ix2, Ix1> = SliceInfo::from(&info);
     let (copy, clone) = (info, info.clone().unwrap());
-    let told = ((2, 1), (2, 1), 2);
-    assert!(rt; parts(&info) == told && parts(&lent) == told && parts(&copy) == told);
-    assert!(rt;
-        *info.indices() == row_of_a_matrix()
-            && *clone.indices() == row_of_a_matrix()
-            && *lent.indices() == row_of_a_matrix().as_slice()
-            && check_slice(&new_ix2(3, 4), &info, Fit::Strict).is_ok()
-            && check_slice(&new_ix2(0, 4), &lent, Fit::Strict).is_err()
-    );
+    let (told, elems) = (((2, 1), (2, 1), 2), row_of_a_matrix());
+    let shapes = (new_ix2(3, 4), new_ix2(0, 4));
+    for argument in [info, copy, clone] {
+        assert!(rt; is_of_both(&argument, told, &elems, (&shapes.0, &shapes.1)));
+    }
 }
 
 #[test]

@@ -1,14 +1,15 @@
 //! What views answer, at any dimension type.
-use crate::view::question::{Argument, Asked, Question, lens, strides};
+use crate::types::{AtType, at_type, dim_of};
+use crate::view::question::{Argument, Asked, Made, OfView, Question, lens, strides};
 use ErrorKind::{IncompatibleShape, OutOfBounds, Overflow, Unsupported};
 use Order::{ColumnMajor, RowMajor};
 use nd_testing::Row;
 use ndarray_layout::{
-    Axis, Dimension, ErrorKind, Ix1, Ix2, Ix3, Ix5, Ix6, IxDyn, LayoutError, Lengths, Order,
-    Strided, is_layout_c, is_layout_f, max_abs_offset_check_overflow, new_ixdyn,
-    size_of_shape_checked,
+    Axis, Dimension, ErrorKind, LayoutError, Lengths, Order, Strided, is_layout_c, is_layout_f,
+    max_abs_offset_check_overflow, size_of_shape_checked,
 };
 use std::alloc::Global;
+use std::marker::PhantomData;
 use std::process::Abort;
 
 /// All that a view tells.
@@ -91,9 +92,7 @@ pub fn told<D: Dimension>(
 
 /// The value of a dimension type that stands for a list.
 fn dim<D: Dimension>(rt: &impl Abort, alloc: Global, lens: &[usize]) -> D {
-    let dim = new_ixdyn(alloc, lens).expect(rt, "memory");
-    let same = D::from_dimension(alloc, &dim).expect(rt, "memory");
-    same.expect(rt, "another count of axes")
+    dim_of(rt, alloc, lens).expect(rt, "memory")
 }
 
 /// The view of a layout.
@@ -118,10 +117,9 @@ fn span<D: Dimension>(rt: &impl Abort, alloc: Global, layout: &Asked) -> Option<
 fn place<D: Dimension>(
     rt: &impl Abort,
     alloc: Global,
-    layout: &Asked,
+    view: &Strided<D>,
     index: &[usize],
 ) -> Option<usize> {
-    let view = view::<D>(rt, alloc, layout).expect(rt, "refused");
     view.place(&dim::<D>(rt, alloc, index))
 }
 
@@ -133,79 +131,6 @@ fn told_of_slice<D: Dimension, E: Dimension>(
     argument: &Argument,
 ) -> Answer {
     told::<E>(rt, alloc, view.slice(alloc, &argument.elems, argument.fit))
-}
-
-/// The slice of a view, into the type that its argument asks for.
-fn slice<D: Dimension>(
-    rt: &impl Abort,
-    alloc: Global,
-    view: &Strided<D>,
-    argument: &Argument,
-) -> Answer {
-    match argument.ndim {
-        Some(1) => told_of_slice::<D, Ix1>(rt, alloc, view, argument),
-        Some(2) => told_of_slice::<D, Ix2>(rt, alloc, view, argument),
-        Some(3) => told_of_slice::<D, Ix3>(rt, alloc, view, argument),
-        Some(5) => told_of_slice::<D, Ix5>(rt, alloc, view, argument),
-        Some(6) => told_of_slice::<D, Ix6>(rt, alloc, view, argument),
-        _ => told_of_slice::<D, IxDyn>(rt, alloc, view, argument),
-    }
-}
-
-/// The slice of the view of a layout.
-fn slice_of_layout<D: Dimension>(
-    rt: &impl Abort,
-    alloc: Global,
-    layout: &Asked,
-    argument: &Argument,
-) -> Answer {
-    let view = view::<D>(rt, alloc, layout).expect(rt, "refused");
-    slice(rt, alloc, &view, argument)
-}
-
-/// How many places of the view of a layout a slice picks.
-fn picked<D: Dimension>(
-    rt: &impl Abort,
-    alloc: Global,
-    layout: &Asked,
-    argument: &Argument,
-) -> Answer {
-    let view = view::<D>(rt, alloc, layout).expect(rt, "refused");
-    match view.picked(&argument.elems, argument.fit) {
-        Ok(count) => Answer::Number(Some(count)),
-        Err(fault) => Answer::Refused(fault.kind()),
-    }
-}
-
-/// What is left of the view of a layout by one entry of an axis.
-fn collapse<D: Dimension>(
-    rt: &impl Abort,
-    alloc: Global,
-    layout: &Asked,
-    axis: Axis,
-    index: usize,
-) -> Answer {
-    let mut view = view::<D>(rt, alloc, layout).expect(rt, "refused");
-    match view.collapse(axis, index) {
-        Ok(()) => Answer::View(look(rt, alloc, &view)),
-        Err(fault) => Answer::Refused(fault.kind()),
-    }
-}
-
-/// What is left of the view of a layout where an axis is merged into another, or the view where it isn't.
-fn merge<D: Dimension>(
-    rt: &impl Abort,
-    alloc: Global,
-    layout: &Asked,
-    take: Axis,
-    into: Axis,
-) -> Answer {
-    let mut view = view::<D>(rt, alloc, layout).expect(rt, "refused");
-    match view.merge(take, into) {
-        Ok(true) => Answer::View(look(rt, alloc, &view)),
-        Ok(false) => Answer::Unmerged(look(rt, alloc, &view)),
-        Err(fault) => Answer::Refused(fault.kind()),
-    }
 }
 
 /// What is told of a view as one of a shape of a dimension type.
@@ -222,21 +147,103 @@ fn told_of_broadcast<D: Dimension, E: Dimension>(
     )
 }
 
-/// The view of a layout as one of a shape, at the type of so many axes.
-fn broadcast<D: Dimension>(
+/// Keeps the second entry of the first axis of a view, merged into the second.
+fn keep_second_row<D: Dimension>(rt: &impl Abort, view: &mut Strided<D>) {
+    view.collapse(Axis(0), 1).expect(rt, "no such entry");
+    let merged = view.merge(Axis(0), Axis(1)).expect(rt, "no such axes");
+    assert!(rt; merged, "no one stride has the entries of both axes");
+}
+
+/// The view of a layout that another is made of: the whole, or the second row.
+fn read<D: Dimension>(rt: &impl Abort, alloc: Global, layout: &Asked, made: &Made) -> Strided<D> {
+    let mut view = view::<D>(rt, alloc, layout).expect(rt, "refused");
+    if let Made::SecondRow(_ndim, _shape) = made {
+        keep_second_row(rt, &mut view);
+    }
+    view
+}
+
+/// What is told of a view that is made of another.
+fn told_of_view<D: Dimension, E: Dimension>(
+    rt: &impl Abort,
+    alloc: Global,
+    view: &Strided<D>,
+    made: &Made,
+) -> Answer {
+    match made {
+        Made::Slice(argument) => told_of_slice::<D, E>(rt, alloc, view, argument),
+        Made::Broadcast(_ndim, shape) | Made::SecondRow(_ndim, shape) => {
+            told_of_broadcast::<D, E>(rt, alloc, view, shape.as_slice())
+        }
+    }
+}
+
+/// What is told of a view that is made of the view of a layout, at a dimension type.
+fn told_of_made<D: Dimension, E: Dimension>(
     rt: &impl Abort,
     alloc: Global,
     layout: &Asked,
-    ndim: Option<usize>,
-    shape: &[usize],
+    made: &Made,
 ) -> Answer {
-    let view = view::<D>(rt, alloc, layout).expect(rt, "refused");
-    match ndim {
-        Some(1) => told_of_broadcast::<D, Ix1>(rt, alloc, &view, shape),
-        Some(2) => told_of_broadcast::<D, Ix2>(rt, alloc, &view, shape),
-        Some(3) => told_of_broadcast::<D, Ix3>(rt, alloc, &view, shape),
-        Some(6) => told_of_broadcast::<D, Ix6>(rt, alloc, &view, shape),
-        _ => told_of_broadcast::<D, IxDyn>(rt, alloc, &view, shape),
+    told_of_view::<D, E>(rt, alloc, &read::<D>(rt, alloc, layout, made), made)
+}
+
+/// What is told of a view that is made of the view of a layout at a dimension type, at another.
+#[derive(Drop)]
+struct OfMade<'a, D: Dimension> {
+    from: PhantomData<D>,
+    layout: &'a Asked,
+    made: &'a Made,
+}
+
+impl<D: Dimension> AtType for OfMade<'_, D> {
+    type Answer = Answer;
+
+    fn at<E: Dimension>(&self, rt: &impl Abort, alloc: Global) -> Answer {
+        told_of_made::<D, E>(rt, alloc, self.layout, self.made)
+    }
+}
+
+/// The same at the dimension type that it is to be of.
+fn made<D: Dimension>(rt: &impl Abort, alloc: Global, layout: &Asked, made: &Made) -> Answer {
+    let from = PhantomData::<D>;
+    at_type(rt, alloc, made.ndim(), &OfMade { from, layout, made })
+}
+
+/// How many places of a view a slice picks.
+fn picked<D: Dimension>(view: &Strided<D>, argument: &Argument) -> Answer {
+    match view.picked(&argument.elems, argument.fit) {
+        Ok(count) => Answer::Number(Some(count)),
+        Err(fault) => Answer::Refused(fault.kind()),
+    }
+}
+
+/// What is left of a view by one entry of an axis.
+fn collapse<D: Dimension>(
+    rt: &impl Abort,
+    alloc: Global,
+    view: &mut Strided<D>,
+    axis: Axis,
+    index: usize,
+) -> Answer {
+    match view.collapse(axis, index) {
+        Ok(()) => Answer::View(look(rt, alloc, view)),
+        Err(fault) => Answer::Refused(fault.kind()),
+    }
+}
+
+/// What is left of a view where an axis is merged into another, or the view where it isn't.
+fn merge<D: Dimension>(
+    rt: &impl Abort,
+    alloc: Global,
+    view: &mut Strided<D>,
+    take: Axis,
+    into: Axis,
+) -> Answer {
+    match view.merge(take, into) {
+        Ok(true) => Answer::View(look(rt, alloc, view)),
+        Ok(false) => Answer::Unmerged(look(rt, alloc, view)),
+        Err(fault) => Answer::Refused(fault.kind()),
     }
 }
 
@@ -249,16 +256,42 @@ fn in_order<D: Dimension>(view: &Strided<D>) -> Answer {
     Answer::InOrder(is_layout_c(dim, strides), is_layout_f(dim, strides))
 }
 
-/// The same of a slice of the view of a layout, of as many axes.
+/// The same of a slice of a view, of as many axes.
 fn slice_in_order<D: Dimension>(
     rt: &impl Abort,
     alloc: Global,
-    layout: &Asked,
+    view: &Strided<D>,
     argument: &Argument,
 ) -> Answer {
-    let view = view::<D>(rt, alloc, layout).expect(rt, "refused");
     let slice: Result<Strided<D>, LayoutError> = view.slice(alloc, &argument.elems, argument.fit);
     in_order(&slice.expect(rt, "refused"))
+}
+
+/// The answer of a view.
+fn ask_view<D: Dimension>(
+    rt: &impl Abort,
+    alloc: Global,
+    view: &mut Strided<D>,
+    asked: &OfView,
+) -> Answer {
+    match asked {
+        OfView::Place(index) => Answer::Number(place(rt, alloc, view, index.as_slice())),
+        OfView::Picked(argument) => picked(view, argument),
+        OfView::Collapse(axis, index) => collapse(rt, alloc, view, *axis, *index),
+        OfView::Merge(take, into) => merge(rt, alloc, view, *take, *into),
+        OfView::InOrder(argument) => slice_in_order(rt, alloc, view, argument),
+    }
+}
+
+/// The answer of the view of a layout at a dimension type.
+fn ask_viewed<D: Dimension>(
+    rt: &impl Abort,
+    alloc: Global,
+    layout: &Asked,
+    asked: &OfView,
+) -> Answer {
+    let mut view = view::<D>(rt, alloc, layout).expect(rt, "refused");
+    ask_view(rt, alloc, &mut view, asked)
 }
 
 /// The answer of a layout at a dimension type.
@@ -271,17 +304,23 @@ fn ask<D: Dimension>(
     match question {
         Question::View => told(rt, alloc, view::<D>(rt, alloc, layout)),
         Question::Span => Answer::Number(span::<D>(rt, alloc, layout)),
-        Question::Place(index) => {
-            Answer::Number(place::<D>(rt, alloc, layout, index.as_slice()))
-        },
-        Question::Picked(argument) => picked::<D>(rt, alloc, layout, argument),
-        Question::Collapse(axis, index) => collapse::<D>(rt, alloc, layout, *axis, *index),
-        Question::Merge(take, into) => merge::<D>(rt, alloc, layout, *take, *into),
-        Question::Broadcast(ndim, shape) => {
-            broadcast::<D>(rt, alloc, layout, *ndim, shape.as_slice())
-        },
-        Question::InOrder(argument) => slice_in_order::<D>(rt, alloc, layout, argument),
-        Question::Slice(argument) => slice_of_layout::<D>(rt, alloc, layout, argument),
+        Question::Of(asked) => ask_viewed::<D>(rt, alloc, layout, asked),
+        Question::Made(other) => made::<D>(rt, alloc, layout, other),
+    }
+}
+
+/// What is asked of a layout at a dimension type.
+#[derive(Drop)]
+struct OfLayout<'a> {
+    layout: &'a Asked,
+    question: &'a Question,
+}
+
+impl AtType for OfLayout<'_> {
+    type Answer = Answer;
+
+    fn at<D: Dimension>(&self, rt: &impl Abort, alloc: Global) -> Answer {
+        ask::<D>(rt, alloc, self.layout, self.question)
     }
 }
 
@@ -293,11 +332,5 @@ pub fn answer_at(
     layout: &Asked,
     question: &Question,
 ) -> Answer {
-    match ndim {
-        Some(1) => ask::<Ix1>(rt, alloc, layout, question),
-        Some(2) => ask::<Ix2>(rt, alloc, layout, question),
-        Some(3) => ask::<Ix3>(rt, alloc, layout, question),
-        Some(6) => ask::<Ix6>(rt, alloc, layout, question),
-        _ => ask::<IxDyn>(rt, alloc, layout, question),
-    }
+    at_type(rt, alloc, ndim, &OfLayout { layout, question })
 }

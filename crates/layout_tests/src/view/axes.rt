@@ -3,11 +3,10 @@
 //! A row is a dimension type, a layout (size of an element, length and use of the data, shape,
 //! strides), a question and its answer. After `merge` stand the axis to take and the one to merge into,
 //! after `broadcast` the dimension type of the shape, and the shape.
-use crate::view::rows::{hold, is_told, owned};
+use crate::types::{AtType, at_type, dim_of};
+use crate::view::rows::{hold, owned};
 use nd_testing::grants;
-use ndarray_layout::{
-    Axis, Dimension, ErrorKind, IxDyn, LayoutError, Strided, from_kind, new_ix2, new_ix3, new_ixdyn,
-};
+use ndarray_layout::{Dimension, LayoutError, Strided, new_ix2};
 use std::alloc::Global;
 use std::process::Abort;
 
@@ -88,28 +87,13 @@ fn r5_rows_of_layouts(rt: HostRuntime) {
     hold(&rt, rt.alloc(), IN_ORDER);
 }
 
-// ---- one step after another
-
-/// The second entry of the first axis, merged into the second, as a view of a shape.
-fn second_row_as<D: Dimension, E: Dimension>(
-    alloc: Global,
-    view: Result<Strided<D>, LayoutError>,
-    shape: &E,
-) -> Result<Strided<E>, LayoutError> {
-    let mut view = view?;
-    view.collapse(Axis(0), 1)?;
-    if !view.merge(Axis(0), Axis(1))? {
-        return Err(from_kind(ErrorKind::IncompatibleLayout).into());
-    }
-    view.broadcast(alloc, shape)
-}
+/// One step after another: an entry of the first axis, which is merged into the second, and a shape.
+const STEPS: &str = "\
+Ix2 1 6 owned 2,3 3,1 second_row Ix3 2,2,3 is 2,2,3 0,0,1 3 3,4,5,3,4,5,3,4,5,3,4,5 3,3,3,3,4,4,4,4,5,5,5,5";
 
 #[test]
 fn r5_rows_of_steps(rt: HostRuntime) {
-    let row = "is 2,2,3 0,0,1 3 3,4,5,3,4,5,3,4,5,3,4,5 3,3,3,3,4,4,4,4,5,5,5,5";
-    let view = owned(new_ix2(2, 3), new_ix2(3, 1), 6);
-    let told = second_row_as(rt.alloc(), view, &new_ix3(2, 2, 3));
-    assert!(rt; is_told(&rt, rt.alloc(), told, row));
+    hold(&rt, rt.alloc(), STEPS);
 }
 
 // ---- refused memory
@@ -122,64 +106,97 @@ enum Outcome {
     Refused,
 }
 
-/// What came of it.
-fn outcome_of<E: Dimension>(view: Result<Strided<E>, LayoutError>) -> Outcome {
-    match view {
+/// A shape and strides over two elements, as a view of a shape.
+fn read_as<D: Dimension, E: Dimension>(
+    alloc: Global,
+    dim: D,
+    strides: D,
+    shape: &E,
+) -> Result<Strided<E>, LayoutError> {
+    let view = owned(dim, strides, 2)?;
+    view.broadcast(alloc, shape)
+}
+
+/// What comes of it.
+fn outcome_as<D: Dimension, E: Dimension>(alloc: Global, dim: D, strides: D, shape: &E) -> Outcome {
+    match read_as(alloc, dim, strides, shape) {
         Ok(_view) => Outcome::Made,
         Err(LayoutError::Memory(_error)) => Outcome::OutOfMemory,
         Err(LayoutError::Shape(_fault)) => Outcome::Refused,
     }
 }
 
-/// A view, as one of a shape.
-fn read_as<D: Dimension, E: Dimension>(
-    alloc: Global,
-    view: Result<Strided<D>, LayoutError>,
-    shape: &E,
-) -> Result<Strided<E>, LayoutError> {
-    let view = view?;
-    view.broadcast(alloc, shape)
-}
-
 /// What comes of reading two columns as a view of a shape.
 fn columns_as<E: Dimension>(alloc: Global, shape: &E) -> Outcome {
-    outcome_of(read_as(alloc, owned(new_ix2(1, 2), new_ix2(2, 1), 2), shape))
+    outcome_as(alloc, new_ix2(1, 2), new_ix2(2, 1), shape)
 }
 
-/// The same of any number of axes.
-fn columns_as_any(alloc: Global, shape: &IxDyn) -> Outcome {
-    columns_as(alloc, shape)
+/// Whether two columns are read as a view of a shape of five axes twice, or once, where a request is refused.
+/// Each time takes two, behind the one of the shape.
+fn one_is_made<E: Dimension>(alloc: Global, shape: &E) -> bool {
+    let first = columns_as(alloc, shape);
+    let second = columns_as(alloc, shape);
+    grants(alloc) && (first == Outcome::Made || second == Outcome::Made)
+}
+
+/// How often two columns are read as a view of a shape.
+#[derive(Clone, Copy, PartialEq)]
+enum Times {
+    Once,
+    TwiceOrRefused,
+}
+
+/// Two columns, as a view of a shape.
+#[derive(Drop)]
+struct Columns<'a> {
+    shape: &'a [usize],
+    times: Times,
+}
+
+impl AtType for Columns<'_> {
+    type Answer = bool;
+
+    fn at<E: Dimension>(&self, rt: &impl Abort, alloc: Global) -> bool {
+        let Ok(shape) = dim_of::<E>(rt, alloc, self.shape) else {
+            return self.times == Times::TwiceOrRefused;
+        };
+        match self.times {
+            Times::Once => columns_as(alloc, &shape) == Outcome::Made,
+            Times::TwiceOrRefused => one_is_made(alloc, &shape),
+        }
+    }
+}
+
+/// Whether two columns are read as a view of a shape, at the type of so many axes.
+fn are_read(
+    rt: &impl Abort,
+    alloc: Global,
+    ndim: Option<usize>,
+    shape: &[usize],
+    times: Times,
+) -> bool {
+    at_type(rt, alloc, ndim, &Columns { shape, times })
 }
 
 #[test]
 fn memory_of_broadcast_at_a_fixed_type(rt: HostRuntime) {
-    assert!(rt; columns_as(rt.alloc(), &new_ix3(3, 2, 2)) == Outcome::Made);
+    assert!(rt; are_read(&rt, rt.alloc(), Some(3), &[3, 2, 2], Times::Once));
 }
 
 #[test]
 fn memory_of_broadcast_to_four(rt: HostRuntime) {
-    let four = new_ixdyn(rt.alloc(), &[2, 1, 3, 2]).expect(&rt, "four axes need no memory");
-    assert!(rt; columns_as_any(rt.alloc(), &four) == Outcome::Made);
+    assert!(rt; are_read(&rt, rt.alloc(), None, &[2, 1, 3, 2], Times::Once));
 }
 
-/// Whether two columns are read as a view of five axes twice, or once, where a request is refused. Each
-/// time takes two, behind the one of the shape.
-fn one_is_made(alloc: Global, shape: &IxDyn) -> bool {
-    let first = columns_as_any(alloc, shape);
-    let second = columns_as_any(alloc, shape);
-    grants(alloc) && (first == Outcome::Made || second == Outcome::Made)
-}
+/// Five axes.
+const FIVE: [usize; 5] = [2, 1, 3, 1, 2];
 
 #[test]
 fn memory_of_broadcast_to_five(rt: HostRuntime) {
-    if let Ok(five) = new_ixdyn(rt.alloc(), &[2, 1, 3, 1, 2]) {
-        assert!(rt; one_is_made(rt.alloc(), &five));
-    }
+    assert!(rt; are_read(&rt, rt.alloc(), None, &FIVE, Times::TwiceOrRefused));
 }
 
 #[test]
 fn late_memory_of_broadcast_to_five(rt: HostRuntime) {
-    if let Ok(five) = new_ixdyn(rt.alloc(), &[2, 1, 3, 1, 2]) {
-        assert!(rt; one_is_made(rt.alloc(), &five));
-    }
+    assert!(rt; are_read(&rt, rt.alloc(), None, &FIVE, Times::TwiceOrRefused));
 }

@@ -26,6 +26,42 @@ pub struct Argument {
     pub fit: Fit,
 }
 
+/// How a view of another type is made of one.
+#[derive(Drop)]
+pub enum Made {
+    /// The slice into the type of so many axes.
+    Slice(Argument),
+    /// The same data as a view of a shape, of the type of so many axes.
+    Broadcast(Option<usize>, Vec<usize>),
+    /// The second row, merged and then as a view of a shape, of the type of so many axes.
+    SecondRow(Option<usize>, Vec<usize>),
+}
+
+impl Made {
+    /// The count of axes that the type of the view fixes.
+    pub fn ndim(&self) -> Option<usize> {
+        match self {
+            Made::Slice(argument) => argument.ndim,
+            Made::Broadcast(ndim, _shape) | Made::SecondRow(ndim, _shape) => *ndim,
+        }
+    }
+}
+
+/// What is asked of a view.
+#[derive(Drop)]
+pub enum OfView {
+    /// The place of an index.
+    Place(Vec<usize>),
+    /// How many places a slice picks.
+    Picked(Argument),
+    /// One entry of an axis.
+    Collapse(Axis, usize),
+    /// An axis merged into another.
+    Merge(Axis, Axis),
+    /// Whether the places of a slice of as many axes lie in order, by rows and by columns.
+    InOrder(Argument),
+}
+
 /// What is asked of a layout.
 #[derive(Drop)]
 pub enum Question {
@@ -33,20 +69,10 @@ pub enum Question {
     View,
     /// How far it reaches.
     Span,
-    /// The place of an index.
-    Place(Vec<usize>),
-    /// The slice into the type of so many axes.
-    Slice(Argument),
-    /// How many places it picks.
-    Picked(Argument),
-    /// One entry of an axis.
-    Collapse(Axis, usize),
-    /// An axis merged into another.
-    Merge(Axis, Axis),
-    /// The same data as a view of a shape, of the type of so many axes.
-    Broadcast(Option<usize>, Vec<usize>),
-    /// Whether the places of a slice of as many axes lie in order, by rows and by columns.
-    InOrder(Argument),
+    /// A question about the view.
+    Of(OfView),
+    /// A view that is made of it.
+    Made(Made),
 }
 
 /// The next word of a row as lengths.
@@ -108,14 +134,15 @@ pub fn read_question(rt: &impl Abort, alloc: Global, row: &mut Row<'_>) -> Quest
     match row.word().expect(rt, "a question") {
         "view" => Question::View,
         "span" => Question::Span,
-        "at" => Question::Place(lens(rt, alloc, row)),
-        "picked" => Question::Picked(read_argument(rt, alloc, row, Strict)),
-        "clamp_picked" => Question::Picked(read_argument(rt, alloc, row, Clamp)),
-        "collapse" => Question::Collapse(Axis(number(rt, row)), number(rt, row)),
-        "merge" => Question::Merge(Axis(number(rt, row)), Axis(number(rt, row))),
-        "broadcast" => Question::Broadcast(fixed_count(rt, row), lens(rt, alloc, row)),
-        "in_order" => Question::InOrder(read_argument(rt, alloc, row, Strict)),
-        "clamp" => Question::Slice(read_argument(rt, alloc, row, Clamp)),
-        _ => Question::Slice(read_argument(rt, alloc, row, Strict)),
+        "at" => Question::Of(OfView::Place(lens(rt, alloc, row))),
+        "picked" => Question::Of(OfView::Picked(read_argument(rt, alloc, row, Strict))),
+        "clamp_picked" => Question::Of(OfView::Picked(read_argument(rt, alloc, row, Clamp))),
+        "collapse" => Question::Of(OfView::Collapse(Axis(number(rt, row)), number(rt, row))),
+        "merge" => Question::Of(OfView::Merge(Axis(number(rt, row)), Axis(number(rt, row)))),
+        "broadcast" => Question::Made(Made::Broadcast(fixed_count(rt, row), lens(rt, alloc, row))),
+        "second_row" => Question::Made(Made::SecondRow(fixed_count(rt, row), lens(rt, alloc, row))),
+        "in_order" => Question::Of(OfView::InOrder(read_argument(rt, alloc, row, Strict))),
+        "clamp" => Question::Made(Made::Slice(read_argument(rt, alloc, row, Clamp))),
+        _ => Question::Made(Made::Slice(read_argument(rt, alloc, row, Strict))),
     }
 }

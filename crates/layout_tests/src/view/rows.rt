@@ -3,7 +3,7 @@ use crate::view::answer::{answer_at, expected, told};
 use crate::view::question::{fixed_count, read_layout, read_question};
 use CanIndexCheckMode::OwnedMutable;
 use nd_testing::{Row, rows};
-use ndarray_layout::{CanIndexCheckMode, Dimension, Fit, LayoutError, SliceInfoElem, Strided};
+use ndarray_layout::{CanIndexCheckMode, Dimension, LayoutError, Strided};
 use std::alloc::Global;
 use std::process::Abort;
 
@@ -27,16 +27,6 @@ pub fn hold(rt: &impl Abort, alloc: Global, table: &str) {
 /// A view in owned mode of elements of one byte. (What `Strided::new` ensures is dear where a type is given.)
 pub fn owned<D: Dimension>(dim: D, strides: D, len: usize) -> Result<Strided<D>, LayoutError> {
     Ok(Strided::new(dim, strides, 1, len, OwnedMutable)?)
-}
-
-/// The slice of a view.
-pub fn sliced<D: Dimension, E: Dimension>(
-    alloc: Global,
-    view: &Strided<D>,
-    elems: &[SliceInfoElem],
-    fit: Fit,
-) -> Result<Strided<E>, LayoutError> {
-    view.slice(alloc, &elems, fit)
 }
 
 /// Whether a call that makes a view answers so.

@@ -5,8 +5,8 @@ use crate::view::rows::owned;
 use ErrorKind::{IncompatibleLayout, OutOfBounds};
 use SliceInfoElem::Slice;
 use ndarray_layout::{
-    Axis, ErrorKind, Fit, IxDyn, LayoutError, Lengths, SliceInfoElem, Step, Stopped, Strided,
-    new_ixdyn, run,
+    Axis, Dimension, ErrorKind, Fit, IxDyn, LayoutError, Lengths, SliceInfoElem, Step, Stopped,
+    Strided, new_ixdyn, run,
 };
 use std::alloc::{AllocError, Global};
 use std::process::Abort;
@@ -26,6 +26,11 @@ fn kind_of(fault: &LayoutError) -> Option<ErrorKind> {
     }
 }
 
+/// Whether a view has this start, shape and strides.
+fn is_left<D: Dimension>(view: &Strided<D>, left: (usize, &[usize], &[usize])) -> bool {
+    (view.start(), view.dim().slice(), view.strides().slice()) == left
+}
+
 /// A run ended after so many steps, by a fault of this kind if it was stopped by one, with this view
 /// left: its start, shape and strides.
 fn ends(
@@ -40,7 +45,7 @@ fn ends(
             (Some((at, kind_of(&fault))), view)
         },
     };
-    stopped == taken && (view.start(), view.dim().slice(), view.strides().slice()) == left
+    stopped == taken && is_left(&view, left)
 }
 
 /// Whether a run of these steps from the whole grid ends so.

@@ -2,12 +2,13 @@
 //!
 //! What is asked of a view is asked by the bound alone, and each type is named in one place: what
 //! `Strided::from_shape` ensures is dear where a type is given.
+use crate::types::{AtType, at_type, dim_of};
 use crate::view::rows::{is_told, owned};
 use CanIndexCheckMode::OwnedMutable;
 use nd_testing::grants;
 use ndarray_layout::{
-    Axes, AxisDescription, CanIndexCheckMode, Dimension, IxDyn, LayoutError, Lengths, ShapeBuilder,
-    StrideShape, Strided, Strides, new_ix2, new_ix3, new_ix6, new_ixdyn, unsigned,
+    Axes, AxisDescription, CanIndexCheckMode, Dimension, LayoutError, Lengths, ShapeBuilder,
+    StrideShape, Strided, Strides, new_ix3, unsigned,
 };
 use std::alloc::Global;
 use std::process::Abort;
@@ -128,21 +129,53 @@ fn columns_hold<D: Dimension>(
     }
 }
 
-/// The same of any number of axes.
-fn any_columns_hold(
+/// What is asked of the view of a shape in column-major order, over `len` elements.
+#[derive(Drop)]
+struct Columns<'a> {
+    lens: &'a [usize],
+    len: usize,
+    asked: OfColumns<'a>,
+}
+
+impl AtType for Columns<'_> {
+    type Answer = bool;
+
+    fn at<D: Dimension>(&self, rt: &impl Abort, alloc: Global) -> bool {
+        match dim_of::<D>(rt, alloc, self.lens) {
+            Ok(dim) => columns_hold(rt, alloc, dim, self.len, self.asked),
+            Err(_) => matches!(self.asked, OfColumns::MadeOrRefused),
+        }
+    }
+}
+
+/// The same at the type of as many axes.
+fn fixed_columns_hold(
     rt: &impl Abort,
     alloc: Global,
-    dim: IxDyn,
+    lens: &[usize],
     len: usize,
     asked: OfColumns<'_>,
 ) -> bool {
-    columns_hold(rt, alloc, dim, len, asked)
+    at_type(rt, alloc, Some(lens.len()), &Columns { lens, len, asked })
 }
 
-/// The same of five axes.
+/// The same at the type of any number of axes.
+fn any_columns_hold(
+    rt: &impl Abort,
+    alloc: Global,
+    lens: &[usize],
+    len: usize,
+    asked: OfColumns<'_>,
+) -> bool {
+    at_type(rt, alloc, None, &Columns { lens, len, asked })
+}
+
+/// Five axes.
+const FIVE: [usize; 5] = [2, 1, 3, 1, 2];
+
+/// Whether the view of five axes is told by a row.
 fn five_columns_hold(rt: &impl Abort, alloc: Global, len: usize, row: &str) -> bool {
-    let five = new_ixdyn(alloc, &[2, 1, 3, 1, 2]).expect(rt, "memory");
-    any_columns_hold(rt, alloc, five, len, OfColumns::Row(row))
+    any_columns_hold(rt, alloc, &FIVE, len, OfColumns::Row(row))
 }
 
 #[test]
@@ -156,8 +189,7 @@ fn r3_rows_of_five_axes(rt: HostRuntime) {
 // 1,100 axes of no entries.
 #[test]
 fn r3_rows_of_many_axes(rt: HostRuntime) {
-    let empty = IxDyn::zeros(rt.alloc(), 1100).expect(&rt, "memory");
-    assert!(rt; any_columns_hold(&rt, rt.alloc(), empty, 0, OfColumns::Axes(1100)));
+    assert!(rt; any_columns_hold(&rt, rt.alloc(), &[0; 1100], 0, OfColumns::Axes(1100)));
 }
 
 // ---- their axes
@@ -303,22 +335,18 @@ fn r3_rows_of_five_axes_in_turn(rt: HostRuntime) {
 #[test]
 fn memory_of_shapes_at_fixed_types(rt: HostRuntime) {
     let (alloc, made) = (rt.alloc(), OfColumns::Made);
-    assert!(rt; columns_hold(&rt, alloc, new_ix2(2, 3), 24, made));
-    assert!(rt; columns_hold(&rt, alloc, new_ix6(2, 1, 3, 1, 2, 2), 24, made));
+    assert!(rt; fixed_columns_hold(&rt, alloc, &[2, 3], 24, made));
+    assert!(rt; fixed_columns_hold(&rt, alloc, &[2, 1, 3, 1, 2, 2], 24, made));
 }
 
 #[test]
 fn memory_of_a_shape_of_four(rt: HostRuntime) {
-    let four = new_ixdyn(rt.alloc(), &[2, 3, 2, 2]).expect(&rt, "four axes need no memory");
-    assert!(rt; any_columns_hold(&rt, rt.alloc(), four, 24, OfColumns::Made));
+    assert!(rt; any_columns_hold(&rt, rt.alloc(), &[2, 3, 2, 2], 24, OfColumns::Made));
 }
 
 #[test]
 fn memory_of_a_shape_of_five(rt: HostRuntime) {
-    let alloc = rt.alloc();
-    if let Ok(five) = new_ixdyn(alloc, &[2, 1, 3, 1, 2]) {
-        assert!(rt; any_columns_hold(&rt, alloc, five, 12, OfColumns::MadeOrRefused));
-    }
+    assert!(rt; any_columns_hold(&rt, rt.alloc(), &FIVE, 12, OfColumns::MadeOrRefused));
 }
 
 // The view itself takes two requests: the third and the fourth are those of what is asked here.

@@ -1,18 +1,25 @@
 //! Two rows of three elements: slices as values of their type, and refused memory.
 //!
 //! Each test passes plain, and with the first or the second request of its run refused.
-use crate::view::rows::{owned, sliced};
+use crate::types::{AtType, at_type, dim_of};
+use crate::view::rows::owned;
 use Fit::Strict;
 use Order::RowMajor;
 use SliceInfoElem::{Index, NewAxis, Slice};
 use nd_testing::grants;
-use ndarray_layout::{Dimension, Fit, Ix2, Order, SliceInfoElem, Strided, new_ix2};
+use ndarray_layout::{Dimension, Fit, LayoutError, Order, SliceInfoElem, Strided};
 use std::alloc::{AllocError, Global};
 use std::process::Abort;
 
+/// A list of two axes, as a value of a type that fixes their count.
+fn pair<D: Dimension>(rt: &impl Abort, alloc: Global, list: [usize; 2]) -> D {
+    dim_of(rt, alloc, &list).expect(rt, "two axes need no memory")
+}
+
 /// Two rows of three elements.
-fn two_rows(rt: &impl Abort) -> Strided<Ix2> {
-    owned(new_ix2(2, 3), new_ix2(3, 1), 6).expect(rt, "refused")
+fn two_rows<D: Dimension>(rt: &impl Abort, alloc: Global) -> Strided<D> {
+    let (dim, strides) = (pair(rt, alloc, [2, 3]), pair(rt, alloc, [3, 1]));
+    owned(dim, strides, 6).expect(rt, "refused")
 }
 
 /// A range up to the end of an axis.
@@ -24,27 +31,66 @@ const fn from(start: isize) -> SliceInfoElem {
     }
 }
 
-/// A slice has this shape, strides and start.
-fn leaves(rt: &impl Abort, alloc: Global, elems: &[SliceInfoElem], left: (Ix2, Ix2, usize)) {
-    let slice: Strided<Ix2> = sliced(alloc, &two_rows(rt), elems, Strict).expect(rt, "refused");
-    assert_eq!(rt; (*slice.dim(), *slice.strides(), slice.start()), left);
+/// What a view has: shape, strides and start.
+type Parts = ([usize; 2], [usize; 2], usize);
+
+/// Whether a view has these.
+fn has_parts<D: Dimension>(
+    rt: &impl Abort,
+    alloc: Global,
+    view: &Strided<D>,
+    parts: Parts,
+) -> bool {
+    let (dim, strides, start) = parts;
+    *view.dim() == pair::<D>(rt, alloc, dim)
+        && *view.strides() == pair::<D>(rt, alloc, strides)
+        && view.start() == start
+}
+
+/// A slice of two rows of three elements, by its elements, and what it has.
+#[derive(Drop)]
+struct SliceOfRows<'a> {
+    elems: &'a [SliceInfoElem],
+    left: Parts,
+}
+
+impl AtType for SliceOfRows<'_> {
+    type Answer = bool;
+
+    fn at<D: Dimension>(&self, rt: &impl Abort, alloc: Global) -> bool {
+        let view = two_rows::<D>(rt, alloc);
+        let slice: Result<Strided<D>, LayoutError> = view.slice(alloc, &self.elems, Strict);
+        has_parts(rt, alloc, &slice.expect(rt, "refused"), self.left)
+    }
+}
+
+/// Whether a slice of the type of two axes has this shape, strides and start.
+fn leaves(rt: &impl Abort, alloc: Global, elems: &[SliceInfoElem], left: Parts) -> bool {
+    at_type(rt, alloc, Some(2), &SliceOfRows { elems, left })
 }
 
 #[test]
 fn row_with_a_new_axis(rt: HostRuntime) {
-    let left = (new_ix2(1, 3), new_ix2(0, 1), 3);
-    leaves(&rt, rt.alloc(), &[Index(-1), NewAxis, from(0)], left);
+    let left = ([1, 3], [0, 1], 3);
+    assert!(rt; leaves(&rt, rt.alloc(), &[Index(-1), NewAxis, from(0)], left));
 }
 
 #[test]
 fn memory_of_slice(rt: HostRuntime) {
-    let left = (new_ix2(2, 2), new_ix2(3, 1), 1);
-    leaves(&rt, rt.alloc(), &[from(0), from(1)], left);
+    let left = ([2, 2], [3, 1], 1);
+    assert!(rt; leaves(&rt, rt.alloc(), &[from(0), from(1)], left));
 }
 
-/// The places of a view.
-fn by_rows<D: Dimension>(alloc: Global, view: &Strided<D>) -> Result<Vec<usize>, AllocError> {
-    view.places(alloc, RowMajor)
+/// The places of two rows of three elements.
+#[derive(Drop)]
+struct PlacesOfRows;
+
+impl AtType for PlacesOfRows {
+    type Answer = Result<Vec<usize>, AllocError>;
+
+    fn at<D: Dimension>(&self, rt: &impl Abort, alloc: Global) -> Result<Vec<usize>, AllocError> {
+        two_rows::<D>(rt, alloc).places(alloc, RowMajor)
+    }
 }
 
 /// The places of six elements, or that the request of a small one behind them was granted.
@@ -57,6 +103,6 @@ fn lists_six_places(rt: &impl Abort, places: Result<Vec<usize>, AllocError>, gra
 
 #[test]
 fn memory_of_places(rt: HostRuntime) {
-    let places = by_rows(rt.alloc(), &two_rows(&rt));
+    let places = at_type(&rt, rt.alloc(), Some(2), &PlacesOfRows);
     lists_six_places(&rt, places, grants(rt.alloc()));
 }

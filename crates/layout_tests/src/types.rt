@@ -1,0 +1,49 @@
+//! Questions that are asked at a dimension type of as many axes as a row tells.
+//!
+//! Each type is named in this one place, since the check takes seconds for each function that names one.
+use nd_dim::{Dimension, Ix0, Ix1, Ix2, Ix3, Ix5, Ix6, IxDyn};
+use std::alloc::{AllocError, Global};
+use std::process::Abort;
+
+/// What can be asked at any dimension type.
+pub trait AtType {
+    /// What is answered.
+    type Answer;
+
+    /// The answer at the type `D`.
+    fn at<D: Dimension>(&self, rt: &impl Abort, alloc: Global) -> Self::Answer;
+}
+
+/// The answer at the type of so many axes, or of any number.
+pub fn at_type<A: AtType>(
+    rt: &impl Abort,
+    alloc: Global,
+    ndim: Option<usize>,
+    asked: &A,
+) -> A::Answer {
+    match ndim {
+        Some(0) => asked.at::<Ix0>(rt, alloc),
+        Some(1) => asked.at::<Ix1>(rt, alloc),
+        Some(2) => asked.at::<Ix2>(rt, alloc),
+        Some(3) => asked.at::<Ix3>(rt, alloc),
+        Some(5) => asked.at::<Ix5>(rt, alloc),
+        Some(6) => asked.at::<Ix6>(rt, alloc),
+        _ => asked.at::<IxDyn>(rt, alloc),
+    }
+}
+
+/// The value of a dimension type that stands for a list. No memory is asked for but its own: none where the
+/// type fixes the count or there are at most four axes.
+pub fn dim_of<D: Dimension>(
+    rt: &impl Abort,
+    alloc: Global,
+    lens: &[usize],
+) -> Result<D, AllocError> {
+    match D::NDIM {
+        Some(count) => assert!(rt; count == lens.len(), "another count of axes"),
+        None => {}
+    }
+    let mut dim = D::zeros(alloc, lens.len())?;
+    dim.slice_mut().copy_from_slice(lens);
+    Ok(dim)
+}
