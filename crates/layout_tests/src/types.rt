@@ -1,7 +1,7 @@
 //! Questions that are asked at a dimension type of as many axes as a row tells.
 //!
 //! Each type is named in this one place, since the check takes seconds for each function that names one.
-use nd_dim::{Dimension, Ix0, Ix1, Ix2, Ix3, Ix5, Ix6, IxDyn};
+use nd_dim::{Dimension, Ix0, Ix1, Ix2, Ix3, Ix4, Ix5, Ix6, IxDyn};
 use std::alloc::{AllocError, Global};
 use std::process::Abort;
 
@@ -14,7 +14,7 @@ pub trait AtType {
     fn at<D: Dimension>(&self, rt: &impl Abort, alloc: Global) -> Self::Answer;
 }
 
-/// The answer at the type of so many axes, or of any number.
+/// The answer at the type that fixes so many axes, or, where none does, at that of any number.
 pub fn at_type<A: AtType>(
     rt: &impl Abort,
     alloc: Global,
@@ -26,6 +26,7 @@ pub fn at_type<A: AtType>(
         Some(1) => asked.at::<Ix1>(rt, alloc),
         Some(2) => asked.at::<Ix2>(rt, alloc),
         Some(3) => asked.at::<Ix3>(rt, alloc),
+        Some(4) => asked.at::<Ix4>(rt, alloc),
         Some(5) => asked.at::<Ix5>(rt, alloc),
         Some(6) => asked.at::<Ix6>(rt, alloc),
         _ => asked.at::<IxDyn>(rt, alloc),
