@@ -1,5 +1,6 @@
 //! What the calls answer, each by the bound alone: whether it is what a row wants. Want of memory is not.
 use crate::dim::lists::dim_of;
+use nd_base::FixedCount;
 use nd_dim::{
     Axis, Dimension, ErrorKind, IntoDimension, IxDyn, Lengths, RemoveAxis, incompatible_shapes,
     new_ixdyn,
@@ -86,7 +87,13 @@ pub(crate) fn widens<D: Dimension>(
     larger: &[usize],
 ) -> bool {
     let larger: D::Larger = dim_of(rt, alloc, larger);
-    axis <= dim.ndim() && makes(dim.insert_axis(alloc, Axis(axis)), &larger)
+    let count = match D::NDIM {
+        Some(ndim) if ndim < 6 => Some(ndim + 1),
+        _ => None,
+    };
+    D::Larger::NDIM == count
+        && axis <= dim.ndim()
+        && makes(dim.insert_axis(alloc, Axis(axis)), &larger)
 }
 
 /// An axis less, as a value of this type. No axes stay none.
@@ -98,7 +105,12 @@ pub(crate) fn tries_to_narrow<D: Dimension>(
     smaller: &[usize],
 ) -> bool {
     let smaller: D::Smaller = dim_of(rt, alloc, smaller);
-    (axis < dim.ndim() || dim.ndim() == 0)
+    let count = match D::NDIM {
+        Some(ndim) => Some(ndim.saturating_sub(1)),
+        None => None,
+    };
+    D::Smaller::NDIM == count
+        && (axis < dim.ndim() || dim.ndim() == 0)
         && makes(dim.try_remove_axis(alloc, Axis(axis)), &smaller)
 }
 
