@@ -8,11 +8,11 @@ ghost use Rattle.nd_shape.specs.Axes.{axes, axes_left};
 mod iter;
 
 pub use iter::{Axes, AxisDescription};
-use nd_dim::Dimension;
+use nd_dim::Lengths;
 
 /// The axes of a layout with their lengths and strides, each once, from the first or from the last
 /// on. There is a stride for each axis. Upstream's `axes_of`.
-pub fn axes_of<'a, D: Dimension>(dim: &'a D, strides: &'a D) -> Axes<'a>
+pub fn axes_of<'a, D: Lengths>(dim: &'a D, strides: &'a D) -> Axes<'a>
     requires { length (D.list dim.now) ≡ length (D.list strides.now) }
     ensures list { axes_left result ≡ axes (D.list dim.now) (all_signed (D.list strides.now)) }
     ensures in_order { YieldsInOrder (YieldsFirst axes_left) axes_left }

@@ -4,7 +4,7 @@ ghost use Rattle.nd_base.specs.Lengths.{IsCount, NeedsNoMemory};
 ghost use Rattle.nd_base.specs.ShapeFault.{shape_fault};
 ghost use Rattle.nd_shape.specs.CommonShape.{common_length, common_shape, common_shape_fault};
 
-use nd_dim::{Dimension, ErrorKind, LayoutError, from_kind};
+use nd_dim::{ErrorKind, LayoutError, Lengths, from_kind};
 use std::alloc::Global;
 
 /// Whether two lengths of one axis are equal, or one of them is 1.
@@ -57,7 +57,7 @@ fn fill_common_shape(longer: &[usize], shorter: &[usize], common: &mut [usize])
 
 /// The common shape of a list of lengths and one that is no longer.
 #[inline(always)]
-fn common_of<Output: Dimension>(
+fn common_of<Output: Lengths>(
     alloc: Global,
     longer: &[usize],
     shorter: &[usize],
@@ -90,7 +90,7 @@ fn common_of<Output: Dimension>(
 /// for want of memory, but not where `Output` fixes its count of axes or there are at most 4.
 /// Upstream's `co_broadcast`.
 #[inline]
-pub fn co_broadcast<D1: Dimension, D2: Dimension, Output: Dimension>(
+pub fn co_broadcast<D1: Lengths, D2: Lengths, Output: Lengths>(
     alloc: Global,
     shape1: &D1,
     shape2: &D2,

@@ -17,7 +17,7 @@ ghost use Rattle.nd_shape.specs.ShapeBuilder.{standard_strides, strides_list};
 use crate::limits::{checked_nonzero_size, checked_span, multiply};
 use crate::overlap::has_overlap;
 use crate::shape_builder::Strides;
-use nd_dim::{Dimension, ErrorKind, ShapeError, from_kind, signed};
+use nd_dim::{ErrorKind, Lengths, ShapeError, from_kind, signed};
 
 /// How a layout is going to be used. Upstream's `CanIndexCheckMode`.
 #[derive(Clone, Copy, PartialEq)]
@@ -43,7 +43,7 @@ fn size_of_lengths(shape: &[usize]) -> Result<usize, ShapeError>
 ///
 /// Refused with `Overflow` where the product of the lengths that are not 0 passes the greatest
 /// `isize`. Upstream's `size_of_shape_checked`.
-pub fn size_of_shape_checked<D: Dimension>(dim: &D) -> Result<usize, ShapeError>
+pub fn size_of_shape_checked<D: Lengths>(dim: &D) -> Result<usize, ShapeError>
     ensures ok { IfOk result (λ n. n ≡ size (D.list dim.now)) }
     ensures fault { result_err result ≡
         (if nat_lt limit (nonzero_size (D.list dim.now)) then Some Overflow else None) }
@@ -88,7 +88,7 @@ fn span_of_lengths(
 /// Refused with `IncompatibleLayout` where there are not as many strides as lengths, and then with
 /// `Overflow` where the product of the lengths that are not 0, the span, or the span in bytes
 /// passes the greatest `isize`. Upstream's `max_abs_offset_check_overflow`.
-pub fn max_abs_offset_check_overflow<D: Dimension>(
+pub fn max_abs_offset_check_overflow<D: Lengths>(
     elem_size: usize,
     dim: &D,
     strides: &D,
@@ -133,7 +133,7 @@ fn accept(
 /// `dim_stride_overlap`. So in owned mode no two indices of what is accepted share an element.
 /// Upstream's `can_index_slice`.
 #[inline(always)]
-pub fn can_index_slice<D: Dimension>(
+pub fn can_index_slice<D: Lengths>(
     elem_size: usize,
     len: usize,
     dim: &D,
@@ -160,7 +160,7 @@ pub fn can_index_slice<D: Dimension>(
 ///
 /// Refused as `size_of_shape_checked` does, and then with `OutOfBounds` where there are more indices
 /// than elements. Upstream's `can_index_slice_not_custom`.
-pub fn can_index_slice_not_custom<D: Dimension>(len: usize, dim: &D) -> Result<(), ShapeError>
+pub fn can_index_slice_not_custom<D: Lengths>(len: usize, dim: &D) -> Result<(), ShapeError>
     ensures fault { result_err result ≡ acceptance_of_standard len (D.list dim.now) }
     ensures inside { OnOk result ((order : Order) →
         LiesInside len 0 (D.list dim.now) (all_signed (standard_strides order (D.list dim.now)))) }
@@ -177,7 +177,7 @@ pub fn can_index_slice_not_custom<D: Dimension>(len: usize, dim: &D) -> Result<(
 /// Refused as `can_index_slice` does where strides are given, and else as
 /// `can_index_slice_not_custom` does, whatever the use. In owned mode no two indices of what is
 /// accepted share an element. Upstream's `can_index_slice_with_strides`.
-pub fn can_index_slice_with_strides<D: Dimension>(
+pub fn can_index_slice_with_strides<D: Lengths>(
     elem_size: usize,
     len: usize,
     dim: &D,
@@ -225,7 +225,7 @@ fn some_lead_back(strides: &[usize]) -> bool
 /// Whether each stride leads on, or nowhere, and none leads back.
 ///
 /// Refused with `Unsupported`. Upstream's `strides_non_negative`.
-pub fn strides_non_negative<D: Dimension>(strides: &D) -> Result<(), ShapeError>
+pub fn strides_non_negative<D: Lengths>(strides: &D) -> Result<(), ShapeError>
     ensures { result_err result ≡ sign_fault (all_signed (D.list strides.now)) }
 {
     if some_lead_back(strides.slice()) {

@@ -5,7 +5,7 @@ ghost use Rattle.nd_base.specs.Signed.{all_signed};
 ghost use Rattle.nd_base.specs.Size.{nonzero_size, limit};
 ghost use Rattle.nd_shape.specs.LayoutOrder.{LiesInOrder, MeetsOrderRule};
 
-use nd_dim::Dimension;
+use nd_dim::Lengths;
 
 /// Whether there is no index, or each axis of another length than 1 has the stride by which the last
 /// axis moves fastest.
@@ -55,7 +55,7 @@ fn has_strides_by_columns(lens: &[usize], strides: &[usize]) -> bool
 ///
 /// There is a stride for each axis, and the product of the lengths, zeros aside, is at most the
 /// greatest `isize`. Upstream's `is_layout_c`.
-pub fn is_layout_c<D: Dimension>(dim: &D, strides: &D) -> bool
+pub fn is_layout_c<D: Lengths>(dim: &D, strides: &D) -> bool
     requires same_count { length (D.list dim.now) ≡ length (D.list strides.now) }
     requires size_fits { nonzero_size (D.list dim.now) ≤ limit }
     ensures places { IsTrue result
@@ -72,7 +72,7 @@ pub fn is_layout_c<D: Dimension>(dim: &D, strides: &D) -> bool
 ///
 /// There is a stride for each axis, and the product of the lengths, zeros aside, is at most the
 /// greatest `isize`. Upstream's `is_layout_f`.
-pub fn is_layout_f<D: Dimension>(dim: &D, strides: &D) -> bool
+pub fn is_layout_f<D: Lengths>(dim: &D, strides: &D) -> bool
     requires same_count { length (D.list dim.now) ≡ length (D.list strides.now) }
     requires size_fits { nonzero_size (D.list dim.now) ≤ limit }
     ensures places { IsTrue result

@@ -7,7 +7,7 @@ ghost use Rattle.nd_base.specs.Span.{reach};
 ghost use Rattle.nd_base.specs.ValidLayout.{IsValidLayout};
 ghost use Rattle.nd_shape.specs.Merge.{IsMergedStride, MergeFits, merged_shape, merged_strides};
 
-use nd_dim::{Axis, Dimension};
+use nd_dim::{Axis, Lengths};
 
 /// Whether a stride is as long as that many steps of another, of two axes of a valid layout.
 #[inline(always)]
@@ -67,7 +67,7 @@ fn merge_fitting(shape: &mut [usize], strides: &mut [usize], take: usize, into: 
 ///
 /// The layout is valid, and the axes are two different ones that it has. Upstream's `merge_axes`.
 #[inline]
-pub fn merge_axes<D: Dimension>(dim: &mut D, strides: &mut D, take: Axis, into: Axis) -> bool
+pub fn merge_axes<D: Lengths>(dim: &mut D, strides: &mut D, take: Axis, into: Axis) -> bool
     requires valid { IsValidLayout (D.list dim.old) (all_signed (D.list strides.old)) }
     requires take { take.0 < length (D.list dim.old) }
     requires into { into.0 < length (D.list dim.old) }

@@ -5,7 +5,7 @@ ghost use Rattle.nd_base.specs.Signed.{all_signed};
 ghost use Rattle.nd_dim.specs.AxisOrder.{magnitude_at as magnitude_at_axis};
 ghost use Rattle.nd_shape.specs.MinStride.{IsFirstLeastAxis, are_turned as are_turned_by_rule, IsAxisToMove};
 
-use nd_dim::{Dimension, signed};
+use nd_dim::{Lengths, signed};
 
 /// How many elements the stride of an axis steps over, in either direction.
 #[inline(always)]
@@ -66,7 +66,7 @@ fn axis_to_move(lens: &[usize], strides: &[usize]) -> usize
 /// entry, or where the first has more than one and a lesser stride than the last. Fewer axes stay.
 ///
 /// There is a stride for each axis. Upstream's `move_min_stride_axis_to_last`.
-pub fn move_min_stride_axis_to_last<D: Dimension>(dim: &mut D, strides: &mut D)
+pub fn move_min_stride_axis_to_last<D: Lengths>(dim: &mut D, strides: &mut D)
     requires { length (D.list dim.old) ≡ length (D.list strides.old) }
     ensures moved { (axis : ℕ)
         × (0 < length (D.list dim.old) →

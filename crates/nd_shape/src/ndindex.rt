@@ -9,13 +9,12 @@ ghost use Rattle.nd_base.specs.Size.{limit};
 ghost use Rattle.nd_base.specs.ValidLayout.{IsValidLayout};
 
 use nd_dim::{
-    Dim, Dimension, Ix0, Ix1, Ix2, Ix3, Ix4, Ix5, Ix6, IxDyn, Lengths, index_offset,
-    stride_offset_checked,
+    Dim, Ix0, Ix1, Ix2, Ix3, Ix4, Ix5, Ix6, IxDyn, Lengths, index_offset, stride_offset_checked,
 };
 use std::fmt::Debug;
 
 /// An index of arrays of the dimension type `E`: one list of entries. Upstream's `NdIndex`.
-pub trait NdIndex<E: Dimension>: Debug {
+pub trait NdIndex<E: Lengths>: Debug {
     ghost index_list: { Self → List ℕ };
 
     /// How many elements lie between the first index and this one, with its sign; `None` where
@@ -37,7 +36,7 @@ pub trait NdIndex<E: Dimension>: Debug {
             offset_of (all_signed (E.list strides.now)) (index_list self.now) };
 }
 
-impl<D: Dimension> NdIndex<D> for D {
+impl<D: Lengths> NdIndex<D> for D {
     ghost index_list = { D.list };
 
     fn index_checked(&self, dim: &D, strides: &D) -> Option<isize> {
@@ -148,10 +147,7 @@ impl NdIndex<Ix6> for (usize, usize, usize, usize, usize, usize) {
     }
 }
 
-impl<const N: usize> NdIndex<Dim<[usize; N]>> for [usize; N]
-where
-    Dim<[usize; N]>: Dimension,
-{
+impl<const N: usize> NdIndex<Dim<[usize; N]>> for [usize; N] {
     ghost index_list = { λ index. index };
 
     fn index_checked(&self, dim: &Dim<[usize; N]>, strides: &Dim<[usize; N]>) -> Option<isize> {

@@ -6,7 +6,7 @@ ghost use Rattle.nd_base.specs.Span.{reach_down as reach_down_of_axis, span, low
 ghost use Rattle.nd_base.specs.ValidLayout.{IsValidLayout};
 
 use crate::limits::reach;
-use nd_dim::{Dimension, signed};
+use nd_dim::{Lengths, signed};
 
 /// How many elements lie between the lowest entry of an axis and the first one.
 #[inline(always)]
@@ -34,7 +34,7 @@ fn low_span(shape: &[usize], strides: &[usize]) -> usize
 /// How many elements lie between the lowest element of a layout and that of its first index: the
 /// place of the first index in data that begins at the lowest element.
 /// Upstream's `offset_from_low_addr_ptr_to_logical_ptr`.
-pub fn offset_from_low_addr_ptr_to_logical_ptr<D: Dimension>(dim: &D, strides: &D) -> usize
+pub fn offset_from_low_addr_ptr_to_logical_ptr<D: Lengths>(dim: &D, strides: &D) -> usize
     requires { IsValidLayout (D.list dim.now) (all_signed (D.list strides.now)) }
     ensures { result ≡ low_span_of_layout (D.list dim.now) (all_signed (D.list strides.now)) }
 {

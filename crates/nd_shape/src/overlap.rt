@@ -8,7 +8,7 @@ ghost use Rattle.nd_base.specs.ValidLayout.{IsValidLayout};
 ghost use Rattle.nd_shape.specs.OwnedRule.{MeetsOwnedRule, meets_owned_rule, steps_over_others, span_up_to as span_up_to_magnitude};
 
 use crate::limits::reach;
-use nd_dim::{Dimension, signed};
+use nd_dim::{Lengths, signed};
 
 /// How many elements lie between the first and the last entry of an axis, or 0 where its stride is
 /// of a magnitude past `magnitude`.
@@ -144,7 +144,7 @@ pub fn has_overlap(shape: &[usize], strides: &[usize]) -> bool
 /// stride. A layout may be refused by this rule though no two indices share an element.
 ///
 /// Takes no memory. Upstream's `dim_stride_overlap`.
-pub fn dim_stride_overlap<D: Dimension>(dim: &D, strides: &D) -> bool
+pub fn dim_stride_overlap<D: Lengths>(dim: &D, strides: &D) -> bool
     requires { IsValidLayout (D.list dim.now) (all_signed (D.list strides.now)) }
     ensures answer { result ≡
         (not (is_empty (D.list dim.now))

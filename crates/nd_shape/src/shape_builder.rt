@@ -37,14 +37,6 @@ pub enum Strides<D> {
 }
 
 impl<D: Dimension> Shape<D> {
-    /// The axis lengths. Upstream's `raw_dim`.
-    #[inline]
-    pub fn raw_dim(&self) -> &D
-        ensures { result.now ≡ dim_of self.now }
-    {
-        &self.dim
-    }
-
     /// The number of indices, which fits. Upstream's `size`.
     #[inline]
     pub fn size(&self) -> usize
@@ -56,6 +48,14 @@ impl<D: Dimension> Shape<D> {
 }
 
 impl<D> Shape<D> {
+    /// The axis lengths. Upstream's `raw_dim`.
+    #[inline]
+    pub fn raw_dim(&self) -> &D
+        ensures { result.now ≡ dim_of self.now }
+    {
+        &self.dim
+    }
+
     /// Whether the last axis moves fastest. Upstream's `is_c`.
     #[inline]
     pub fn is_c(&self) -> bool
@@ -65,7 +65,7 @@ impl<D> Shape<D> {
     }
 }
 
-impl<D: Dimension> From<D> for Shape<D> {
+impl<D: Lengths> From<D> for Shape<D> {
     ghost from_gives = { λ dim shape. (dim_of shape ≡ dim) × (order_of shape ≡ Order.RowMajor) };
 
     fn from(dim: D) -> Self {
@@ -76,7 +76,7 @@ impl<D: Dimension> From<D> for Shape<D> {
     }
 }
 
-impl<D: Dimension> StrideShape<D> {
+impl<D: Lengths> StrideShape<D> {
     /// The shape that is built, with the strides of its order. In place of upstream's
     /// `From<T> for StrideShape<D>`.
     ///
@@ -96,7 +96,9 @@ impl<D: Dimension> StrideShape<D> {
             strides,
         })
     }
+}
 
+impl<D> StrideShape<D> {
     /// The axis lengths. Upstream's `raw_dim`.
     #[inline]
     pub fn raw_dim(&self) -> &D
@@ -104,7 +106,9 @@ impl<D: Dimension> StrideShape<D> {
     {
         &self.dim
     }
+}
 
+impl<D: Dimension> StrideShape<D> {
     /// The number of indices, which fits. Upstream's `size`.
     #[inline]
     pub fn size(&self) -> usize

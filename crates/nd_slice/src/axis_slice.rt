@@ -16,7 +16,6 @@ use crate::slice::Slice;
 use nd_base::{
     Axis, ErrorKind, Lengths, ShapeError, from_kind, set_axis_of, signed, stride_offset, unsigned,
 };
-use nd_dim::Dimension;
 use num_traits::clamp;
 
 /// The entry that an index means on an axis of `len` entries: itself, or `len + index` where it is
@@ -211,7 +210,7 @@ pub fn slice_min_max(len: usize, slice: Slice, fit: Fit) -> Option<(usize, usize
 /// Takes one entry of an axis in place: the axis has a length of 1 then, and its stride stays. Answers
 /// how many elements the entry lies behind the first one, with its sign. Upstream's
 /// `do_collapse_axis`.
-pub fn do_collapse_axis<D: Dimension>(dims: &mut D, strides: &D, axis: usize, index: usize) -> isize
+pub fn do_collapse_axis<D: Lengths>(dims: &mut D, strides: &D, axis: usize, index: usize) -> isize
     requires valid { IsValidLayout (D.list dims.old) (all_signed (D.list strides.now)) }
     requires exists { axis < length (D.list dims.old) }
     requires below { index < slice_index (D.list dims.old) axis }

@@ -8,7 +8,6 @@ use crate::elems::SliceElems;
 use crate::fit::Fit;
 use crate::slice::{Slice, SliceInfoElem};
 use nd_base::{ErrorKind, Lengths, ShapeError, from_kind};
-use nd_dim::Dimension;
 
 /// How many axes of a shape a slice argument is for: one for each element but a new axis. Upstream's
 /// `SliceArg::in_ndim`.
@@ -67,7 +66,7 @@ pub fn check_elems(shape: &[usize], elems: &[SliceInfoElem], fit: Fit) -> Result
 /// Whether a slice argument fits a shape; refused as `check_elems` is, with the count of axes before
 /// any element. For the panics of upstream's `slice_move`.
 #[inline]
-pub fn check_slice<D: Dimension, S: SliceElems>(
+pub fn check_slice<D: Lengths, S: SliceElems>(
     dim: &D,
     slices: &S,
     fit: Fit,

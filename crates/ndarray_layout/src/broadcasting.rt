@@ -6,7 +6,7 @@ ghost use Rattle.nd_base.specs.ShapeFault.{shape_fault};
 ghost use Rattle.nd_base.specs.Signed.{all_signed};
 ghost use Rattle.ndarray_layout.specs.BroadcastView.{broadcast_fault, broadcast_strides, takes_in};
 
-use nd_dim::{Dimension, ErrorKind, LayoutError, ShapeError, from_kind};
+use nd_dim::{ErrorKind, LayoutError, Lengths, ShapeError, from_kind};
 use nd_shape::size_of_shape_checked;
 use std::alloc::{AllocError, Global};
 
@@ -31,7 +31,7 @@ fn stretches_to(view_shape: &[usize], shape: &[usize]) -> bool
 /// Whether a view of a shape can be read as one of another: `IncompatibleShape` where the other is not
 /// the shape that both have in common, and then `Overflow` where it is too large.
 #[inline(always)]
-fn check_broadcast<E: Dimension>(view_shape: &[usize], shape: &E) -> Result<(), ShapeError>
+fn check_broadcast<E: Lengths>(view_shape: &[usize], shape: &E) -> Result<(), ShapeError>
     ensures { result_err result ≡ broadcast_fault (E.list shape.now) view_shape.now }
 {
     if !stretches_to(view_shape, shape.slice()) {
@@ -68,7 +68,7 @@ fn stretch_strides(
 ///
 /// Errors: want of memory, and none where the type fixes the count or there are at most 4 axes.
 #[inline(always)]
-fn stretched<E: Dimension>(
+fn stretched<E: Lengths>(
     alloc: Global,
     shape: &E,
     view_shape: &[usize],
@@ -89,7 +89,7 @@ fn stretched<E: Dimension>(
 /// refuses it, and then for want of memory, but not where the type fixes the count or there are at most 4
 /// axes.
 #[inline(always)]
-pub fn broadcast_axes<E: Dimension>(
+pub fn broadcast_axes<E: Lengths>(
     alloc: Global,
     shape: &E,
     view_shape: &[usize],

@@ -13,7 +13,7 @@ ghost use Rattle.nd_slice.specs.Sliced.{picked_stride, first_offset};
 ghost use Rattle.nd_slice.specs.Sliced.{sliced_shape, sliced_strides, sliced_offset};
 ghost use Rattle.ndarray_layout.specs.SlicedView.{counts_differ, slice_refusal};
 
-use nd_dim::{Dimension, ErrorKind, LayoutError, ShapeError, from_kind, stride_offset};
+use nd_dim::{ErrorKind, LayoutError, Lengths, ShapeError, from_kind, stride_offset};
 use nd_slice::{
     Fit, Slice, SliceInfoElem, check_elems, do_slice, entry_of, in_ndim_of, out_ndim_of,
 };
@@ -152,7 +152,7 @@ fn check_before_memory(
 /// first index left lies behind the first index before. Refused as the first element at fault is, and
 /// then for want of memory.
 #[inline(always)]
-fn sliced_axes<E: Dimension>(
+fn sliced_axes<E: Lengths>(
     alloc: Global,
     elems: &[SliceInfoElem],
     shape: &[usize],
@@ -190,7 +190,7 @@ fn sliced_axes<E: Dimension>(
 /// behind the first index before. Refused with `IncompatibleShape` for counts that do not fit, then as
 /// the first element at fault is, and then for want of memory.
 #[inline(always)]
-pub fn counted_axes<E: Dimension>(
+pub fn counted_axes<E: Lengths>(
     alloc: Global,
     elems: &[SliceInfoElem],
     shape: &[usize],

@@ -33,10 +33,11 @@ use crate::merging::check_axes;
 use crate::places::{offset_place, push_places};
 use crate::sizes::picked_size;
 use crate::slicing::counted_axes;
-use nd_dim::{Axis, Dimension, ErrorKind, LayoutError, Order, ShapeError, from_kind};
+use nd_dim::{Axis, Dimension, ErrorKind, LayoutError, Lengths, Order, ShapeError, from_kind};
 use nd_shape::{
     Axes, CanIndexCheckMode, NdIndex, StrideShape, axes_of, can_index_slice,
     can_index_slice_with_strides, merge_axes, offset_from_low_addr_ptr_to_logical_ptr,
+    size_of_shape_checked,
 };
 use nd_slice::{Fit, SliceElems, check_elems, do_collapse_axis};
 use std::alloc::{AllocError, Global};
@@ -45,13 +46,13 @@ use std::marker::Model;
 /// A shape with strides over data, and the place of its first index there. Each index of the shape
 /// has a place in the data.
 #[derive(Debug, Drop)]
-pub struct Strided<D: Dimension> {
+pub struct Strided<D: Lengths> {
     start: usize,
     dim: D,
     strides: D,
 }
 
-impl<D: Dimension> Model for Strided<D> {
+impl<D: Lengths> Model for Strided<D> {
     ghost use Rattle.ndarray_layout.specs.View.{View, view_of, IsView};
 
     ghost Value = { View };
@@ -61,7 +62,7 @@ impl<D: Dimension> Model for Strided<D> {
     ghost invariant = { λ a. IsView (view_of a.start (D.list a.dim) (D.list a.strides)) };
 }
 
-impl<D: Dimension> Strided<D> {
+impl<D: Lengths> Strided<D> {
     /// The view of a shape and strides over data of `len` elements of `elem_size` bytes, with the
     /// lowest element of the view first in the data. Refused as `can_index_slice` refuses it.
     pub fn new(
@@ -83,45 +84,6 @@ impl<D: Dimension> Strided<D> {
         ensures distinct { IfOk result (λ v. mode ≡ OwnedMutable → HasDistinctPlaces v) }
     {
         can_index_slice(elem_size, len, &dim, &strides, mode)?;
-        let start = offset_from_low_addr_ptr_to_logical_ptr(&dim, &strides);
-        Ok(Strided {
-            start,
-            dim,
-            strides,
-        })
-    }
-
-    /// The view of a shape by its own strides or by given ones, over data of `len` elements of
-    /// `elem_size` bytes, with the lowest element of the view first in the data. Refused as
-    /// `can_index_slice_with_strides` refuses it, and then for want of memory: not where the strides
-    /// are given, where the type fixes the count or where there are at most 4 axes.
-    pub fn from_shape(
-        alloc: Global,
-        shape: StrideShape<D>,
-        elem_size: usize,
-        len: usize,
-        mode: CanIndexCheckMode,
-    ) -> Result<Self, LayoutError>
-        ensures fault { shape_fault result ≡
-            acceptance_by_strides D.list elem_size len mode (D.list shape.dim) shape.strides }
-        ensures given { shape_fault result ≡ None → IsSome (custom_strides shape.strides) →
-            IsOk result }
-        ensures memory { shape_fault result ≡ None →
-            NeedsNoMemory D.NDIM (length (D.list shape.dim)) → IsOk result }
-        ensures view { IfOk result (λ v. v ≡
-            view_of
-            (low_span
-            (D.list shape.dim)
-            (all_signed (strides_list D.list (D.list shape.dim) shape.strides)))
-            (D.list shape.dim)
-            (strides_list D.list (D.list shape.dim) shape.strides)) }
-        ensures is_view { IfOk result (λ v. IsView v) }
-        ensures inside { IfOk result (λ v. LiesWithin len v) }
-        ensures distinct { IfOk result (λ v. mode ≡ OwnedMutable → HasDistinctPlaces v) }
-    {
-        let StrideShape { dim, strides } = shape;
-        can_index_slice_with_strides(elem_size, len, &dim, &strides, mode)?;
-        let strides = strides.strides_for_dim(alloc, &dim)?;
         let start = offset_from_low_addr_ptr_to_logical_ptr(&dim, &strides);
         Ok(Strided {
             start,
@@ -202,7 +164,7 @@ impl<D: Dimension> Strided<D> {
             All (λ place. place < len) v.items) }
         ensures memory { size self.now.shape ≡ 0 → IsOk result }
     {
-        let size = self.dim.size_checked().unwrap();
+        let size = size_of_shape_checked(&self.dim).unwrap();
         let mut places = Vec::with_capacity(alloc, size)?;
         if size > 0 {
             let (shape, strides) = (self.dim.slice(), self.strides.slice());
@@ -218,7 +180,7 @@ impl<D: Dimension> Strided<D> {
     /// then for want of memory.
     /// Upstream's `slice` and `slice_collapse`.
     #[inline]
-    pub fn slice<E: Dimension, S: SliceElems>(
+    pub fn slice<E: Lengths, S: SliceElems>(
         &self,
         alloc: Global,
         slices: &S,
@@ -291,11 +253,7 @@ impl<D: Dimension> Strided<D> {
     /// one that it and the view's have in common, then with `Overflow` where the product of its lengths
     /// that are not 0 passes the greatest `isize`; and then for want of memory, but not where the type fixes
     /// the count or there are at most 4 axes. Upstream's `broadcast`.
-    pub fn broadcast<E: Dimension>(
-        &self,
-        alloc: Global,
-        shape: &E,
-    ) -> Result<Strided<E>, LayoutError>
+    pub fn broadcast<E: Lengths>(&self, alloc: Global, shape: &E) -> Result<Strided<E>, LayoutError>
         ensures refusal { shape_fault result ≡ broadcast_fault (E.list shape.now) self.now.shape }
         ensures memory { broadcast_fault (E.list shape.now) self.now.shape ≡ None →
             NeedsNoMemory E.NDIM (length (E.list shape.now)) → IsOk result }
@@ -323,5 +281,46 @@ impl<D: Dimension> Strided<D> {
         let (shape, elems) = (self.dim.slice(), slices.elems());
         check_elems(shape, elems, fit)?;
         Ok(picked_size(shape, elems, fit))
+    }
+}
+
+impl<D: Dimension> Strided<D> {
+    /// The view of a shape by its own strides or by given ones, over data of `len` elements of
+    /// `elem_size` bytes, with the lowest element of the view first in the data. Refused as
+    /// `can_index_slice_with_strides` refuses it, and then for want of memory: not where the strides
+    /// are given, where the type fixes the count or where there are at most 4 axes.
+    pub fn from_shape(
+        alloc: Global,
+        shape: StrideShape<D>,
+        elem_size: usize,
+        len: usize,
+        mode: CanIndexCheckMode,
+    ) -> Result<Self, LayoutError>
+        ensures fault { shape_fault result ≡
+            acceptance_by_strides D.list elem_size len mode (D.list shape.dim) shape.strides }
+        ensures given { shape_fault result ≡ None → IsSome (custom_strides shape.strides) →
+            IsOk result }
+        ensures memory { shape_fault result ≡ None →
+            NeedsNoMemory D.NDIM (length (D.list shape.dim)) → IsOk result }
+        ensures view { IfOk result (λ v. v ≡
+            view_of
+            (low_span
+            (D.list shape.dim)
+            (all_signed (strides_list D.list (D.list shape.dim) shape.strides)))
+            (D.list shape.dim)
+            (strides_list D.list (D.list shape.dim) shape.strides)) }
+        ensures is_view { IfOk result (λ v. IsView v) }
+        ensures inside { IfOk result (λ v. LiesWithin len v) }
+        ensures distinct { IfOk result (λ v. mode ≡ OwnedMutable → HasDistinctPlaces v) }
+    {
+        let StrideShape { dim, strides } = shape;
+        can_index_slice_with_strides(elem_size, len, &dim, &strides, mode)?;
+        let strides = strides.strides_for_dim(alloc, &dim)?;
+        let start = offset_from_low_addr_ptr_to_logical_ptr(&dim, &strides);
+        Ok(Strided {
+            start,
+            dim,
+            strides,
+        })
     }
 }

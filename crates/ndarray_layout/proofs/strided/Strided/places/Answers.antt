@@ -31,7 +31,7 @@ returns g c =
     let shape = g.D.Lengths.list c.self.inside.dim in
     let strides = all_signed (g.D.Lengths.list c.self.inside.strides) in
     let view : View = record { start = c.self.inside.start; shape = shape; strides = strides } in
-    let known : c.unwrap-size.result ≡ size shape = grind (arith, common_steps, c.size_checked.ensures, c.unwrap-size.ensures) in
+    let known : c.unwrap-size.result ≡ size shape = grind (arith, common_steps, c.size_of_shape_checked.ensures.ok, c.unwrap-size.ensures) in
     elim c.if-size-gt0.branch [
       | then-size-gt0 w ↦
           let walked = rw (c.in_ok-places.ensures.items, w.slice-shape.ensures.list, w.slice-strides.ensures.list) at w.push_places-places.ensures.items in
