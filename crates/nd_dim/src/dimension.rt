@@ -24,7 +24,7 @@ use crate::sizes::{checked_size, product};
 use crate::steps::{step_by_columns, step_by_rows};
 use crate::stride_axes::{max_stride_axis, min_stride_axis};
 use crate::stride_order::fill_stride_order;
-use crate::strides::{are_equivalent, fill_default_strides, fill_fortran_strides};
+use crate::strides::{are_equivalent, default_strides, fortran_strides};
 use nd_base::{
     Arithmetic, Axis, IxDyn, Lengths, Scale, index_offset, new_ixdyn, stride_offset_checked,
 };
@@ -86,6 +86,7 @@ pub trait Dimension: Lengths + Arithmetic + Scale {
     /// The size fits. Upstream's `default_strides`.
     ///
     /// Errors: want of memory, and none where the type fixes the count or there are at most 4 axes.
+    #[inline]
     final fn default_strides(&self, alloc: Global) -> Result<Self, AllocError>
     where
         Self: Sized,
@@ -94,16 +95,14 @@ pub trait Dimension: Lengths + Arithmetic + Scale {
             Self.list strides ≡ default_strides_of (Self.list self.now)) }
         ensures memory { NeedsNoMemory Self.NDIM (length (Self.list self.now)) → IsOk result }
     {
-        // (a copy to write over is made faster than as many zeros)
-        let mut strides = self.duplicate(alloc)?;
-        fill_default_strides(self.slice(), strides.slice_mut());
-        Ok(strides)
+        default_strides(alloc, self)
     }
 
     /// The strides, in elements, by which the first axis moves fastest; all 0 where a length is 0.
     /// The size fits. Upstream's `fortran_strides`.
     ///
     /// Errors: want of memory, and none where the type fixes the count or there are at most 4 axes.
+    #[inline]
     final fn fortran_strides(&self, alloc: Global) -> Result<Self, AllocError>
     where
         Self: Sized,
@@ -112,10 +111,7 @@ pub trait Dimension: Lengths + Arithmetic + Scale {
             Self.list strides ≡ fortran_strides_of (Self.list self.now)) }
         ensures memory { NeedsNoMemory Self.NDIM (length (Self.list self.now)) → IsOk result }
     {
-        // (a copy to write over is made faster than as many zeros)
-        let mut strides = self.duplicate(alloc)?;
-        fill_fortran_strides(self.slice(), strides.slice_mut());
-        Ok(strides)
+        fortran_strides(alloc, self)
     }
 
     /// The first index of the shape, all 0, or `None` where a length is 0, so that there is no index.

@@ -2,12 +2,11 @@
 ghost use Rattle.std.specs.Prelude.{◌≡◌};
 ghost use Rattle.nd_base.specs.declared.error.ErrorKind.TheVariants.{IncompatibleShape};
 
-use crate::dimension::Dimension;
-use nd_base::{ErrorKind, ShapeError, from_kind};
+use nd_base::{ErrorKind, Lengths, ShapeError, from_kind};
 
 /// The refusal of two shapes that do not go together, whatever they are. Upstream's
 /// `incompatible_shapes`.
-pub fn incompatible_shapes<D: Dimension, E: Dimension>(_dim: &D, _other: &E) -> ShapeError
+pub fn incompatible_shapes<D: Lengths, E: Lengths>(_dim: &D, _other: &E) -> ShapeError
     ensures { result ≡ IncompatibleShape }
 {
     from_kind(ErrorKind::IncompatibleShape)

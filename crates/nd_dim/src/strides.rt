@@ -1,15 +1,19 @@
 //! The strides that a shape has by itself, and strides that place the same indices alike.
-ghost use Rattle.std.specs.Prelude.{◌≡◌, ◌<◌, ◌^◌, ◌↔◌, IsTrue, length, ℕ, slice_index};
+ghost use Rattle.std.specs.Prelude.{◌≡◌, ◌<◌, ◌^◌, ◌↔◌, IsTrue, IsOk, IfOk, length, ℕ, slice_index};
+ghost use Rattle.nd_base.specs.Lengths.{NeedsNoMemory};
 ghost use Rattle.nd_base.specs.Size.{size};
-ghost use Rattle.nd_dim.specs.Strides.{default_strides, fortran_strides, AreEquivalent};
+ghost use Rattle.nd_dim.specs.Strides.{default_strides as default_strides_of, fortran_strides as fortran_strides_of, AreEquivalent};
+
+use nd_base::Lengths;
+use std::alloc::{AllocError, Global};
 
 /// Writes the strides by which the last axis moves fastest: each the product of the later
 /// lengths, and all 0 where some length is 0. The strides of upstream's `default_strides`.
 #[inline(always)]
-pub(crate) fn fill_default_strides(lens: &[usize], strides: &mut [usize])
+fn fill_default_strides(lens: &[usize], strides: &mut [usize])
     requires same_count { length lens.now ≡ length strides.old }
     requires size_fits { size lens.now < 2 ^ 64 }
-    ensures { strides.new ≡ default_strides lens.now }
+    ensures { strides.new ≡ default_strides_of lens.now }
 {
     if lens.contains(&0) {
         strides.fill(0);
@@ -25,10 +29,10 @@ pub(crate) fn fill_default_strides(lens: &[usize], strides: &mut [usize])
 /// Writes the strides by which the first axis moves fastest: each the product of the earlier
 /// lengths, and all 0 where some length is 0. The strides of upstream's `fortran_strides`.
 #[inline(always)]
-pub(crate) fn fill_fortran_strides(lens: &[usize], strides: &mut [usize])
+fn fill_fortran_strides(lens: &[usize], strides: &mut [usize])
     requires same_count { length lens.now ≡ length strides.old }
     requires size_fits { size lens.now < 2 ^ 64 }
-    ensures { strides.new ≡ fortran_strides lens.now }
+    ensures { strides.new ≡ fortran_strides_of lens.now }
 {
     if lens.contains(&0) {
         strides.fill(0);
@@ -39,6 +43,38 @@ pub(crate) fn fill_fortran_strides(lens: &[usize], strides: &mut [usize])
         strides[axis] = size;
         size *= *len;
     }
+}
+
+/// The strides, in elements, by which the last axis of a shape moves fastest; all 0 where a length is 0.
+/// The size fits. What `Dimension::default_strides` answers, where a type is known by its list alone.
+///
+/// Errors: want of memory, and none where the type fixes the count or there are at most 4 axes.
+#[inline]
+pub fn default_strides<D: Lengths>(alloc: Global, dim: &D) -> Result<D, AllocError>
+    requires { size (D.list dim.now) < 2 ^ 64 }
+    ensures list { IfOk result (λ strides. D.list strides ≡ default_strides_of (D.list dim.now)) }
+    ensures memory { NeedsNoMemory D.NDIM (length (D.list dim.now)) → IsOk result }
+{
+    // (a copy to write over is made faster than as many zeros)
+    let mut strides = dim.duplicate(alloc)?;
+    fill_default_strides(dim.slice(), strides.slice_mut());
+    Ok(strides)
+}
+
+/// The strides, in elements, by which the first axis of a shape moves fastest; all 0 where a length is 0.
+/// The size fits. What `Dimension::fortran_strides` answers, where a type is known by its list alone.
+///
+/// Errors: want of memory, and none where the type fixes the count or there are at most 4 axes.
+#[inline]
+pub fn fortran_strides<D: Lengths>(alloc: Global, dim: &D) -> Result<D, AllocError>
+    requires { size (D.list dim.now) < 2 ^ 64 }
+    ensures list { IfOk result (λ strides. D.list strides ≡ fortran_strides_of (D.list dim.now)) }
+    ensures memory { NeedsNoMemory D.NDIM (length (D.list dim.now)) → IsOk result }
+{
+    // (a copy to write over is made faster than as many zeros)
+    let mut strides = dim.duplicate(alloc)?;
+    fill_fortran_strides(dim.slice(), strides.slice_mut());
+    Ok(strides)
 }
 
 /// Whether both lists of strides have one for each axis, and agree wherever an axis has more than

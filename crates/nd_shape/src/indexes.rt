@@ -11,7 +11,7 @@ mod rows;
 
 pub use columns::IndicesIterF;
 pub use cursors::{IndexCursor, IndexCursorF};
-use nd_dim::{Dimension, IntoDimension};
+use nd_dim::{IntoDimension, Lengths};
 pub use rows::{Indices, IndicesIter};
 use std::alloc::{AllocError, Global};
 
@@ -19,7 +19,7 @@ use std::alloc::{AllocError, Global};
 /// size of the shape fits. Upstream's `indices`.
 ///
 /// Errors: want of memory, and none where the type fixes the count or there are at most 4 axes.
-pub fn all_indices<D: Dimension, T: IntoDimension<Dim = D>>(
+pub fn all_indices<D: Lengths, T: IntoDimension<Dim = D>>(
     alloc: Global,
     shape: T,
 ) -> Result<Indices<D>, AllocError>
@@ -34,7 +34,7 @@ pub fn all_indices<D: Dimension, T: IntoDimension<Dim = D>>(
 /// The size of the shape fits. Upstream's `indices_iter_f`.
 ///
 /// Errors: want of memory, and none where the type fixes the count or there are at most 4 axes.
-pub fn indices_iter_f<D: Dimension, T: IntoDimension<Dim = D>>(
+pub fn indices_iter_f<D: Lengths, T: IntoDimension<Dim = D>>(
     alloc: Global,
     shape: T,
 ) -> Result<IndicesIterF<D>, AllocError>

@@ -6,7 +6,7 @@ ghost use Rattle.nd_base.specs.Size.{size};
 ghost use Rattle.nd_base.specs.declared.order.Order.{Order};
 ghost use Rattle.nd_shape.specs.ShapeBuilder.{dim_of, order_of, custom_strides, strides_in, strides_list};
 
-use nd_dim::{Dimension, IntoDimension, Lengths, Order};
+use nd_dim::{IntoDimension, Lengths, Order, default_strides, fortran_strides, product};
 use std::alloc::{AllocError, Global};
 
 /// A shape whose indices lie one behind the other, in one of the two orders. Upstream's `Shape`.
@@ -36,14 +36,14 @@ pub enum Strides<D> {
     Custom(D),
 }
 
-impl<D: Dimension> Shape<D> {
+impl<D: Lengths> Shape<D> {
     /// The number of indices, which fits. Upstream's `size`.
     #[inline]
     pub fn size(&self) -> usize
         requires { size (D.list (dim_of self.now)) < 2 ^ 64 }
         ensures { result ≡ size (D.list (dim_of self.now)) }
     {
-        self.dim.size()
+        product(self.dim.slice())
     }
 }
 
@@ -108,14 +108,14 @@ impl<D> StrideShape<D> {
     }
 }
 
-impl<D: Dimension> StrideShape<D> {
+impl<D: Lengths> StrideShape<D> {
     /// The number of indices, which fits. Upstream's `size`.
     #[inline]
     pub fn size(&self) -> usize
         requires { size (D.list self.now.dim) < 2 ^ 64 }
         ensures { result ≡ size (D.list self.now.dim) }
     {
-        self.dim.size()
+        product(self.dim.slice())
     }
 }
 
@@ -127,7 +127,7 @@ impl<D> Strides<D> {
     /// or where there are at most 4 axes.
     pub fn strides_for_dim(self, alloc: Global, dim: &D) -> Result<D, AllocError>
     where
-        D: Dimension,
+        D: Lengths,
         requires same_count { IfSome (custom_strides self)
             (λ strides. length (D.list strides) ≡ length (D.list dim.now)) }
         requires size_fits { size (D.list dim.now) < 2 ^ 64 }
@@ -137,8 +137,8 @@ impl<D> Strides<D> {
         ensures memory { NeedsNoMemory D.NDIM (length (D.list dim.now)) → IsOk result }
     {
         match self {
-            Strides::C => dim.default_strides(alloc),
-            Strides::F => dim.fortran_strides(alloc),
+            Strides::C => default_strides(alloc, dim),
+            Strides::F => fortran_strides(alloc, dim),
             Strides::Custom(strides) => Ok(strides),
         }
     }

@@ -33,11 +33,10 @@ use crate::merging::check_axes;
 use crate::places::{offset_place, push_places};
 use crate::sizes::picked_size;
 use crate::slicing::counted_axes;
-use nd_dim::{Axis, Dimension, ErrorKind, LayoutError, Lengths, Order, ShapeError, from_kind};
+use nd_dim::{Axis, ErrorKind, LayoutError, Lengths, Order, ShapeError, from_kind, product};
 use nd_shape::{
     Axes, CanIndexCheckMode, NdIndex, StrideShape, axes_of, can_index_slice,
     can_index_slice_with_strides, merge_axes, offset_from_low_addr_ptr_to_logical_ptr,
-    size_of_shape_checked,
 };
 use nd_slice::{Fit, SliceElems, check_elems, do_collapse_axis};
 use std::alloc::{AllocError, Global};
@@ -84,6 +83,45 @@ impl<D: Lengths> Strided<D> {
         ensures distinct { IfOk result (λ v. mode ≡ OwnedMutable → HasDistinctPlaces v) }
     {
         can_index_slice(elem_size, len, &dim, &strides, mode)?;
+        let start = offset_from_low_addr_ptr_to_logical_ptr(&dim, &strides);
+        Ok(Strided {
+            start,
+            dim,
+            strides,
+        })
+    }
+
+    /// The view of a shape by its own strides or by given ones, over data of `len` elements of
+    /// `elem_size` bytes, with the lowest element of the view first in the data. Refused as
+    /// `can_index_slice_with_strides` refuses it, and then for want of memory: not where the strides
+    /// are given, where the type fixes the count or where there are at most 4 axes.
+    pub fn from_shape(
+        alloc: Global,
+        shape: StrideShape<D>,
+        elem_size: usize,
+        len: usize,
+        mode: CanIndexCheckMode,
+    ) -> Result<Self, LayoutError>
+        ensures fault { shape_fault result ≡
+            acceptance_by_strides D.list elem_size len mode (D.list shape.dim) shape.strides }
+        ensures given { shape_fault result ≡ None → IsSome (custom_strides shape.strides) →
+            IsOk result }
+        ensures memory { shape_fault result ≡ None →
+            NeedsNoMemory D.NDIM (length (D.list shape.dim)) → IsOk result }
+        ensures view { IfOk result (λ v. v ≡
+            view_of
+            (low_span
+            (D.list shape.dim)
+            (all_signed (strides_list D.list (D.list shape.dim) shape.strides)))
+            (D.list shape.dim)
+            (strides_list D.list (D.list shape.dim) shape.strides)) }
+        ensures is_view { IfOk result (λ v. IsView v) }
+        ensures inside { IfOk result (λ v. LiesWithin len v) }
+        ensures distinct { IfOk result (λ v. mode ≡ OwnedMutable → HasDistinctPlaces v) }
+    {
+        let StrideShape { dim, strides } = shape;
+        can_index_slice_with_strides(elem_size, len, &dim, &strides, mode)?;
+        let strides = strides.strides_for_dim(alloc, &dim)?;
         let start = offset_from_low_addr_ptr_to_logical_ptr(&dim, &strides);
         Ok(Strided {
             start,
@@ -164,7 +202,7 @@ impl<D: Lengths> Strided<D> {
             All (λ place. place < len) v.items) }
         ensures memory { size self.now.shape ≡ 0 → IsOk result }
     {
-        let size = size_of_shape_checked(&self.dim).unwrap();
+        let size = product(self.dim.slice());
         let mut places = Vec::with_capacity(alloc, size)?;
         if size > 0 {
             let (shape, strides) = (self.dim.slice(), self.strides.slice());
@@ -281,46 +319,5 @@ impl<D: Lengths> Strided<D> {
         let (shape, elems) = (self.dim.slice(), slices.elems());
         check_elems(shape, elems, fit)?;
         Ok(picked_size(shape, elems, fit))
-    }
-}
-
-impl<D: Dimension> Strided<D> {
-    /// The view of a shape by its own strides or by given ones, over data of `len` elements of
-    /// `elem_size` bytes, with the lowest element of the view first in the data. Refused as
-    /// `can_index_slice_with_strides` refuses it, and then for want of memory: not where the strides
-    /// are given, where the type fixes the count or where there are at most 4 axes.
-    pub fn from_shape(
-        alloc: Global,
-        shape: StrideShape<D>,
-        elem_size: usize,
-        len: usize,
-        mode: CanIndexCheckMode,
-    ) -> Result<Self, LayoutError>
-        ensures fault { shape_fault result ≡
-            acceptance_by_strides D.list elem_size len mode (D.list shape.dim) shape.strides }
-        ensures given { shape_fault result ≡ None → IsSome (custom_strides shape.strides) →
-            IsOk result }
-        ensures memory { shape_fault result ≡ None →
-            NeedsNoMemory D.NDIM (length (D.list shape.dim)) → IsOk result }
-        ensures view { IfOk result (λ v. v ≡
-            view_of
-            (low_span
-            (D.list shape.dim)
-            (all_signed (strides_list D.list (D.list shape.dim) shape.strides)))
-            (D.list shape.dim)
-            (strides_list D.list (D.list shape.dim) shape.strides)) }
-        ensures is_view { IfOk result (λ v. IsView v) }
-        ensures inside { IfOk result (λ v. LiesWithin len v) }
-        ensures distinct { IfOk result (λ v. mode ≡ OwnedMutable → HasDistinctPlaces v) }
-    {
-        let StrideShape { dim, strides } = shape;
-        can_index_slice_with_strides(elem_size, len, &dim, &strides, mode)?;
-        let strides = strides.strides_for_dim(alloc, &dim)?;
-        let start = offset_from_low_addr_ptr_to_logical_ptr(&dim, &strides);
-        Ok(Strided {
-            start,
-            dim,
-            strides,
-        })
     }
 }

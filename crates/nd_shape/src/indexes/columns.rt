@@ -7,7 +7,7 @@ ghost use Rattle.nd_base.specs.Indices.{indices_in};
 ghost use Rattle.nd_base.specs.Lengths.{NeedsNoMemory};
 ghost use Rattle.nd_base.specs.Size.{size};
 
-use nd_dim::Dimension;
+use nd_dim::{Dimension, Lengths, product};
 use std::alloc::{AllocError, Global};
 use std::iter::FusedIterator;
 use std::marker::Model;
@@ -15,7 +15,7 @@ use std::marker::Model;
 /// A walk over the indices of a shape in column-major order, where the first axis moves fastest. A contract sees
 /// the list of those that are still to come. Upstream's `IndicesIterF`.
 #[derive(Drop)]
-pub struct IndicesIterF<D: Dimension> {
+pub struct IndicesIterF<D: Lengths> {
     dim: D,
     // The next index, where there is one, and how many are left.
     index: D,
@@ -23,7 +23,7 @@ pub struct IndicesIterF<D: Dimension> {
     left: usize,
 }
 
-impl<D: Dimension> Model for IndicesIterF<D> {
+impl<D: Lengths> Model for IndicesIterF<D> {
     ghost use Rattle.std.specs.Prelude.{ℕ, List, Some, None, if◌then◌else◌};
     ghost use Rattle.nd_base.specs.declared.order.Order.TheVariants.{ColumnMajor};
     ghost use Rattle.nd_shape.specs.IndicesLeft.{indices_left, StandsAtFirst};
@@ -36,7 +36,7 @@ impl<D: Dimension> Model for IndicesIterF<D> {
         (if walk.has_remaining then Some (D.list walk.index) else None) };
 }
 
-impl<D: Dimension> IndicesIterF<D> {
+impl<D: Lengths> IndicesIterF<D> {
     /// The walk over all indices of a shape whose size fits.
     pub(super) fn new(alloc: Global, dim: D) -> Result<Self, AllocError>
         requires { size (D.list dim) < 2 ^ 64 }
@@ -44,7 +44,7 @@ impl<D: Dimension> IndicesIterF<D> {
         ensures memory { NeedsNoMemory D.NDIM (length (D.list dim)) → IsOk result }
     {
         let index = D::zeros(alloc, dim.ndim())?;
-        let left = dim.size();
+        let left = product(dim.slice());
         Ok(IndicesIterF {
             dim,
             index,
@@ -54,7 +54,7 @@ impl<D: Dimension> IndicesIterF<D> {
     }
 }
 
-impl<D: Dimension + Copy> Clone for IndicesIterF<D> {
+impl<D: Lengths + Copy> Clone for IndicesIterF<D> {
     ghost is_clone = { λ walk copy. copy ≡ walk };
 
     ghost is_infallible = { λ _. ⊤ };

@@ -9,7 +9,7 @@ ghost use Rattle.nd_base.specs.Dim.{lengths};
 ghost use Rattle.nd_base.specs.Indices.{indices_in};
 ghost use Rattle.nd_base.specs.Size.{size};
 
-use nd_dim::{Dimension, IxDyn, Lengths, step_by_rows};
+use nd_dim::{Dimension, IxDyn, Lengths, product, step_by_rows};
 use std::alloc::{AllocError, Global};
 use std::marker::Model;
 
@@ -51,7 +51,7 @@ impl IndexCursor {
         ensures memory { length (lengths dim) ≤ 4 → IsOk result }
     {
         let index = IxDyn::zeros(alloc, dim.ndim())?;
-        let left = dim.size();
+        let left = product(dim.slice());
         Ok(IndexCursor {
             dim,
             index,
@@ -123,7 +123,7 @@ impl IndexCursorF {
         ensures memory { length (lengths dim) ≤ 4 → IsOk result }
     {
         let index = IxDyn::zeros(alloc, dim.ndim())?;
-        let left = dim.size();
+        let left = product(dim.slice());
         Ok(IndexCursorF {
             dim,
             index,

@@ -7,21 +7,21 @@ ghost use Rattle.nd_base.specs.Indices.{indices_in};
 ghost use Rattle.nd_base.specs.Lengths.{NeedsNoMemory};
 ghost use Rattle.nd_base.specs.Size.{size};
 
-use nd_dim::{Dimension, step_by_rows};
+use nd_dim::{Dimension, Lengths, step_by_rows};
 use std::alloc::{AllocError, Global};
 use std::iter::FusedIterator;
 use std::marker::Model;
 
 /// All indices of a shape, which a `for` loop walks in row-major order. Upstream's `Indices`.
 #[derive(Debug, Drop)]
-pub struct Indices<D: Dimension> {
+pub struct Indices<D: Lengths> {
     start: D,
     dim: D,
     ghost starts: { D.list start ≡ replicate (length (D.list dim)) 0 },
     ghost fits: { size (D.list dim) < 2 ^ 64 },
 }
 
-impl<D: Dimension> Indices<D> {
+impl<D: Lengths> Indices<D> {
     /// All indices of a shape whose size fits.
     pub(super) fn new(alloc: Global, dim: D) -> Result<Self, AllocError>
         requires { size (D.list dim) < 2 ^ 64 }
@@ -33,7 +33,7 @@ impl<D: Dimension> Indices<D> {
     }
 }
 
-impl<D: Dimension + Copy> Clone for Indices<D> {
+impl<D: Lengths + Copy> Clone for Indices<D> {
     ghost is_clone = { λ indices copy. (copy.start ≡ indices.start) × (copy.dim ≡ indices.dim) };
 
     ghost is_infallible = { λ _. ⊤ };
@@ -46,12 +46,12 @@ impl<D: Dimension + Copy> Clone for Indices<D> {
     }
 }
 
-impl<D: Dimension + Copy> Copy for Indices<D> {}
+impl<D: Lengths + Copy> Copy for Indices<D> {}
 
 /// A walk over the indices of a shape in row-major order, where the last axis moves fastest. A contract sees
 /// the list of those that are still to come. Upstream's `IndicesIter`.
 #[derive(Drop)]
-pub struct IndicesIter<D: Dimension> {
+pub struct IndicesIter<D: Lengths> {
     dim: D,
     // The next index, where there is one, and how many are left.
     index: D,
@@ -59,7 +59,7 @@ pub struct IndicesIter<D: Dimension> {
     left: usize,
 }
 
-impl<D: Dimension> Model for IndicesIter<D> {
+impl<D: Lengths> Model for IndicesIter<D> {
     ghost use Rattle.std.specs.Prelude.{ℕ, List, Some, None, if◌then◌else◌};
     ghost use Rattle.nd_base.specs.declared.order.Order.TheVariants.{RowMajor};
     ghost use Rattle.nd_shape.specs.IndicesLeft.{indices_left, StandsAtFirst};
@@ -90,7 +90,7 @@ impl<D: Dimension + Copy> IntoIterator for Indices<D> {
     }
 }
 
-impl<D: Dimension + Copy> Clone for IndicesIter<D> {
+impl<D: Lengths + Copy> Clone for IndicesIter<D> {
     ghost is_clone = { λ walk copy. copy ≡ walk };
 
     ghost is_infallible = { λ _. ⊤ };

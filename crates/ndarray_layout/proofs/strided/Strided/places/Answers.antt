@@ -10,10 +10,9 @@ use Rattle.ndarray_layout.proofs.Views.{size_fits, no_places}
 use Rattle.ndarray_layout.proofs.strided.Strided.places.Goals as goal
 use Rattle.ndarray_layout.proofs.strided.Strided.places.Goals.{then-size-gt0, else-size-gt0}
 
-pub unwrap-size-requires : goal.unwrap-size-requires
-unwrap-size-requires g c =
-    let fits : size (g.D.Lengths.list c.self.inside.dim) < 2 ^ 64 = size_fits (record { start = c.self.inside.start; shape = g.D.Lengths.list c.self.inside.dim; strides = all_signed (g.D.Lengths.list c.self.inside.strides) }) c.self.invariant in
-    grind (arith, common_steps)
+pub product-size-requires : goal.product-size-requires
+product-size-requires g c =
+    rw (c.slice.ensures.list) (size_fits (record { start = c.self.inside.start; shape = g.D.Lengths.list c.self.inside.dim; strides = all_signed (g.D.Lengths.list c.self.inside.strides) }) c.self.invariant)
 
 pub push_places-places-requires-clause-view : goal.push_places-places-requires-clause-view
 push_places-places-requires-clause-view g c =
@@ -31,7 +30,7 @@ returns g c =
     let shape = g.D.Lengths.list c.self.inside.dim in
     let strides = all_signed (g.D.Lengths.list c.self.inside.strides) in
     let view : View = record { start = c.self.inside.start; shape = shape; strides = strides } in
-    let known : c.unwrap-size.result ≡ size shape = grind (arith, common_steps, c.size_of_shape_checked.ensures.ok, c.unwrap-size.ensures) in
+    let known : c.product-size.result ≡ size shape = c.product-size.ensures ∙ ap size c.slice.ensures.list in
     elim c.if-size-gt0.branch [
       | then-size-gt0 w ↦
           let walked = rw (c.in_ok-places.ensures.items, w.slice-shape.ensures.list, w.slice-strides.ensures.list) at w.push_places-places.ensures.items in

@@ -1,6 +1,7 @@
 -- At first all indices are left.
 use Rattle.std.proofs.Common.{replicate, ap, ◌∙◌}
 use Rattle.nd_base.specs.declared.order.Order.TheVariants.{ColumnMajor}
+use Rattle.nd_base.specs.Size.{size}
 use Rattle.nd_shape.specs.IndicesLeft.{indices_left}
 use Rattle.nd_shape.proofs.IndicesWalk.{starts_at}
 use Rattle.nd_shape.proofs.laws.IndicesLeft.{indices_left-whole}
@@ -9,9 +10,9 @@ use Rattle.nd_shape.proofs.indexes.columns.IndicesIterF.new.Goals as goal
 pub invariant_of-result : goal.invariant_of-result
 invariant_of-result g c =
     let shape = g.D.Lengths.list c.args.dim in
-    starts_at ColumnMajor shape (g.D.Lengths.list c.in_ok-index.index) c.size-left.result (c.in_ok-index.ensures.list ∙ ap (λ n. replicate n 0) c.ndim.ensures.count) c.size-left.ensures
+    starts_at ColumnMajor shape (g.D.Lengths.list c.in_ok-index.index) c.product-left.result (c.in_ok-index.ensures.list ∙ ap (λ n. replicate n 0) c.ndim.ensures.count) (c.product-left.ensures ∙ ap size c.slice.ensures.list)
 
 pub returns-clause-items : goal.returns-clause-items
 returns-clause-items g c =
     let shape = g.D.Lengths.list c.args.dim in
-    ap (indices_left ColumnMajor shape) c.size-left.ensures ∙ indices_left-whole ColumnMajor shape
+    ap (indices_left ColumnMajor shape) (c.product-left.ensures ∙ ap size c.slice.ensures.list) ∙ indices_left-whole ColumnMajor shape

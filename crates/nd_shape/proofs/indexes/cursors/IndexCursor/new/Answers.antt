@@ -2,6 +2,7 @@
 use Rattle.std.proofs.Common.{replicate, ap, ◌∙◌}
 use Rattle.nd_base.specs.declared.order.Order.TheVariants.{RowMajor}
 use Rattle.nd_base.specs.Dim.{lengths}
+use Rattle.nd_base.specs.Size.{size}
 use Rattle.nd_shape.specs.IndicesLeft.{indices_left}
 use Rattle.nd_shape.proofs.IndicesWalk.{starts}
 use Rattle.nd_shape.proofs.laws.IndicesLeft.{indices_left-whole}
@@ -9,8 +10,8 @@ use Rattle.nd_shape.proofs.indexes.cursors.IndexCursor.new.Goals as goal
 
 pub invariant_of-result : goal.invariant_of-result
 invariant_of-result c =
-    starts RowMajor (lengths c.args.dim) (lengths c.in_ok-index.index) c.size-left.result (c.in_ok-index.ensures.list ∙ ap (λ n. replicate n 0) c.ndim.ensures.count) c.size-left.ensures
+    starts RowMajor (lengths c.args.dim) (lengths c.in_ok-index.index) c.product-left.result (c.in_ok-index.ensures.list ∙ ap (λ n. replicate n 0) c.ndim.ensures.count) (c.product-left.ensures ∙ ap size c.slice.ensures.list)
 
 pub returns-clause-items : goal.returns-clause-items
 returns-clause-items c =
-    ap (indices_left RowMajor (lengths c.args.dim)) c.size-left.ensures ∙ indices_left-whole RowMajor (lengths c.args.dim)
+    ap (indices_left RowMajor (lengths c.args.dim)) (c.product-left.ensures ∙ ap size c.slice.ensures.list) ∙ indices_left-whole RowMajor (lengths c.args.dim)
