@@ -5,13 +5,12 @@ ghost use Rattle.nd_slice.specs.SliceFault.{in_count, out_count};
 
 use crate::elems::SliceElems;
 use crate::info::SliceInfo;
-use nd_base::{Dim, FixedCount, IxDyn};
-use nd_dim::Dimension;
+use nd_base::{Dim, FixedCount, IxDyn, Lengths};
 
 /// A slice argument for shapes of the type `D`. Upstream's `SliceArg`.
 pub trait SliceArg<D: FixedCount>: SliceElems {
     /// The type of the shapes that it leaves.
-    type OutDim: Dimension;
+    type OutDim: Lengths;
 
     /// How many axes of a shape it is for. Upstream's `in_ndim`.
     fn in_ndim(&self) -> usize
@@ -24,7 +23,7 @@ pub trait SliceArg<D: FixedCount>: SliceElems {
         ensures fixed { IsCount Self.OutDim.NDIM result };
 }
 
-impl<T: SliceElems, Dout: Dimension, const N: usize> SliceArg<Dim<[usize; N]>>
+impl<T: SliceElems, Dout: Lengths, const N: usize> SliceArg<Dim<[usize; N]>>
     for SliceInfo<T, Dim<[usize; N]>, Dout> {
     type OutDim = Dout;
 
@@ -39,7 +38,7 @@ impl<T: SliceElems, Dout: Dimension, const N: usize> SliceArg<Dim<[usize; N]>>
     }
 }
 
-impl<T: SliceElems, Din: FixedCount, Dout: Dimension> SliceArg<IxDyn> for SliceInfo<T, Din, Dout> {
+impl<T: SliceElems, Din: FixedCount, Dout: Lengths> SliceArg<IxDyn> for SliceInfo<T, Din, Dout> {
     type OutDim = Dout;
 
     #[inline]
