@@ -1,5 +1,5 @@
 //! Tests of `nd_shape`, by its public calls.
-mod acceptance;
+pub(crate) mod acceptance;
 mod axes;
 mod broadcast;
 mod indexes;

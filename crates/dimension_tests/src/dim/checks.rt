@@ -147,7 +147,7 @@ pub(crate) fn has_stride_axes<D: Dimension>(
 }
 
 /// The list, and a copy that is equal by either comparison.
-pub(crate) fn has_list<D: Dimension>(alloc: Global, dim: &D, lens: &[usize]) -> bool {
+pub(crate) fn has_list<D: Lengths>(alloc: Global, dim: &D, lens: &[usize]) -> bool {
     match dim.duplicate(alloc) {
         Ok(same) => {
             dim.slice() == lens && dim.ndim() == lens.len() && same == *dim && same.equal(dim)
@@ -207,7 +207,7 @@ pub(crate) fn writes_last<D: Dimension>(mut dim: D, len: usize, lens: &[usize]) 
 }
 
 /// Writes one length by its axis.
-pub(crate) fn writes<D: Dimension>(mut dim: D, axis: usize, len: usize, lens: &[usize]) -> bool {
+pub(crate) fn writes<D: Lengths>(mut dim: D, axis: usize, len: usize, lens: &[usize]) -> bool {
     if axis >= dim.ndim() {
         return false;
     }
@@ -216,7 +216,7 @@ pub(crate) fn writes<D: Dimension>(mut dim: D, axis: usize, len: usize, lens: &[
 }
 
 /// Writes one length in the list.
-pub(crate) fn writes_slice<D: Dimension>(
+pub(crate) fn writes_slice<D: Lengths>(
     mut dim: D,
     axis: usize,
     len: usize,

@@ -110,7 +110,7 @@ fn asks_into_any<D: Dimension>(alloc: Global, dim: &D) -> bool {
 }
 
 /// Made of the value of another type it asks for memory, or needs none.
-fn any_of<D: Dimension>(alloc: Global, dim: &D) -> Result<Option<IxDyn>, AllocError> {
+fn any_of<D: Lengths>(alloc: Global, dim: &D) -> Result<Option<IxDyn>, AllocError> {
     IxDyn::from_dimension(alloc, dim)
 }
 

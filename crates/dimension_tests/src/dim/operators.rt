@@ -6,7 +6,7 @@ ghost use Rattle.nd_base.specs.Entrywise.{SumsFit, DifferencesFit, ProductsFit, 
 
 use crate::dim::lists::dim_of;
 use crate::dim::told::{Told, table};
-use nd_dim::Dimension;
+use nd_dim::{Arithmetic, Lengths, Scale};
 use std::alloc::Global;
 use std::process::Abort;
 
@@ -47,7 +47,7 @@ fn fits_scaled(lens: &[usize], factor: usize) -> bool
 }
 
 /// What an operator makes.
-fn result<D: Dimension>(operator: Operator, dim: D, index: D) -> D
+fn result<D: Arithmetic>(operator: Operator, dim: D, index: D) -> D
     requires sums { SumsFit (D.list dim) (D.list index) }
     requires differences { DifferencesFit (D.list dim) (D.list index) }
     requires products { ProductsFit (D.list dim) (D.list index) }
@@ -60,7 +60,7 @@ fn result<D: Dimension>(operator: Operator, dim: D, index: D) -> D
 }
 
 /// What an operator leaves.
-fn result_in_place<D: Dimension>(operator: Operator, mut dim: D, index: D) -> D
+fn result_in_place<D: Arithmetic>(operator: Operator, mut dim: D, index: D) -> D
     requires sums { SumsFit (D.list dim) (D.list index) }
     requires differences { DifferencesFit (D.list dim) (D.list index) }
     requires products { ProductsFit (D.list dim) (D.list index) }
@@ -73,13 +73,13 @@ fn result_in_place<D: Dimension>(operator: Operator, mut dim: D, index: D) -> D
     dim
 }
 
-fn scaled<D: Dimension>(dim: D, factor: usize) -> D
+fn scaled<D: Scale>(dim: D, factor: usize) -> D
     requires { ScaledFit (D.list dim) factor }
 {
     dim * factor
 }
 
-fn scaled_in_place<D: Dimension>(mut dim: D, factor: usize) -> D
+fn scaled_in_place<D: Scale>(mut dim: D, factor: usize) -> D
     requires { ScaledFit (D.list dim) factor }
 {
     dim *= factor;
@@ -87,12 +87,12 @@ fn scaled_in_place<D: Dimension>(mut dim: D, factor: usize) -> D
 }
 
 /// A value has this list.
-fn is<D: Dimension>(dim: D, wanted: &[usize]) -> bool {
+fn is<D: Lengths>(dim: D, wanted: &[usize]) -> bool {
     dim.slice() == wanted
 }
 
 /// Whether an operator makes and leaves this of a shape and an index.
-pub(crate) fn calculates<D: Dimension>(
+pub(crate) fn calculates<D: Arithmetic>(
     rt: &impl Abort,
     alloc: Global,
     operator: Operator,
@@ -112,7 +112,7 @@ pub(crate) fn calculates<D: Dimension>(
 }
 
 /// Whether this is a shape so many times.
-pub(crate) fn scales<D: Dimension>(
+pub(crate) fn scales<D: Scale>(
     rt: &impl Abort,
     alloc: Global,
     lens: &[usize],

@@ -11,6 +11,7 @@ use crate::dim::lists::{Lists, dim_of, made};
 use crate::dim::memory::{Call, asks, serves};
 use crate::dim::operators::{Operator, calculates, scales};
 use crate::dim::steps::{has_columns, has_rows};
+use crate::shape::acceptance::is_accepted_along_its_own;
 use crate::shape::questions::{Question, is_answered};
 use crate::shape::shapes::dimension_builds;
 use nd_dim::{
@@ -69,6 +70,8 @@ pub(crate) enum Told {
     Memory(Call),
     /// Lengths, and their strides by columns: what a dimension builds.
     Built,
+    /// Lengths, whose own strides are those by which they are accepted.
+    OwnStrides,
     /// A layout, and what is asked of it.
     Asked(Question),
 }
@@ -89,7 +92,7 @@ fn keeps<D: Dimension + IntoDimension<Dim = D>>(
 }
 
 /// Whether a length is written in either way.
-fn rewrites<D: Dimension>(rt: &impl Abort, alloc: Global, row: &Lists<'_>) -> bool {
+fn rewrites<D: Lengths>(rt: &impl Abort, alloc: Global, row: &Lists<'_>) -> bool {
     let (lens, axis, len) = (row.first.as_slice(), row.second.at(0), row.second.at(1));
     writes(
         dim_of::<D>(rt, alloc, lens),
@@ -163,6 +166,7 @@ fn tells<D: Dimension + IntoDimension<Dim = D>>(
         Told::Written => rewrites::<D>(rt, alloc, row),
         Told::Memory(call) => serves(alloc, call, dim, row.second.at(0)),
         Told::Built => dimension_builds(rt, alloc, dim, row),
+        Told::OwnStrides => is_accepted_along_its_own(alloc, dim),
         Told::Asked(question) => is_answered(rt, alloc, question, dim, row),
         _ => tells_of_indices(rt, told, alloc, dim, row),
     }

@@ -1,15 +1,13 @@
 //! What is asked of a layout at a dimension type, by rows of tables.
 use crate::dim::lists::{Lists, made};
-use crate::shape::acceptance::{
-    has_fault, has_order_faults, has_sign_fault, is_accepted_along_its_own,
-};
+use crate::shape::acceptance::{has_fault, has_order_faults, has_sign_fault};
 use crate::shape::axes::{has_lengths, has_sum, is_in_turn};
 use crate::shape::broadcast::{asks_for_common, shares};
 use crate::shape::layout::lies;
 use crate::shape::layouts::is_laid_out;
 use crate::shape::merge::{merges, moves};
 use CanIndexCheckMode::{OwnedMutable, ReadOnly};
-use nd_dim::Dimension;
+use nd_dim::Lengths;
 use nd_shape::CanIndexCheckMode;
 use std::alloc::Global;
 use std::process::Abort;
@@ -27,8 +25,6 @@ pub(crate) enum Question {
     Read,
     /// The fault of the strides, as one leads back.
     Signs,
-    /// Whether the shape by its own strides is accepted as along these strides.
-    OwnStrides,
     /// The axes from the front and from the back in turn.
     InTurn,
     /// How many axes are left.
@@ -48,26 +44,19 @@ pub(crate) enum Question {
 }
 
 /// Whether a row tells whether its layout is accepted.
-fn is_judged<D: Dimension>(
-    alloc: Global,
-    question: Question,
-    dim: &D,
-    strides: D,
-    row: &Lists<'_>,
-) -> bool {
+fn is_judged<D: Lengths>(question: Question, dim: &D, strides: D, row: &Lists<'_>) -> bool {
     let len = row.fourth.at(1);
     match question {
         Question::Orders => has_order_faults(len, dim, row.answer),
         Question::Owned => has_fault(len, dim, strides, OwnedMutable, row.answer),
         Question::Read => has_fault(len, dim, strides, ReadOnly, row.answer),
         Question::Signs => has_sign_fault(&strides, row.answer),
-        Question::OwnStrides => is_accepted_along_its_own(alloc, dim),
         _ => false,
     }
 }
 
 /// Whether a row tells what is answered of its layout.
-fn is_told_along<D: Dimension>(
+fn is_told_along<D: Lengths>(
     rt: &impl Abort,
     alloc: Global,
     question: Question,
@@ -85,13 +74,13 @@ fn is_told_along<D: Dimension>(
         Question::Moved => moves(alloc, dim, strides, row),
         Question::Common => shares(alloc, dim, &strides, row),
         Question::CommonAsks => asks_for_common(alloc, dim, &strides),
-        _ => is_judged(alloc, question, dim, strides, row),
+        _ => is_judged(question, dim, strides, row),
     }
 }
 
 /// Whether a row tells what is answered. Strides of another count are none of a type that fixes its
 /// count.
-pub(crate) fn is_answered<D: Dimension>(
+pub(crate) fn is_answered<D: Lengths>(
     rt: &impl Abort,
     alloc: Global,
     question: Question,
