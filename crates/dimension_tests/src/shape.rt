@@ -2,7 +2,7 @@
 pub(crate) mod acceptance;
 mod axes;
 mod broadcast;
-mod indexes;
+pub(crate) mod indexes;
 mod indexing;
 mod layout;
 mod layouts;

@@ -79,51 +79,40 @@ pub(crate) fn is_incompatible<D: Dimension>(
 }
 
 /// An axis more, as a value of this type.
-pub(crate) fn widens<D: Dimension>(
-    rt: &impl Abort,
-    alloc: Global,
-    dim: &D,
-    axis: usize,
-    larger: &[usize],
-) -> bool {
-    let larger: D::Larger = dim_of(rt, alloc, larger);
+pub(crate) fn widens<D: Dimension>(alloc: Global, dim: &D, axis: usize, larger: &[usize]) -> bool {
     let count = match D::NDIM {
         Some(ndim) if ndim < 6 => Some(ndim + 1),
         _ => None,
     };
     D::Larger::NDIM == count
         && axis <= dim.ndim()
-        && makes(dim.insert_axis(alloc, Axis(axis)), &larger)
+        && gives(dim.insert_axis(alloc, Axis(axis)), larger)
 }
 
 /// An axis less, as a value of this type. No axes stay none.
 pub(crate) fn tries_to_narrow<D: Dimension>(
-    rt: &impl Abort,
     alloc: Global,
     dim: &D,
     axis: usize,
     smaller: &[usize],
 ) -> bool {
-    let smaller: D::Smaller = dim_of(rt, alloc, smaller);
     let count = match D::NDIM {
         Some(ndim) => Some(ndim.saturating_sub(1)),
         None => None,
     };
     D::Smaller::NDIM == count
         && (axis < dim.ndim() || dim.ndim() == 0)
-        && makes(dim.try_remove_axis(alloc, Axis(axis)), &smaller)
+        && gives(dim.try_remove_axis(alloc, Axis(axis)), smaller)
 }
 
 /// An axis less, where there is one.
 pub(crate) fn narrows<D: RemoveAxis>(
-    rt: &impl Abort,
     alloc: Global,
     dim: &D,
     axis: usize,
     smaller: &[usize],
 ) -> bool {
-    let smaller: D::Smaller = dim_of(rt, alloc, smaller);
-    axis >= dim.ndim() || makes(dim.remove_axis(alloc, Axis(axis)), &smaller)
+    axis >= dim.ndim() || gives(dim.remove_axis(alloc, Axis(axis)), smaller)
 }
 
 /// The axes of the least and of the greatest stride.

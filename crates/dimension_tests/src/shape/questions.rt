@@ -43,20 +43,31 @@ pub(crate) enum Question {
     CommonAsks,
 }
 
-/// Whether a row tells whether its layout is accepted.
-fn is_judged<D: Lengths>(question: Question, dim: &D, strides: D, row: &Lists<'_>) -> bool {
-    let len = row.fourth.at(1);
+/// Whether a row tells what is answered of its layout, with strides that are lent.
+fn is_told_along<D: Lengths>(
+    rt: &impl Abort,
+    alloc: Global,
+    question: Question,
+    dim: &D,
+    strides: &D,
+    row: &Lists<'_>,
+) -> bool {
     match question {
-        Question::Orders => has_order_faults(len, dim, row.answer),
-        Question::Owned => has_fault(len, dim, strides, OwnedMutable, row.answer),
-        Question::Read => has_fault(len, dim, strides, ReadOnly, row.answer),
-        Question::Signs => has_sign_fault(&strides, row.answer),
+        Question::Layout => is_laid_out(rt, alloc, dim, strides, row),
+        Question::Orders => has_order_faults(row.fourth.at(1), dim, row.answer),
+        Question::Signs => has_sign_fault(strides, row.answer),
+        Question::InTurn => is_in_turn(dim, strides),
+        Question::Lengths => has_lengths(dim, strides),
+        Question::Sum => has_sum(dim, strides, row.third.at(0)),
+        Question::Lies => lies(dim, strides, row.answer),
+        Question::Common => shares(alloc, dim, strides, row),
+        Question::CommonAsks => asks_for_common(alloc, dim, strides),
         _ => false,
     }
 }
 
-/// Whether a row tells what is answered of its layout.
-fn is_told_along<D: Lengths>(
+/// The same, with strides that are given away.
+fn is_told_with<D: Lengths>(
     rt: &impl Abort,
     alloc: Global,
     question: Question,
@@ -65,16 +76,11 @@ fn is_told_along<D: Lengths>(
     row: &Lists<'_>,
 ) -> bool {
     match question {
-        Question::Layout => is_laid_out(rt, alloc, dim, &strides, row),
-        Question::InTurn => is_in_turn(dim, &strides),
-        Question::Lengths => has_lengths(dim, &strides),
-        Question::Sum => has_sum(dim, &strides, row.third.at(0)),
-        Question::Lies => lies(dim, &strides, row.answer),
+        Question::Owned => has_fault(row.fourth.at(1), dim, strides, OwnedMutable, row.answer),
+        Question::Read => has_fault(row.fourth.at(1), dim, strides, ReadOnly, row.answer),
         Question::Merged => merges(alloc, dim, strides, row),
         Question::Moved => moves(alloc, dim, strides, row),
-        Question::Common => shares(alloc, dim, &strides, row),
-        Question::CommonAsks => asks_for_common(alloc, dim, &strides),
-        _ => is_judged(question, dim, strides, row),
+        _ => is_told_along(rt, alloc, question, dim, &strides, row),
     }
 }
 
@@ -88,7 +94,7 @@ pub(crate) fn is_answered<D: Lengths>(
     row: &Lists<'_>,
 ) -> bool {
     match made::<D>(alloc, row.second.as_slice()) {
-        Some(strides) => is_told_along(rt, alloc, question, dim, strides, row),
+        Some(strides) => is_told_with(rt, alloc, question, dim, strides, row),
         None => D::NDIM.is_some(),
     }
 }
