@@ -171,22 +171,22 @@ const DOUBLES: &str = "\
 2,3,4,5,6 2 4,6,8,10,12
 1,2,3,4,5,6 2 2,4,6,8,10,12";
 
-// At the end each operator on what the one before it left, first of 3, 5 and 1, 2.
+/// Each operator on what the one before it left, first of 3, 5 and 1, 2.
+fn tables_of_operators_in_turn(rt: &impl Abort, alloc: Global) {
+    table(rt, alloc, Told::Calculated(Operator::Mul), "3,5 1,2 3,10");
+    table(rt, alloc, Told::Scaled, "3,10 2 6,20");
+    table(rt, alloc, Told::Calculated(Operator::Add), "3,5 1,2 4,7");
+    table(rt, alloc, Told::Calculated(Operator::Mul), "4,7 1,2 4,14");
+    table(rt, alloc, Told::Calculated(Operator::Sub), "4,14 1,2 3,12");
+    table(rt, alloc, Told::Scaled, "3,12 3 9,36");
+}
+
 #[test]
 fn r2_rows_of_operators(rt: HostRuntime) {
-    let tables = [
-        (Told::Calculated(Operator::Add), SUMS),
-        (Told::Calculated(Operator::Sub), DIFFERENCES),
-        (Told::Calculated(Operator::Mul), PRODUCTS),
-        (Told::Scaled, DOUBLES),
-        (Told::Calculated(Operator::Mul), "3,5 1,2 3,10"),
-        (Told::Scaled, "3,10 2 6,20"),
-        (Told::Calculated(Operator::Add), "3,5 1,2 4,7"),
-        (Told::Calculated(Operator::Mul), "4,7 1,2 4,14"),
-        (Told::Calculated(Operator::Sub), "4,14 1,2 3,12"),
-        (Told::Scaled, "3,12 3 9,36"),
-    ];
-    for (told, rows) in tables {
-        table(&rt, rt.alloc(), told, rows);
-    }
+    let alloc = rt.alloc();
+    table(&rt, alloc, Told::Calculated(Operator::Add), SUMS);
+    table(&rt, alloc, Told::Calculated(Operator::Sub), DIFFERENCES);
+    table(&rt, alloc, Told::Calculated(Operator::Mul), PRODUCTS);
+    table(&rt, alloc, Told::Scaled, DOUBLES);
+    tables_of_operators_in_turn(&rt, alloc);
 }

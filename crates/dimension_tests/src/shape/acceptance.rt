@@ -107,16 +107,12 @@ const SIGNS: &str = "\
 
 #[test]
 fn r3_rows(rt: HostRuntime) {
-    let tables = [
-        (Question::Orders, ORDERS_OF_TWO),
-        (Question::Orders, ORDERS_OF_FIVE),
-        (Question::Owned, OWNED),
-        (Question::Read, READ),
-        (Question::Signs, SIGNS),
-    ];
-    for (question, rows) in tables {
-        table(&rt, rt.alloc(), Told::Asked(question), rows);
-    }
+    let alloc = rt.alloc();
+    table(&rt, alloc, Told::Asked(Question::Orders), ORDERS_OF_TWO);
+    table(&rt, alloc, Told::Asked(Question::Orders), ORDERS_OF_FIVE);
+    table(&rt, alloc, Told::Asked(Question::Owned), OWNED);
+    table(&rt, alloc, Told::Asked(Question::Read), READ);
+    table(&rt, alloc, Told::Asked(Question::Signs), SIGNS);
 }
 
 /// Whether a shape by its own strides is accepted over the same data as along these strides, where

@@ -67,13 +67,14 @@ pub(crate) fn has_sum<D: Lengths>(dim: &D, strides: &D, total: usize) -> bool {
 
 #[test]
 fn r3_rows(rt: HostRuntime) {
-    let rows = [
-        (Question::InTurn, "2,3,4 12,-4,1"),
-        (Question::Lengths, "2,3,4 2,3,4"),
-        (Question::Sum, "2,3,4 12,4,1 9"),
-        (Question::Sum, "2,3,1,4,2 2,3,1,4,2 12"),
-    ];
-    for (question, row) in rows {
-        table(&rt, rt.alloc(), Told::Asked(question), row);
-    }
+    let alloc = rt.alloc();
+    table(&rt, alloc, Told::Asked(Question::InTurn), "2,3,4 12,-4,1");
+    table(&rt, alloc, Told::Asked(Question::Lengths), "2,3,4 2,3,4");
+    table(&rt, alloc, Told::Asked(Question::Sum), "2,3,4 12,4,1 9");
+    table(
+        &rt,
+        alloc,
+        Told::Asked(Question::Sum),
+        "2,3,1,4,2 2,3,1,4,2 12",
+    );
 }

@@ -373,15 +373,21 @@ fn r7_rows_of_folds(rt: HostRuntime) {
     }
 }
 
-/// The rank of an index in a shape.
-fn rank_of<T: IntoDimension>(alloc: Global, lens: List, item: T) -> usize {
+/// The rank of entries in a shape.
+fn rank(lens: &[usize], entries: &[usize]) -> usize {
     let mut rank = 0_usize;
-    if let Ok(index) = item.into_dimension(alloc) {
-        for (len, entry) in lens.as_slice().iter().zip(index.slice()) {
-            rank = rank.wrapping_mul(*len).wrapping_add(*entry);
-        }
+    for (len, entry) in lens.iter().zip(entries) {
+        rank = rank.wrapping_mul(*len).wrapping_add(*entry);
     }
     rank
+}
+
+/// The rank of an index in a shape.
+fn rank_of<T: IntoDimension>(alloc: Global, lens: List, item: T) -> usize {
+    match item.into_dimension(alloc) {
+        Ok(index) => rank(lens.as_slice(), index.slice()),
+        Err(_) => 0,
+    }
 }
 
 /// What a fold over a walk makes of the ranks of its items in a shape.

@@ -10,7 +10,9 @@ use std::process::Abort;
 
 /// How the indices of a layout lie one behind another, or that it isn't valid.
 fn orders<D: Lengths>(dim: &D, strides: &D) -> &'static str {
-    if can_index_slice(0, usize::MAX, dim, strides, CanIndexCheckMode::ReadOnly).is_err() {
+    if dim.ndim() != strides.ndim()
+        || can_index_slice(0, usize::MAX, dim, strides, CanIndexCheckMode::ReadOnly).is_err()
+    {
         return "no layout";
     }
     match (is_layout_c(dim, strides), is_layout_f(dim, strides)) {

@@ -251,7 +251,12 @@ const LIMITS: &str = "\
 
 #[test]
 fn r3_rows(rt: HostRuntime) {
-    for layouts in [R1, REACH, SMALL, APART, SHARED_AND_EMPTY, INDICES, LIMITS] {
-        table(&rt, rt.alloc(), Told::Asked(Question::Layout), layouts);
-    }
+    let (alloc, told) = (rt.alloc(), Told::Asked(Question::Layout));
+    table(&rt, alloc, told, R1);
+    table(&rt, alloc, told, REACH);
+    table(&rt, alloc, told, SMALL);
+    table(&rt, alloc, told, APART);
+    table(&rt, alloc, told, SHARED_AND_EMPTY);
+    table(&rt, alloc, told, INDICES);
+    table(&rt, alloc, told, LIMITS);
 }
