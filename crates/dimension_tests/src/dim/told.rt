@@ -229,6 +229,24 @@ fn holds<D: Dimension + IntoDimension<Dim = D> + Copy>(
     }
 }
 
+/// Whether a row tells what the calls answer at a type that can have an axis to remove.
+fn tells_with_axes<D: RemoveAxis + IntoDimension<Dim = D>>(
+    rt: &impl Abort,
+    told: Told,
+    alloc: Global,
+    dim: &D,
+    row: &Lists<'_>,
+) -> bool {
+    match told {
+        Told::Removed => {
+            narrows(alloc, dim, row.second.at(0), row.third.as_slice())
+                && tells_of_axes(rt, told, alloc, dim, row)
+        },
+        Told::Memory(call) => asks(alloc, call, dim, row.second.at(0)),
+        _ => tells(rt, told, alloc, dim, row),
+    }
+}
+
 /// The same at a type that can have an axis to remove.
 fn holds_with_axes<D: RemoveAxis + IntoDimension<Dim = D>>(
     rt: &impl Abort,
@@ -237,14 +255,7 @@ fn holds_with_axes<D: RemoveAxis + IntoDimension<Dim = D>>(
     row: &Lists<'_>,
 ) -> bool {
     match made::<D>(alloc, row.first.as_slice()) {
-        Some(dim) => match told {
-            Told::Removed => {
-                narrows(alloc, &dim, row.second.at(0), row.third.as_slice())
-                    && tells::<D>(rt, told, alloc, &dim, row)
-            },
-            Told::Memory(call) => asks(alloc, call, &dim, row.second.at(0)),
-            _ => tells::<D>(rt, told, alloc, &dim, row),
-        },
+        Some(dim) => tells_with_axes::<D>(rt, told, alloc, &dim, row),
         None => may_want_memory::<D>(told, row),
     }
 }

@@ -191,7 +191,7 @@ fn starts<T: IntoDimension, W: ExactSizeIterator<Item = T> + Drop>(
         }
 }
 
-/// Whether a row tells this of the walk over a shape by rows.
+/// Whether a row tells this of a walk by rows.
 fn tells_of<T: IntoDimension, W: ExactSizeIterator<Item = T> + Clone + Drop>(
     alloc: Global,
     told: Walk,
@@ -209,6 +209,27 @@ fn tells_of<T: IntoDimension, W: ExactSizeIterator<Item = T> + Clone + Drop>(
     }
 }
 
+/// Whether a row tells this of the walk over a shape by rows.
+fn is_walked_by_rows<D: Dimension + Copy>(
+    alloc: Global,
+    told: Walk,
+    dim: D,
+    row: &Lists<'_>,
+) -> bool {
+    match by_rows(alloc, dim) {
+        Some(walk) => tells_of(alloc, told, walk, row),
+        None => false,
+    }
+}
+
+/// Whether a row tells the indices of a shape by columns.
+fn is_walked_by_columns<D: Dimension + Copy>(alloc: Global, dim: D, row: &Lists<'_>) -> bool {
+    match by_columns(alloc, dim) {
+        Some(walk) => yields(alloc, walk, &mut Row::new(row.answer), row.second.at(0)),
+        None => false,
+    }
+}
+
 /// Whether a row tells this at a type.
 pub(crate) fn is_walked<D: Dimension + Copy>(
     rt: &impl Abort,
@@ -218,14 +239,8 @@ pub(crate) fn is_walked<D: Dimension + Copy>(
 ) -> bool {
     let dim: D = dim_of(rt, alloc, row.first.as_slice());
     match told {
-        Walk::All(Order::ColumnMajor) => match by_columns(alloc, dim) {
-            Some(walk) => yields(alloc, walk, &mut Row::new(row.answer), row.second.at(0)),
-            None => false,
-        },
-        _ => match by_rows(alloc, dim) {
-            Some(walk) => tells_of(alloc, told, walk, row),
-            None => false,
-        },
+        Walk::All(Order::ColumnMajor) => is_walked_by_columns(alloc, dim, row),
+        _ => is_walked_by_rows(alloc, told, dim, row),
     }
 }
 
