@@ -1,8 +1,8 @@
 //! Tests of `nd_shape`, by its public calls.
-mod acceptance;
+pub(crate) mod acceptance;
 mod axes;
 mod broadcast;
-mod indexes;
+pub(crate) mod indexes;
 mod indexing;
 mod layout;
 mod layouts;

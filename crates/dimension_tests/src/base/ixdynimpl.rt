@@ -21,12 +21,18 @@ fn are_one(dim: &Result<IxDynImpl, AllocError>, other: &Result<IxDynImpl, AllocE
     }
 }
 
+/// A list made of a slice is this other one.
+fn copies_as(alloc: Global, lens: &[usize], other: &Result<IxDynImpl, AllocError>) -> bool {
+    let dim = IxDynImpl::copy_from(alloc, lens);
+    is(&dim, lens) && are_one(&dim, other)
+}
+
 /// A list made of a slice is that of a vector.
 fn copies(alloc: Global, lens: &[usize]) -> bool {
-    let mut items = Vec::new(alloc);
-    let is_copied = items.extend_from_slice(lens).is_ok();
-    let dim = IxDynImpl::copy_from(alloc, lens);
-    is_copied && is(&dim, lens) && are_one(&dim, &IxDynImpl::from_vec(alloc, items))
+    match lens.to_vec(alloc) {
+        Ok(items) => copies_as(alloc, lens, &IxDynImpl::from_vec(alloc, items)),
+        Err(_) => false,
+    }
 }
 
 #[test]
@@ -53,16 +59,16 @@ fn r2_rows_of_insert(rt: HostRuntime) {
     );
 }
 
-/// Without the axis at a place the list is a narrower one.
+/// Without the axis at a place a list is a narrower one.
+fn leaves(alloc: Global, dim: &IxDynImpl, place: usize, narrower: &[usize]) -> bool {
+    (place < dim.as_slice().len() || dim.as_slice().is_empty())
+        && copies_as(alloc, narrower, &dim.remove(alloc, place))
+}
+
+/// The same of lengths.
 fn removes(alloc: Global, lens: &[usize], place: usize, narrower: &[usize]) -> bool {
     match IxDynImpl::copy_from(alloc, lens) {
-        Ok(dim) => {
-            (place < dim.as_slice().len() || dim.as_slice().is_empty())
-                && are_one(
-                    &dim.remove(alloc, place),
-                    &IxDynImpl::copy_from(alloc, narrower),
-                )
-        }
+        Ok(dim) => leaves(alloc, &dim, place, narrower),
         Err(_) => false,
     }
 }

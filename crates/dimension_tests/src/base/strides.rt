@@ -1,5 +1,8 @@
 //! Strides, and where indices lie.
+use crate::dim::lists::Lists;
+use crate::dim::told::demand;
 use nd_base::{index_offset, signed, stride_offset, stride_offset_checked, unsigned};
+use nd_testing::rows;
 
 #[test]
 fn r1_rows(rt: HostRuntime) {
@@ -23,21 +26,36 @@ fn r1_rows(rt: HostRuntime) {
     );
 }
 
-// Entries beside the shape 2, 3 with the strides -3, 1, and their offsets.
+/// Whether entries have this offset beside the shape 2, 3 with the strides -3, 1, as it is kept, or none.
+fn has_offset(entries: &[usize], offset: &[usize]) -> bool {
+    match stride_offset_checked(&[2, 3], &[unsigned(-3), 1], entries) {
+        Some(found) => [unsigned(found)].as_slice() == offset,
+        None => offset.is_empty(),
+    }
+}
+
+fn row_holds(line: &str) -> bool {
+    match Lists::read(line) {
+        Some(row) => has_offset(row.first.as_slice(), row.second.as_slice()),
+        None => false,
+    }
+}
+
+/// Entries beside that shape, and their offset or none.
+const OFFSETS: &str = "\
+0,0 0
+1,0 -3
+1,2 -1
+1,3 -
+2,0 -
+1 -
+1,2,0 -
+- -";
+
 #[test]
 fn r2_rows(rt: HostRuntime) {
-    let rows: [(&[usize], Option<isize>); 8] = [
-        (&[0, 0], Some(0)),
-        (&[1, 0], Some(-3)),
-        (&[1, 2], Some(-1)),
-        (&[1, 3], None),
-        (&[2, 0], None),
-        (&[1], None),
-        (&[1, 2, 0], None),
-        (&[], None),
-    ];
-    for (index, offset) in rows {
-        assert!(rt; stride_offset_checked(&[2, 3], &[unsigned(-3), 1], index) == offset);
+    for line in rows(OFFSETS) {
+        demand(&rt, row_holds(line), line);
     }
 }
 

@@ -79,51 +79,40 @@ pub(crate) fn is_incompatible<D: Dimension>(
 }
 
 /// An axis more, as a value of this type.
-pub(crate) fn widens<D: Dimension>(
-    rt: &impl Abort,
-    alloc: Global,
-    dim: &D,
-    axis: usize,
-    larger: &[usize],
-) -> bool {
-    let larger: D::Larger = dim_of(rt, alloc, larger);
+pub(crate) fn widens<D: Dimension>(alloc: Global, dim: &D, axis: usize, larger: &[usize]) -> bool {
     let count = match D::NDIM {
         Some(ndim) if ndim < 6 => Some(ndim + 1),
         _ => None,
     };
     D::Larger::NDIM == count
         && axis <= dim.ndim()
-        && makes(dim.insert_axis(alloc, Axis(axis)), &larger)
+        && gives(dim.insert_axis(alloc, Axis(axis)), larger)
 }
 
 /// An axis less, as a value of this type. No axes stay none.
 pub(crate) fn tries_to_narrow<D: Dimension>(
-    rt: &impl Abort,
     alloc: Global,
     dim: &D,
     axis: usize,
     smaller: &[usize],
 ) -> bool {
-    let smaller: D::Smaller = dim_of(rt, alloc, smaller);
     let count = match D::NDIM {
         Some(ndim) => Some(ndim.saturating_sub(1)),
         None => None,
     };
     D::Smaller::NDIM == count
         && (axis < dim.ndim() || dim.ndim() == 0)
-        && makes(dim.try_remove_axis(alloc, Axis(axis)), &smaller)
+        && gives(dim.try_remove_axis(alloc, Axis(axis)), smaller)
 }
 
 /// An axis less, where there is one.
 pub(crate) fn narrows<D: RemoveAxis>(
-    rt: &impl Abort,
     alloc: Global,
     dim: &D,
     axis: usize,
     smaller: &[usize],
 ) -> bool {
-    let smaller: D::Smaller = dim_of(rt, alloc, smaller);
-    axis >= dim.ndim() || makes(dim.remove_axis(alloc, Axis(axis)), &smaller)
+    axis >= dim.ndim() || gives(dim.remove_axis(alloc, Axis(axis)), smaller)
 }
 
 /// The axes of the least and of the greatest stride.
@@ -147,7 +136,7 @@ pub(crate) fn has_stride_axes<D: Dimension>(
 }
 
 /// The list, and a copy that is equal by either comparison.
-pub(crate) fn has_list<D: Dimension>(alloc: Global, dim: &D, lens: &[usize]) -> bool {
+pub(crate) fn has_list<D: Lengths>(alloc: Global, dim: &D, lens: &[usize]) -> bool {
     match dim.duplicate(alloc) {
         Ok(same) => {
             dim.slice() == lens && dim.ndim() == lens.len() && same == *dim && same.equal(dim)
@@ -207,7 +196,7 @@ pub(crate) fn writes_last<D: Dimension>(mut dim: D, len: usize, lens: &[usize]) 
 }
 
 /// Writes one length by its axis.
-pub(crate) fn writes<D: Dimension>(mut dim: D, axis: usize, len: usize, lens: &[usize]) -> bool {
+pub(crate) fn writes<D: Lengths>(mut dim: D, axis: usize, len: usize, lens: &[usize]) -> bool {
     if axis >= dim.ndim() {
         return false;
     }
@@ -216,7 +205,7 @@ pub(crate) fn writes<D: Dimension>(mut dim: D, axis: usize, len: usize, lens: &[
 }
 
 /// Writes one length in the list.
-pub(crate) fn writes_slice<D: Dimension>(
+pub(crate) fn writes_slice<D: Lengths>(
     mut dim: D,
     axis: usize,
     len: usize,

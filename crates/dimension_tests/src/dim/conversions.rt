@@ -2,7 +2,7 @@
 use crate::dim::checks::{gives, is_one, makes};
 use crate::dim::lists::made;
 use nd_dim::{
-    Dimension, IntoDimension, Ix2, Ix3, IxDyn, IxDynImpl, Lengths, Order, ShapeArg, new_dim,
+    Dim, Dimension, IntoDimension, Ix2, Ix3, IxDyn, IxDynImpl, Lengths, Order, ShapeArg, new_dim,
     new_ix0, new_ix1, new_ix2, new_ix3, new_ix4, new_ix5, new_ix6,
 };
 use std::alloc::Global;
@@ -37,36 +37,62 @@ fn r2_rows_into_patterns(rt: HostRuntime) {
     );
 }
 
-/// A pattern and an array make this dimension.
-fn both_convert<D, P, A>(alloc: Global, pattern: P, array: A, wanted: &D) -> bool
-where
-    D: Lengths,
-    P: IntoDimension<Dim = D>,
-    A: IntoDimension<Dim = D>,
-{
-    let is_pattern = converts(alloc, pattern, wanted);
-    converts(alloc, array, wanted) && is_pattern
+/// An array makes this dimension, of as many axes.
+fn array_converts<const N: usize>(
+    alloc: Global,
+    array: [usize; N],
+    wanted: &Dim<[usize; N]>,
+) -> bool {
+    converts(alloc, array, wanted)
 }
 
 #[test]
 fn r2_rows_from_patterns_and_arrays(rt: HostRuntime) {
     let alloc = rt.alloc();
-    assert!(rt; both_convert(alloc, (), [0; 0], &new_ix0()));
-    assert!(rt; both_convert(alloc, 2, [2], &new_ix1(2)) && converts(alloc, (2,), &new_ix1(2)));
-    assert!(rt; both_convert(alloc, (2, 3), [2, 3], &new_ix2(2, 3)));
-    assert!(rt; both_convert(alloc, (2, 3, 4), [2, 3, 4], &new_ix3(2, 3, 4)));
+    let wanted = new_ix0();
+    assert!(rt; converts(alloc, (), &wanted) && array_converts(alloc, [], &wanted));
+    let wanted = new_ix1(2);
+    assert!(rt; converts(alloc, 2, &wanted) && array_converts(alloc, [2], &wanted));
+    assert!(rt; converts(alloc, (2,), &wanted));
+    let wanted = new_ix2(2, 3);
+    assert!(rt; converts(alloc, (2, 3), &wanted) && array_converts(alloc, [2, 3], &wanted));
+    let wanted = new_ix3(2, 3, 4);
+    assert!(rt; converts(alloc, (2, 3, 4), &wanted) && array_converts(alloc, [2, 3, 4], &wanted));
+}
+
+#[test]
+fn r2_rows_from_longer_patterns_and_arrays(rt: HostRuntime) {
+    let alloc = rt.alloc();
     let wanted = new_ix4(2, 3, 4, 5);
-    assert!(rt; both_convert(alloc, (2, 3, 4, 5), [2, 3, 4, 5], &wanted));
+    assert!(rt; converts(alloc, (2, 3, 4, 5), &wanted));
+    assert!(rt; array_converts(alloc, [2, 3, 4, 5], &wanted));
     let wanted = new_ix5(2, 3, 4, 5, 6);
-    assert!(rt; both_convert(alloc, (2, 3, 4, 5, 6), [2, 3, 4, 5, 6], &wanted));
+    assert!(rt; converts(alloc, (2, 3, 4, 5, 6), &wanted));
+    assert!(rt; array_converts(alloc, [2, 3, 4, 5, 6], &wanted));
     let wanted = new_ix6(2, 3, 4, 5, 6, 7);
-    assert!(rt; both_convert(alloc, (2, 3, 4, 5, 6, 7), [2, 3, 4, 5, 6, 7], &wanted));
+    assert!(rt; converts(alloc, (2, 3, 4, 5, 6, 7), &wanted));
+    assert!(rt; array_converts(alloc, [2, 3, 4, 5, 6, 7], &wanted));
+}
+
+/// A value makes a dimension of these lengths.
+fn stands_for<T: IntoDimension>(alloc: Global, value: T, lens: &[usize]) -> bool {
+    gives(value.into_dimension(alloc), lens)
+}
+
+/// A new dimension of a value is this one.
+fn is_new<T: IntoDimension>(alloc: Global, value: T, wanted: &T::Dim) -> bool {
+    makes(new_dim(alloc, value), wanted)
+}
+
+/// A new dimension of a value has these lengths.
+fn is_new_of<T: IntoDimension>(alloc: Global, value: T, lens: &[usize]) -> bool {
+    gives(new_dim(alloc, value), lens)
 }
 
 /// A vector makes the dimension of its items.
 fn comes_of_vector(alloc: Global, lens: &[usize]) -> bool {
     match lens.to_vec(alloc) {
-        Ok(items) => gives(items.into_dimension(alloc), lens),
+        Ok(items) => stands_for(alloc, items, lens),
         Err(_) => false,
     }
 }
@@ -74,7 +100,7 @@ fn comes_of_vector(alloc: Global, lens: &[usize]) -> bool {
 /// A list makes the dimension of its lengths.
 fn comes_of_list(alloc: Global, lens: &[usize]) -> bool {
     match IxDynImpl::copy_from(alloc, lens) {
-        Ok(list) => gives(list.into_dimension(alloc), lens),
+        Ok(list) => stands_for(alloc, list, lens),
         Err(_) => false,
     }
 }
@@ -83,10 +109,10 @@ fn comes_of_list(alloc: Global, lens: &[usize]) -> bool {
 fn r2_rows_from_lists(rt: HostRuntime) {
     let alloc = rt.alloc();
     let lens = [2, 3, 4, 5, 6, 7, 8];
-    assert!(rt; gives(lens.as_slice().into_dimension(alloc), &lens));
+    assert!(rt; stands_for(alloc, lens.as_slice(), &lens));
     assert!(rt; comes_of_vector(alloc, &lens) && comes_of_list(alloc, &lens));
-    assert!(rt; gives(new_dim(alloc, lens.as_slice()), &lens));
-    assert!(rt; makes(new_dim(alloc, (3, 4)), &new_ix2(3, 4)));
+    assert!(rt; is_new_of(alloc, lens.as_slice(), &lens));
+    assert!(rt; is_new(alloc, (3, 4), &new_ix2(3, 4)));
 }
 
 /// A vector that is handed over makes a dimension equal to that of the same lengths.

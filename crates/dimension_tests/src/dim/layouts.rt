@@ -150,14 +150,10 @@ const LAST_INDICES: &str = "\
 
 #[test]
 fn r2_rows(rt: HostRuntime) {
-    let tables = [
-        (Told::Contiguous(true), CONTIGUOUS),
-        (Told::Contiguous(false), NOT_CONTIGUOUS),
-        (Told::Offset, OFFSETS),
-        (Told::Offset, OFFSETS_AT_THE_ENDS),
-        (Told::Offset, LAST_INDICES),
-    ];
-    for (told, rows) in tables {
-        table(&rt, rt.alloc(), told, rows);
-    }
+    let alloc = rt.alloc();
+    table(&rt, alloc, Told::Contiguous(true), CONTIGUOUS);
+    table(&rt, alloc, Told::Contiguous(false), NOT_CONTIGUOUS);
+    table(&rt, alloc, Told::Offset, OFFSETS);
+    table(&rt, alloc, Told::Offset, OFFSETS_AT_THE_ENDS);
+    table(&rt, alloc, Told::Offset, LAST_INDICES);
 }

@@ -39,6 +39,14 @@ impl List {
         Some(())
     }
 
+    /// Adds the number that a part of a word stands for, or none.
+    fn read(&mut self, part: &str) -> Option<()> {
+        if part == "-" {
+            return Some(());
+        }
+        self.push(entry(part)?)
+    }
+
     /// The number at a place, or none that is an axis.
     pub(crate) fn at(&self, place: usize) -> usize {
         self.as_slice().get(place).copied().unwrap_or(usize::MAX)
@@ -60,23 +68,32 @@ impl<'a> Lists<'a> {
     pub(crate) fn read(line: &'a str) -> Option<Lists<'a>> {
         let (lists, answer) = line.split_once(" => ").unwrap_or((line, ""));
         let mut row = Row::new(lists);
+        let (first, second) = next_two(&mut row)?;
+        let (third, fourth) = next_two(&mut row)?;
         Some(Lists {
-            first: next_list(&mut row)?,
-            second: next_list(&mut row)?,
-            third: next_list(&mut row)?,
-            fourth: next_list(&mut row)?,
+            first,
+            second,
+            third,
+            fourth,
             answer,
         })
     }
 }
 
+/// The next two words of a row as lists.
+fn next_two(row: &mut Row<'_>) -> Option<(List, List)> {
+    let first = next_list(row)?;
+    Some((first, next_list(row)?))
+}
+
 /// The next word of a row as a list, or the empty one behind the last word.
 fn next_list(row: &mut Row<'_>) -> Option<List> {
-    let mut list = List::of(&[])?;
+    let mut list = List {
+        entries: [0; 16],
+        count: 0,
+    };
     for part in row.word().unwrap_or("-").split(',') {
-        if part != "-" {
-            list.push(entry(part)?)?;
-        }
+        list.read(part)?;
     }
     Some(list)
 }

@@ -12,7 +12,6 @@ use nd_dim::{
 };
 use nd_testing::{asked, rows};
 use std::alloc::{AllocError, Global};
-use std::hash::Hash;
 use std::process::Abort;
 
 /// How calls go about memory.
@@ -39,40 +38,50 @@ pub(crate) enum Call {
     RemoveAxis,
 }
 
+/// A call gave what it makes.
+fn is_given<T: Drop>(made: Result<T, AllocError>) -> bool {
+    made.is_ok()
+}
+
 /// What a call of a shape gives needs no memory.
 fn serves_shape<D: Dimension>(alloc: Global, dim: &D) -> bool {
     dim.size_checked().is_some()
-        && dim.default_strides(alloc).is_ok()
-        && dim.fortran_strides(alloc).is_ok()
-        && dim._fastest_varying_stride_order(alloc).is_ok()
+        && is_given(dim.default_strides(alloc))
+        && is_given(dim.fortran_strides(alloc))
+        && is_given(dim._fastest_varying_stride_order(alloc))
 }
 
 /// Values of the same type need no memory.
 fn serves_type<D: Dimension>(alloc: Global, dim: &D) -> bool {
-    D::default_in(alloc).is_ok()
-        && D::zeros(alloc, dim.ndim()).is_ok()
-        && dim.duplicate(alloc).is_ok()
-        && D::from_dimension(alloc, dim).is_ok()
+    is_given(D::default_in(alloc))
+        && is_given(D::zeros(alloc, dim.ndim()))
+        && is_given(dim.duplicate(alloc))
+        && is_given(D::from_dimension(alloc, dim))
 }
 
 /// An axis more needs no memory, at the front and at the end.
 fn is_wider<D: Dimension>(alloc: Global, dim: &D) -> bool {
-    dim.insert_axis(alloc, Axis(0)).is_ok() && dim.insert_axis(alloc, Axis(dim.ndim())).is_ok()
+    is_given(dim.insert_axis(alloc, Axis(0))) && is_given(dim.insert_axis(alloc, Axis(dim.ndim())))
 }
 
 /// An axis less needs no memory.
 fn is_narrower<D: RemoveAxis>(alloc: Global, dim: &D, axis: usize) -> bool {
     axis < dim.ndim()
-        && dim.try_remove_axis(alloc, Axis(axis)).is_ok()
-        && dim.remove_axis(alloc, Axis(axis)).is_ok()
+        && is_given(dim.try_remove_axis(alloc, Axis(axis)))
+        && is_given(dim.remove_axis(alloc, Axis(axis)))
+}
+
+/// A list of this type, as a value of any number of axes.
+fn handed_on<D: Dimension>(alloc: Global, lens: &[usize]) -> Result<IxDyn, AllocError> {
+    match made::<D>(alloc, lens) {
+        Some(dim) => dim.into_dyn(alloc),
+        None => Err(AllocError),
+    }
 }
 
 /// The same list of any number of axes needs no memory.
 fn is_handed_on<D: Dimension>(alloc: Global, dim: &D) -> bool {
-    match made::<D>(alloc, dim.slice()) {
-        Some(same) => same.into_dyn(alloc).is_ok(),
-        None => false,
-    }
+    is_given(handed_on::<D>(alloc, dim.slice()))
 }
 
 /// What needs no memory at a type of a fixed count of axes, nor with up to four axes at another.
@@ -80,37 +89,45 @@ fn needs_none<D: Dimension>(alloc: Global, dim: &D) -> bool {
     serves_shape(alloc, dim)
         && serves_type(alloc, dim)
         && (D::Larger::NDIM.is_none() && dim.ndim() > 3 || is_wider(alloc, dim))
-        && (dim.ndim() > 0 || dim.try_remove_axis(alloc, Axis(0)).is_ok())
+        && (dim.ndim() > 0 || is_given(dim.try_remove_axis(alloc, Axis(0))))
         && (dim.ndim() > 4 || is_handed_on(alloc, dim))
 }
 
 /// A value itself needs no memory, if there was memory for it.
 fn is_kept<D: Lengths + IntoDimension<Dim = D>>(alloc: Global, dim: &D) -> bool {
     match made::<D>(alloc, dim.slice()) {
-        Some(same) => new_dim(alloc, same).is_ok(),
+        Some(same) => is_given(new_dim(alloc, same)),
         None => D::NDIM.is_none() && dim.ndim() > 4,
     }
+}
+
+/// A list of five of any number of axes needs no memory to be one.
+fn is_kept_as_any(alloc: Global, five: IxDyn) -> bool {
+    is_given(five.into_dyn(alloc))
+}
+
+/// A value of a list of any number of axes needs no memory.
+fn is_made_of<D: Dimension>(alloc: Global, dim: &IxDyn) -> bool {
+    is_given(D::from_dimension(alloc, dim))
 }
 
 /// A value of a list of five of any number of axes needs no memory, nor does that list, if there was
 /// memory for it.
 fn makes_of_five<D: Dimension>(alloc: Global) -> bool {
     match new_ixdyn(alloc, &[1, 2, 3, 4, 5]) {
-        Ok(five) => D::from_dimension(alloc, &five).is_ok() && five.into_dyn(alloc).is_ok(),
+        Ok(five) => is_made_of::<D>(alloc, &five) && is_kept_as_any(alloc, five),
         Err(_) => true,
     }
 }
 
 /// A value of any number of axes asks for memory.
 fn asks_into_any<D: Dimension>(alloc: Global, dim: &D) -> bool {
-    match (made::<D>(alloc, dim.slice()), made::<D>(alloc, dim.slice())) {
-        (Some(dim), Some(same)) => asked(alloc, dim.into_dyn(alloc), same.into_dyn(alloc)),
-        _ => false,
-    }
+    let first = handed_on::<D>(alloc, dim.slice());
+    asked(alloc, first, handed_on::<D>(alloc, dim.slice()))
 }
 
 /// Made of the value of another type it asks for memory, or needs none.
-fn any_of<D: Dimension>(alloc: Global, dim: &D) -> Result<Option<IxDyn>, AllocError> {
+fn any_of<D: Lengths>(alloc: Global, dim: &D) -> Result<Option<IxDyn>, AllocError> {
     IxDyn::from_dimension(alloc, dim)
 }
 
@@ -162,7 +179,7 @@ pub(crate) fn serves<D: Dimension>(alloc: Global, call: Call, dim: &D, axis: usi
     match call {
         Call::NeedsNone => needs_none(alloc, dim),
         Call::MakesOfFive => makes_of_five::<D>(alloc),
-        Call::MakesAny => any_of(alloc, dim).is_ok() && is_handed_on(alloc, dim),
+        Call::MakesAny => is_given(any_of(alloc, dim)) && is_handed_on(alloc, dim),
         Call::IntoAny => asks_into_any(alloc, dim),
         Call::FromFixed => asked(alloc, any_of(alloc, dim), any_of(alloc, dim)),
         Call::DefaultStrides | Call::FortranStrides => asks_for_strides(alloc, call, dim),
@@ -189,7 +206,7 @@ pub(crate) fn asks<D: RemoveAxis + IntoDimension<Dim = D>>(
         Call::NeedsNoneOfFive => {
             is_narrower(alloc, dim, 2)
                 && is_narrower(alloc, dim, 4)
-                && D::default_in(alloc).is_ok()
+                && is_given(D::default_in(alloc))
                 && is_kept(alloc, dim)
         },
         Call::RemoveAxis => asks_without_axis(alloc, dim),
@@ -232,7 +249,7 @@ const AT_ANY_COUNT: &str = "\
 
 /// A list of four needs no memory as a dimension, nor as a shape.
 fn four_need_none(alloc: Global, four: &[usize]) -> bool {
-    new_dim(alloc, four).is_ok() && four.into_shape_and_order(alloc).is_ok()
+    is_given(new_dim(alloc, four)) && is_given(four.into_shape_and_order(alloc))
 }
 
 #[test]
@@ -249,24 +266,20 @@ fn r9_rows_insert_axis_into_three(rt: HostRuntime) {
 }
 
 /// What is left of a list is one that was made so, and has its hash; if there was memory for it.
-fn leaves<D, S>(alloc: Global, lens: &[usize], axis: usize, left: &[usize]) -> bool
-where
-    D: RemoveAxis + Dimension<Smaller = S>,
-    S: Lengths + Hash,
-{
-    let Some(left) = made::<S>(alloc, left) else {
+fn leaves(alloc: Global, lens: &[usize], axis: usize, left: &[usize]) -> bool {
+    let Some(left) = made::<IxDyn>(alloc, left) else {
         return false;
     };
-    match made::<D>(alloc, lens) {
+    match made::<IxDyn>(alloc, lens) {
         Some(dim) => axis < dim.ndim() && is_one(&left, dim.remove_axis(alloc, Axis(axis))),
-        None => D::NDIM.is_none() && lens.len() > 4,
+        None => lens.len() > 4,
     }
 }
 
 // In each of the following to make the list is the first request.
 #[test]
 fn r9_rows_of_equality(rt: HostRuntime) {
-    assert!(rt; leaves::<IxDyn, IxDyn>(rt.alloc(), &[1, 2, 3, 4, 5], 2, &[1, 2, 4, 5]));
+    assert!(rt; leaves(rt.alloc(), &[1, 2, 3, 4, 5], 2, &[1, 2, 4, 5]));
 }
 
 #[test]
@@ -292,7 +305,7 @@ fn r9_rows_five_into_three(rt: HostRuntime) {
 #[test]
 fn r9_rows_vector_of_four(rt: HostRuntime) {
     if let Ok(items) = [1, 2, 3, 4].to_vec(rt.alloc()) {
-        assert!(rt; new_dim(rt.alloc(), items).is_ok());
+        assert!(rt; is_given(new_dim(rt.alloc(), items)));
     }
 }
 

@@ -6,7 +6,7 @@ ghost use Rattle.nd_base.specs.Entrywise.{SumsFit, DifferencesFit, ProductsFit, 
 
 use crate::dim::lists::dim_of;
 use crate::dim::told::{Told, table};
-use nd_dim::Dimension;
+use nd_dim::{Arithmetic, Lengths, Scale};
 use std::alloc::Global;
 use std::process::Abort;
 
@@ -47,7 +47,7 @@ fn fits_scaled(lens: &[usize], factor: usize) -> bool
 }
 
 /// What an operator makes.
-fn result<D: Dimension>(operator: Operator, dim: D, index: D) -> D
+fn result<D: Arithmetic>(operator: Operator, dim: D, index: D) -> D
     requires sums { SumsFit (D.list dim) (D.list index) }
     requires differences { DifferencesFit (D.list dim) (D.list index) }
     requires products { ProductsFit (D.list dim) (D.list index) }
@@ -60,7 +60,7 @@ fn result<D: Dimension>(operator: Operator, dim: D, index: D) -> D
 }
 
 /// What an operator leaves.
-fn result_in_place<D: Dimension>(operator: Operator, mut dim: D, index: D) -> D
+fn result_in_place<D: Arithmetic>(operator: Operator, mut dim: D, index: D) -> D
     requires sums { SumsFit (D.list dim) (D.list index) }
     requires differences { DifferencesFit (D.list dim) (D.list index) }
     requires products { ProductsFit (D.list dim) (D.list index) }
@@ -73,13 +73,13 @@ fn result_in_place<D: Dimension>(operator: Operator, mut dim: D, index: D) -> D
     dim
 }
 
-fn scaled<D: Dimension>(dim: D, factor: usize) -> D
+fn scaled<D: Scale>(dim: D, factor: usize) -> D
     requires { ScaledFit (D.list dim) factor }
 {
     dim * factor
 }
 
-fn scaled_in_place<D: Dimension>(mut dim: D, factor: usize) -> D
+fn scaled_in_place<D: Scale>(mut dim: D, factor: usize) -> D
     requires { ScaledFit (D.list dim) factor }
 {
     dim *= factor;
@@ -87,12 +87,12 @@ fn scaled_in_place<D: Dimension>(mut dim: D, factor: usize) -> D
 }
 
 /// A value has this list.
-fn is<D: Dimension>(dim: D, wanted: &[usize]) -> bool {
+fn is<D: Lengths>(dim: D, wanted: &[usize]) -> bool {
     dim.slice() == wanted
 }
 
 /// Whether an operator makes and leaves this of a shape and an index.
-pub(crate) fn calculates<D: Dimension>(
+pub(crate) fn calculates<D: Arithmetic>(
     rt: &impl Abort,
     alloc: Global,
     operator: Operator,
@@ -112,7 +112,7 @@ pub(crate) fn calculates<D: Dimension>(
 }
 
 /// Whether this is a shape so many times.
-pub(crate) fn scales<D: Dimension>(
+pub(crate) fn scales<D: Scale>(
     rt: &impl Abort,
     alloc: Global,
     lens: &[usize],
@@ -171,22 +171,22 @@ const DOUBLES: &str = "\
 2,3,4,5,6 2 4,6,8,10,12
 1,2,3,4,5,6 2 2,4,6,8,10,12";
 
-// At the end each operator on what the one before it left, first of 3, 5 and 1, 2.
+/// Each operator on what the one before it left, first of 3, 5 and 1, 2.
+fn tables_of_operators_in_turn(rt: &impl Abort, alloc: Global) {
+    table(rt, alloc, Told::Calculated(Operator::Mul), "3,5 1,2 3,10");
+    table(rt, alloc, Told::Scaled, "3,10 2 6,20");
+    table(rt, alloc, Told::Calculated(Operator::Add), "3,5 1,2 4,7");
+    table(rt, alloc, Told::Calculated(Operator::Mul), "4,7 1,2 4,14");
+    table(rt, alloc, Told::Calculated(Operator::Sub), "4,14 1,2 3,12");
+    table(rt, alloc, Told::Scaled, "3,12 3 9,36");
+}
+
 #[test]
 fn r2_rows_of_operators(rt: HostRuntime) {
-    let tables = [
-        (Told::Calculated(Operator::Add), SUMS),
-        (Told::Calculated(Operator::Sub), DIFFERENCES),
-        (Told::Calculated(Operator::Mul), PRODUCTS),
-        (Told::Scaled, DOUBLES),
-        (Told::Calculated(Operator::Mul), "3,5 1,2 3,10"),
-        (Told::Scaled, "3,10 2 6,20"),
-        (Told::Calculated(Operator::Add), "3,5 1,2 4,7"),
-        (Told::Calculated(Operator::Mul), "4,7 1,2 4,14"),
-        (Told::Calculated(Operator::Sub), "4,14 1,2 3,12"),
-        (Told::Scaled, "3,12 3 9,36"),
-    ];
-    for (told, rows) in tables {
-        table(&rt, rt.alloc(), told, rows);
-    }
+    let alloc = rt.alloc();
+    table(&rt, alloc, Told::Calculated(Operator::Add), SUMS);
+    table(&rt, alloc, Told::Calculated(Operator::Sub), DIFFERENCES);
+    table(&rt, alloc, Told::Calculated(Operator::Mul), PRODUCTS);
+    table(&rt, alloc, Told::Scaled, DOUBLES);
+    tables_of_operators_in_turn(&rt, alloc);
 }

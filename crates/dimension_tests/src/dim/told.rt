@@ -11,6 +11,8 @@ use crate::dim::lists::{Lists, dim_of, made};
 use crate::dim::memory::{Call, asks, serves};
 use crate::dim::operators::{Operator, calculates, scales};
 use crate::dim::steps::{has_columns, has_rows};
+use crate::shape::acceptance::is_accepted_along_its_own;
+use crate::shape::indexes::{Walk, is_walked};
 use crate::shape::questions::{Question, is_answered};
 use crate::shape::shapes::dimension_builds;
 use nd_dim::{
@@ -69,6 +71,10 @@ pub(crate) enum Told {
     Memory(Call),
     /// Lengths, and their strides by columns: what a dimension builds.
     Built,
+    /// Lengths, whose own strides are those by which they are accepted.
+    OwnStrides,
+    /// Lengths, and what is asked of the walks over their indices.
+    Walked(Walk),
     /// A layout, and what is asked of it.
     Asked(Question),
 }
@@ -88,8 +94,13 @@ fn keeps<D: Dimension + IntoDimension<Dim = D>>(
         && list_becomes::<D>(rt, alloc, &[1; 4], D::NDIM.unwrap_or(4) == 4)
 }
 
+/// Whether this is the default of a type.
+fn has_default<D: Dimension>(alloc: Global, lens: &[usize]) -> bool {
+    D::NDIM.unwrap_or(1) == lens.len() && gives(D::default_in(alloc), lens)
+}
+
 /// Whether a length is written in either way.
-fn rewrites<D: Dimension>(rt: &impl Abort, alloc: Global, row: &Lists<'_>) -> bool {
+fn rewrites<D: Lengths>(rt: &impl Abort, alloc: Global, row: &Lists<'_>) -> bool {
     let (lens, axis, len) = (row.first.as_slice(), row.second.at(0), row.second.at(1));
     writes(
         dim_of::<D>(rt, alloc, lens),
@@ -104,7 +115,7 @@ fn rewrites<D: Dimension>(rt: &impl Abort, alloc: Global, row: &Lists<'_>) -> bo
     )
 }
 
-/// Whether a row tells of layouts, operators and walks.
+/// Whether a row tells of operators, steps and strides.
 fn tells_of_indices<D: Dimension>(
     rt: &impl Abort,
     told: Told,
@@ -118,8 +129,6 @@ fn tells_of_indices<D: Dimension>(
         row.third.as_slice(),
     );
     match told {
-        Told::Contiguous(answer) => is_filled(rt, alloc, dim, second) == Some(answer),
-        Told::Offset => reaches(rt, alloc, dim, second, &row.third, row.fourth.as_slice()),
         Told::Calculated(operator) => calculates::<D>(rt, alloc, operator, first, second, third),
         Told::Scaled => scales::<D>(rt, alloc, first, row.second.at(0), third),
         Told::Rows => has_rows(alloc, dim, row.second.at(0), third),
@@ -127,6 +136,52 @@ fn tells_of_indices<D: Dimension>(
         Told::StrideAxes => has_stride_axes(rt, alloc, dim, second, third),
         Told::Order => gives(dim._fastest_varying_stride_order(alloc), second),
         _ => false,
+    }
+}
+
+/// Whether a row tells of a shape and its strides.
+fn tells_of_layouts<D: Dimension>(
+    rt: &impl Abort,
+    told: Told,
+    alloc: Global,
+    dim: &D,
+    row: &Lists<'_>,
+) -> bool {
+    let (second, third) = (row.second.as_slice(), row.third.as_slice());
+    match told {
+        Told::Size => has_size(dim, second),
+        Told::Strides => has_strides(alloc, dim, second, third),
+        Told::OwnStrides => is_accepted_along_its_own(alloc, dim),
+        Told::Equivalent(answer) => is_equivalent(rt, alloc, dim, second, third) == answer,
+        Told::Contiguous(answer) => is_filled(rt, alloc, dim, second) == Some(answer),
+        Told::Offset => reaches(rt, alloc, dim, second, &row.third, row.fourth.as_slice()),
+        _ => tells_of_indices(rt, told, alloc, dim, row),
+    }
+}
+
+/// Whether a row tells of other types, of an axis more or less, and of the last length.
+fn tells_of_axes<D: Dimension>(
+    rt: &impl Abort,
+    told: Told,
+    alloc: Global,
+    dim: &D,
+    row: &Lists<'_>,
+) -> bool {
+    let (second, third) = (row.second.as_slice(), row.third.as_slice());
+    match told {
+        Told::Made(answer) => list_becomes::<D>(rt, alloc, second, answer),
+        Told::Incompatible => is_incompatible(rt, alloc, dim, second),
+        Told::Inserted => widens(alloc, dim, row.second.at(0), third),
+        Told::Removed => tries_to_narrow(alloc, dim, row.second.at(0), third),
+        Told::Last => [dim.last_elem()].as_slice() == second,
+        Told::LastWritten => {
+            writes_last(
+                dim_of::<D>(rt, alloc, row.first.as_slice()),
+                row.second.at(0),
+                third,
+            )
+        },
+        _ => tells_of_layouts(rt, told, alloc, dim, row),
     }
 }
 
@@ -138,33 +193,15 @@ fn tells<D: Dimension + IntoDimension<Dim = D>>(
     dim: &D,
     row: &Lists<'_>,
 ) -> bool {
-    let (first, second, third) = (
-        row.first.as_slice(),
-        row.second.as_slice(),
-        row.third.as_slice(),
-    );
     match told {
-        Told::Values => keeps(rt, alloc, dim, first),
-        Told::Zeros => gives(D::zeros(alloc, dim.ndim()), second),
-        Told::Default => {
-            D::NDIM.unwrap_or(1) == second.len() && gives(D::default_in(alloc), second)
-        },
-        Told::Made(answer) => list_becomes::<D>(rt, alloc, second, answer),
-        Told::Incompatible => is_incompatible(rt, alloc, dim, second),
-        Told::Size => has_size(dim, second),
-        Told::Strides => has_strides(alloc, dim, second, third),
-        Told::Equivalent(answer) => is_equivalent(rt, alloc, dim, second, third) == answer,
-        Told::Inserted => widens::<D>(rt, alloc, dim, row.second.at(0), third),
-        Told::Removed => tries_to_narrow::<D>(rt, alloc, dim, row.second.at(0), third),
-        Told::Last => [dim.last_elem()].as_slice() == second,
-        Told::LastWritten => {
-            writes_last(dim_of::<D>(rt, alloc, first), row.second.at(0), third)
-        },
+        Told::Values => keeps(rt, alloc, dim, row.first.as_slice()),
+        Told::Zeros => gives(D::zeros(alloc, dim.ndim()), row.second.as_slice()),
+        Told::Default => has_default::<D>(alloc, row.second.as_slice()),
         Told::Written => rewrites::<D>(rt, alloc, row),
         Told::Memory(call) => serves(alloc, call, dim, row.second.at(0)),
         Told::Built => dimension_builds(rt, alloc, dim, row),
         Told::Asked(question) => is_answered(rt, alloc, question, dim, row),
-        _ => tells_of_indices(rt, told, alloc, dim, row),
+        _ => tells_of_axes(rt, told, alloc, dim, row),
     }
 }
 
@@ -176,16 +213,37 @@ fn may_want_memory<D: Lengths>(told: Told, row: &Lists<'_>) -> bool {
     }
 }
 
-/// Whether a row tells what the calls answer at a type.
-fn holds<D: Dimension + IntoDimension<Dim = D>>(
+/// Whether a row tells what the calls answer at a type whose values are copied.
+fn holds<D: Dimension + IntoDimension<Dim = D> + Copy>(
     rt: &impl Abort,
     told: Told,
     alloc: Global,
     row: &Lists<'_>,
 ) -> bool {
-    match made::<D>(alloc, row.first.as_slice()) {
-        Some(dim) => tells::<D>(rt, told, alloc, &dim, row),
-        None => may_want_memory::<D>(told, row),
+    match told {
+        Told::Walked(walk) => is_walked::<D>(rt, alloc, walk, row),
+        _ => match made::<D>(alloc, row.first.as_slice()) {
+            Some(dim) => tells::<D>(rt, told, alloc, &dim, row),
+            None => false,
+        },
+    }
+}
+
+/// Whether a row tells what the calls answer at a type that can have an axis to remove.
+fn tells_with_axes<D: RemoveAxis + IntoDimension<Dim = D>>(
+    rt: &impl Abort,
+    told: Told,
+    alloc: Global,
+    dim: &D,
+    row: &Lists<'_>,
+) -> bool {
+    match told {
+        Told::Removed => {
+            narrows(alloc, dim, row.second.at(0), row.third.as_slice())
+                && tells_of_axes(rt, told, alloc, dim, row)
+        },
+        Told::Memory(call) => asks(alloc, call, dim, row.second.at(0)),
+        _ => tells(rt, told, alloc, dim, row),
     }
 }
 
@@ -197,15 +255,21 @@ fn holds_with_axes<D: RemoveAxis + IntoDimension<Dim = D>>(
     row: &Lists<'_>,
 ) -> bool {
     match made::<D>(alloc, row.first.as_slice()) {
-        Some(dim) => match told {
-            Told::Removed => {
-                narrows::<D>(rt, alloc, &dim, row.second.at(0), row.third.as_slice())
-                    && tells::<D>(rt, told, alloc, &dim, row)
-            },
-            Told::Memory(call) => asks(alloc, call, &dim, row.second.at(0)),
-            _ => tells::<D>(rt, told, alloc, &dim, row),
-        },
+        Some(dim) => tells_with_axes::<D>(rt, told, alloc, &dim, row),
         None => may_want_memory::<D>(told, row),
+    }
+}
+
+/// The same at such a type whose values are copied.
+fn holds_of_copies<D: RemoveAxis + IntoDimension<Dim = D> + Copy>(
+    rt: &impl Abort,
+    told: Told,
+    alloc: Global,
+    row: &Lists<'_>,
+) -> bool {
+    match told {
+        Told::Walked(walk) => is_walked::<D>(rt, alloc, walk, row),
+        _ => holds_with_axes::<D>(rt, told, alloc, row),
     }
 }
 
@@ -219,17 +283,23 @@ pub(crate) fn holds_at(
 ) -> bool {
     match ndim {
         Some(0) => holds::<Ix0>(rt, told, alloc, row),
-        Some(1) => holds_with_axes::<Ix1>(rt, told, alloc, row),
-        Some(2) => holds_with_axes::<Ix2>(rt, told, alloc, row),
-        Some(3) => holds_with_axes::<Ix3>(rt, told, alloc, row),
-        Some(4) => holds_with_axes::<Ix4>(rt, told, alloc, row),
-        Some(5) => holds_with_axes::<Ix5>(rt, told, alloc, row),
-        Some(6) => holds_with_axes::<Ix6>(rt, told, alloc, row),
+        Some(1) => holds_of_copies::<Ix1>(rt, told, alloc, row),
+        Some(2) => holds_of_copies::<Ix2>(rt, told, alloc, row),
+        Some(3) => holds_of_copies::<Ix3>(rt, told, alloc, row),
+        Some(4) => holds_of_copies::<Ix4>(rt, told, alloc, row),
+        Some(5) => holds_of_copies::<Ix5>(rt, told, alloc, row),
+        Some(6) => holds_of_copies::<Ix6>(rt, told, alloc, row),
         _ => holds_with_axes::<IxDyn>(rt, told, alloc, row),
     }
 }
 
-fn row_holds_at_its_type(rt: &impl Abort, told: Told, alloc: Global, line: &str) -> bool {
+/// A row, at the type of as many axes as its first list has.
+pub(crate) fn row_holds_at_its_type(
+    rt: &impl Abort,
+    told: Told,
+    alloc: Global,
+    line: &str,
+) -> bool {
     match Lists::read(line) {
         Some(row) => holds_at(rt, told, alloc, Some(row.first.as_slice().len()), &row),
         None => false,

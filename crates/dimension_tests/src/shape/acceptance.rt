@@ -10,7 +10,7 @@ use CanIndexCheckMode::{OwnedMutable, ReadOnly};
 use ErrorKind::{
     IncompatibleLayout, IncompatibleShape, OutOfBounds, Overflow, RangeLimited, Unsupported,
 };
-use nd_dim::{Dimension, ErrorKind, ShapeError};
+use nd_dim::{Dimension, ErrorKind, Lengths, ShapeError};
 use nd_shape::{
     CanIndexCheckMode, Strides, can_index_slice, can_index_slice_not_custom,
     can_index_slice_with_strides, strides_non_negative,
@@ -39,7 +39,7 @@ fn is_fault(answer: Result<(), ShapeError>, fault: &str) -> bool {
 
 /// Whether a shape by the strides of an order, over data of `len` elements of one byte, has this
 /// fault in either mode.
-fn has_order_fault<D: Dimension>(len: usize, dim: &D, order: &Strides<D>, fault: &str) -> bool {
+fn has_order_fault<D: Lengths>(len: usize, dim: &D, order: &Strides<D>, fault: &str) -> bool {
     !order.is_custom()
         && is_fault(
             can_index_slice_with_strides(1, len, dim, order, OwnedMutable),
@@ -52,14 +52,14 @@ fn has_order_fault<D: Dimension>(len: usize, dim: &D, order: &Strides<D>, fault:
 }
 
 /// Whether a shape has this fault by its own strides, in either order and mode.
-pub(crate) fn has_order_faults<D: Dimension>(len: usize, dim: &D, fault: &str) -> bool {
+pub(crate) fn has_order_faults<D: Lengths>(len: usize, dim: &D, fault: &str) -> bool {
     is_fault(can_index_slice_not_custom(len, dim), fault)
         && has_order_fault(len, dim, &Strides::C, fault)
         && has_order_fault(len, dim, &Strides::F, fault)
 }
 
 /// Whether a shape with given strides has this fault.
-pub(crate) fn has_fault<D: Dimension>(
+pub(crate) fn has_fault<D: Lengths>(
     len: usize,
     dim: &D,
     strides: D,
@@ -93,7 +93,7 @@ const READ: &str = "\
 3,2 2,3 - 1,7 => OutOfBounds";
 
 /// Whether strides have this fault, as they lead back, or none.
-pub(crate) fn has_sign_fault<D: Dimension>(strides: &D, fault: &str) -> bool {
+pub(crate) fn has_sign_fault<D: Lengths>(strides: &D, fault: &str) -> bool {
     is_fault(strides_non_negative(strides), fault)
 }
 
@@ -107,21 +107,17 @@ const SIGNS: &str = "\
 
 #[test]
 fn r3_rows(rt: HostRuntime) {
-    let tables = [
-        (Question::Orders, ORDERS_OF_TWO),
-        (Question::Orders, ORDERS_OF_FIVE),
-        (Question::Owned, OWNED),
-        (Question::Read, READ),
-        (Question::Signs, SIGNS),
-    ];
-    for (question, rows) in tables {
-        table(&rt, rt.alloc(), Told::Asked(question), rows);
-    }
+    let alloc = rt.alloc();
+    table(&rt, alloc, Told::Asked(Question::Orders), ORDERS_OF_TWO);
+    table(&rt, alloc, Told::Asked(Question::Orders), ORDERS_OF_FIVE);
+    table(&rt, alloc, Told::Asked(Question::Owned), OWNED);
+    table(&rt, alloc, Told::Asked(Question::Read), READ);
+    table(&rt, alloc, Told::Asked(Question::Signs), SIGNS);
 }
 
 /// Whether a shape by its own strides is accepted over the same data as along these strides, where
 /// they are given: over data of up to 28 elements, owned.
-fn is_accepted_along<D: Dimension>(dim: &D, strides: Result<D, AllocError>) -> bool {
+fn is_accepted_along<D: Lengths>(dim: &D, strides: Result<D, AllocError>) -> bool {
     let Ok(strides) = strides else {
         return false;
     };
@@ -153,7 +149,7 @@ fn are_accepted(rt: &impl Abort, alloc: Global, ndim: Option<usize>, lens: &[usi
         fourth: list,
         answer: "",
     };
-    holds_at(rt, Told::Asked(Question::OwnStrides), alloc, ndim, &row)
+    holds_at(rt, Told::OwnStrides, alloc, ndim, &row)
 }
 
 /// The same of no axes, the first one, the first two and all three.

@@ -5,7 +5,7 @@ ghost use Rattle.std.specs.Prelude.{◌≡◌, IfSome, length, sum};
 
 use crate::dim::told::{Told, table};
 use crate::shape::questions::Question;
-use nd_dim::Dimension;
+use nd_dim::Lengths;
 use nd_shape::{Axes, AxisDescription, axes_of};
 
 /// Whether this is the next axis.
@@ -25,7 +25,7 @@ fn are_in_turn(mut axes: Axes<'_>) -> bool {
 }
 
 /// The same of the axes of a layout.
-pub(crate) fn is_in_turn<D: Dimension>(dim: &D, strides: &D) -> bool {
+pub(crate) fn is_in_turn<D: Lengths>(dim: &D, strides: &D) -> bool {
     dim.ndim() == strides.ndim() && are_in_turn(axes_of(dim, strides))
 }
 
@@ -44,12 +44,12 @@ fn have_lengths(mut axes: Axes<'_>) -> bool {
 }
 
 /// The same of the axes of a layout.
-pub(crate) fn has_lengths<D: Dimension>(dim: &D, strides: &D) -> bool {
+pub(crate) fn has_lengths<D: Lengths>(dim: &D, strides: &D) -> bool {
     dim.ndim() == strides.ndim() && have_lengths(axes_of(dim, strides))
 }
 
 /// The lengths of all axes together, by one walk along them, where they fit.
-fn sum_of_lens<D: Dimension>(dim: &D, strides: &D) -> Option<usize>
+fn sum_of_lens<D: Lengths>(dim: &D, strides: &D) -> Option<usize>
     requires same_count { length (D.list dim.now) ≡ length (D.list strides.now) }
     ensures { IfSome result (λ total. total ≡ sum (D.list dim.now)) }
 {
@@ -61,19 +61,20 @@ fn sum_of_lens<D: Dimension>(dim: &D, strides: &D) -> Option<usize>
 }
 
 /// Whether this is the sum.
-pub(crate) fn has_sum<D: Dimension>(dim: &D, strides: &D, total: usize) -> bool {
+pub(crate) fn has_sum<D: Lengths>(dim: &D, strides: &D, total: usize) -> bool {
     dim.ndim() == strides.ndim() && sum_of_lens(dim, strides) == Some(total)
 }
 
 #[test]
 fn r3_rows(rt: HostRuntime) {
-    let rows = [
-        (Question::InTurn, "2,3,4 12,-4,1"),
-        (Question::Lengths, "2,3,4 2,3,4"),
-        (Question::Sum, "2,3,4 12,4,1 9"),
-        (Question::Sum, "2,3,1,4,2 2,3,1,4,2 12"),
-    ];
-    for (question, row) in rows {
-        table(&rt, rt.alloc(), Told::Asked(question), row);
-    }
+    let alloc = rt.alloc();
+    table(&rt, alloc, Told::Asked(Question::InTurn), "2,3,4 12,-4,1");
+    table(&rt, alloc, Told::Asked(Question::Lengths), "2,3,4 2,3,4");
+    table(&rt, alloc, Told::Asked(Question::Sum), "2,3,4 12,4,1 9");
+    table(
+        &rt,
+        alloc,
+        Told::Asked(Question::Sum),
+        "2,3,1,4,2 2,3,1,4,2 12",
+    );
 }

@@ -5,13 +5,13 @@ use crate::dim::lists::Lists;
 use crate::dim::told::{Told, row_holds_at_any_count, table};
 use crate::shape::acceptance::name_of;
 use crate::shape::questions::Question;
-use nd_dim::{Dimension, Ix2, Ix3, IxDyn, LayoutError, new_ix2, new_ix3};
+use nd_dim::{Ix2, Ix3, IxDyn, LayoutError, Lengths, new_ix2, new_ix3};
 use nd_shape::co_broadcast;
 use nd_testing::grants;
 use std::alloc::Global;
 
 /// The shape that two shapes have in common; `None` where the type has none of its count.
-fn common<D1: Dimension, D2: Dimension, Output: Dimension>(
+fn common<D1: Lengths, D2: Lengths, Output: Lengths>(
     alloc: Global,
     shape1: &D1,
     shape2: &D2,
@@ -33,7 +33,7 @@ fn is_fault(error: LayoutError, fault: &str) -> bool {
 }
 
 /// Whether two shapes have these lengths in common, or this fault.
-fn is_common<D1: Dimension, D2: Dimension, Output: Dimension>(
+fn is_common<D1: Lengths, D2: Lengths, Output: Lengths>(
     alloc: Global,
     shape1: &D1,
     shape2: &D2,
@@ -48,14 +48,14 @@ fn is_common<D1: Dimension, D2: Dimension, Output: Dimension>(
 }
 
 /// Whether a row tells what two shapes have in common, in either order.
-pub(crate) fn shares<D: Dimension>(alloc: Global, shape: &D, other: &D, row: &Lists<'_>) -> bool {
+pub(crate) fn shares<D: Lengths>(alloc: Global, shape: &D, other: &D, row: &Lists<'_>) -> bool {
     let lens = row.third.as_slice();
     is_common::<D, D, D>(alloc, shape, other, lens, row.answer)
         && is_common::<D, D, D>(alloc, other, shape, lens, row.answer)
 }
 
 /// Whether the shape that two have in common asks for memory.
-pub(crate) fn asks_for_common<D: Dimension>(alloc: Global, shape: &D, other: &D) -> bool {
+pub(crate) fn asks_for_common<D: Lengths>(alloc: Global, shape: &D, other: &D) -> bool {
     let first = common::<D, D, D>(alloc, shape, other);
     let second = common::<D, D, D>(alloc, other, shape);
     grants(alloc) && (matches!(first, Some(Ok(_))) || matches!(second, Some(Ok(_))))
@@ -86,7 +86,7 @@ fn r5_rows(rt: HostRuntime) {
 }
 
 /// Whether shapes of two types have these lengths in common, in the type of the other one and in a third.
-fn types_share<D1: Dimension, D2: Dimension, D3: Dimension>(
+fn types_share<D1: Lengths, D2: Lengths, D3: Lengths>(
     alloc: Global,
     shape: &D1,
     other: &D2,

@@ -1,9 +1,14 @@
 //! Walks over all indices of a shape, in either order.
+//!
+//! A row is a shape and how many indices it has, and then, behind an arrow, these; or what a walk makes of them.
 ghost use Rattle.std.specs.Iterator.{IsFinite};
+ghost use Rattle.std.specs.Prelude.{◌<◌, ◌^◌, IfOk};
+ghost use Rattle.nd_base.specs.Dim.{lengths};
+ghost use Rattle.nd_base.specs.Size.{size};
 
-use crate::dim::lists::{List, dim_of};
-use crate::dim::told::demand;
-use nd_dim::{Dimension, IntoDimension, Ix0, Ix1, Ix2, Ix3, Ix4, IxDyn, Lengths, Order, new_ixdyn};
+use crate::dim::lists::{List, Lists, dim_of};
+use crate::dim::told::{Told, demand, row_holds_at_its_type, table_at_its_type};
+use nd_dim::{Dimension, IntoDimension, IxDyn, Lengths, Order, new_ixdyn};
 use nd_shape::{IndexCursor, IndexCursorF, IndicesIter, IndicesIterF, all_indices, indices_iter_f};
 use nd_testing::{Row, asked, rows};
 use std::alloc::{AllocError, Global};
@@ -105,20 +110,24 @@ impl LendingWalk for IndexCursorF {
     }
 }
 
+/// A shape, where its size fits.
+fn sized(dim: IxDyn) -> Result<IxDyn, AllocError>
+    ensures { IfOk result (λ dim. size (lengths dim) < 2 ^ 64) }
+{
+    match dim.size_checked() {
+        Some(_) => Ok(dim),
+        None => Err(AllocError),
+    }
+}
+
 /// The cursor over a shape by rows. (It is made here alone, since what is ensured of it is dear.)
 fn row_cursor(alloc: Global, dim: IxDyn) -> Result<IndexCursor, AllocError> {
-    if dim.size_checked().is_none() {
-        return Err(AllocError);
-    }
-    IndexCursor::new(alloc, dim)
+    IndexCursor::new(alloc, sized(dim)?)
 }
 
 /// The cursor over a shape by columns.
 fn column_cursor(alloc: Global, dim: IxDyn) -> Result<IndexCursorF, AllocError> {
-    if dim.size_checked().is_none() {
-        return Err(AllocError);
-    }
-    IndexCursorF::new(alloc, dim)
+    IndexCursorF::new(alloc, sized(dim)?)
 }
 
 /// Whether the next index that a cursor lends is that of a row, and so many are left.
@@ -155,22 +164,26 @@ fn lends_all<C: LendingWalk + Drop>(
 
 /// What a row tells of the walks over a shape.
 #[derive(Clone, Copy)]
-enum Walk {
+pub(crate) enum Walk {
     /// How many indices it has, and these in an order.
     All(Order),
     /// How many indices it has, and the first one.
     Starts,
-    /// That a loop over a copy of a walk meets what is left.
-    Folds,
+    /// That a loop over a copy of a walk meets what is left, once so many indices are gone.
+    Folds(usize),
     /// A factor, how many indices are gone, and what a fold makes of the others.
     Folded,
 }
 
-/// Whether the walk over a shape has so many indices, and a row tells the first one.
-fn starts<D: Dimension + Copy>(alloc: Global, dim: D, row: &mut Row<'_>, count: usize) -> bool {
-    let Some(mut walk) = by_rows(alloc, dim) else {
-        return false;
-    };
+/// Whether a walk has so many indices, and these are the first ones.
+fn starts<T: IntoDimension, W: ExactSizeIterator<Item = T> + Drop>(
+    alloc: Global,
+    mut walk: W,
+    row: &mut Row<'_>,
+    count: usize,
+) -> bool
+    requires can { (state : W) → W.can_next state }
+{
     walk.len() == count
         && match walk.next() {
             Some(item) => is_told(alloc, row, item),
@@ -178,91 +191,100 @@ fn starts<D: Dimension + Copy>(alloc: Global, dim: D, row: &mut Row<'_>, count: 
         }
 }
 
-/// Whether a row tells this at a type.
-fn holds<D: Dimension + Copy>(
-    rt: &impl Abort,
+/// Whether a row tells this of a walk by rows.
+fn tells_of<T: IntoDimension, W: ExactSizeIterator<Item = T> + Clone + Drop>(
     alloc: Global,
-    walk: Walk,
-    lens: &[usize],
-    row: &mut Row<'_>,
-) -> bool {
-    let dim: D = dim_of(rt, alloc, lens);
-    let count = row.length().unwrap_or(0);
-    match walk {
-        Walk::All(Order::RowMajor) => match by_rows(alloc, dim) {
-            Some(walk) => yields(alloc, walk, row, count),
-            None => false,
-        },
-        Walk::All(Order::ColumnMajor) => match by_columns(alloc, dim) {
-            Some(walk) => yields(alloc, walk, row, count),
-            None => false,
-        },
-        Walk::Starts => starts(alloc, dim, row, count),
-        Walk::Folds => folds(alloc, dim, 0) && folds(alloc, dim, 1) && folds(alloc, dim, 2),
-        Walk::Folded => is_folded(alloc, dim, lens, count, row),
+    told: Walk,
+    walk: W,
+    row: &Lists<'_>,
+) -> bool
+    requires can { (state : W) → W.can_next state }
+    requires ends { (state : W) → IsFinite (W.remaining state) }
+{
+    match told {
+        Walk::All(_) => yields(alloc, walk, &mut Row::new(row.answer), row.second.at(0)),
+        Walk::Starts => starts(alloc, walk, &mut Row::new(row.answer), row.second.at(0)),
+        Walk::Folds(gone) => folds(alloc, walk, gone),
+        Walk::Folded => is_folded(alloc, walk, row),
     }
 }
 
-/// Whether a row tells this at the type of as many axes as its shape has.
-fn holds_at_its_type(rt: &impl Abort, alloc: Global, walk: Walk, line: &str) -> bool {
-    let mut row = Row::new(line);
-    let Ok(lens) = row.lengths(alloc) else {
-        return false;
-    };
-    let lens = lens.as_slice();
-    match lens.len() {
-        0 => holds::<Ix0>(rt, alloc, walk, lens, &mut row),
-        1 => holds::<Ix1>(rt, alloc, walk, lens, &mut row),
-        2 => holds::<Ix2>(rt, alloc, walk, lens, &mut row),
-        3 => holds::<Ix3>(rt, alloc, walk, lens, &mut row),
-        _ => holds::<Ix4>(rt, alloc, walk, lens, &mut row),
+/// Whether a row tells this of the walk over a shape by rows.
+fn is_walked_by_rows<D: Dimension + Copy>(
+    alloc: Global,
+    told: Walk,
+    dim: D,
+    row: &Lists<'_>,
+) -> bool {
+    match by_rows(alloc, dim) {
+        Some(walk) => tells_of(alloc, told, walk, row),
+        None => false,
+    }
+}
+
+/// Whether a row tells the indices of a shape by columns.
+fn is_walked_by_columns<D: Dimension + Copy>(alloc: Global, dim: D, row: &Lists<'_>) -> bool {
+    match by_columns(alloc, dim) {
+        Some(walk) => yields(alloc, walk, &mut Row::new(row.answer), row.second.at(0)),
+        None => false,
+    }
+}
+
+/// Whether a row tells this at a type.
+pub(crate) fn is_walked<D: Dimension + Copy>(
+    rt: &impl Abort,
+    alloc: Global,
+    told: Walk,
+    row: &Lists<'_>,
+) -> bool {
+    let dim: D = dim_of(rt, alloc, row.first.as_slice());
+    match told {
+        Walk::All(Order::ColumnMajor) => is_walked_by_columns(alloc, dim, row),
+        _ => is_walked_by_rows(alloc, told, dim, row),
     }
 }
 
 /// The same of a cursor.
 fn lends(alloc: Global, order: Order, line: &str) -> bool {
-    let mut row = Row::new(line);
-    let (Ok(lens), Ok(count)) = (row.lengths(alloc), row.length()) else {
+    let Some(lists) = Lists::read(line) else {
         return false;
     };
-    let Ok(dim) = new_ixdyn(alloc, lens.as_slice()) else {
+    let Ok(dim) = new_ixdyn(alloc, lists.first.as_slice()) else {
         return false;
     };
+    let (mut row, count) = (Row::new(lists.answer), lists.second.at(0));
     match order {
         Order::RowMajor => lends_all(alloc, row_cursor(alloc, dim), &mut row, count),
         Order::ColumnMajor => lends_all(alloc, column_cursor(alloc, dim), &mut row, count),
     }
 }
 
+/// The rows of a table, at their types and of cursors.
 fn table(rt: &impl Abort, alloc: Global, order: Order, table: &str) {
+    table_at_its_type(rt, alloc, Told::Walked(Walk::All(order)), table);
     for line in rows(table) {
-        demand(
-            rt,
-            holds_at_its_type(rt, alloc, Walk::All(order), line),
-            line,
-        );
         demand(rt, lends(alloc, order, line), line);
     }
 }
 
 const TWO_AXES_BY_ROWS: &str = "\
-2,2 4 0,0 0,1 1,0 1,1
-3,4 12 0,0 0,1 0,2 0,3 1,0 1,1 1,2 1,3 2,0 2,1 2,2 2,3
+2,2 4 => 0,0 0,1 1,0 1,1
+3,4 12 => 0,0 0,1 0,2 0,3 1,0 1,1 1,2 1,3 2,0 2,1 2,2 2,3
 0,18446744073709551615 0";
 
 const TWO_AXES_BY_COLUMNS: &str = "\
-2,2 4 0,0 1,0 0,1 1,1
-3,4 12 0,0 1,0 2,0 0,1 1,1 2,1 0,2 1,2 2,2 0,3 1,3 2,3
+2,2 4 => 0,0 1,0 0,1 1,1
+3,4 12 => 0,0 1,0 2,0 0,1 1,1 2,1 0,2 1,2 2,2 0,3 1,3 2,3
 0,18446744073709551615 0";
 
 const THREE_AXES_BY_ROWS: &str = "\
-2,1,2 4 0,0,0 0,0,1 1,0,0 1,0,1
+2,1,2 4 => 0,0,0 0,0,1 1,0,0 1,0,1
 2,0,3 0
 1099511627776,1099511627776,0 0
 0,1099511627776,1099511627776 0";
 
 const THREE_AXES_BY_COLUMNS: &str = "\
-2,1,2 4 0,0,0 1,0,0 0,0,1 1,0,1
+2,1,2 4 => 0,0,0 1,0,0 0,0,1 1,0,1
 2,0,3 0
 1099511627776,1099511627776,0 0
 0,1099511627776,1099511627776 0";
@@ -270,7 +292,7 @@ const THREE_AXES_BY_COLUMNS: &str = "\
 #[test]
 fn r7_rows(rt: HostRuntime) {
     let alloc = rt.alloc();
-    table(&rt, alloc, Order::RowMajor, "- 1 -");
+    table(&rt, alloc, Order::RowMajor, "- 1 => -");
     table(&rt, alloc, Order::RowMajor, TWO_AXES_BY_ROWS);
     table(&rt, alloc, Order::RowMajor, THREE_AXES_BY_ROWS);
 }
@@ -278,15 +300,16 @@ fn r7_rows(rt: HostRuntime) {
 #[test]
 fn r7_rows_by_columns(rt: HostRuntime) {
     let alloc = rt.alloc();
-    table(&rt, alloc, Order::ColumnMajor, "- 1 -");
+    table(&rt, alloc, Order::ColumnMajor, "- 1 => -");
     table(&rt, alloc, Order::ColumnMajor, TWO_AXES_BY_COLUMNS);
     table(&rt, alloc, Order::ColumnMajor, THREE_AXES_BY_COLUMNS);
 }
 
 #[test]
 fn r7_rows_of_the_longest_shape(rt: HostRuntime) {
-    let row = "18446744073709551615 18446744073709551615 0";
-    assert!(rt; holds_at_its_type(&rt, rt.alloc(), Walk::Starts, row));
+    let row = "18446744073709551615 18446744073709551615 => 0";
+    let told = Told::Walked(Walk::Starts);
+    assert!(rt; row_holds_at_its_type(&rt, told, rt.alloc(), row));
 }
 
 // ---- folds
@@ -315,20 +338,31 @@ fn met<T: IntoDimension, W: Iterator<Item = T> + Drop>(alloc: Global, walk: W) -
     (count, told)
 }
 
-/// The walk over a shape by rows, once so many indices are gone.
-fn left_by_rows<D: Dimension + Copy>(alloc: Global, dim: D, gone: usize) -> Option<IndicesIter<D>> {
-    let mut walk = by_rows(alloc, dim)?;
+/// A walk, once so many of its items are gone.
+fn left_of<T: IntoDimension, W: Iterator<Item = T> + Drop>(
+    alloc: Global,
+    mut walk: W,
+    gone: usize,
+) -> W
+    requires can { (state : W) → W.can_next state }
+    requires ends { (state : W) → IsFinite (W.remaining state) }
+{
     for _ in 0..gone {
         is_end(alloc, walk.next());
     }
-    Some(walk)
+    walk
 }
 
 /// Whether a loop over a copy of a walk meets the items that are still to come, as many as it tells.
-fn folds<D: Dimension + Copy>(alloc: Global, dim: D, gone: usize) -> bool {
-    let Some(walk) = left_by_rows(alloc, dim, gone) else {
-        return false;
-    };
+fn folds<T: IntoDimension, W: ExactSizeIterator<Item = T> + Clone + Drop>(
+    alloc: Global,
+    walk: W,
+    gone: usize,
+) -> bool
+    requires can { (state : W) → W.can_next state }
+    requires ends { (state : W) → IsFinite (W.remaining state) }
+{
+    let walk = left_of(alloc, walk, gone);
     let (len, copy): (_, Result<_, _>) = (walk.len(), walk.clone());
     match copy {
         Ok(copy) => {
@@ -349,58 +383,55 @@ const FOLDED: &str = "\
 
 #[test]
 fn r7_rows_of_folds(rt: HostRuntime) {
-    for line in rows(FOLDED) {
-        demand(
-            &rt,
-            holds_at_its_type(&rt, rt.alloc(), Walk::Folds, line),
-            line,
-        );
+    for gone in 0..3 {
+        table_at_its_type(&rt, rt.alloc(), Told::Walked(Walk::Folds(gone)), FOLDED);
     }
+}
+
+/// The rank of entries in a shape.
+fn rank(lens: &[usize], entries: &[usize]) -> usize {
+    let mut rank = 0_usize;
+    for (len, entry) in lens.iter().zip(entries) {
+        rank = rank.wrapping_mul(*len).wrapping_add(*entry);
+    }
+    rank
 }
 
 /// The rank of an index in a shape.
 fn rank_of<T: IntoDimension>(alloc: Global, lens: List, item: T) -> usize {
-    let mut rank = 0_usize;
-    if let Ok(index) = item.into_dimension(alloc) {
-        for (len, entry) in lens.as_slice().iter().zip(index.slice()) {
-            rank = rank.wrapping_mul(*len).wrapping_add(*entry);
-        }
+    match item.into_dimension(alloc) {
+        Ok(index) => rank(lens.as_slice(), index.slice()),
+        Err(_) => 0,
     }
-    rank
 }
 
 /// What a fold over a walk makes of the ranks of its items in a shape.
 fn folded<T: IntoDimension, W: Iterator<Item = T> + Drop>(
     alloc: Global,
     walk: W,
-    lens: &[usize],
+    lens: List,
     factor: usize,
-) -> Option<usize>
+) -> usize
     requires can { (state : W) → W.can_next state }
     requires ends { IsFinite (W.remaining walk) }
 {
-    let lens = List::of(lens)?;
-    Some(walk.fold(1_usize, move |told, item| {
+    walk.fold(1_usize, move |told, item| {
         told.wrapping_mul(factor)
             .wrapping_add(rank_of(alloc, lens, item))
-    }))
+    })
 }
 
-/// Whether a fold over the indices that are left makes what a row tells.
-fn is_folded<D: Dimension + Copy>(
+/// Whether a fold over the items that are left makes what a row tells.
+fn is_folded<T: IntoDimension, W: Iterator<Item = T> + Drop>(
     alloc: Global,
-    dim: D,
-    lens: &[usize],
-    factor: usize,
-    row: &mut Row<'_>,
-) -> bool {
-    let Some(walk) = left_by_rows(alloc, dim, row.length().unwrap_or(0)) else {
-        return false;
-    };
-    match (folded(alloc, walk, lens, factor), row.length()) {
-        (Some(folded), Ok(wanted)) => folded == wanted,
-        _ => false,
-    }
+    walk: W,
+    row: &Lists<'_>,
+) -> bool
+    requires can { (state : W) → W.can_next state }
+    requires ends { (state : W) → IsFinite (W.remaining state) }
+{
+    let (factor, gone) = (row.second.at(0), row.third.at(0));
+    folded(alloc, left_of(alloc, walk, gone), row.first, factor) == row.fourth.at(0)
 }
 
 const RANKS_FOLDED: &str = "\
@@ -413,13 +444,7 @@ const RANKS_FOLDED: &str = "\
 
 #[test]
 fn r7_rows_of_folded_ranks(rt: HostRuntime) {
-    for line in rows(RANKS_FOLDED) {
-        demand(
-            &rt,
-            holds_at_its_type(&rt, rt.alloc(), Walk::Folded, line),
-            line,
-        );
-    }
+    table_at_its_type(&rt, rt.alloc(), Told::Walked(Walk::Folded), RANKS_FOLDED);
 }
 
 // ---- memory
@@ -430,8 +455,8 @@ fn is_made(alloc: Global, order: Order, lens: &[usize]) -> bool {
         return false;
     };
     match order {
-        Order::RowMajor => row_cursor(alloc, dim).is_ok(),
-        Order::ColumnMajor => column_cursor(alloc, dim).is_ok(),
+        Order::RowMajor => len_of(row_cursor(alloc, dim)).is_ok(),
+        Order::ColumnMajor => len_of(column_cursor(alloc, dim)).is_ok(),
     }
 }
 

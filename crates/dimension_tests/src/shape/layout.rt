@@ -3,14 +3,16 @@
 //! A row is a shape and strides; then, behind an arrow, in which order they lie so.
 use crate::dim::told::{Told, table};
 use crate::shape::questions::Question;
-use nd_dim::Dimension;
+use nd_dim::Lengths;
 use nd_shape::{CanIndexCheckMode, Layout, can_index_slice, is_layout_c, is_layout_f};
 use std::alloc::Global;
 use std::process::Abort;
 
 /// How the indices of a layout lie one behind another, or that it isn't valid.
-fn orders<D: Dimension>(dim: &D, strides: &D) -> &'static str {
-    if can_index_slice(0, usize::MAX, dim, strides, CanIndexCheckMode::ReadOnly).is_err() {
+fn orders<D: Lengths>(dim: &D, strides: &D) -> &'static str {
+    if dim.ndim() != strides.ndim()
+        || can_index_slice(0, usize::MAX, dim, strides, CanIndexCheckMode::ReadOnly).is_err()
+    {
         return "no layout";
     }
     match (is_layout_c(dim, strides), is_layout_f(dim, strides)) {
@@ -22,7 +24,7 @@ fn orders<D: Dimension>(dim: &D, strides: &D) -> &'static str {
 }
 
 /// Whether the indices of a layout lie so.
-pub(crate) fn lies<D: Dimension>(dim: &D, strides: &D, answer: &str) -> bool {
+pub(crate) fn lies<D: Lengths>(dim: &D, strides: &D, answer: &str) -> bool {
     orders(dim, strides) == answer
 }
 

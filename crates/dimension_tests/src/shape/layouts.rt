@@ -8,7 +8,7 @@ use crate::dim::lists::{Lists, made};
 use crate::dim::told::{Told, table};
 use crate::shape::questions::Question;
 use CanIndexCheckMode::{OwnedMutable, ReadOnly};
-use nd_dim::{Dimension, ErrorKind};
+use nd_dim::{ErrorKind, Lengths};
 use nd_shape::{
     CanIndexCheckMode, NdIndex, can_index_slice, dim_stride_overlap, max_abs_offset_check_overflow,
     offset_from_low_addr_ptr_to_logical_ptr, size_of_shape_checked,
@@ -32,7 +32,7 @@ type Answer = (
 );
 
 /// What is told of a layout, where data may be read through it.
-fn read<D: Dimension>(data: Data, dim: &D, strides: &D, index: &D) -> Result<Extent, ErrorKind> {
+fn read<D: Lengths>(data: Data, dim: &D, strides: &D, index: &D) -> Result<Extent, ErrorKind> {
     match can_index_slice(data.0, data.1, dim, strides, ReadOnly) {
         Ok(()) => {
             let shares = dim_stride_overlap(dim, strides);
@@ -48,7 +48,7 @@ fn read<D: Dimension>(data: Data, dim: &D, strides: &D, index: &D) -> Result<Ext
 }
 
 /// What is told of a layout over data.
-fn ask<D: Dimension>(data: Data, dim: &D, strides: &D, index: &D) -> Answer {
+fn ask<D: Lengths>(data: Data, dim: &D, strides: &D, index: &D) -> Answer {
     let (elem_size, len) = data;
     (
         or_fault(size_of_shape_checked(dim)),
@@ -66,7 +66,7 @@ fn is_told(rt: &impl Abort, alloc: Global, told: Answer, answer: &str) -> bool {
 
 /// Whether a row tells all this of a layout. A list of another count is no index of a type that fixes
 /// its count.
-pub(crate) fn is_laid_out<D: Dimension>(
+pub(crate) fn is_laid_out<D: Lengths>(
     rt: &impl Abort,
     alloc: Global,
     dim: &D,
@@ -251,7 +251,12 @@ const LIMITS: &str = "\
 
 #[test]
 fn r3_rows(rt: HostRuntime) {
-    for layouts in [R1, REACH, SMALL, APART, SHARED_AND_EMPTY, INDICES, LIMITS] {
-        table(&rt, rt.alloc(), Told::Asked(Question::Layout), layouts);
-    }
+    let (alloc, told) = (rt.alloc(), Told::Asked(Question::Layout));
+    table(&rt, alloc, told, R1);
+    table(&rt, alloc, told, REACH);
+    table(&rt, alloc, told, SMALL);
+    table(&rt, alloc, told, APART);
+    table(&rt, alloc, told, SHARED_AND_EMPTY);
+    table(&rt, alloc, told, INDICES);
+    table(&rt, alloc, told, LIMITS);
 }

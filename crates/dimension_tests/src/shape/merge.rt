@@ -6,12 +6,12 @@
 use crate::dim::lists::Lists;
 use crate::dim::told::{Told, table};
 use crate::shape::questions::Question;
-use nd_dim::{Axis, Dimension};
+use nd_dim::{Axis, Lengths};
 use nd_shape::{CanIndexCheckMode, can_index_slice, merge_axes, move_min_stride_axis_to_last};
 use std::alloc::Global;
 
 /// Merges an axis into another, if the layout is valid and they are two of its axes.
-fn merged<D: Dimension>(dim: &mut D, strides: &mut D, take: usize, into: usize) -> &'static str {
+fn merged<D: Lengths>(dim: &mut D, strides: &mut D, take: usize, into: usize) -> &'static str {
     let ndim = dim.ndim();
     if take >= ndim || into >= ndim || take == into {
         return "no two axes";
@@ -27,12 +27,7 @@ fn merged<D: Dimension>(dim: &mut D, strides: &mut D, take: usize, into: usize) 
 }
 
 /// Whether two axes of a layout are merged as a row tells, and the layout is this one afterwards.
-pub(crate) fn merges<D: Dimension>(
-    alloc: Global,
-    dim: &D,
-    mut strides: D,
-    row: &Lists<'_>,
-) -> bool {
+pub(crate) fn merges<D: Lengths>(alloc: Global, dim: &D, mut strides: D, row: &Lists<'_>) -> bool {
     let Ok(mut dim) = dim.duplicate(alloc) else {
         return false;
     };
@@ -67,7 +62,7 @@ const MERGED: &str = "\
 3,2 2,1 0,2 3,2,2,1 => no two axes";
 
 /// Whether a layout is this one once its least stride is moved to the end.
-pub(crate) fn moves<D: Dimension>(alloc: Global, dim: &D, mut strides: D, row: &Lists<'_>) -> bool {
+pub(crate) fn moves<D: Lengths>(alloc: Global, dim: &D, mut strides: D, row: &Lists<'_>) -> bool {
     let Ok(mut dim) = dim.duplicate(alloc) else {
         return false;
     };

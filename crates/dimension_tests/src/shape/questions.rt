@@ -1,15 +1,13 @@
 //! What is asked of a layout at a dimension type, by rows of tables.
 use crate::dim::lists::{Lists, made};
-use crate::shape::acceptance::{
-    has_fault, has_order_faults, has_sign_fault, is_accepted_along_its_own,
-};
+use crate::shape::acceptance::{has_fault, has_order_faults, has_sign_fault};
 use crate::shape::axes::{has_lengths, has_sum, is_in_turn};
 use crate::shape::broadcast::{asks_for_common, shares};
 use crate::shape::layout::lies;
 use crate::shape::layouts::is_laid_out;
 use crate::shape::merge::{merges, moves};
 use CanIndexCheckMode::{OwnedMutable, ReadOnly};
-use nd_dim::Dimension;
+use nd_dim::Lengths;
 use nd_shape::CanIndexCheckMode;
 use std::alloc::Global;
 use std::process::Abort;
@@ -27,8 +25,6 @@ pub(crate) enum Question {
     Read,
     /// The fault of the strides, as one leads back.
     Signs,
-    /// Whether the shape by its own strides is accepted as along these strides.
-    OwnStrides,
     /// The axes from the front and from the back in turn.
     InTurn,
     /// How many axes are left.
@@ -47,27 +43,31 @@ pub(crate) enum Question {
     CommonAsks,
 }
 
-/// Whether a row tells whether its layout is accepted.
-fn is_judged<D: Dimension>(
+/// Whether a row tells what is answered of its layout, with strides that are lent.
+fn is_told_along<D: Lengths>(
+    rt: &impl Abort,
     alloc: Global,
     question: Question,
     dim: &D,
-    strides: D,
+    strides: &D,
     row: &Lists<'_>,
 ) -> bool {
-    let len = row.fourth.at(1);
     match question {
-        Question::Orders => has_order_faults(len, dim, row.answer),
-        Question::Owned => has_fault(len, dim, strides, OwnedMutable, row.answer),
-        Question::Read => has_fault(len, dim, strides, ReadOnly, row.answer),
-        Question::Signs => has_sign_fault(&strides, row.answer),
-        Question::OwnStrides => is_accepted_along_its_own(alloc, dim),
+        Question::Layout => is_laid_out(rt, alloc, dim, strides, row),
+        Question::Orders => has_order_faults(row.fourth.at(1), dim, row.answer),
+        Question::Signs => has_sign_fault(strides, row.answer),
+        Question::InTurn => is_in_turn(dim, strides),
+        Question::Lengths => has_lengths(dim, strides),
+        Question::Sum => has_sum(dim, strides, row.third.at(0)),
+        Question::Lies => lies(dim, strides, row.answer),
+        Question::Common => shares(alloc, dim, strides, row),
+        Question::CommonAsks => asks_for_common(alloc, dim, strides),
         _ => false,
     }
 }
 
-/// Whether a row tells what is answered of its layout.
-fn is_told_along<D: Dimension>(
+/// The same, with strides that are given away.
+fn is_told_with<D: Lengths>(
     rt: &impl Abort,
     alloc: Global,
     question: Question,
@@ -76,22 +76,17 @@ fn is_told_along<D: Dimension>(
     row: &Lists<'_>,
 ) -> bool {
     match question {
-        Question::Layout => is_laid_out(rt, alloc, dim, &strides, row),
-        Question::InTurn => is_in_turn(dim, &strides),
-        Question::Lengths => has_lengths(dim, &strides),
-        Question::Sum => has_sum(dim, &strides, row.third.at(0)),
-        Question::Lies => lies(dim, &strides, row.answer),
+        Question::Owned => has_fault(row.fourth.at(1), dim, strides, OwnedMutable, row.answer),
+        Question::Read => has_fault(row.fourth.at(1), dim, strides, ReadOnly, row.answer),
         Question::Merged => merges(alloc, dim, strides, row),
         Question::Moved => moves(alloc, dim, strides, row),
-        Question::Common => shares(alloc, dim, &strides, row),
-        Question::CommonAsks => asks_for_common(alloc, dim, &strides),
-        _ => is_judged(alloc, question, dim, strides, row),
+        _ => is_told_along(rt, alloc, question, dim, &strides, row),
     }
 }
 
 /// Whether a row tells what is answered. Strides of another count are none of a type that fixes its
 /// count.
-pub(crate) fn is_answered<D: Dimension>(
+pub(crate) fn is_answered<D: Lengths>(
     rt: &impl Abort,
     alloc: Global,
     question: Question,
@@ -99,7 +94,7 @@ pub(crate) fn is_answered<D: Dimension>(
     row: &Lists<'_>,
 ) -> bool {
     match made::<D>(alloc, row.second.as_slice()) {
-        Some(strides) => is_told_along(rt, alloc, question, dim, strides, row),
+        Some(strides) => is_told_with(rt, alloc, question, dim, strides, row),
         None => D::NDIM.is_some(),
     }
 }

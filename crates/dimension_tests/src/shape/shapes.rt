@@ -7,7 +7,7 @@ ghost use Rattle.nd_shape.specs.ShapeBuilder.{strides_list};
 
 use crate::dim::lists::{Lists, dim_of};
 use crate::dim::told::{Told, table};
-use nd_dim::{Dimension, IntoDimension, Ix2, IxDyn, new_ix2};
+use nd_dim::{Dimension, IntoDimension, Ix2, IxDyn, Lengths, new_ix2};
 use nd_shape::{
     CanIndexCheckMode, Shape, ShapeBuilder, StrideShape, Strides, can_index_slice_with_strides,
 };
@@ -42,7 +42,7 @@ fn has<D: Dimension>(
 }
 
 /// Whether these strides are given, and no others.
-fn are_given<D: Dimension>(strides: &Strides<D>, given: &D) -> bool {
+fn are_given<D: Lengths>(strides: &Strides<D>, given: &D) -> bool {
     match strides {
         Strides::Custom(custom) => strides.is_custom() && custom.equal(given),
         Strides::C | Strides::F => false,
@@ -50,7 +50,7 @@ fn are_given<D: Dimension>(strides: &Strides<D>, given: &D) -> bool {
 }
 
 /// Whether a shape has these lengths, and these strides, which are given.
-fn is_given<D: Dimension>(shape: Result<StrideShape<D>, AllocError>, dim: &D, strides: &D) -> bool {
+fn is_given<D: Lengths>(shape: Result<StrideShape<D>, AllocError>, dim: &D, strides: &D) -> bool {
     match shape {
         Ok(shape) => shape.raw_dim().equal(dim) && are_given(&shape.strides, strides),
         Err(_) => false,
@@ -67,7 +67,7 @@ fn are_of_order<D>(strides: &Strides<D>, is_c: bool) -> bool {
 }
 
 /// Whether a shape has these lengths, and the strides of this order.
-fn follows<D: Dimension>(shape: Result<StrideShape<D>, AllocError>, dim: &D, is_c: bool) -> bool {
+fn follows<D: Lengths>(shape: Result<StrideShape<D>, AllocError>, dim: &D, is_c: bool) -> bool {
     match shape {
         Ok(shape) => shape.raw_dim().equal(dim) && are_of_order(&shape.strides, is_c),
         Err(_) => false,
@@ -354,7 +354,7 @@ enum Call {
 }
 
 /// Whether a call of a builder asks for memory.
-fn asks<D: Dimension, T: ShapeBuilder<Dim = D, Strides = T> + Copy>(
+fn asks<D: Lengths, T: ShapeBuilder<Dim = D, Strides = T> + Copy>(
     alloc: Global,
     call: Call,
     builder: T,
