@@ -6,7 +6,7 @@ use ErrorKind::{IncompatibleShape, OutOfBounds, Unsupported};
 use Fit::{Clamp, Strict};
 use SliceInfoElem::{Index, NewAxis};
 use nd_base::ErrorKind;
-use nd_dim::Dimension;
+use nd_dim::Lengths;
 use nd_slice::{Fit, SliceInfoElem, check_elems, check_slice, in_ndim_of, out_ndim_of};
 use nd_testing::{Row, fault_of, rows};
 use std::alloc::Global;
@@ -20,7 +20,7 @@ const ALL: SliceInfoElem = SliceInfoElem::Slice {
 };
 
 /// Whether an argument has this fault, or none, with its elements in a slice and in a vector.
-fn has_fault<D: Dimension>(
+fn has_fault<D: Lengths>(
     alloc: Global,
     dim: &D,
     elems: &[SliceInfoElem],
@@ -40,7 +40,7 @@ fn has_fault<D: Dimension>(
 const WHOLE: [SliceInfoElem; 7] = [ALL; 7];
 
 /// Whether an argument of whole axes fits a shape if it is of as many axes.
-fn whole_axes_fit<D: Dimension>(alloc: Global, dim: &D, fit: Fit) -> bool {
+fn whole_axes_fit<D: Lengths>(alloc: Global, dim: &D, fit: Fit) -> bool {
     for count in 0..=WHOLE.len() {
         let fits = dim.ndim() == count;
         let fault = if fits { None } else { Some(IncompatibleShape) };
@@ -90,7 +90,7 @@ struct Checked<'a> {
 impl AtType for Checked<'_> {
     type Answer = bool;
 
-    fn at<D: Dimension>(&self, rt: &impl Abort, alloc: Global) -> bool {
+    fn at<D: Lengths>(&self, rt: &impl Abort, alloc: Global) -> bool {
         let dim: D = dim_of(rt, alloc, self.lens).expect(rt, "memory");
         has_fault(alloc, &dim, self.elems, self.fault, self.fit)
             && whole_axes_fit(alloc, &dim, self.fit)

@@ -1,6 +1,6 @@
 //! Slice arguments whose type tells the shapes before and after.
 use nd_base::{Dim, ErrorKind, FixedCount, Ix0, Ix1, Ix2, Ix3, Ix6, IxDyn, ShapeError, new_ix2};
-use nd_dim::Dimension;
+use nd_dim::{Dimension, Lengths};
 use nd_slice::{Fit, NewAxis, SliceArg, SliceElems, SliceInfo, SliceInfoElem, check_slice};
 use nd_testing::or_fault;
 use std::alloc::Global;
@@ -103,7 +103,7 @@ fn is_of<T: SliceElems, Dout: Dimension, const N: usize>(
 
 /// Whether an argument, and the same with its elements lent, tells this, keeps these elements, and fits the
 /// first of two shapes alone.
-fn is_of_both<T: SliceElems, Dout: Dimension, D: Dimension, const N: usize>(
+fn is_of_both<T: SliceElems, Dout: Dimension, D: Lengths, const N: usize>(
     info: &SliceInfo<T, Dim<[usize; N]>, Dout>,
     told: Parts,
     elems: &[SliceInfoElem],

@@ -5,7 +5,7 @@ use ErrorKind::{IncompatibleShape, OutOfBounds, Overflow, Unsupported};
 use Order::{ColumnMajor, RowMajor};
 use nd_testing::Row;
 use ndarray_layout::{
-    Axis, Dimension, ErrorKind, LayoutError, Lengths, Order, Strided, is_layout_c, is_layout_f,
+    Axis, ErrorKind, LayoutError, Lengths, Order, Strided, is_layout_c, is_layout_f,
     max_abs_offset_check_overflow, size_of_shape_checked,
 };
 use std::alloc::Global;
@@ -67,7 +67,7 @@ fn copy(rt: &impl Abort, alloc: Global, lens: &[usize]) -> Vec<usize> {
 }
 
 /// All that a view tells.
-fn look<D: Dimension>(rt: &impl Abort, alloc: Global, view: &Strided<D>) -> Seen {
+fn look<D: Lengths>(rt: &impl Abort, alloc: Global, view: &Strided<D>) -> Seen {
     Seen {
         shape: copy(rt, alloc, view.dim().slice()),
         strides: copy(rt, alloc, view.strides().slice()),
@@ -78,7 +78,7 @@ fn look<D: Dimension>(rt: &impl Abort, alloc: Global, view: &Strided<D>) -> Seen
 }
 
 /// What a call that makes a view answers.
-pub fn told<D: Dimension>(
+pub fn told<D: Lengths>(
     rt: &impl Abort,
     alloc: Global,
     view: Result<Strided<D>, LayoutError>,
@@ -91,12 +91,12 @@ pub fn told<D: Dimension>(
 }
 
 /// The value of a dimension type that stands for a list.
-fn dim<D: Dimension>(rt: &impl Abort, alloc: Global, lens: &[usize]) -> D {
+fn dim<D: Lengths>(rt: &impl Abort, alloc: Global, lens: &[usize]) -> D {
     dim_of(rt, alloc, lens).expect(rt, "memory")
 }
 
 /// The view of a layout.
-fn view<D: Dimension>(
+fn view<D: Lengths>(
     rt: &impl Abort,
     alloc: Global,
     layout: &Asked,
@@ -107,14 +107,14 @@ fn view<D: Dimension>(
 }
 
 /// How far a layout reaches.
-fn span<D: Dimension>(rt: &impl Abort, alloc: Global, layout: &Asked) -> Option<usize> {
+fn span<D: Lengths>(rt: &impl Abort, alloc: Global, layout: &Asked) -> Option<usize> {
     let shape: D = dim(rt, alloc, layout.shape.as_slice());
     let strides: D = dim(rt, alloc, layout.strides.as_slice());
     max_abs_offset_check_overflow(layout.elem_size, &shape, &strides).ok()
 }
 
 /// The place of an index.
-fn place<D: Dimension>(
+fn place<D: Lengths>(
     rt: &impl Abort,
     alloc: Global,
     view: &Strided<D>,
@@ -124,7 +124,7 @@ fn place<D: Dimension>(
 }
 
 /// What is told of the slice of a view into a dimension type.
-fn told_of_slice<D: Dimension, E: Dimension>(
+fn told_of_slice<D: Lengths, E: Lengths>(
     rt: &impl Abort,
     alloc: Global,
     view: &Strided<D>,
@@ -134,7 +134,7 @@ fn told_of_slice<D: Dimension, E: Dimension>(
 }
 
 /// What is told of a view as one of a shape of a dimension type.
-fn told_of_broadcast<D: Dimension, E: Dimension>(
+fn told_of_broadcast<D: Lengths, E: Lengths>(
     rt: &impl Abort,
     alloc: Global,
     view: &Strided<D>,
@@ -148,14 +148,14 @@ fn told_of_broadcast<D: Dimension, E: Dimension>(
 }
 
 /// Keeps the second entry of the first axis of a view, merged into the second.
-fn keep_second_row<D: Dimension>(rt: &impl Abort, view: &mut Strided<D>) {
+fn keep_second_row<D: Lengths>(rt: &impl Abort, view: &mut Strided<D>) {
     view.collapse(Axis(0), 1).expect(rt, "no such entry");
     let merged = view.merge(Axis(0), Axis(1)).expect(rt, "no such axes");
     assert!(rt; merged, "no one stride has the entries of both axes");
 }
 
 /// The view of a layout that another is made of: the whole, or the second row.
-fn read<D: Dimension>(rt: &impl Abort, alloc: Global, layout: &Asked, made: &Made) -> Strided<D> {
+fn read<D: Lengths>(rt: &impl Abort, alloc: Global, layout: &Asked, made: &Made) -> Strided<D> {
     let mut view = view::<D>(rt, alloc, layout).expect(rt, "refused");
     if let Made::SecondRow(_ndim, _shape) = made {
         keep_second_row(rt, &mut view);
@@ -164,7 +164,7 @@ fn read<D: Dimension>(rt: &impl Abort, alloc: Global, layout: &Asked, made: &Mad
 }
 
 /// What is told of a view that is made of another.
-fn told_of_view<D: Dimension, E: Dimension>(
+fn told_of_view<D: Lengths, E: Lengths>(
     rt: &impl Abort,
     alloc: Global,
     view: &Strided<D>,
@@ -179,7 +179,7 @@ fn told_of_view<D: Dimension, E: Dimension>(
 }
 
 /// What is told of a view that is made of the view of a layout, at a dimension type.
-fn told_of_made<D: Dimension, E: Dimension>(
+fn told_of_made<D: Lengths, E: Lengths>(
     rt: &impl Abort,
     alloc: Global,
     layout: &Asked,
@@ -190,28 +190,28 @@ fn told_of_made<D: Dimension, E: Dimension>(
 
 /// What is told of a view that is made of the view of a layout at a dimension type, at another.
 #[derive(Drop)]
-struct OfMade<'a, D: Dimension> {
+struct OfMade<'a, D: Lengths> {
     from: PhantomData<D>,
     layout: &'a Asked,
     made: &'a Made,
 }
 
-impl<D: Dimension> AtType for OfMade<'_, D> {
+impl<D: Lengths> AtType for OfMade<'_, D> {
     type Answer = Answer;
 
-    fn at<E: Dimension>(&self, rt: &impl Abort, alloc: Global) -> Answer {
+    fn at<E: Lengths>(&self, rt: &impl Abort, alloc: Global) -> Answer {
         told_of_made::<D, E>(rt, alloc, self.layout, self.made)
     }
 }
 
 /// The same at the dimension type that it is to be of.
-fn made<D: Dimension>(rt: &impl Abort, alloc: Global, layout: &Asked, made: &Made) -> Answer {
+fn made<D: Lengths>(rt: &impl Abort, alloc: Global, layout: &Asked, made: &Made) -> Answer {
     let from = PhantomData::<D>;
     at_type(rt, alloc, made.ndim(), &OfMade { from, layout, made })
 }
 
 /// How many places of a view a slice picks.
-fn picked<D: Dimension>(view: &Strided<D>, argument: &Argument) -> Answer {
+fn picked<D: Lengths>(view: &Strided<D>, argument: &Argument) -> Answer {
     match view.picked(&argument.elems, argument.fit) {
         Ok(count) => Answer::Number(Some(count)),
         Err(fault) => Answer::Refused(fault.kind()),
@@ -219,7 +219,7 @@ fn picked<D: Dimension>(view: &Strided<D>, argument: &Argument) -> Answer {
 }
 
 /// What is left of a view by one entry of an axis.
-fn collapse<D: Dimension>(
+fn collapse<D: Lengths>(
     rt: &impl Abort,
     alloc: Global,
     view: &mut Strided<D>,
@@ -233,7 +233,7 @@ fn collapse<D: Dimension>(
 }
 
 /// What is left of a view where an axis is merged into another, or the view where it isn't.
-fn merge<D: Dimension>(
+fn merge<D: Lengths>(
     rt: &impl Abort,
     alloc: Global,
     view: &mut Strided<D>,
@@ -248,7 +248,7 @@ fn merge<D: Dimension>(
 }
 
 /// Whether the places of a view lie in order, by rows and by columns.
-fn in_order<D: Dimension>(view: &Strided<D>) -> Answer {
+fn in_order<D: Lengths>(view: &Strided<D>) -> Answer {
     let (dim, strides) = (view.dim(), view.strides());
     if dim.ndim() != strides.ndim() || size_of_shape_checked(dim).is_err() {
         return Answer::Number(None);
@@ -257,7 +257,7 @@ fn in_order<D: Dimension>(view: &Strided<D>) -> Answer {
 }
 
 /// The same of a slice of a view, of as many axes.
-fn slice_in_order<D: Dimension>(
+fn slice_in_order<D: Lengths>(
     rt: &impl Abort,
     alloc: Global,
     view: &Strided<D>,
@@ -268,7 +268,7 @@ fn slice_in_order<D: Dimension>(
 }
 
 /// The answer of a view.
-fn ask_view<D: Dimension>(
+fn ask_view<D: Lengths>(
     rt: &impl Abort,
     alloc: Global,
     view: &mut Strided<D>,
@@ -284,7 +284,7 @@ fn ask_view<D: Dimension>(
 }
 
 /// The answer of the view of a layout at a dimension type.
-fn ask_viewed<D: Dimension>(
+fn ask_viewed<D: Lengths>(
     rt: &impl Abort,
     alloc: Global,
     layout: &Asked,
@@ -295,12 +295,7 @@ fn ask_viewed<D: Dimension>(
 }
 
 /// The answer of a layout at a dimension type.
-fn ask<D: Dimension>(
-    rt: &impl Abort,
-    alloc: Global,
-    layout: &Asked,
-    question: &Question,
-) -> Answer {
+fn ask<D: Lengths>(rt: &impl Abort, alloc: Global, layout: &Asked, question: &Question) -> Answer {
     match question {
         Question::View => told(rt, alloc, view::<D>(rt, alloc, layout)),
         Question::Span => Answer::Number(span::<D>(rt, alloc, layout)),
@@ -319,7 +314,7 @@ struct OfLayout<'a> {
 impl AtType for OfLayout<'_> {
     type Answer = Answer;
 
-    fn at<D: Dimension>(&self, rt: &impl Abort, alloc: Global) -> Answer {
+    fn at<D: Lengths>(&self, rt: &impl Abort, alloc: Global) -> Answer {
         ask::<D>(rt, alloc, self.layout, self.question)
     }
 }

@@ -6,7 +6,7 @@
 use crate::types::{AtType, at_type, dim_of};
 use crate::view::rows::{hold, owned};
 use nd_testing::grants;
-use ndarray_layout::{Dimension, LayoutError, Strided, new_ix2};
+use ndarray_layout::{LayoutError, Lengths, Strided, new_ix2};
 use std::alloc::Global;
 use std::process::Abort;
 
@@ -107,7 +107,7 @@ enum Outcome {
 }
 
 /// A shape and strides over two elements, as a view of a shape.
-fn read_as<D: Dimension, E: Dimension>(
+fn read_as<D: Lengths, E: Lengths>(
     alloc: Global,
     dim: D,
     strides: D,
@@ -118,7 +118,7 @@ fn read_as<D: Dimension, E: Dimension>(
 }
 
 /// What comes of it.
-fn outcome_as<D: Dimension, E: Dimension>(alloc: Global, dim: D, strides: D, shape: &E) -> Outcome {
+fn outcome_as<D: Lengths, E: Lengths>(alloc: Global, dim: D, strides: D, shape: &E) -> Outcome {
     match read_as(alloc, dim, strides, shape) {
         Ok(_view) => Outcome::Made,
         Err(LayoutError::Memory(_error)) => Outcome::OutOfMemory,
@@ -127,13 +127,13 @@ fn outcome_as<D: Dimension, E: Dimension>(alloc: Global, dim: D, strides: D, sha
 }
 
 /// What comes of reading two columns as a view of a shape.
-fn columns_as<E: Dimension>(alloc: Global, shape: &E) -> Outcome {
+fn columns_as<E: Lengths>(alloc: Global, shape: &E) -> Outcome {
     outcome_as(alloc, new_ix2(1, 2), new_ix2(2, 1), shape)
 }
 
 /// Whether two columns are read as a view of a shape of five axes twice, or once, where a request is refused.
 /// Each time takes two, behind the one of the shape.
-fn one_is_made<E: Dimension>(alloc: Global, shape: &E) -> bool {
+fn one_is_made<E: Lengths>(alloc: Global, shape: &E) -> bool {
     let first = columns_as(alloc, shape);
     let second = columns_as(alloc, shape);
     grants(alloc) && (first == Outcome::Made || second == Outcome::Made)
@@ -156,7 +156,7 @@ struct Columns<'a> {
 impl AtType for Columns<'_> {
     type Answer = bool;
 
-    fn at<E: Dimension>(&self, rt: &impl Abort, alloc: Global) -> bool {
+    fn at<E: Lengths>(&self, rt: &impl Abort, alloc: Global) -> bool {
         let Ok(shape) = dim_of::<E>(rt, alloc, self.shape) else {
             return self.times == Times::TwiceOrRefused;
         };

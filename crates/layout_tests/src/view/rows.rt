@@ -3,7 +3,7 @@ use crate::view::answer::{answer_at, expected, told};
 use crate::view::question::{fixed_count, read_layout, read_question};
 use CanIndexCheckMode::OwnedMutable;
 use nd_testing::{Row, rows};
-use ndarray_layout::{CanIndexCheckMode, Dimension, LayoutError, Strided};
+use ndarray_layout::{CanIndexCheckMode, LayoutError, Lengths, Strided};
 use std::alloc::Global;
 use std::process::Abort;
 
@@ -25,12 +25,12 @@ pub fn hold(rt: &impl Abort, alloc: Global, table: &str) {
 }
 
 /// A view in owned mode of elements of one byte. (What `Strided::new` ensures is dear where a type is given.)
-pub fn owned<D: Dimension>(dim: D, strides: D, len: usize) -> Result<Strided<D>, LayoutError> {
+pub fn owned<D: Lengths>(dim: D, strides: D, len: usize) -> Result<Strided<D>, LayoutError> {
     Ok(Strided::new(dim, strides, 1, len, OwnedMutable)?)
 }
 
 /// Whether a call that makes a view answers so.
-pub fn is_told<D: Dimension>(
+pub fn is_told<D: Lengths>(
     rt: &impl Abort,
     alloc: Global,
     view: Result<Strided<D>, LayoutError>,

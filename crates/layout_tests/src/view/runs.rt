@@ -5,8 +5,8 @@ use crate::view::rows::owned;
 use ErrorKind::{IncompatibleLayout, OutOfBounds};
 use SliceInfoElem::Slice;
 use ndarray_layout::{
-    Axis, Dimension, ErrorKind, Fit, IxDyn, LayoutError, Lengths, SliceInfoElem, Step, Stopped,
-    Strided, new_ixdyn, run,
+    Axis, ErrorKind, Fit, IxDyn, LayoutError, Lengths, SliceInfoElem, Step, Stopped, Strided,
+    new_ixdyn, run,
 };
 use std::alloc::{AllocError, Global};
 use std::process::Abort;
@@ -27,7 +27,7 @@ fn kind_of(fault: &LayoutError) -> Option<ErrorKind> {
 }
 
 /// Whether a view has this start, shape and strides.
-fn is_left<D: Dimension>(view: &Strided<D>, left: (usize, &[usize], &[usize])) -> bool {
+fn is_left<D: Lengths>(view: &Strided<D>, left: (usize, &[usize], &[usize])) -> bool {
     (view.start(), view.dim().slice(), view.strides().slice()) == left
 }
 

@@ -2,13 +2,13 @@
 //!
 //! What is asked of a view is asked by the bound alone, and each type is named in one place: what
 //! `Strided::from_shape` ensures is dear where a type is given.
-use crate::types::{AtType, at_type, dim_of};
+use crate::types::dim_of;
 use crate::view::rows::{is_told, owned};
 use CanIndexCheckMode::OwnedMutable;
 use nd_testing::grants;
 use ndarray_layout::{
-    Axes, AxisDescription, CanIndexCheckMode, Dimension, LayoutError, Lengths, ShapeBuilder,
-    StrideShape, Strided, Strides, new_ix3, unsigned,
+    Axes, AxisDescription, CanIndexCheckMode, Dimension, Ix2, Ix6, IxDyn, LayoutError, Lengths,
+    ShapeBuilder, StrideShape, Strided, Strides, new_ix3, unsigned,
 };
 use std::alloc::Global;
 use std::process::Abort;
@@ -24,7 +24,7 @@ fn along<D: Dimension>(
 }
 
 /// A view once more.
-fn again<D: Dimension>(
+fn again<D: Lengths>(
     alloc: Global,
     view: Result<Strided<D>, LayoutError>,
 ) -> Result<Strided<D>, LayoutError> {
@@ -82,7 +82,7 @@ enum OfColumns<'a> {
 }
 
 /// Whether a view has so many axes.
-fn has_axes<D: Dimension>(view: Result<Strided<D>, LayoutError>, count: usize) -> bool {
+fn has_axes<D: Lengths>(view: Result<Strided<D>, LayoutError>, count: usize) -> bool {
     match view {
         Ok(view) => view.axes().len() == count,
         Err(_) => false,
@@ -90,7 +90,7 @@ fn has_axes<D: Dimension>(view: Result<Strided<D>, LayoutError>, count: usize) -
 }
 
 /// Whether a view and the same once more have so many axes.
-fn both_have_axes<D: Dimension>(
+fn both_have_axes<D: Lengths>(
     alloc: Global,
     view: Result<Strided<D>, LayoutError>,
     count: usize,
@@ -105,7 +105,7 @@ fn both_have_axes<D: Dimension>(
 }
 
 /// Whether a call was made, or refused for want of memory.
-fn is_made_or_refused<D: Dimension>(view: Result<Strided<D>, LayoutError>) -> bool {
+fn is_made_or_refused<D: Lengths>(view: Result<Strided<D>, LayoutError>) -> bool {
     match view {
         Ok(_) | Err(LayoutError::Memory(_)) => true,
         Err(LayoutError::Shape(_)) => false,
@@ -137,14 +137,26 @@ struct Columns<'a> {
     asked: OfColumns<'a>,
 }
 
-impl AtType for Columns<'_> {
-    type Answer = bool;
+/// The answer at a dimension type.
+fn columns_hold_at<D: Dimension>(rt: &impl Abort, alloc: Global, columns: &Columns<'_>) -> bool {
+    match dim_of::<D>(rt, alloc, columns.lens) {
+        Ok(dim) => columns_hold(rt, alloc, dim, columns.len, columns.asked),
+        Err(_) => matches!(columns.asked, OfColumns::MadeOrRefused),
+    }
+}
 
-    fn at<D: Dimension>(&self, rt: &impl Abort, alloc: Global) -> bool {
-        match dim_of::<D>(rt, alloc, self.lens) {
-            Ok(dim) => columns_hold(rt, alloc, dim, self.len, self.asked),
-            Err(_) => matches!(self.asked, OfColumns::MadeOrRefused),
-        }
+/// The answer at the type that fixes two or six axes, or at that of any number.
+fn columns_hold_at_type(
+    rt: &impl Abort,
+    alloc: Global,
+    ndim: Option<usize>,
+    columns: &Columns<'_>,
+) -> bool {
+    match ndim {
+        Some(2) => columns_hold_at::<Ix2>(rt, alloc, columns),
+        Some(6) => columns_hold_at::<Ix6>(rt, alloc, columns),
+        Some(_) => false,
+        None => columns_hold_at::<IxDyn>(rt, alloc, columns),
     }
 }
 
@@ -156,7 +168,7 @@ fn fixed_columns_hold(
     len: usize,
     asked: OfColumns<'_>,
 ) -> bool {
-    at_type(rt, alloc, Some(lens.len()), &Columns { lens, len, asked })
+    columns_hold_at_type(rt, alloc, Some(lens.len()), &Columns { lens, len, asked })
 }
 
 /// The same at the type of any number of axes.
@@ -167,7 +179,7 @@ fn any_columns_hold(
     len: usize,
     asked: OfColumns<'_>,
 ) -> bool {
-    at_type(rt, alloc, None, &Columns { lens, len, asked })
+    columns_hold_at_type(rt, alloc, None, &Columns { lens, len, asked })
 }
 
 /// Five axes.
@@ -218,7 +230,7 @@ fn are_in_turn(mut axes: Axes<'_>, told: &[Told]) -> bool {
 }
 
 /// Whether the axes of a view are told in turn.
-fn is_in_turn<D: Dimension>(view: Result<Strided<D>, LayoutError>, told: &[Told]) -> bool {
+fn is_in_turn<D: Lengths>(view: Result<Strided<D>, LayoutError>, told: &[Told]) -> bool {
     match view {
         Ok(view) => are_in_turn(view.axes(), told),
         Err(_) => false,
@@ -226,7 +238,7 @@ fn is_in_turn<D: Dimension>(view: Result<Strided<D>, LayoutError>, told: &[Told]
 }
 
 /// The same of the view of a shape and strides.
-fn owned_is_in_turn<D: Dimension>(dim: D, strides: D, len: usize, told: &[Told]) -> bool {
+fn owned_is_in_turn<D: Lengths>(dim: D, strides: D, len: usize, told: &[Told]) -> bool {
     is_in_turn(owned(dim, strides, len), told)
 }
 
@@ -251,7 +263,7 @@ enum OfGiven<'a> {
 }
 
 /// Whether a view, and the same once more, are told by a row.
-fn are_told<D: Dimension>(
+fn are_told<D: Lengths>(
     rt: &impl Abort,
     alloc: Global,
     view: Result<Strided<D>, LayoutError>,
@@ -268,7 +280,7 @@ fn are_told<D: Dimension>(
 
 /// Whether a view is the same once more, if there was memory for it, or a request for that was
 /// refused.
-fn starts_or_is_refused<D: Dimension>(
+fn starts_or_is_refused<D: Lengths>(
     alloc: Global,
     view: Result<Strided<D>, LayoutError>,
     start: usize,

@@ -7,17 +7,17 @@ use Fit::Strict;
 use Order::RowMajor;
 use SliceInfoElem::{Index, NewAxis, Slice};
 use nd_testing::grants;
-use ndarray_layout::{Dimension, Fit, LayoutError, Order, SliceInfoElem, Strided};
+use ndarray_layout::{Fit, LayoutError, Lengths, Order, SliceInfoElem, Strided};
 use std::alloc::{AllocError, Global};
 use std::process::Abort;
 
 /// A list of two axes, as a value of a type that fixes their count.
-fn pair<D: Dimension>(rt: &impl Abort, alloc: Global, list: [usize; 2]) -> D {
+fn pair<D: Lengths>(rt: &impl Abort, alloc: Global, list: [usize; 2]) -> D {
     dim_of(rt, alloc, &list).expect(rt, "two axes need no memory")
 }
 
 /// Two rows of three elements.
-fn two_rows<D: Dimension>(rt: &impl Abort, alloc: Global) -> Strided<D> {
+fn two_rows<D: Lengths>(rt: &impl Abort, alloc: Global) -> Strided<D> {
     let (dim, strides) = (pair(rt, alloc, [2, 3]), pair(rt, alloc, [3, 1]));
     owned(dim, strides, 6).expect(rt, "refused")
 }
@@ -35,12 +35,7 @@ const fn from(start: isize) -> SliceInfoElem {
 type Parts = ([usize; 2], [usize; 2], usize);
 
 /// Whether a view has these.
-fn has_parts<D: Dimension>(
-    rt: &impl Abort,
-    alloc: Global,
-    view: &Strided<D>,
-    parts: Parts,
-) -> bool {
+fn has_parts<D: Lengths>(rt: &impl Abort, alloc: Global, view: &Strided<D>, parts: Parts) -> bool {
     let (dim, strides, start) = parts;
     *view.dim() == pair::<D>(rt, alloc, dim)
         && *view.strides() == pair::<D>(rt, alloc, strides)
@@ -57,7 +52,7 @@ struct SliceOfRows<'a> {
 impl AtType for SliceOfRows<'_> {
     type Answer = bool;
 
-    fn at<D: Dimension>(&self, rt: &impl Abort, alloc: Global) -> bool {
+    fn at<D: Lengths>(&self, rt: &impl Abort, alloc: Global) -> bool {
         let view = two_rows::<D>(rt, alloc);
         let slice: Result<Strided<D>, LayoutError> = view.slice(alloc, &self.elems, Strict);
         has_parts(rt, alloc, &slice.expect(rt, "refused"), self.left)
@@ -88,7 +83,7 @@ struct PlacesOfRows;
 impl AtType for PlacesOfRows {
     type Answer = Result<Vec<usize>, AllocError>;
 
-    fn at<D: Dimension>(&self, rt: &impl Abort, alloc: Global) -> Result<Vec<usize>, AllocError> {
+    fn at<D: Lengths>(&self, rt: &impl Abort, alloc: Global) -> Result<Vec<usize>, AllocError> {
         two_rows::<D>(rt, alloc).places(alloc, RowMajor)
     }
 }
