@@ -7,20 +7,14 @@ use std::process::Abort;
 
 /// What can be asked at any dimension type.
 pub trait AtType {
-    /// What is answered.
-    type Answer;
-
-    /// The answer at the type `D`.
-    fn at<D: Lengths>(&self, rt: &impl Abort, alloc: Global) -> Self::Answer;
+    /// Whether it holds at the type `D`.
+    fn at<D: Lengths>(self, rt: &impl Abort, alloc: Global) -> bool
+    where
+        Self: Sized;
 }
 
-/// The answer at the type that fixes so many axes, or, where none does, at that of any number.
-pub fn at_type<A: AtType>(
-    rt: &impl Abort,
-    alloc: Global,
-    ndim: Option<usize>,
-    asked: &A,
-) -> A::Answer {
+/// Whether it holds at the type that fixes so many axes, or, where none does, at that of any number.
+pub fn at_type<A: AtType>(rt: &impl Abort, alloc: Global, ndim: Option<usize>, asked: A) -> bool {
     match ndim {
         Some(0) => asked.at::<Ix0>(rt, alloc),
         Some(1) => asked.at::<Ix1>(rt, alloc),

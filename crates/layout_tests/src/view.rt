@@ -10,3 +10,4 @@ mod slices;
 mod sums;
 mod two_rows;
 mod views;
+pub mod words;

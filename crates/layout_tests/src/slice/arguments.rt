@@ -1,11 +1,11 @@
 //! Which slice arguments fit a shape, and the first fault of any other, however the elements are kept.
-use crate::types::{AtType, at_type, dim_of};
+use crate::types::{AtType, at_type};
 use crate::view::elems::elems;
-use crate::view::question::{fixed_count, lens};
-use ErrorKind::{IncompatibleShape, OutOfBounds, Unsupported};
+use crate::view::question::{dim, fixed_count};
+use crate::view::words::name_of;
 use Fit::{Clamp, Strict};
 use SliceInfoElem::{Index, NewAxis};
-use nd_base::ErrorKind;
+use nd_base::{ErrorKind, ShapeError};
 use nd_dim::Lengths;
 use nd_slice::{Fit, SliceInfoElem, check_elems, check_slice, in_ndim_of, out_ndim_of};
 use nd_testing::{Row, fault_of, rows};
@@ -19,18 +19,26 @@ const ALL: SliceInfoElem = SliceInfoElem::Slice {
     step: 1,
 };
 
-/// Whether an argument has this fault, or none, with its elements in a slice and in a vector.
+/// The name of a fault, or `fits`.
+fn name(answer: Result<(), ShapeError>) -> &'static str {
+    match answer {
+        Ok(()) => "fits",
+        Err(fault) => name_of(fault.kind()),
+    }
+}
+
+/// Whether an argument has the fault of this name, or fits, with its elements in a slice and in a vector.
 fn has_fault<D: Lengths>(
     alloc: Global,
     dim: &D,
     elems: &[SliceInfoElem],
-    fault: Option<ErrorKind>,
+    fault: &str,
     fit: Fit,
 ) -> bool {
     match elems.to_vec(alloc) {
         Ok(kept) => {
-            fault_of(check_slice(dim, &elems, fit)) == fault
-                && fault_of(check_slice(dim, &kept, fit)) == fault
+            name(check_slice(dim, &elems, fit)) == fault
+                && name(check_slice(dim, &kept, fit)) == fault
         }
         Err(_) => false,
     }
@@ -43,7 +51,7 @@ const WHOLE: [SliceInfoElem; 7] = [ALL; 7];
 fn whole_axes_fit<D: Lengths>(alloc: Global, dim: &D, fit: Fit) -> bool {
     for count in 0..=WHOLE.len() {
         let fits = dim.ndim() == count;
-        let fault = if fits { None } else { Some(IncompatibleShape) };
+        let fault = if fits { "fits" } else { "IncompatibleShape" };
         if !has_fault(alloc, dim, &WHOLE[..count], fault, fit) {
             return false;
         }
@@ -62,7 +70,7 @@ fn row_with_new_axis(rt: HostRuntime) {
         in_ndim_of(&elems) == 2
             && out_ndim_of(&elems) == 2
             && fault_of(fits) == None
-            && fault_of(outside) == Some(OutOfBounds)
+            && fault_of(outside) == Some(ErrorKind::OutOfBounds)
     );
 }
 
@@ -78,60 +86,33 @@ fn counts_by_kind(rt: HostRuntime) {
     );
 }
 
-/// An argument and its fault on a shape.
-#[derive(Drop)]
-struct Checked<'a> {
-    lens: &'a [usize],
-    elems: &'a [SliceInfoElem],
-    fault: Option<ErrorKind>,
+/// A row at a dimension type: a shape, an argument, and its fault or `fits`. Arguments of whole axes fit the
+/// shape if they are of as many.
+struct Checked<'a, 'b> {
+    row: &'a mut Row<'b>,
     fit: Fit,
 }
 
-impl AtType for Checked<'_> {
-    type Answer = bool;
-
-    fn at<D: Lengths>(&self, rt: &impl Abort, alloc: Global) -> bool {
-        let dim: D = dim_of(rt, alloc, self.lens).expect(rt, "memory");
-        has_fault(alloc, &dim, self.elems, self.fault, self.fit)
-            && whole_axes_fit(alloc, &dim, self.fit)
+impl AtType for Checked<'_, '_> {
+    fn at<D: Lengths>(self, rt: &impl Abort, alloc: Global) -> bool {
+        let Checked { row, fit } = self;
+        let dim: D = dim(rt, alloc, row);
+        let elems = elems(rt, alloc, row);
+        let fault = row.word().expect(rt, "an answer");
+        has_fault(alloc, &dim, elems.as_slice(), fault, fit) && whole_axes_fit(alloc, &dim, fit)
     }
 }
 
-/// The fault that a word names, or none.
-fn fault(rt: &impl Abort, word: &str) -> Option<ErrorKind> {
-    match word {
-        "IncompatibleShape" => Some(IncompatibleShape),
-        "OutOfBounds" => Some(OutOfBounds),
-        "Unsupported" => Some(Unsupported),
-        _ => {
-            assert!(rt; word == "fits", "a fault");
-            None
-        }
-    }
-}
-
-/// A row holds: a dimension type, a shape, an argument, and its fault or `fits`; and arguments of whole axes
-/// fit the shape if they are of as many.
-fn holds(rt: &impl Abort, alloc: Global, line: &str, fit: Fit) {
-    let mut row = Row::new(line);
-    let ndim = fixed_count(rt, &mut row);
-    let lens = lens(rt, alloc, &mut row);
-    let elems = elems(rt, alloc, &mut row);
-    let fault = fault(rt, row.word().expect(rt, "an answer"));
-    let (lens, elems) = (lens.as_slice(), elems.as_slice());
-    let checked = Checked {
-        lens,
-        elems,
-        fault,
-        fit,
-    };
-    assert!(rt; at_type(rt, alloc, ndim, &checked), "{line}");
+/// A row holds, at the type that it names first.
+fn holds(rt: &impl Abort, alloc: Global, row: &mut Row<'_>, fit: Fit) -> bool {
+    let ndim = fixed_count(rt, row);
+    at_type(rt, alloc, ndim, Checked { row, fit })
 }
 
 /// All rows of a table hold.
 fn hold(rt: &impl Abort, alloc: Global, table: &str, fit: Fit) {
     for line in rows(table) {
-        holds(rt, alloc, line, fit);
+        assert!(rt; holds(rt, alloc, &mut Row::new(line), fit), "{line}");
     }
 }
 

@@ -147,16 +147,14 @@ enum Times {
 }
 
 /// Two columns, as a view of a shape.
-#[derive(Drop)]
+#[derive(Clone, Copy)]
 struct Columns<'a> {
     shape: &'a [usize],
     times: Times,
 }
 
 impl AtType for Columns<'_> {
-    type Answer = bool;
-
-    fn at<E: Lengths>(&self, rt: &impl Abort, alloc: Global) -> bool {
+    fn at<E: Lengths>(self, rt: &impl Abort, alloc: Global) -> bool {
         let Ok(shape) = dim_of::<E>(rt, alloc, self.shape) else {
             return self.times == Times::TwiceOrRefused;
         };
@@ -175,7 +173,7 @@ fn are_read(
     shape: &[usize],
     times: Times,
 ) -> bool {
-    at_type(rt, alloc, ndim, &Columns { shape, times })
+    at_type(rt, alloc, ndim, Columns { shape, times })
 }
 
 #[test]
