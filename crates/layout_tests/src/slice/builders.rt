@@ -17,11 +17,12 @@ fn parts(slice: Slice) -> Parts {
 
 /// Whether these slices are of these parts, in order.
 fn are(slices: &[Slice], told: &[Parts]) -> bool {
+    for (slice, told) in slices.iter().zip(told) {
+        if parts(*slice) != *told {
+            return false;
+        }
+    }
     slices.len() == told.len()
-        && slices
-            .iter()
-            .zip(told)
-            .all(|(slice, told)| parts(*slice) == *told)
 }
 
 #[test]
@@ -127,10 +128,8 @@ fn slices_of_ranges(rt: HostRuntime) {
 
 #[test]
 fn elements_of_ranges(rt: HostRuntime) {
-    for (elem, told) in made::<SliceInfoElem>().iter().zip(&TOLD) {
-        let (start, end, step) = *told;
-        assert!(rt; *elem == SliceInfoElem::Slice { start, end, step });
-    }
+    let told = TOLD.map(|(start, end, step)| SliceInfoElem::Slice { start, end, step });
+    assert!(rt; made::<SliceInfoElem>() == told);
 }
 
 #[test]

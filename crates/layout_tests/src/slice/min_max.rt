@@ -2,6 +2,8 @@
 //!
 //! A row is a length, a slice, and both entries.
 use crate::view::elems::elem;
+use crate::view::question::number;
+use crate::view::words::says;
 use Fit::{Clamp, Strict};
 use nd_slice::{Fit, Slice, SliceInfoElem, slice_min_max, to_abs_slice};
 use nd_testing::{Row, rows};
@@ -24,21 +26,20 @@ fn slice(rt: &impl Abort, row: &mut Row<'_>) -> Option<Slice> {
 }
 
 /// A row holds.
-fn holds(rt: &impl Abort, line: &str, fit: Fit) {
-    let mut row = Row::new(line);
-    let len = row.length().expect(rt, "a length");
-    let slice = slice(rt, &mut row).expect(rt, "a slice");
-    let expected = match row.length().ok() {
-        Some(least) => Some((least, row.length().expect(rt, "an entry"))),
-        None => None,
-    };
-    assert!(rt; ends(len, slice, fit) == Some(expected), "{line}");
+fn holds(rt: &impl Abort, row: &mut Row<'_>, fit: Fit) -> bool {
+    let len = number(rt, row);
+    let slice = slice(rt, row).expect(rt, "a slice");
+    match ends(len, slice, fit) {
+        Some(Some((least, greatest))) => number(rt, row) == least && number(rt, row) == greatest,
+        Some(None) => says(rt, row, "none"),
+        None => false,
+    }
 }
 
 /// All rows of a table hold.
 fn hold(rt: &impl Abort, table: &str, fit: Fit) {
     for line in rows(table) {
-        holds(rt, line, fit);
+        assert!(rt; holds(rt, &mut Row::new(line), fit), "{line}");
     }
 }
 
