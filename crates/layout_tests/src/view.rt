@@ -1,9 +1,9 @@
 //! Tests of `ndarray_layout`, by its public calls.
-mod answer;
+pub mod answer;
 mod axes;
 pub mod elems;
+mod owned;
 pub mod question;
-mod rows;
 mod runs;
 mod shapes;
 mod slices;

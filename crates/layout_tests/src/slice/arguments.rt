@@ -1,4 +1,5 @@
 //! Which slice arguments fit a shape, and the first fault of any other, however the elements are kept.
+use crate::tables::{Told, hold};
 use crate::types::{AtType, at_type};
 use crate::view::elems::elems;
 use crate::view::question::{dim, fixed_count};
@@ -8,7 +9,7 @@ use SliceInfoElem::{Index, NewAxis};
 use nd_base::{ErrorKind, ShapeError};
 use nd_dim::Lengths;
 use nd_slice::{Fit, SliceInfoElem, check_elems, check_slice, in_ndim_of, out_ndim_of};
-use nd_testing::{Row, fault_of, rows};
+use nd_testing::{Row, fault_of};
 use std::alloc::Global;
 use std::process::Abort;
 
@@ -104,16 +105,9 @@ impl AtType for Checked<'_, '_> {
 }
 
 /// A row holds, at the type that it names first.
-fn holds(rt: &impl Abort, alloc: Global, row: &mut Row<'_>, fit: Fit) -> bool {
+pub fn argument_holds(rt: &impl Abort, alloc: Global, row: &mut Row<'_>, fit: Fit) -> bool {
     let ndim = fixed_count(rt, row);
     at_type(rt, alloc, ndim, Checked { row, fit })
-}
-
-/// All rows of a table hold.
-fn hold(rt: &impl Abort, alloc: Global, table: &str, fit: Fit) {
-    for line in rows(table) {
-        assert!(rt; holds(rt, alloc, &mut Row::new(line), fit), "{line}");
-    }
 }
 
 /// One axis.
@@ -124,7 +118,7 @@ Ix1 4 4..;0 Unsupported";
 
 #[test]
 fn one_axis(rt: HostRuntime) {
-    hold(&rt, rt.alloc(), ONE, Strict);
+    hold(&rt, rt.alloc(), Told::Arguments(Strict), ONE);
 }
 
 /// Two axes: bounds at the ends, and the first fault of two.
@@ -136,7 +130,7 @@ Ix2 4,5 4..;0,5 Unsupported";
 
 #[test]
 fn r1_rows(rt: HostRuntime) {
-    hold(&rt, rt.alloc(), TWO, Strict);
+    hold(&rt, rt.alloc(), Told::Arguments(Strict), TWO);
 }
 
 /// The order of faults.
@@ -147,7 +141,7 @@ Ix2 4,5 ..;0,9.. Unsupported";
 
 #[test]
 fn r4_rows(rt: HostRuntime) {
-    hold(&rt, rt.alloc(), ORDER, Strict);
+    hold(&rt, rt.alloc(), Told::Arguments(Strict), ORDER);
 }
 
 /// Bounds that are moved to the ends of their axis.
@@ -160,7 +154,7 @@ Ix2 4,5 9..;0,9 Unsupported";
 
 #[test]
 fn r14_rows(rt: HostRuntime) {
-    hold(&rt, rt.alloc(), CLAMPED, Clamp);
+    hold(&rt, rt.alloc(), Told::Arguments(Clamp), CLAMPED);
 }
 
 /// Three axes.
@@ -172,7 +166,7 @@ Ix3 2,0,4 ..,..,.. fits";
 
 #[test]
 fn three_axes(rt: HostRuntime) {
-    hold(&rt, rt.alloc(), THREE, Strict);
+    hold(&rt, rt.alloc(), Told::Arguments(Strict), THREE);
 }
 
 /// Six axes.
@@ -183,7 +177,7 @@ Ix6 2,1,3,2,2,4 ..,0,..,..,..,..;0 Unsupported";
 
 #[test]
 fn six_axes(rt: HostRuntime) {
-    hold(&rt, rt.alloc(), SIX, Strict);
+    hold(&rt, rt.alloc(), Told::Arguments(Strict), SIX);
 }
 
 /// Any number of axes.
@@ -196,5 +190,5 @@ IxDyn 2,3,1,2,4 ..,..,NewAxis,..,..,..;0 Unsupported";
 
 #[test]
 fn any_number_of_axes(rt: HostRuntime) {
-    hold(&rt, rt.alloc(), ANY, Strict);
+    hold(&rt, rt.alloc(), Told::Arguments(Strict), ANY);
 }

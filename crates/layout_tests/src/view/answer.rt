@@ -181,8 +181,9 @@ fn is_merged<D: Lengths>(
 ) -> bool {
     let (take, into) = (Axis(number(rt, row)), Axis(number(rt, row)));
     match view.merge(take, into) {
-        Ok(true) => is_view(rt, alloc, row, view),
-        Ok(false) => says(rt, row, "unmerged") && shows(rt, alloc, row, view),
+        Ok(merged) => {
+            says(rt, row, if merged { "is" } else { "unmerged" }) && shows(rt, alloc, row, view)
+        }
         Err(fault) => is_refused(rt, row, fault.kind()),
     }
 }
@@ -289,7 +290,7 @@ impl AtType for OfRow<'_, '_> {
 }
 
 /// A row holds: a dimension type, a layout over data, a question and its answer.
-pub fn row_holds(rt: &impl Abort, alloc: Global, row: &mut Row<'_>) -> bool {
+pub fn view_holds(rt: &impl Abort, alloc: Global, row: &mut Row<'_>) -> bool {
     let ndim = fixed_count(rt, row);
     at_type(rt, alloc, ndim, OfRow { row })
 }

@@ -3,8 +3,9 @@
 //! A row is a dimension type, a layout (size of an element, length and use of the data, shape,
 //! strides), a question and its answer. After `merge` stand the axis to take and the one to merge into,
 //! after `broadcast` the dimension type of the shape, and the shape.
+use crate::tables::{Told, hold};
 use crate::types::{AtType, at_type, dim_of};
-use crate::view::rows::{hold, owned};
+use crate::view::owned::owned;
 use nd_testing::grants;
 use ndarray_layout::{LayoutError, Lengths, Strided, new_ix2};
 use std::alloc::Global;
@@ -35,7 +36,7 @@ IxDyn 4 12 owned 2,1,3,1,2 6,9,1,9,3 merge 0 4 is 1,1,3,1,4 6,9,1,9,3 0 0,3,6,9,
 
 #[test]
 fn r5_rows_of_merged_views(rt: HostRuntime) {
-    hold(&rt, rt.alloc(), MERGED);
+    hold(&rt, rt.alloc(), Told::Views, MERGED);
 }
 
 /// Views read as views of other shapes.
@@ -67,7 +68,7 @@ IxDyn 1 2 owned 1,1,2,1,1 3,4,1,5,6 broadcast IxDyn 1,3,2,1,1 is 1,3,2,1,1 3,0,1
 
 #[test]
 fn r5_rows_of_broadcast_views(rt: HostRuntime) {
-    hold(&rt, rt.alloc(), BROADCAST);
+    hold(&rt, rt.alloc(), Told::Views, BROADCAST);
 }
 
 /// Whether slices of a layout of five by five lie in order.
@@ -84,7 +85,7 @@ Ix2 1 25 owned 5,5 5,1 in_order Ix2 2..2,..;3 both_ways";
 
 #[test]
 fn r5_rows_of_layouts(rt: HostRuntime) {
-    hold(&rt, rt.alloc(), IN_ORDER);
+    hold(&rt, rt.alloc(), Told::Views, IN_ORDER);
 }
 
 /// One step after another: an entry of the first axis, which is merged into the second, and a shape.
@@ -93,7 +94,7 @@ Ix2 1 6 owned 2,3 3,1 second_row Ix3 2,2,3 is 2,2,3 0,0,1 3 3,4,5,3,4,5,3,4,5,3,
 
 #[test]
 fn r5_rows_of_steps(rt: HostRuntime) {
-    hold(&rt, rt.alloc(), STEPS);
+    hold(&rt, rt.alloc(), Told::Views, STEPS);
 }
 
 // ---- refused memory

@@ -1,7 +1,7 @@
 //! Runs of steps from the view of a shape of three axes, and where they stop.
 //!
 //! Each test passes plain, and with the first or the second request of its run refused.
-use crate::view::rows::owned;
+use crate::view::owned::owned;
 use ErrorKind::{IncompatibleLayout, OutOfBounds};
 use SliceInfoElem::Slice;
 use ndarray_layout::{

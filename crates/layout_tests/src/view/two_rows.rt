@@ -2,7 +2,7 @@
 //!
 //! Each test passes plain, and with the first or the second request of its run refused.
 use crate::types::{AtType, at_type, dim_of};
-use crate::view::rows::owned;
+use crate::view::owned::owned;
 use Fit::Strict;
 use Order::RowMajor;
 use SliceInfoElem::{Index, NewAxis, Slice};
