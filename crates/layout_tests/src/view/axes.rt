@@ -7,7 +7,7 @@ use crate::tables::{Told, hold};
 use crate::types::{AtType, at_type, dim_of};
 use crate::view::owned::owned;
 use nd_testing::grants;
-use ndarray_layout::{LayoutError, Lengths, Strided, new_ix2};
+use ndarray_layout::{Lengths, new_ix2};
 use std::alloc::Global;
 use std::process::Abort;
 
@@ -99,49 +99,24 @@ fn r5_rows_of_steps(rt: HostRuntime) {
 
 // ---- refused memory
 
-/// What comes of reading a view as one of a shape.
-#[derive(Clone, Copy, PartialEq)]
-enum Outcome {
-    Made,
-    OutOfMemory,
-    Refused,
-}
-
-/// A shape and strides over two elements, as a view of a shape.
-fn read_as<D: Lengths, E: Lengths>(
-    alloc: Global,
-    dim: D,
-    strides: D,
-    shape: &E,
-) -> Result<Strided<E>, LayoutError> {
-    let view = owned(dim, strides, 2)?;
-    view.broadcast(alloc, shape)
-}
-
-/// What comes of it.
-fn outcome_as<D: Lengths, E: Lengths>(alloc: Global, dim: D, strides: D, shape: &E) -> Outcome {
-    match read_as(alloc, dim, strides, shape) {
-        Ok(_view) => Outcome::Made,
-        Err(LayoutError::Memory(_error)) => Outcome::OutOfMemory,
-        Err(LayoutError::Shape(_fault)) => Outcome::Refused,
+/// Whether two columns are read as a view of a shape.
+fn columns_are_read<E: Lengths>(alloc: Global, shape: &E) -> bool {
+    match owned(new_ix2(1, 2), new_ix2(2, 1), 2) {
+        Ok(columns) => columns.broadcast(alloc, shape).is_ok(),
+        Err(_) => false,
     }
-}
-
-/// What comes of reading two columns as a view of a shape.
-fn columns_as<E: Lengths>(alloc: Global, shape: &E) -> Outcome {
-    outcome_as(alloc, new_ix2(1, 2), new_ix2(2, 1), shape)
 }
 
 /// Whether two columns are read as a view of a shape of five axes twice, or once, where a request is refused.
 /// Each time takes two, behind the one of the shape.
-fn one_is_made<E: Lengths>(alloc: Global, shape: &E) -> bool {
-    let first = columns_as(alloc, shape);
-    let second = columns_as(alloc, shape);
-    grants(alloc) && (first == Outcome::Made || second == Outcome::Made)
+fn one_is_read<E: Lengths>(alloc: Global, shape: &E) -> bool {
+    let first = columns_are_read(alloc, shape);
+    let second = columns_are_read(alloc, shape);
+    grants(alloc) && (first || second)
 }
 
 /// How often two columns are read as a view of a shape.
-#[derive(Clone, Copy, PartialEq)]
+#[derive(Clone, Copy)]
 enum Times {
     Once,
     TwiceOrRefused,
@@ -157,11 +132,11 @@ struct Columns<'a> {
 impl AtType for Columns<'_> {
     fn at<E: Lengths>(self, rt: &impl Abort, alloc: Global) -> bool {
         let Ok(shape) = dim_of::<E>(rt, alloc, self.shape) else {
-            return self.times == Times::TwiceOrRefused;
+            return matches!(self.times, Times::TwiceOrRefused);
         };
         match self.times {
-            Times::Once => columns_as(alloc, &shape) == Outcome::Made,
-            Times::TwiceOrRefused => one_is_made(alloc, &shape),
+            Times::Once => columns_are_read(alloc, &shape),
+            Times::TwiceOrRefused => one_is_read(alloc, &shape),
         }
     }
 }
