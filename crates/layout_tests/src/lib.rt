@@ -5,6 +5,8 @@
 #[cfg(test)]
 mod slice;
 #[cfg(test)]
+mod tables;
+#[cfg(test)]
 mod types;
 #[cfg(test)]
 mod view;

@@ -1,8 +1,8 @@
 //! Tests of `nd_slice`, by its public calls.
-mod arguments;
-mod axis_slice;
+pub mod arguments;
+pub mod axis_slice;
 mod builders;
 mod equality;
 mod info;
-mod min_max;
+pub mod min_max;
 mod texts;

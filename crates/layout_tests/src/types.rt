@@ -1,26 +1,20 @@
 //! Questions that are asked at a dimension type of as many axes as a row tells.
 //!
 //! Each type is named in this one place, since the check takes seconds for each function that names one.
-use nd_dim::{Dimension, Ix0, Ix1, Ix2, Ix3, Ix4, Ix5, Ix6, IxDyn};
+use nd_dim::{Ix0, Ix1, Ix2, Ix3, Ix4, Ix5, Ix6, IxDyn, Lengths};
 use std::alloc::{AllocError, Global};
 use std::process::Abort;
 
 /// What can be asked at any dimension type.
 pub trait AtType {
-    /// What is answered.
-    type Answer;
-
-    /// The answer at the type `D`.
-    fn at<D: Dimension>(&self, rt: &impl Abort, alloc: Global) -> Self::Answer;
+    /// Whether it holds at the type `D`.
+    fn at<D: Lengths>(self, rt: &impl Abort, alloc: Global) -> bool
+    where
+        Self: Sized;
 }
 
-/// The answer at the type that fixes so many axes, or, where none does, at that of any number.
-pub fn at_type<A: AtType>(
-    rt: &impl Abort,
-    alloc: Global,
-    ndim: Option<usize>,
-    asked: &A,
-) -> A::Answer {
+/// Whether it holds at the type that fixes so many axes, or, where none does, at that of any number.
+pub fn at_type<A: AtType>(rt: &impl Abort, alloc: Global, ndim: Option<usize>, asked: A) -> bool {
     match ndim {
         Some(0) => asked.at::<Ix0>(rt, alloc),
         Some(1) => asked.at::<Ix1>(rt, alloc),
@@ -35,11 +29,7 @@ pub fn at_type<A: AtType>(
 
 /// The value of a dimension type that stands for a list. No memory is asked for but its own: none where the
 /// type fixes the count or there are at most four axes.
-pub fn dim_of<D: Dimension>(
-    rt: &impl Abort,
-    alloc: Global,
-    lens: &[usize],
-) -> Result<D, AllocError> {
+pub fn dim_of<D: Lengths>(rt: &impl Abort, alloc: Global, lens: &[usize]) -> Result<D, AllocError> {
     match D::NDIM {
         Some(count) => assert!(rt; count == lens.len(), "another count of axes"),
         None => {}

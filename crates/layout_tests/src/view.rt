@@ -1,12 +1,13 @@
 //! Tests of `ndarray_layout`, by its public calls.
-mod answer;
+pub mod answer;
 mod axes;
 pub mod elems;
+mod owned;
 pub mod question;
-mod rows;
 mod runs;
 mod shapes;
 mod slices;
 mod sums;
 mod two_rows;
 mod views;
+pub mod words;

@@ -1,8 +1,7 @@
 //! What a script says, of inputs whose answers don't tell it.
 use nd_shape::CanIndexCheckMode;
-use ndl_session::{Layout, Step, read_script};
+use ndl_session::{Script, read_script};
 use std::alloc::{AllocError, Global};
-use std::process::Abort;
 use std::test::Fail;
 
 /// Inputs, each with what it says: the length of the data, the mode, the shape, the strides and the
@@ -26,39 +25,36 @@ data 4 owned 4 -0| => 4 owned [4] [0] ; []
 data 6 owned 2,3 1| => 6 owned [2, 3] [1] ; []
 ";
 
-/// A layout, in the words of a row.
-fn told_layout(alloc: Global, layout: &Layout) -> Result<String, AllocError> {
+/// A layout and steps, in the words of a row.
+fn told(alloc: Global, script: &Script) -> Result<String, AllocError> {
+    let (layout, steps) = (&script.layout, &script.steps);
     let mode = match layout.mode {
         CanIndexCheckMode::OwnedMutable => "owned",
         CanIndexCheckMode::ReadOnly => "read",
     };
     let (len, shape, strides) = (layout.len, &layout.shape, &layout.strides);
-    format!(in alloc; "{len} {mode} {shape:?} {strides:?}")
+    format!(in alloc; "{len} {mode} {shape:?} {strides:?} ; {steps:?}")
 }
 
-/// Steps, in the words of a row.
-fn told_steps(alloc: Global, steps: &[Step]) -> Result<String, AllocError> {
-    format!(in alloc; "{steps:?}")
+/// Whether an input says this.
+fn input_says(alloc: Global, input: &str, due: &str) -> Result<bool, Fail> {
+    let script = read_script(alloc, input.as_bytes())?;
+    Ok(told(alloc, &script)?.as_str() == due)
 }
 
 /// A row: an input, the layout that it says, and the steps.
-fn says(rt: &impl Abort, alloc: Global, row: &str) -> Result<(), Fail> {
+fn says(alloc: Global, row: &str) -> Result<bool, Fail> {
     let row = row.replace(alloc, "|", "\n")?;
-    let (input, due) = row.as_str().split_once(" => ").expect(rt, "a layout");
-    let script = read_script(alloc, input.as_bytes())?;
-    let layout = told_layout(alloc, &script.layout)?;
-    let steps = told_steps(alloc, &script.steps)?;
-    assert_eq!(rt;
-        due.split_once(" ; "),
-        Some((layout.as_str(), steps.as_str()))
-    );
-    Ok(())
+    match row.as_str().split_once(" => ") {
+        Some((input, due)) => input_says(alloc, input, due),
+        None => Ok(false),
+    }
 }
 
 #[test]
 fn r1_grammar(rt: HostRuntime) -> Result<(), Fail> {
     for row in READABLE.lines() {
-        says(&rt, rt.alloc(), row)?;
+        assert!(rt; says(rt.alloc(), row)?, "{row}");
     }
     Ok(())
 }

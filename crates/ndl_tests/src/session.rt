@@ -5,6 +5,7 @@ use ndl_text::Watched;
 use std::alloc::Global;
 use std::fmt::Write;
 use std::io::ErrorKind;
+use std::process::Abort;
 use std::test::Fail;
 
 /// A row: whether this is the answer to an input.
@@ -26,14 +27,11 @@ fn row_holds(alloc: Global, row: &str, status: u8) -> bool {
     }
 }
 
-/// The first line that doesn't hold, of a table whose answers have one status.
-pub fn wrong_row(alloc: Global, table: &str, status: u8) -> Option<&str> {
+/// All lines of a table hold, whose answers have one status.
+pub fn hold(rt: &impl Abort, alloc: Global, table: &str, status: u8) {
     for row in table.lines() {
-        if !row_holds(alloc, row, status) {
-            return Some(row);
-        }
+        assert!(rt; row_holds(alloc, row, status), "{row}");
     }
-    None
 }
 
 const DONE: &str = "\
@@ -55,8 +53,8 @@ data 4 owned 4 1|slice ..,..,..,..,..| => step 1: ShapeError/IncompatibleShape: 
 
 #[test]
 fn r1_rows(rt: HostRuntime) {
-    assert_eq!(rt; wrong_row(rt.alloc(), DONE, 0), None);
-    assert_eq!(rt; wrong_row(rt.alloc(), REFUSED, 1), None);
+    hold(&rt, rt.alloc(), DONE, 0);
+    hold(&rt, rt.alloc(), REFUSED, 1);
 }
 
 const READABLE: &str = "\
@@ -119,8 +117,8 @@ data 6 owned 2,3 1|slise ..| => line 2: unreadable|
 
 #[test]
 fn r1_grammar_rows(rt: HostRuntime) {
-    assert_eq!(rt; wrong_row(rt.alloc(), READABLE, 0), None);
-    assert_eq!(rt; wrong_row(rt.alloc(), UNREADABLE, 2), None);
+    hold(&rt, rt.alloc(), READABLE, 0);
+    hold(&rt, rt.alloc(), UNREADABLE, 2);
     let text = b"line 1: unreadable\n";
     assert!(rt; answers(rt.alloc(), b"data \xff owned 4 1\n", text, 2));
 }

@@ -1,14 +1,15 @@
 //! Which slice arguments fit a shape, and the first fault of any other, however the elements are kept.
-use crate::types::{AtType, at_type, dim_of};
+use crate::tables::{Told, hold};
+use crate::types::{AtType, at_type};
 use crate::view::elems::elems;
-use crate::view::question::{fixed_count, lens};
-use ErrorKind::{IncompatibleShape, OutOfBounds, Unsupported};
+use crate::view::question::{dim, fixed_count};
+use crate::view::words::name_of;
 use Fit::{Clamp, Strict};
 use SliceInfoElem::{Index, NewAxis};
-use nd_base::ErrorKind;
-use nd_dim::Dimension;
+use nd_base::{ErrorKind, ShapeError};
+use nd_dim::Lengths;
 use nd_slice::{Fit, SliceInfoElem, check_elems, check_slice, in_ndim_of, out_ndim_of};
-use nd_testing::{Row, fault_of, rows};
+use nd_testing::{Row, fault_of};
 use std::alloc::Global;
 use std::process::Abort;
 
@@ -19,18 +20,26 @@ const ALL: SliceInfoElem = SliceInfoElem::Slice {
     step: 1,
 };
 
-/// Whether an argument has this fault, or none, with its elements in a slice and in a vector.
-fn has_fault<D: Dimension>(
+/// The name of a fault, or `fits`.
+fn name(answer: Result<(), ShapeError>) -> &'static str {
+    match answer {
+        Ok(()) => "fits",
+        Err(fault) => name_of(fault.kind()),
+    }
+}
+
+/// Whether an argument has the fault of this name, or fits, with its elements in a slice and in a vector.
+fn has_fault<D: Lengths>(
     alloc: Global,
     dim: &D,
     elems: &[SliceInfoElem],
-    fault: Option<ErrorKind>,
+    fault: &str,
     fit: Fit,
 ) -> bool {
     match elems.to_vec(alloc) {
         Ok(kept) => {
-            fault_of(check_slice(dim, &elems, fit)) == fault
-                && fault_of(check_slice(dim, &kept, fit)) == fault
+            name(check_slice(dim, &elems, fit)) == fault
+                && name(check_slice(dim, &kept, fit)) == fault
         }
         Err(_) => false,
     }
@@ -40,10 +49,10 @@ fn has_fault<D: Dimension>(
 const WHOLE: [SliceInfoElem; 7] = [ALL; 7];
 
 /// Whether an argument of whole axes fits a shape if it is of as many axes.
-fn whole_axes_fit<D: Dimension>(alloc: Global, dim: &D, fit: Fit) -> bool {
+fn whole_axes_fit<D: Lengths>(alloc: Global, dim: &D, fit: Fit) -> bool {
     for count in 0..=WHOLE.len() {
         let fits = dim.ndim() == count;
-        let fault = if fits { None } else { Some(IncompatibleShape) };
+        let fault = if fits { "fits" } else { "IncompatibleShape" };
         if !has_fault(alloc, dim, &WHOLE[..count], fault, fit) {
             return false;
         }
@@ -62,7 +71,7 @@ fn row_with_new_axis(rt: HostRuntime) {
         in_ndim_of(&elems) == 2
             && out_ndim_of(&elems) == 2
             && fault_of(fits) == None
-            && fault_of(outside) == Some(OutOfBounds)
+            && fault_of(outside) == Some(ErrorKind::OutOfBounds)
     );
 }
 
@@ -78,61 +87,27 @@ fn counts_by_kind(rt: HostRuntime) {
     );
 }
 
-/// An argument and its fault on a shape.
-#[derive(Drop)]
-struct Checked<'a> {
-    lens: &'a [usize],
-    elems: &'a [SliceInfoElem],
-    fault: Option<ErrorKind>,
+/// A row at a dimension type: a shape, an argument, and its fault or `fits`. Arguments of whole axes fit the
+/// shape if they are of as many.
+struct Checked<'a, 'b> {
+    row: &'a mut Row<'b>,
     fit: Fit,
 }
 
-impl AtType for Checked<'_> {
-    type Answer = bool;
-
-    fn at<D: Dimension>(&self, rt: &impl Abort, alloc: Global) -> bool {
-        let dim: D = dim_of(rt, alloc, self.lens).expect(rt, "memory");
-        has_fault(alloc, &dim, self.elems, self.fault, self.fit)
-            && whole_axes_fit(alloc, &dim, self.fit)
+impl AtType for Checked<'_, '_> {
+    fn at<D: Lengths>(self, rt: &impl Abort, alloc: Global) -> bool {
+        let Checked { row, fit } = self;
+        let dim: D = dim(rt, alloc, row);
+        let elems = elems(rt, alloc, row);
+        let fault = row.word().expect(rt, "an answer");
+        has_fault(alloc, &dim, elems.as_slice(), fault, fit) && whole_axes_fit(alloc, &dim, fit)
     }
 }
 
-/// The fault that a word names, or none.
-fn fault(rt: &impl Abort, word: &str) -> Option<ErrorKind> {
-    match word {
-        "IncompatibleShape" => Some(IncompatibleShape),
-        "OutOfBounds" => Some(OutOfBounds),
-        "Unsupported" => Some(Unsupported),
-        _ => {
-            assert!(rt; word == "fits", "a fault");
-            None
-        }
-    }
-}
-
-/// A row holds: a dimension type, a shape, an argument, and its fault or `fits`; and arguments of whole axes
-/// fit the shape if they are of as many.
-fn holds(rt: &impl Abort, alloc: Global, line: &str, fit: Fit) {
-    let mut row = Row::new(line);
-    let ndim = fixed_count(rt, &mut row);
-    let lens = lens(rt, alloc, &mut row);
-    let elems = elems(rt, alloc, &mut row);
-    let fault = fault(rt, row.word().expect(rt, "an answer"));
-    let (lens, elems) = (lens.as_slice(), elems.as_slice());
-    let checked = Checked {
-        lens,
-        elems,
-        fault,
-        fit,
-    };
-    assert!(rt; at_type(rt, alloc, ndim, &checked), "{line}");
-}
-
-/// All rows of a table hold.
-fn hold(rt: &impl Abort, alloc: Global, table: &str, fit: Fit) {
-    for line in rows(table) {
-        holds(rt, alloc, line, fit);
-    }
+/// A row holds, at the type that it names first.
+pub fn argument_holds(rt: &impl Abort, alloc: Global, row: &mut Row<'_>, fit: Fit) -> bool {
+    let ndim = fixed_count(rt, row);
+    at_type(rt, alloc, ndim, Checked { row, fit })
 }
 
 /// One axis.
@@ -143,7 +118,7 @@ Ix1 4 4..;0 Unsupported";
 
 #[test]
 fn one_axis(rt: HostRuntime) {
-    hold(&rt, rt.alloc(), ONE, Strict);
+    hold(&rt, rt.alloc(), Told::Arguments(Strict), ONE);
 }
 
 /// Two axes: bounds at the ends, and the first fault of two.
@@ -155,7 +130,7 @@ Ix2 4,5 4..;0,5 Unsupported";
 
 #[test]
 fn r1_rows(rt: HostRuntime) {
-    hold(&rt, rt.alloc(), TWO, Strict);
+    hold(&rt, rt.alloc(), Told::Arguments(Strict), TWO);
 }
 
 /// The order of faults.
@@ -166,7 +141,7 @@ Ix2 4,5 ..;0,9.. Unsupported";
 
 #[test]
 fn r4_rows(rt: HostRuntime) {
-    hold(&rt, rt.alloc(), ORDER, Strict);
+    hold(&rt, rt.alloc(), Told::Arguments(Strict), ORDER);
 }
 
 /// Bounds that are moved to the ends of their axis.
@@ -179,7 +154,7 @@ Ix2 4,5 9..;0,9 Unsupported";
 
 #[test]
 fn r14_rows(rt: HostRuntime) {
-    hold(&rt, rt.alloc(), CLAMPED, Clamp);
+    hold(&rt, rt.alloc(), Told::Arguments(Clamp), CLAMPED);
 }
 
 /// Three axes.
@@ -191,7 +166,7 @@ Ix3 2,0,4 ..,..,.. fits";
 
 #[test]
 fn three_axes(rt: HostRuntime) {
-    hold(&rt, rt.alloc(), THREE, Strict);
+    hold(&rt, rt.alloc(), Told::Arguments(Strict), THREE);
 }
 
 /// Six axes.
@@ -202,7 +177,7 @@ Ix6 2,1,3,2,2,4 ..,0,..,..,..,..;0 Unsupported";
 
 #[test]
 fn six_axes(rt: HostRuntime) {
-    hold(&rt, rt.alloc(), SIX, Strict);
+    hold(&rt, rt.alloc(), Told::Arguments(Strict), SIX);
 }
 
 /// Any number of axes.
@@ -215,5 +190,5 @@ IxDyn 2,3,1,2,4 ..,..,NewAxis,..,..,..;0 Unsupported";
 
 #[test]
 fn any_number_of_axes(rt: HostRuntime) {
-    hold(&rt, rt.alloc(), ANY, Strict);
+    hold(&rt, rt.alloc(), Told::Arguments(Strict), ANY);
 }

@@ -11,17 +11,15 @@ const LIMIT: usize = 9223372036854775807;
 /// The start, the end and the step of a slice.
 type Parts = (isize, Option<isize>, isize);
 
-fn parts(slice: Slice) -> Parts {
-    (slice.start, slice.end, slice.step)
-}
-
-/// Whether these slices are of these parts, in order.
-fn are(slices: &[Slice], told: &[Parts]) -> bool {
-    slices.len() == told.len()
-        && slices
-            .iter()
-            .zip(told)
-            .all(|(slice, told)| parts(*slice) == *told)
+/// Whether these are slices of these parts, or elements that say the same, in order.
+fn are<T: PartialEq + From<Slice> + Drop>(made: &[T], told: &[Parts]) -> bool {
+    for (made, told) in made.iter().zip(told) {
+        let (start, end, step) = *told;
+        if *made != T::from(Slice { start, end, step }) {
+            return false;
+        }
+    }
+    made.len() == told.len()
 }
 
 #[test]
@@ -127,10 +125,7 @@ fn slices_of_ranges(rt: HostRuntime) {
 
 #[test]
 fn elements_of_ranges(rt: HostRuntime) {
-    for (elem, told) in made::<SliceInfoElem>().iter().zip(&TOLD) {
-        let (start, end, step) = *told;
-        assert!(rt; *elem == SliceInfoElem::Slice { start, end, step });
-    }
+    assert!(rt; are(&made::<SliceInfoElem>(), &TOLD));
 }
 
 #[test]
@@ -151,19 +146,14 @@ fn other_elements(rt: HostRuntime) {
     assert!(rt; made == told);
 }
 
+/// Whether an element is a range, an index or a new axis.
+fn kinds_of(elem: SliceInfoElem) -> (bool, bool, bool) {
+    (elem.is_slice(), elem.is_index(), elem.is_new_axis())
+}
+
 #[test]
 fn kinds(rt: HostRuntime) {
-    let elems = [
-        SliceInfoElem::from(..),
-        SliceInfoElem::from(0i32),
-        SliceInfoElem::from(NewAxis),
-    ];
-    let told = elems.map(|elem| (elem.is_slice(), elem.is_index(), elem.is_new_axis()));
-    assert!(rt;
-        told == [
-            (true, false, false),
-            (false, true, false),
-            (false, false, true)
-        ]
-    );
+    assert!(rt; kinds_of(SliceInfoElem::from(..)) == (true, false, false));
+    assert!(rt; kinds_of(SliceInfoElem::from(0i32)) == (false, true, false));
+    assert!(rt; kinds_of(SliceInfoElem::from(NewAxis)) == (false, false, true));
 }

@@ -1,5 +1,5 @@
 //! Slice arguments whose type tells the shapes before and after.
-use nd_base::{Dim, ErrorKind, FixedCount, Ix0, Ix1, Ix2, Ix3, Ix6, IxDyn, ShapeError, new_ix2};
+use nd_base::{ErrorKind, FixedCount, Ix0, Ix1, Ix2, Ix3, Ix6, IxDyn, ShapeError, new_ix2};
 use nd_dim::Dimension;
 use nd_slice::{Fit, NewAxis, SliceArg, SliceElems, SliceInfo, SliceInfoElem, check_slice};
 use nd_testing::or_fault;
@@ -16,21 +16,31 @@ fn counts<T: SliceElems + Drop, Din: FixedCount, Dout: FixedCount>(
     Ok((info.in_ndim(), info.out_ndim()))
 }
 
-/// An array, a slice and a vector of the same elements, tried between these types, tell one thing.
-fn agreed<Din: FixedCount, Dout: FixedCount, const N: usize>(
+/// Whether a vector of these elements, tried between these types, tells this.
+fn vector_tells<Din: FixedCount, Dout: FixedCount>(
     alloc: Global,
-    elems: [SliceInfoElem; N],
-) -> Option<Counts> {
-    let kept = elems.to_vec(alloc).ok()?;
-    let told = counts(SliceInfo::<[SliceInfoElem; N], Din, Dout>::try_from(elems));
-    let of_slice = counts(SliceInfo::<&[SliceInfoElem], Din, Dout>::try_from(&elems[..]));
-    let of_vec = counts(SliceInfo::<Vec<SliceInfoElem>, Din, Dout>::try_from(kept));
-    if told == of_slice && told == of_vec {
-        Some(told)
-    } else {
-        None
+    elems: &[SliceInfoElem],
+    told: Counts,
+) -> bool {
+    match elems.to_vec(alloc) {
+        Ok(kept) => counts(SliceInfo::<Vec<SliceInfoElem>, Din, Dout>::try_from(kept)) == told,
+        Err(_) => false,
     }
 }
+
+/// Whether an array, a slice and a vector of the same elements, tried between these types, tell this.
+fn agree<Din: FixedCount, Dout: FixedCount, const N: usize>(
+    alloc: Global,
+    elems: [SliceInfoElem; N],
+    told: Counts,
+) -> bool {
+    counts(SliceInfo::<[SliceInfoElem; N], Din, Dout>::try_from(elems)) == told
+        && counts(SliceInfo::<&[SliceInfoElem], Din, Dout>::try_from(&elems[..])) == told
+        && vector_tells::<Din, Dout>(alloc, &elems, told)
+}
+
+/// The refusal of other counts.
+const REFUSED: Counts = Err(ErrorKind::IncompatibleShape);
 
 /// An index and a range.
 fn row_of_a_matrix() -> [SliceInfoElem; 2] {
@@ -39,81 +49,79 @@ fn row_of_a_matrix() -> [SliceInfoElem; 2] {
 
 #[test]
 fn r4_rows_of_slice_info(rt: HostRuntime) {
-    let alloc = rt.alloc();
-    let elems = row_of_a_matrix();
-    let refused = Some(Err(ErrorKind::IncompatibleShape));
+    let (alloc, elems) = (rt.alloc(), row_of_a_matrix());
     assert!(rt;
-        agreed::<Ix2, Ix1, 2>(alloc, elems) == Some(Ok((2, 1)))
-            && agreed::<Ix2, Ix2, 2>(alloc, elems) == refused
-            && agreed::<Ix3, Ix1, 2>(alloc, elems) == refused
+        agree::<Ix2, Ix1, 2>(alloc, elems, Ok((2, 1)))
+            && agree::<Ix2, Ix2, 2>(alloc, elems, REFUSED)
+            && agree::<Ix3, Ix1, 2>(alloc, elems, REFUSED)
     );
+}
+
+/// Eight elements, for six axes.
+fn eight() -> [SliceInfoElem; 8] {
+    let (whole, new) = (SliceInfoElem::from(..), SliceInfoElem::from(NewAxis));
+    let index = SliceInfoElem::from(-1isize);
+    [whole, new, whole, whole, index, whole, new, whole]
+}
+
+/// Whether eight elements tell this at types of six and of any number of axes.
+fn eight_agree(alloc: Global) -> bool {
+    agree::<Ix6, IxDyn, 8>(alloc, eight(), Ok((6, 7)))
+        && agree::<IxDyn, Ix6, 8>(alloc, eight(), REFUSED)
+        && agree::<IxDyn, IxDyn, 8>(alloc, eight(), Ok((6, 7)))
 }
 
 #[test]
 fn counts_between_other_types(rt: HostRuntime) {
-    let alloc = rt.alloc();
-    let (whole, new, index) = (
-        SliceInfoElem::from(..),
-        SliceInfoElem::from(NewAxis),
-        SliceInfoElem::from(-1isize),
-    );
-    let eight = [whole, new, whole, whole, index, whole, new, whole];
-    let refused = Some(Err(ErrorKind::IncompatibleShape));
+    let (alloc, new) = (rt.alloc(), SliceInfoElem::from(NewAxis));
     assert!(rt;
-        agreed::<Ix0, Ix0, 0>(alloc, []) == Some(Ok((0, 0)))
-            && agreed::<IxDyn, IxDyn, 0>(alloc, []) == Some(Ok((0, 0)))
-            && agreed::<Ix0, Ix1, 1>(alloc, [new]) == Some(Ok((0, 1)))
-            && agreed::<Ix1, Ix0, 1>(alloc, [new]) == refused
+        agree::<Ix0, Ix0, 0>(alloc, [], Ok((0, 0)))
+            && agree::<IxDyn, IxDyn, 0>(alloc, [], Ok((0, 0)))
+            && agree::<Ix0, Ix1, 1>(alloc, [new], Ok((0, 1)))
+            && agree::<Ix1, Ix0, 1>(alloc, [new], REFUSED)
     );
-    assert!(rt;
-        agreed::<Ix6, IxDyn, 8>(alloc, eight) == Some(Ok((6, 7)))
-            && agreed::<IxDyn, Ix6, 8>(alloc, eight) == refused
-            && agreed::<IxDyn, IxDyn, 8>(alloc, eight) == Some(Ok((6, 7)))
-    );
+    assert!(rt; eight_agree(alloc));
 }
 
-/// What an argument for shapes of a type tells.
-fn told<D: FixedCount, S: SliceArg<D>>(arg: &S) -> (usize, usize) {
-    (arg.in_ndim(), arg.out_ndim())
-}
-
-/// The counts of an argument for shapes of its own type and of any number of axes, and how many elements
-/// it has.
-type Parts = ((usize, usize), (usize, usize), usize);
-
-/// What an argument tells, kept in a `T`.
-fn parts<T: SliceElems, Dout: Dimension, const N: usize>(
-    info: &SliceInfo<T, Dim<[usize; N]>, Dout>,
-) -> Parts {
-    (
-        told::<Dim<[usize; N]>, _>(info),
-        told::<IxDyn, _>(info),
-        info.elems().len(),
-    )
-}
-
-/// Whether an argument tells this, and keeps these elements.
-fn is_of<T: SliceElems, Dout: Dimension, const N: usize>(
-    info: &SliceInfo<T, Dim<[usize; N]>, Dout>,
-    told: Parts,
+/// Whether an argument for shapes of a type tells this, and has these elements.
+fn is_argument<D: FixedCount, S: SliceArg<D>>(
+    arg: &S,
+    told: (usize, usize),
     elems: &[SliceInfoElem],
 ) -> bool {
-    parts(info) == told && info.indices().elems() == elems
+    (arg.in_ndim(), arg.out_ndim()) == told && arg.elems() == elems
 }
 
-/// Whether an argument, and the same with its elements lent, tells this, keeps these elements, and fits the
-/// first of two shapes alone.
-fn is_of_both<T: SliceElems, Dout: Dimension, D: Dimension, const N: usize>(
-    info: &SliceInfo<T, Dim<[usize; N]>, Dout>,
-    told: Parts,
+/// Whether an argument tells this, for shapes of its own type and of any number of axes, and keeps these
+/// elements.
+fn is_of<T: SliceElems, Dout: Dimension>(
+    info: &SliceInfo<T, Ix2, Dout>,
+    told: (usize, usize),
     elems: &[SliceInfoElem],
-    shapes: (&D, &D),
 ) -> bool {
-    let lent = SliceInfo::<&[SliceInfoElem], Dim<[usize; N]>, Dout>::from(info);
+    is_argument::<Ix2, _>(info, told, elems)
+        && is_argument::<IxDyn, _>(info, told, elems)
+        && info.indices().elems() == elems
+}
+
+/// Whether an argument fits three rows of four elements, and no rows of as many not.
+fn fits_some_rows<S: SliceElems>(arg: &S) -> bool {
+    check_slice(&new_ix2(3, 4), arg, Fit::Strict).is_ok()
+        && check_slice(&new_ix2(0, 4), arg, Fit::Strict).is_err()
+}
+
+/// Whether an argument, and the same with its elements lent, tells this, keeps these elements, and fits some
+/// rows.
+fn is_of_both<T: SliceElems, Dout: Dimension>(
+    info: &SliceInfo<T, Ix2, Dout>,
+    told: (usize, usize),
+    elems: &[SliceInfoElem],
+) -> bool {
+    let lent = SliceInfo::<&[SliceInfoElem], Ix2, Dout>::from(info);
     is_of(info, told, elems)
         && is_of(&lent, told, elems)
-        && check_slice(shapes.0, info, Fit::Strict).is_ok()
-        && check_slice(shapes.1, &lent, Fit::Strict).is_err()
+        && fits_some_rows(info)
+        && fits_some_rows(&lent)
 }
 
 /// The argument of an index and a range.
@@ -125,10 +133,9 @@ fn made() -> Result<SliceInfo<[SliceInfoElem; 2], Ix2, Ix1>, ErrorKind> {
 fn an_argument_by_its_type(rt: HostRuntime) {
     let info = made().expect(&rt, "the counts fit");
     let (copy, clone) = (info, info.clone().unwrap());
-    let (told, elems) = (((2, 1), (2, 1), 2), row_of_a_matrix());
-    let shapes = (new_ix2(3, 4), new_ix2(0, 4));
+    let elems = row_of_a_matrix();
     for argument in [info, copy, clone] {
-        assert!(rt; is_of_both(&argument, told, &elems, (&shapes.0, &shapes.1)));
+        assert!(rt; is_of_both(&argument, (2, 1), &elems));
     }
 }
 

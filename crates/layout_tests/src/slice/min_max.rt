@@ -1,10 +1,13 @@
 //! The least and the greatest entry that a slice picks.
 //!
 //! A row is a length, a slice, and both entries.
+use crate::tables::{Told, hold};
 use crate::view::elems::elem;
+use crate::view::question::number;
+use crate::view::words::says;
 use Fit::{Clamp, Strict};
 use nd_slice::{Fit, Slice, SliceInfoElem, slice_min_max, to_abs_slice};
-use nd_testing::{Row, rows};
+use nd_testing::Row;
 use std::process::Abort;
 
 /// Both entries, or nothing where there are none; the outer one where the slice does not fit.
@@ -16,7 +19,7 @@ fn ends(len: usize, slice: Slice, fit: Fit) -> Option<Option<(usize, usize)>> {
 }
 
 /// The slice that the next word of a row spells.
-fn slice(rt: &impl Abort, row: &mut Row<'_>) -> Option<Slice> {
+pub fn slice(rt: &impl Abort, row: &mut Row<'_>) -> Option<Slice> {
     match elem(rt, row.word().expect(rt, "a slice")) {
         SliceInfoElem::Slice { start, end, step } => Some(Slice { start, end, step }),
         _ => None,
@@ -24,21 +27,13 @@ fn slice(rt: &impl Abort, row: &mut Row<'_>) -> Option<Slice> {
 }
 
 /// A row holds.
-fn holds(rt: &impl Abort, line: &str, fit: Fit) {
-    let mut row = Row::new(line);
-    let len = row.length().expect(rt, "a length");
-    let slice = slice(rt, &mut row).expect(rt, "a slice");
-    let expected = match row.length().ok() {
-        Some(least) => Some((least, row.length().expect(rt, "an entry"))),
-        None => None,
-    };
-    assert!(rt; ends(len, slice, fit) == Some(expected), "{line}");
-}
-
-/// All rows of a table hold.
-fn hold(rt: &impl Abort, table: &str, fit: Fit) {
-    for line in rows(table) {
-        holds(rt, line, fit);
+pub fn ends_hold(rt: &impl Abort, row: &mut Row<'_>, fit: Fit) -> bool {
+    let len = number(rt, row);
+    let slice = slice(rt, row).expect(rt, "a slice");
+    match ends(len, slice, fit) {
+        Some(Some((least, greatest))) => number(rt, row) == least && number(rt, row) == greatest,
+        Some(None) => says(rt, row, "none"),
+        None => false,
     }
 }
 
@@ -78,7 +73,7 @@ const STRICT: &str = "\
 
 #[test]
 fn r4_rows(rt: HostRuntime) {
-    hold(&rt, STRICT, Strict);
+    hold(&rt, rt.alloc(), Told::Ends(Strict), STRICT);
 }
 
 /// Slices whose bounds are moved to the ends of the axis.
@@ -94,5 +89,5 @@ const CLAMPED: &str = "\
 
 #[test]
 fn r14_rows(rt: HostRuntime) {
-    hold(&rt, CLAMPED, Clamp);
+    hold(&rt, rt.alloc(), Told::Ends(Clamp), CLAMPED);
 }

@@ -1,336 +1,296 @@
-//! What views answer, at any dimension type.
-use crate::types::{AtType, at_type, dim_of};
-use crate::view::question::{Argument, Asked, Made, OfView, Question, lens, strides};
-use ErrorKind::{IncompatibleShape, OutOfBounds, Overflow, Unsupported};
+//! Whether rows tell what views answer, at any dimension type.
+use crate::types::{AtType, at_type};
+use crate::view::elems::elems;
+use crate::view::question::{
+    Asked, Made, OfView, Question, dim, fixed_count, lens, number, read_layout, read_question,
+    strides,
+};
+use crate::view::words::{is_number, is_refused, says};
 use Order::{ColumnMajor, RowMajor};
 use nd_testing::Row;
 use ndarray_layout::{
-    Axis, Dimension, ErrorKind, LayoutError, Lengths, Order, Strided, is_layout_c, is_layout_f,
+    Axis, Fit, LayoutError, Lengths, Order, Strided, is_layout_c, is_layout_f,
     max_abs_offset_check_overflow, size_of_shape_checked,
 };
 use std::alloc::Global;
-use std::marker::PhantomData;
 use std::process::Abort;
 
-/// All that a view tells.
-#[derive(Drop, PartialEq)]
-pub struct Seen {
-    shape: Vec<usize>,
-    strides: Vec<usize>,
-    start: usize,
-    by_rows: Vec<usize>,
-    by_columns: Vec<usize>,
+// ---- views as rows tell them
+
+/// Whether the next word of a row lists these lengths.
+fn lists(rt: &impl Abort, alloc: Global, row: &mut Row<'_>, list: &[usize]) -> bool {
+    lens(rt, alloc, row).as_slice() == list
 }
 
-/// What is answered to a question.
-#[derive(Drop, PartialEq)]
-pub enum Answer {
-    View(Seen),
-    Unmerged(Seen),
-    InOrder(bool, bool),
-    Number(Option<usize>),
-    Refused(ErrorKind),
-    OutOfMemory,
+/// Whether the next word of a row lists these strides.
+fn lists_strides(rt: &impl Abort, alloc: Global, row: &mut Row<'_>, list: &[usize]) -> bool {
+    strides(rt, alloc, row).as_slice() == list
 }
 
-/// The next words of a row as an answer.
-pub fn expected(rt: &impl Abort, alloc: Global, row: &mut Row<'_>) -> Answer {
-    match row.word().expect(rt, "an answer") {
-        "is" => Answer::View(seen_in_row(rt, alloc, row)),
-        "unmerged" => Answer::Unmerged(seen_in_row(rt, alloc, row)),
-        "by_rows" => Answer::InOrder(true, false),
-        "by_columns" => Answer::InOrder(false, true),
-        "both_ways" => Answer::InOrder(true, true),
-        "neither_way" => Answer::InOrder(false, false),
-        "Overflow" => Answer::Refused(Overflow),
-        "IncompatibleShape" => Answer::Refused(IncompatibleShape),
-        "OutOfBounds" => Answer::Refused(OutOfBounds),
-        "Unsupported" => Answer::Refused(Unsupported),
-        word => Answer::Number(word.parse().ok()),
-    }
-}
-
-/// The next words of a row: shape, strides, start, places by rows and by columns.
-fn seen_in_row(rt: &impl Abort, alloc: Global, row: &mut Row<'_>) -> Seen {
-    Seen {
-        shape: lens(rt, alloc, row),
-        strides: strides(rt, alloc, row),
-        start: row.length().expect(rt, "a start"),
-        by_rows: lens(rt, alloc, row),
-        by_columns: lens(rt, alloc, row),
-    }
-}
-
-/// A list of its own.
-fn copy(rt: &impl Abort, alloc: Global, lens: &[usize]) -> Vec<usize> {
-    Vec::from_slice(alloc, lens).expect(rt, "memory")
-}
-
-/// All that a view tells.
-fn look<D: Dimension>(rt: &impl Abort, alloc: Global, view: &Strided<D>) -> Seen {
-    Seen {
-        shape: copy(rt, alloc, view.dim().slice()),
-        strides: copy(rt, alloc, view.strides().slice()),
-        start: view.start(),
-        by_rows: view.places(alloc, RowMajor).expect(rt, "memory"),
-        by_columns: view.places(alloc, ColumnMajor).expect(rt, "memory"),
-    }
-}
-
-/// What a call that makes a view answers.
-pub fn told<D: Dimension>(
+/// Whether the next word of a row lists the places of a view in an order.
+fn lists_places<D: Lengths>(
     rt: &impl Abort,
     alloc: Global,
+    row: &mut Row<'_>,
+    view: &Strided<D>,
+    order: Order,
+) -> bool {
+    let places = view.places(alloc, order).expect(rt, "memory");
+    lists(rt, alloc, row, places.as_slice())
+}
+
+/// Whether the next words of a row are all that a view tells: shape, strides, start, places by rows and by
+/// columns.
+fn shows<D: Lengths>(rt: &impl Abort, alloc: Global, row: &mut Row<'_>, view: &Strided<D>) -> bool {
+    lists(rt, alloc, row, view.dim().slice())
+        && lists_strides(rt, alloc, row, view.strides().slice())
+        && number(rt, row) == view.start()
+        && lists_places(rt, alloc, row, view, RowMajor)
+        && lists_places(rt, alloc, row, view, ColumnMajor)
+}
+
+/// Whether the next words of a row are `is` and all that a view tells.
+pub fn is_view<D: Lengths>(
+    rt: &impl Abort,
+    alloc: Global,
+    row: &mut Row<'_>,
+    view: &Strided<D>,
+) -> bool {
+    says(rt, row, "is") && shows(rt, alloc, row, view)
+}
+
+/// Whether the next words of a row tell the view that a call makes, or the rule that refuses it.
+pub fn is_told<D: Lengths>(
+    rt: &impl Abort,
+    alloc: Global,
+    row: &mut Row<'_>,
     view: Result<Strided<D>, LayoutError>,
-) -> Answer {
+) -> bool {
     match view {
-        Ok(view) => Answer::View(look(rt, alloc, &view)),
-        Err(LayoutError::Shape(fault)) => Answer::Refused(fault.kind()),
-        Err(LayoutError::Memory(_error)) => Answer::OutOfMemory,
+        Ok(view) => is_view(rt, alloc, row, &view),
+        Err(LayoutError::Shape(fault)) => is_refused(rt, row, fault.kind()),
+        Err(LayoutError::Memory(_error)) => false,
     }
 }
 
-/// The value of a dimension type that stands for a list.
-fn dim<D: Dimension>(rt: &impl Abort, alloc: Global, lens: &[usize]) -> D {
-    dim_of(rt, alloc, lens).expect(rt, "memory")
-}
+// ---- views that are made of a view
 
-/// The view of a layout.
-fn view<D: Dimension>(
+/// The slice of a view into a dimension type, by the next word of a row.
+fn is_sliced<D: Lengths, E: Lengths>(
     rt: &impl Abort,
     alloc: Global,
-    layout: &Asked,
-) -> Result<Strided<D>, LayoutError> {
-    let shape = dim(rt, alloc, layout.shape.as_slice());
-    let strides = dim(rt, alloc, layout.strides.as_slice());
-    Ok(Strided::new(shape, strides, layout.elem_size, layout.len, layout.mode)?)
-}
-
-/// How far a layout reaches.
-fn span<D: Dimension>(rt: &impl Abort, alloc: Global, layout: &Asked) -> Option<usize> {
-    let shape: D = dim(rt, alloc, layout.shape.as_slice());
-    let strides: D = dim(rt, alloc, layout.strides.as_slice());
-    max_abs_offset_check_overflow(layout.elem_size, &shape, &strides).ok()
-}
-
-/// The place of an index.
-fn place<D: Dimension>(
-    rt: &impl Abort,
-    alloc: Global,
+    row: &mut Row<'_>,
     view: &Strided<D>,
-    index: &[usize],
-) -> Option<usize> {
-    view.place(&dim::<D>(rt, alloc, index))
+    fit: Fit,
+) -> bool {
+    let elems = elems(rt, alloc, row);
+    is_told::<E>(rt, alloc, row, view.slice(alloc, &elems, fit))
 }
 
-/// What is told of the slice of a view into a dimension type.
-fn told_of_slice<D: Dimension, E: Dimension>(
+/// A view as one of a shape of a dimension type, the next word of a row.
+fn is_broadcast<D: Lengths, E: Lengths>(
     rt: &impl Abort,
     alloc: Global,
+    row: &mut Row<'_>,
     view: &Strided<D>,
-    argument: &Argument,
-) -> Answer {
-    told::<E>(rt, alloc, view.slice(alloc, &argument.elems, argument.fit))
+) -> bool {
+    let shape: E = dim(rt, alloc, row);
+    is_told(rt, alloc, row, view.broadcast(alloc, &shape))
 }
 
-/// What is told of a view as one of a shape of a dimension type.
-fn told_of_broadcast<D: Dimension, E: Dimension>(
+/// A view that is made of another, by the next words of a row.
+struct OfMade<'a, 'b, D: Lengths> {
+    view: &'a Strided<D>,
+    made: Made,
+    row: &'a mut Row<'b>,
+}
+
+impl<D: Lengths> AtType for OfMade<'_, '_, D> {
+    fn at<E: Lengths>(self, rt: &impl Abort, alloc: Global) -> bool {
+        let OfMade { view, made, row } = self;
+        match made {
+            Made::Slice(fit) => is_sliced::<D, E>(rt, alloc, row, view, fit),
+            Made::Broadcast => is_broadcast::<D, E>(rt, alloc, row, view),
+        }
+    }
+}
+
+/// The same at the dimension type that the row names first.
+fn is_made<D: Lengths>(
     rt: &impl Abort,
     alloc: Global,
+    row: &mut Row<'_>,
     view: &Strided<D>,
-    shape: &[usize],
-) -> Answer {
-    told::<E>(
-        rt,
-        alloc,
-        view.broadcast(alloc, &dim::<E>(rt, alloc, shape)),
-    )
+    made: Made,
+) -> bool {
+    let ndim = fixed_count(rt, row);
+    at_type(rt, alloc, ndim, OfMade { view, made, row })
 }
 
 /// Keeps the second entry of the first axis of a view, merged into the second.
-fn keep_second_row<D: Dimension>(rt: &impl Abort, view: &mut Strided<D>) {
+fn keep_second_row<D: Lengths>(rt: &impl Abort, view: &mut Strided<D>) {
     view.collapse(Axis(0), 1).expect(rt, "no such entry");
     let merged = view.merge(Axis(0), Axis(1)).expect(rt, "no such axes");
     assert!(rt; merged, "no one stride has the entries of both axes");
 }
 
-/// The view of a layout that another is made of: the whole, or the second row.
-fn read<D: Dimension>(rt: &impl Abort, alloc: Global, layout: &Asked, made: &Made) -> Strided<D> {
-    let mut view = view::<D>(rt, alloc, layout).expect(rt, "refused");
-    if let Made::SecondRow(_ndim, _shape) = made {
-        keep_second_row(rt, &mut view);
-    }
-    view
+// ---- what else is asked of a view
+
+/// The place of an index.
+fn is_at<D: Lengths>(rt: &impl Abort, alloc: Global, row: &mut Row<'_>, view: &Strided<D>) -> bool {
+    let index: D = dim(rt, alloc, row);
+    is_number(rt, row, view.place(&index))
 }
 
-/// What is told of a view that is made of another.
-fn told_of_view<D: Dimension, E: Dimension>(
+/// How many places a slice picks, after a dimension type that it may be of.
+fn is_picked<D: Lengths>(
     rt: &impl Abort,
     alloc: Global,
+    row: &mut Row<'_>,
     view: &Strided<D>,
-    made: &Made,
-) -> Answer {
-    match made {
-        Made::Slice(argument) => told_of_slice::<D, E>(rt, alloc, view, argument),
-        Made::Broadcast(_ndim, shape) | Made::SecondRow(_ndim, shape) => {
-            told_of_broadcast::<D, E>(rt, alloc, view, shape.as_slice())
-        }
-    }
-}
-
-/// What is told of a view that is made of the view of a layout, at a dimension type.
-fn told_of_made<D: Dimension, E: Dimension>(
-    rt: &impl Abort,
-    alloc: Global,
-    layout: &Asked,
-    made: &Made,
-) -> Answer {
-    told_of_view::<D, E>(rt, alloc, &read::<D>(rt, alloc, layout, made), made)
-}
-
-/// What is told of a view that is made of the view of a layout at a dimension type, at another.
-#[derive(Drop)]
-struct OfMade<'a, D: Dimension> {
-    from: PhantomData<D>,
-    layout: &'a Asked,
-    made: &'a Made,
-}
-
-impl<D: Dimension> AtType for OfMade<'_, D> {
-    type Answer = Answer;
-
-    fn at<E: Dimension>(&self, rt: &impl Abort, alloc: Global) -> Answer {
-        told_of_made::<D, E>(rt, alloc, self.layout, self.made)
-    }
-}
-
-/// The same at the dimension type that it is to be of.
-fn made<D: Dimension>(rt: &impl Abort, alloc: Global, layout: &Asked, made: &Made) -> Answer {
-    let from = PhantomData::<D>;
-    at_type(rt, alloc, made.ndim(), &OfMade { from, layout, made })
-}
-
-/// How many places of a view a slice picks.
-fn picked<D: Dimension>(view: &Strided<D>, argument: &Argument) -> Answer {
-    match view.picked(&argument.elems, argument.fit) {
-        Ok(count) => Answer::Number(Some(count)),
-        Err(fault) => Answer::Refused(fault.kind()),
+    fit: Fit,
+) -> bool {
+    let _ndim = fixed_count(rt, row);
+    let elems = elems(rt, alloc, row);
+    match view.picked(&elems, fit) {
+        Ok(count) => is_number(rt, row, Some(count)),
+        Err(fault) => is_refused(rt, row, fault.kind()),
     }
 }
 
 /// What is left of a view by one entry of an axis.
-fn collapse<D: Dimension>(
+fn is_collapsed<D: Lengths>(
     rt: &impl Abort,
     alloc: Global,
+    row: &mut Row<'_>,
     view: &mut Strided<D>,
-    axis: Axis,
-    index: usize,
-) -> Answer {
+) -> bool {
+    let (axis, index) = (Axis(number(rt, row)), number(rt, row));
     match view.collapse(axis, index) {
-        Ok(()) => Answer::View(look(rt, alloc, view)),
-        Err(fault) => Answer::Refused(fault.kind()),
+        Ok(()) => is_view(rt, alloc, row, view),
+        Err(fault) => is_refused(rt, row, fault.kind()),
     }
 }
 
 /// What is left of a view where an axis is merged into another, or the view where it isn't.
-fn merge<D: Dimension>(
+fn is_merged<D: Lengths>(
     rt: &impl Abort,
     alloc: Global,
+    row: &mut Row<'_>,
     view: &mut Strided<D>,
-    take: Axis,
-    into: Axis,
-) -> Answer {
+) -> bool {
+    let (take, into) = (Axis(number(rt, row)), Axis(number(rt, row)));
     match view.merge(take, into) {
-        Ok(true) => Answer::View(look(rt, alloc, view)),
-        Ok(false) => Answer::Unmerged(look(rt, alloc, view)),
-        Err(fault) => Answer::Refused(fault.kind()),
+        Ok(merged) => {
+            says(rt, row, if merged { "is" } else { "unmerged" }) && shows(rt, alloc, row, view)
+        }
+        Err(fault) => is_refused(rt, row, fault.kind()),
     }
 }
 
-/// Whether the places of a view lie in order, by rows and by columns.
-fn in_order<D: Dimension>(view: &Strided<D>) -> Answer {
+/// Whether the places of a view lie in order, by rows and by columns, as a word.
+fn order_of<D: Lengths>(view: &Strided<D>) -> &'static str {
     let (dim, strides) = (view.dim(), view.strides());
     if dim.ndim() != strides.ndim() || size_of_shape_checked(dim).is_err() {
-        return Answer::Number(None);
+        return "no_order";
     }
-    Answer::InOrder(is_layout_c(dim, strides), is_layout_f(dim, strides))
+    match (is_layout_c(dim, strides), is_layout_f(dim, strides)) {
+        (true, true) => "both_ways",
+        (true, false) => "by_rows",
+        (false, true) => "by_columns",
+        (false, false) => "neither_way",
+    }
 }
 
 /// The same of a slice of a view, of as many axes.
-fn slice_in_order<D: Dimension>(
+fn slice_is_in_order<D: Lengths>(
     rt: &impl Abort,
     alloc: Global,
+    row: &mut Row<'_>,
     view: &Strided<D>,
-    argument: &Argument,
-) -> Answer {
-    let slice: Result<Strided<D>, LayoutError> = view.slice(alloc, &argument.elems, argument.fit);
-    in_order(&slice.expect(rt, "refused"))
+) -> bool {
+    let _ndim = fixed_count(rt, row);
+    let elems = elems(rt, alloc, row);
+    let slice: Result<Strided<D>, LayoutError> = view.slice(alloc, &elems, Fit::Strict);
+    says(rt, row, order_of(&slice.expect(rt, "refused")))
 }
 
-/// The answer of a view.
-fn ask_view<D: Dimension>(
+// ---- rows
+
+/// A row tells what a view answers.
+fn view_answers<D: Lengths>(
     rt: &impl Abort,
     alloc: Global,
+    row: &mut Row<'_>,
     view: &mut Strided<D>,
-    asked: &OfView,
-) -> Answer {
+    asked: OfView,
+) -> bool {
     match asked {
-        OfView::Place(index) => Answer::Number(place(rt, alloc, view, index.as_slice())),
-        OfView::Picked(argument) => picked(view, argument),
-        OfView::Collapse(axis, index) => collapse(rt, alloc, view, *axis, *index),
-        OfView::Merge(take, into) => merge(rt, alloc, view, *take, *into),
-        OfView::InOrder(argument) => slice_in_order(rt, alloc, view, argument),
+        OfView::Place => is_at(rt, alloc, row, view),
+        OfView::Picked(fit) => is_picked(rt, alloc, row, view, fit),
+        OfView::Collapse => is_collapsed(rt, alloc, row, view),
+        OfView::Merge => is_merged(rt, alloc, row, view),
+        OfView::InOrder => slice_is_in_order(rt, alloc, row, view),
+        OfView::Made(made) => is_made(rt, alloc, row, view, made),
+        OfView::SecondRow => {
+            keep_second_row(rt, view);
+            is_made(rt, alloc, row, view, Made::Broadcast)
+        }
     }
 }
 
-/// The answer of the view of a layout at a dimension type.
-fn ask_viewed<D: Dimension>(
-    rt: &impl Abort,
-    alloc: Global,
-    layout: &Asked,
-    asked: &OfView,
-) -> Answer {
-    let mut view = view::<D>(rt, alloc, layout).expect(rt, "refused");
-    ask_view(rt, alloc, &mut view, asked)
+/// The view of a layout.
+fn view<D: Lengths>(asked: Asked<D>) -> Result<Strided<D>, LayoutError> {
+    Ok(Strided::new(
+        asked.shape,
+        asked.strides,
+        asked.elem_size,
+        asked.len,
+        asked.mode,
+    )?)
 }
 
-/// The answer of a layout at a dimension type.
-fn ask<D: Dimension>(
+/// How far a layout reaches.
+fn span<D: Lengths>(asked: &Asked<D>) -> Option<usize> {
+    max_abs_offset_check_overflow(asked.elem_size, &asked.shape, &asked.strides).ok()
+}
+
+/// A row tells what the view of a layout answers.
+fn viewed_answers<D: Lengths>(
     rt: &impl Abort,
     alloc: Global,
-    layout: &Asked,
-    question: &Question,
-) -> Answer {
-    match question {
-        Question::View => told(rt, alloc, view::<D>(rt, alloc, layout)),
-        Question::Span => Answer::Number(span::<D>(rt, alloc, layout)),
-        Question::Of(asked) => ask_viewed::<D>(rt, alloc, layout, asked),
-        Question::Made(other) => made::<D>(rt, alloc, layout, other),
+    row: &mut Row<'_>,
+    layout: Asked<D>,
+    asked: OfView,
+) -> bool {
+    let mut view = view(layout).expect(rt, "refused");
+    view_answers(rt, alloc, row, &mut view, asked)
+}
+
+/// A row holds: a layout, a question and its answer, at a dimension type.
+fn answers<D: Lengths>(rt: &impl Abort, alloc: Global, row: &mut Row<'_>) -> bool {
+    let layout: Asked<D> = read_layout(rt, alloc, row);
+    match read_question(rt, row) {
+        Question::View => is_told(rt, alloc, row, view(layout)),
+        Question::Span => is_number(rt, row, span(&layout)),
+        Question::Of(asked) => viewed_answers(rt, alloc, row, layout, asked),
     }
 }
 
-/// What is asked of a layout at a dimension type.
-#[derive(Drop)]
-struct OfLayout<'a> {
-    layout: &'a Asked,
-    question: &'a Question,
+/// A row at a dimension type.
+struct OfRow<'a, 'b> {
+    row: &'a mut Row<'b>,
 }
 
-impl AtType for OfLayout<'_> {
-    type Answer = Answer;
-
-    fn at<D: Dimension>(&self, rt: &impl Abort, alloc: Global) -> Answer {
-        ask::<D>(rt, alloc, self.layout, self.question)
+impl AtType for OfRow<'_, '_> {
+    fn at<D: Lengths>(self, rt: &impl Abort, alloc: Global) -> bool {
+        let OfRow { row } = self;
+        answers::<D>(rt, alloc, row)
     }
 }
 
-/// The answer of a layout at the dimension type of so many axes.
-pub fn answer_at(
-    rt: &impl Abort,
-    alloc: Global,
-    ndim: Option<usize>,
-    layout: &Asked,
-    question: &Question,
-) -> Answer {
-    at_type(rt, alloc, ndim, &OfLayout { layout, question })
+/// A row holds: a dimension type, a layout over data, a question and its answer.
+pub fn view_holds(rt: &impl Abort, alloc: Global, row: &mut Row<'_>) -> bool {
+    let ndim = fixed_count(rt, row);
+    at_type(rt, alloc, ndim, OfRow { row })
 }

@@ -3,10 +3,11 @@
 //! A row is a dimension type, a layout (size of an element, length and use of the data, shape,
 //! strides), a question and its answer. After `merge` stand the axis to take and the one to merge into,
 //! after `broadcast` the dimension type of the shape, and the shape.
+use crate::tables::{Told, hold};
 use crate::types::{AtType, at_type, dim_of};
-use crate::view::rows::{hold, owned};
+use crate::view::owned::owned;
 use nd_testing::grants;
-use ndarray_layout::{Dimension, LayoutError, Strided, new_ix2};
+use ndarray_layout::{Lengths, new_ix2};
 use std::alloc::Global;
 use std::process::Abort;
 
@@ -35,7 +36,7 @@ IxDyn 4 12 owned 2,1,3,1,2 6,9,1,9,3 merge 0 4 is 1,1,3,1,4 6,9,1,9,3 0 0,3,6,9,
 
 #[test]
 fn r5_rows_of_merged_views(rt: HostRuntime) {
-    hold(&rt, rt.alloc(), MERGED);
+    hold(&rt, rt.alloc(), Told::Views, MERGED);
 }
 
 /// Views read as views of other shapes.
@@ -67,7 +68,7 @@ IxDyn 1 2 owned 1,1,2,1,1 3,4,1,5,6 broadcast IxDyn 1,3,2,1,1 is 1,3,2,1,1 3,0,1
 
 #[test]
 fn r5_rows_of_broadcast_views(rt: HostRuntime) {
-    hold(&rt, rt.alloc(), BROADCAST);
+    hold(&rt, rt.alloc(), Told::Views, BROADCAST);
 }
 
 /// Whether slices of a layout of five by five lie in order.
@@ -84,7 +85,7 @@ Ix2 1 25 owned 5,5 5,1 in_order Ix2 2..2,..;3 both_ways";
 
 #[test]
 fn r5_rows_of_layouts(rt: HostRuntime) {
-    hold(&rt, rt.alloc(), IN_ORDER);
+    hold(&rt, rt.alloc(), Told::Views, IN_ORDER);
 }
 
 /// One step after another: an entry of the first axis, which is merged into the second, and a shape.
@@ -93,76 +94,49 @@ Ix2 1 6 owned 2,3 3,1 second_row Ix3 2,2,3 is 2,2,3 0,0,1 3 3,4,5,3,4,5,3,4,5,3,
 
 #[test]
 fn r5_rows_of_steps(rt: HostRuntime) {
-    hold(&rt, rt.alloc(), STEPS);
+    hold(&rt, rt.alloc(), Told::Views, STEPS);
 }
 
 // ---- refused memory
 
-/// What comes of reading a view as one of a shape.
-#[derive(Clone, Copy, PartialEq)]
-enum Outcome {
-    Made,
-    OutOfMemory,
-    Refused,
-}
-
-/// A shape and strides over two elements, as a view of a shape.
-fn read_as<D: Dimension, E: Dimension>(
-    alloc: Global,
-    dim: D,
-    strides: D,
-    shape: &E,
-) -> Result<Strided<E>, LayoutError> {
-    let view = owned(dim, strides, 2)?;
-    view.broadcast(alloc, shape)
-}
-
-/// What comes of it.
-fn outcome_as<D: Dimension, E: Dimension>(alloc: Global, dim: D, strides: D, shape: &E) -> Outcome {
-    match read_as(alloc, dim, strides, shape) {
-        Ok(_view) => Outcome::Made,
-        Err(LayoutError::Memory(_error)) => Outcome::OutOfMemory,
-        Err(LayoutError::Shape(_fault)) => Outcome::Refused,
+/// Whether two columns are read as a view of a shape.
+fn columns_are_read<E: Lengths>(alloc: Global, shape: &E) -> bool {
+    match owned(new_ix2(1, 2), new_ix2(2, 1), 2) {
+        Ok(columns) => columns.broadcast(alloc, shape).is_ok(),
+        Err(_) => false,
     }
-}
-
-/// What comes of reading two columns as a view of a shape.
-fn columns_as<E: Dimension>(alloc: Global, shape: &E) -> Outcome {
-    outcome_as(alloc, new_ix2(1, 2), new_ix2(2, 1), shape)
 }
 
 /// Whether two columns are read as a view of a shape of five axes twice, or once, where a request is refused.
 /// Each time takes two, behind the one of the shape.
-fn one_is_made<E: Dimension>(alloc: Global, shape: &E) -> bool {
-    let first = columns_as(alloc, shape);
-    let second = columns_as(alloc, shape);
-    grants(alloc) && (first == Outcome::Made || second == Outcome::Made)
+fn one_is_read<E: Lengths>(alloc: Global, shape: &E) -> bool {
+    let first = columns_are_read(alloc, shape);
+    let second = columns_are_read(alloc, shape);
+    grants(alloc) && (first || second)
 }
 
 /// How often two columns are read as a view of a shape.
-#[derive(Clone, Copy, PartialEq)]
+#[derive(Clone, Copy)]
 enum Times {
     Once,
     TwiceOrRefused,
 }
 
 /// Two columns, as a view of a shape.
-#[derive(Drop)]
+#[derive(Clone, Copy)]
 struct Columns<'a> {
     shape: &'a [usize],
     times: Times,
 }
 
 impl AtType for Columns<'_> {
-    type Answer = bool;
-
-    fn at<E: Dimension>(&self, rt: &impl Abort, alloc: Global) -> bool {
+    fn at<E: Lengths>(self, rt: &impl Abort, alloc: Global) -> bool {
         let Ok(shape) = dim_of::<E>(rt, alloc, self.shape) else {
-            return self.times == Times::TwiceOrRefused;
+            return matches!(self.times, Times::TwiceOrRefused);
         };
         match self.times {
-            Times::Once => columns_as(alloc, &shape) == Outcome::Made,
-            Times::TwiceOrRefused => one_is_made(alloc, &shape),
+            Times::Once => columns_are_read(alloc, &shape),
+            Times::TwiceOrRefused => one_is_read(alloc, &shape),
         }
     }
 }
@@ -175,7 +149,7 @@ fn are_read(
     shape: &[usize],
     times: Times,
 ) -> bool {
-    at_type(rt, alloc, ndim, &Columns { shape, times })
+    at_type(rt, alloc, ndim, Columns { shape, times })
 }
 
 #[test]

@@ -5,22 +5,26 @@ use ndarray_layout::{SliceInfoElem, in_ndim_of, out_ndim_of};
 use std::alloc::Global;
 use std::process::Abort;
 
-/// A bound or an index that a word spells.
-fn bound(rt: &impl Abort, word: &str) -> isize {
+/// The number that a word spells.
+fn number(rt: &impl Abort, word: &str) -> isize {
     word.parse().ok().expect(rt, "a number")
+}
+
+/// The number that a word spells, or none.
+fn bound(rt: &impl Abort, word: &str) -> Option<isize> {
+    if word == "" {
+        return None;
+    }
+    Some(number(rt, word))
 }
 
 /// A range whose end and step stand behind its dots.
 fn range(rt: &impl Abort, start: &str, rest: &str) -> SliceInfoElem {
     let (end, step) = rest.split_once(";").unwrap_or((rest, "1"));
     Slice {
-        start: if start == "" { 0 } else { bound(rt, start) },
-        end: if end == "" {
-            None
-        } else {
-            Some(bound(rt, end))
-        },
-        step: bound(rt, step),
+        start: bound(rt, start).unwrap_or(0),
+        end: bound(rt, end),
+        step: number(rt, step),
     }
 }
 
@@ -31,7 +35,7 @@ pub fn elem(rt: &impl Abort, word: &str) -> SliceInfoElem {
     }
     match word.split_once("..") {
         Some((start, rest)) => range(rt, start, rest),
-        None => Index(bound(rt, word)),
+        None => Index(number(rt, word)),
     }
 }
 

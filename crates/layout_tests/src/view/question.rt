@@ -1,69 +1,52 @@
 //! Layouts and what is asked of them, as rows of tables tell it.
-use crate::view::elems::elems;
+use crate::types::dim_of;
 use CanIndexCheckMode::{OwnedMutable, ReadOnly};
 use Fit::{Clamp, Strict};
 use nd_testing::Row;
-use ndarray_layout::{Axis, CanIndexCheckMode, Fit, SliceInfoElem, unsigned};
+use ndarray_layout::{CanIndexCheckMode, Fit, Lengths, unsigned};
 use std::alloc::Global;
 use std::process::Abort;
 
 /// A layout over some data.
 #[derive(Drop)]
-pub struct Asked {
+pub struct Asked<D: Lengths> {
     pub elem_size: usize,
     pub len: usize,
     pub mode: CanIndexCheckMode,
-    pub shape: Vec<usize>,
-    pub strides: Vec<usize>,
-}
-
-/// A slice argument, the count of axes that the type of its slice fixes, and what becomes of bounds
-/// that lie outside their axis.
-#[derive(Drop)]
-pub struct Argument {
-    pub ndim: Option<usize>,
-    pub elems: Vec<SliceInfoElem>,
-    pub fit: Fit,
+    pub shape: D,
+    pub strides: D,
 }
 
 /// How a view of another type is made of one.
-#[derive(Drop)]
+#[derive(Clone, Copy)]
 pub enum Made {
-    /// The slice into the type of so many axes.
-    Slice(Argument),
-    /// The same data as a view of a shape, of the type of so many axes.
-    Broadcast(Option<usize>, Vec<usize>),
-    /// The second row, merged and then as a view of a shape, of the type of so many axes.
-    SecondRow(Option<usize>, Vec<usize>),
-}
-
-impl Made {
-    /// The count of axes that the type of the view fixes.
-    pub fn ndim(&self) -> Option<usize> {
-        match self {
-            Made::Slice(argument) => argument.ndim,
-            Made::Broadcast(ndim, _shape) | Made::SecondRow(ndim, _shape) => *ndim,
-        }
-    }
+    /// By a slice argument, and what becomes of its bounds that lie outside their axis.
+    Slice(Fit),
+    /// As the same data, as a view of a shape.
+    Broadcast,
 }
 
 /// What is asked of a view.
-#[derive(Drop)]
+#[derive(Clone, Copy)]
 pub enum OfView {
     /// The place of an index.
-    Place(Vec<usize>),
+    Place,
     /// How many places a slice picks.
-    Picked(Argument),
+    Picked(Fit),
     /// One entry of an axis.
-    Collapse(Axis, usize),
+    Collapse,
     /// An axis merged into another.
-    Merge(Axis, Axis),
+    Merge,
     /// Whether the places of a slice of as many axes lie in order, by rows and by columns.
-    InOrder(Argument),
+    InOrder,
+    /// A view that is made of it.
+    Made(Made),
+    /// The second row, merged and then as a view of a shape.
+    SecondRow,
 }
 
 /// What is asked of a layout.
-#[derive(Drop)]
+#[derive(Clone, Copy)]
 pub enum Question {
     /// The view.
     View,
@@ -71,8 +54,6 @@ pub enum Question {
     Span,
     /// A question about the view.
     Of(OfView),
-    /// A view that is made of it.
-    Made(Made),
 }
 
 /// The next word of a row as lengths.
@@ -89,6 +70,16 @@ pub fn strides(rt: &impl Abort, alloc: Global, row: &mut Row<'_>) -> Vec<usize> 
     strides
 }
 
+/// The next word of a row as a value of a dimension type.
+pub fn dim<D: Lengths>(rt: &impl Abort, alloc: Global, row: &mut Row<'_>) -> D {
+    dim_of(rt, alloc, lens(rt, alloc, row).as_slice()).expect(rt, "memory")
+}
+
+/// The next word of a row as strides in a value of a dimension type.
+fn dim_of_strides<D: Lengths>(rt: &impl Abort, alloc: Global, row: &mut Row<'_>) -> D {
+    dim_of(rt, alloc, strides(rt, alloc, row).as_slice()).expect(rt, "memory")
+}
+
 /// The use of the data that a word names.
 fn mode(word: &str) -> CanIndexCheckMode {
     if word == "owned" {
@@ -98,14 +89,19 @@ fn mode(word: &str) -> CanIndexCheckMode {
     }
 }
 
+/// The next word of a row as an unsigned number.
+pub fn number(rt: &impl Abort, row: &mut Row<'_>) -> usize {
+    row.length().expect(rt, "a number")
+}
+
 /// The next words of a row: size of an element, length and use of the data, shape, strides.
-pub fn read_layout(rt: &impl Abort, alloc: Global, row: &mut Row<'_>) -> Asked {
+pub fn read_layout<D: Lengths>(rt: &impl Abort, alloc: Global, row: &mut Row<'_>) -> Asked<D> {
     Asked {
-        elem_size: row.length().expect(rt, "a size"),
-        len: row.length().expect(rt, "a length"),
+        elem_size: number(rt, row),
+        len: number(rt, row),
         mode: mode(row.word().expect(rt, "a mode")),
-        shape: lens(rt, alloc, row),
-        strides: strides(rt, alloc, row),
+        shape: dim(rt, alloc, row),
+        strides: dim_of_strides(rt, alloc, row),
     }
 }
 
@@ -115,34 +111,37 @@ pub fn fixed_count(rt: &impl Abort, row: &mut Row<'_>) -> Option<usize> {
     name.strip_prefix("Ix")?.parse().ok()
 }
 
-/// The next word of a row as an unsigned number.
-fn number(rt: &impl Abort, row: &mut Row<'_>) -> usize {
-    row.length().expect(rt, "a number")
-}
-
-/// The next words of a row: the dimension type of a slice, and its elements.
-fn read_argument(rt: &impl Abort, alloc: Global, row: &mut Row<'_>, fit: Fit) -> Argument {
-    Argument {
-        ndim: fixed_count(rt, row),
-        elems: elems(rt, alloc, row),
-        fit,
-    }
-}
-
-/// The next words of a row as a question.
-pub fn read_question(rt: &impl Abort, alloc: Global, row: &mut Row<'_>) -> Question {
+/// The next word of a row as a question.
+pub fn read_question(rt: &impl Abort, row: &mut Row<'_>) -> Question {
     match row.word().expect(rt, "a question") {
         "view" => Question::View,
         "span" => Question::Span,
-        "at" => Question::Of(OfView::Place(lens(rt, alloc, row))),
-        "picked" => Question::Of(OfView::Picked(read_argument(rt, alloc, row, Strict))),
-        "clamp_picked" => Question::Of(OfView::Picked(read_argument(rt, alloc, row, Clamp))),
-        "collapse" => Question::Of(OfView::Collapse(Axis(number(rt, row)), number(rt, row))),
-        "merge" => Question::Of(OfView::Merge(Axis(number(rt, row)), Axis(number(rt, row)))),
-        "broadcast" => Question::Made(Made::Broadcast(fixed_count(rt, row), lens(rt, alloc, row))),
-        "second_row" => Question::Made(Made::SecondRow(fixed_count(rt, row), lens(rt, alloc, row))),
-        "in_order" => Question::Of(OfView::InOrder(read_argument(rt, alloc, row, Strict))),
-        "clamp" => Question::Made(Made::Slice(read_argument(rt, alloc, row, Clamp))),
-        _ => Question::Made(Made::Slice(read_argument(rt, alloc, row, Strict))),
+        word => Question::Of(about_view(rt, word)),
+    }
+}
+
+/// The question about a view that a word names.
+fn about_view(rt: &impl Abort, word: &str) -> OfView {
+    match word {
+        "at" => OfView::Place,
+        "picked" => OfView::Picked(Strict),
+        "clamp_picked" => OfView::Picked(Clamp),
+        "collapse" => OfView::Collapse,
+        "merge" => OfView::Merge,
+        "in_order" => OfView::InOrder,
+        "second_row" => OfView::SecondRow,
+        _ => OfView::Made(way_to_make(rt, word)),
+    }
+}
+
+/// The way to make a view that a word names.
+fn way_to_make(rt: &impl Abort, word: &str) -> Made {
+    match word {
+        "broadcast" => Made::Broadcast,
+        "clamp" => Made::Slice(Clamp),
+        _ => {
+            assert!(rt; word == "slice", "a question");
+            Made::Slice(Strict)
+        }
     }
 }

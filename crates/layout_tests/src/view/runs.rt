@@ -1,12 +1,12 @@
 //! Runs of steps from the view of a shape of three axes, and where they stop.
 //!
 //! Each test passes plain, and with the first or the second request of its run refused.
-use crate::view::rows::owned;
+use crate::view::owned::owned;
 use ErrorKind::{IncompatibleLayout, OutOfBounds};
 use SliceInfoElem::Slice;
 use ndarray_layout::{
-    Axis, Dimension, ErrorKind, Fit, IxDyn, LayoutError, Lengths, SliceInfoElem, Step, Stopped,
-    Strided, new_ixdyn, run,
+    Axis, ErrorKind, Fit, IxDyn, LayoutError, Lengths, SliceInfoElem, Step, Stopped, Strided,
+    new_ixdyn, run,
 };
 use std::alloc::{AllocError, Global};
 use std::process::Abort;
@@ -27,7 +27,7 @@ fn kind_of(fault: &LayoutError) -> Option<ErrorKind> {
 }
 
 /// Whether a view has this start, shape and strides.
-fn is_left<D: Dimension>(view: &Strided<D>, left: (usize, &[usize], &[usize])) -> bool {
+fn is_left<D: Lengths>(view: &Strided<D>, left: (usize, &[usize], &[usize])) -> bool {
     (view.start(), view.dim().slice(), view.strides().slice()) == left
 }
 

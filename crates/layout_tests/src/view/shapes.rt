@@ -2,197 +2,19 @@
 //!
 //! What is asked of a view is asked by the bound alone, and each type is named in one place: what
 //! `Strided::from_shape` ensures is dear where a type is given.
-use crate::types::{AtType, at_type, dim_of};
-use crate::view::rows::{is_told, owned};
+use crate::view::answer::is_view;
+use crate::view::owned::owned;
+use crate::view::words::is_refused;
 use CanIndexCheckMode::OwnedMutable;
-use nd_testing::grants;
+use nd_testing::{Row, grants};
 use ndarray_layout::{
     Axes, AxisDescription, CanIndexCheckMode, Dimension, LayoutError, Lengths, ShapeBuilder,
-    StrideShape, Strided, Strides, new_ix3, unsigned,
+    ShapeError, StrideShape, Strided, new_ix3, unsigned,
 };
-use std::alloc::Global;
+use std::alloc::{AllocError, Global};
 use std::process::Abort;
 
-/// The view of a shape in owned mode.
-fn along<D: Dimension>(
-    alloc: Global,
-    shape: StrideShape<D>,
-    elem_size: usize,
-    len: usize,
-) -> Result<Strided<D>, LayoutError> {
-    Strided::from_shape(alloc, shape, elem_size, len, OwnedMutable)
-}
-
-/// A view once more.
-fn again<D: Dimension>(
-    alloc: Global,
-    view: Result<Strided<D>, LayoutError>,
-) -> Result<Strided<D>, LayoutError> {
-    Ok(view?.duplicate(alloc)?)
-}
-
-// ---- shapes by their own strides
-
-/// The view of a shape in column-major order, over `len` elements of one byte.
-fn by_columns<D: Dimension>(alloc: Global, dim: D, len: usize) -> Result<Strided<D>, LayoutError> {
-    let strides = Strides::F;
-    along(alloc, StrideShape { dim, strides }, 1, len)
-}
-
-/// The same of a shape that is built so.
-fn built_by_columns<D: Dimension, T: ShapeBuilder<Dim = D>>(
-    alloc: Global,
-    builder: T,
-    len: usize,
-) -> Result<Strided<D>, LayoutError> {
-    let shape = StrideShape::from_builder(alloc, builder.f(alloc)?)?;
-    along(alloc, shape, 1, len)
-}
-
-/// Whether the view of what is built so is told by a row.
-fn builder_is_told<D: Dimension, T: ShapeBuilder<Dim = D>>(
-    rt: &impl Abort,
-    alloc: Global,
-    builder: T,
-    len: usize,
-    row: &str,
-) -> bool {
-    is_told(rt, alloc, built_by_columns(alloc, builder, len), row)
-}
-
-#[test]
-fn r3_rows(rt: HostRuntime) {
-    let alloc = rt.alloc();
-    let whole = "is 2,3 1,2 0 0,2,4,1,3,5 0,1,2,3,4,5";
-    assert!(rt; builder_is_told(&rt, alloc, (2, 3), 6, whole));
-    assert!(rt; builder_is_told(&rt, alloc, (2, 3), 5, "OutOfBounds"));
-}
-
-/// What is asked of a view in column-major order.
-#[derive(Clone, Copy)]
-enum OfColumns<'a> {
-    /// What it is told by.
-    Row(&'a str),
-    /// How many axes it has, it and the same once more.
-    Axes(usize),
-    /// Whether it is made, and once more.
-    Made,
-    /// Whether it is made, or else refused for want of memory.
-    MadeOrRefused,
-}
-
-/// Whether a view has so many axes.
-fn has_axes<D: Dimension>(view: Result<Strided<D>, LayoutError>, count: usize) -> bool {
-    match view {
-        Ok(view) => view.axes().len() == count,
-        Err(_) => false,
-    }
-}
-
-/// Whether a view and the same once more have so many axes.
-fn both_have_axes<D: Dimension>(
-    alloc: Global,
-    view: Result<Strided<D>, LayoutError>,
-    count: usize,
-) -> bool {
-    match view {
-        Ok(view) => {
-            has_axes(view.duplicate(alloc).map_err(LayoutError::from), count)
-                && has_axes(Ok(view), count)
-        }
-        Err(_) => false,
-    }
-}
-
-/// Whether a call was made, or refused for want of memory.
-fn is_made_or_refused<D: Dimension>(view: Result<Strided<D>, LayoutError>) -> bool {
-    match view {
-        Ok(_) | Err(LayoutError::Memory(_)) => true,
-        Err(LayoutError::Shape(_)) => false,
-    }
-}
-
-/// Whether this holds of a view in column-major order.
-fn columns_hold<D: Dimension>(
-    rt: &impl Abort,
-    alloc: Global,
-    dim: D,
-    len: usize,
-    asked: OfColumns<'_>,
-) -> bool {
-    let view = by_columns(alloc, dim, len);
-    match asked {
-        OfColumns::Row(row) => is_told(rt, alloc, view, row),
-        OfColumns::Axes(count) => both_have_axes(alloc, view, count),
-        OfColumns::Made => again(alloc, view).is_ok(),
-        OfColumns::MadeOrRefused => is_made_or_refused(view) && grants(alloc),
-    }
-}
-
-/// What is asked of the view of a shape in column-major order, over `len` elements.
-#[derive(Drop)]
-struct Columns<'a> {
-    lens: &'a [usize],
-    len: usize,
-    asked: OfColumns<'a>,
-}
-
-impl AtType for Columns<'_> {
-    type Answer = bool;
-
-    fn at<D: Dimension>(&self, rt: &impl Abort, alloc: Global) -> bool {
-        match dim_of::<D>(rt, alloc, self.lens) {
-            Ok(dim) => columns_hold(rt, alloc, dim, self.len, self.asked),
-            Err(_) => matches!(self.asked, OfColumns::MadeOrRefused),
-        }
-    }
-}
-
-/// The same at the type of as many axes.
-fn fixed_columns_hold(
-    rt: &impl Abort,
-    alloc: Global,
-    lens: &[usize],
-    len: usize,
-    asked: OfColumns<'_>,
-) -> bool {
-    at_type(rt, alloc, Some(lens.len()), &Columns { lens, len, asked })
-}
-
-/// The same at the type of any number of axes.
-fn any_columns_hold(
-    rt: &impl Abort,
-    alloc: Global,
-    lens: &[usize],
-    len: usize,
-    asked: OfColumns<'_>,
-) -> bool {
-    at_type(rt, alloc, None, &Columns { lens, len, asked })
-}
-
-/// Five axes.
-const FIVE: [usize; 5] = [2, 1, 3, 1, 2];
-
-/// Whether the view of five axes is told by a row.
-fn five_columns_hold(rt: &impl Abort, alloc: Global, len: usize, row: &str) -> bool {
-    any_columns_hold(rt, alloc, &FIVE, len, OfColumns::Row(row))
-}
-
-#[test]
-fn r3_rows_of_five_axes(rt: HostRuntime) {
-    let alloc = rt.alloc();
-    let whole = "is 2,1,3,1,2 1,2,2,6,6 0 0,6,2,8,4,10,1,7,3,9,5,11 0,1,2,3,4,5,6,7,8,9,10,11";
-    assert!(rt; five_columns_hold(&rt, alloc, 12, whole));
-    assert!(rt; five_columns_hold(&rt, alloc, 11, "OutOfBounds"));
-}
-
-// 1,100 axes of no entries.
-#[test]
-fn r3_rows_of_many_axes(rt: HostRuntime) {
-    assert!(rt; any_columns_hold(&rt, rt.alloc(), &[0; 1100], 0, OfColumns::Axes(1100)));
-}
-
-// ---- their axes
+// ---- axes
 
 /// An axis as it is told: its number, its length and its stride.
 type Told = (usize, usize, isize);
@@ -217,17 +39,12 @@ fn are_in_turn(mut axes: Axes<'_>, told: &[Told]) -> bool {
         && is(axes.next_back(), told.get(5))
 }
 
-/// Whether the axes of a view are told in turn.
-fn is_in_turn<D: Dimension>(view: Result<Strided<D>, LayoutError>, told: &[Told]) -> bool {
-    match view {
+/// Whether the axes of the view of a shape and strides are told in turn.
+fn owned_is_in_turn<D: Lengths>(dim: D, strides: D, len: usize, told: &[Told]) -> bool {
+    match owned(dim, strides, len) {
         Ok(view) => are_in_turn(view.axes(), told),
         Err(_) => false,
     }
-}
-
-/// The same of the view of a shape and strides.
-fn owned_is_in_turn<D: Dimension>(dim: D, strides: D, len: usize, told: &[Told]) -> bool {
-    is_in_turn(owned(dim, strides, len), told)
 }
 
 #[test]
@@ -237,120 +54,254 @@ fn r3_rows_of_axes(rt: HostRuntime) {
     assert!(rt; owned_is_in_turn(dim, strides, 24, &told));
 }
 
-// ---- shapes along given strides, and their views once more
+// ---- what is asked of the view of a shape
 
-/// What is asked of a view along given strides.
+/// What is asked of the view of a shape.
 #[derive(Clone, Copy)]
-enum OfGiven<'a> {
+enum Asked<'a> {
     /// What it and the same once more are told by.
     Row(&'a str),
-    /// Its axes in turn.
-    Axes(&'a [Told]),
+    /// How many axes both have.
+    Axes(usize),
+    /// The axes of both in turn.
+    InTurn(&'a [Told]),
+    /// That it is made, and once more.
+    Made,
+    /// That it is made, or else refused for want of memory.
+    MadeOrRefused,
     /// Where the same once more starts, where a request for it may be refused.
     StartOrRefused(usize),
 }
 
-/// Whether a view, and the same once more, are told by a row.
-fn are_told<D: Dimension>(
+/// Whether this holds of a view itself.
+fn view_holds<D: Lengths>(
     rt: &impl Abort,
     alloc: Global,
-    view: Result<Strided<D>, LayoutError>,
-    row: &str,
+    view: &Strided<D>,
+    asked: Asked<'_>,
 ) -> bool {
-    match view {
-        Ok(view) => {
-            let again = view.duplicate(alloc).map_err(LayoutError::from);
-            is_told(rt, alloc, again, row) && is_told(rt, alloc, Ok(view), row)
-        }
+    match asked {
+        Asked::Row(row) => is_view(rt, alloc, &mut Row::new(row), view),
+        Asked::Axes(count) => view.axes().len() == count,
+        Asked::InTurn(told) => are_in_turn(view.axes(), told),
+        _ => true,
+    }
+}
+
+/// The same of the view once more.
+fn again_holds<D: Lengths>(
+    rt: &impl Abort,
+    alloc: Global,
+    view: &Strided<D>,
+    asked: Asked<'_>,
+) -> bool {
+    match view.duplicate(alloc) {
+        Ok(again) => view_holds(rt, alloc, &again, asked),
         Err(_) => false,
     }
 }
 
-/// Whether a view is the same once more, if there was memory for it, or a request for that was
-/// refused.
-fn starts_or_is_refused<D: Dimension>(
-    alloc: Global,
-    view: Result<Strided<D>, LayoutError>,
-    start: usize,
-) -> bool {
-    match view {
-        Ok(view) => match view.duplicate(alloc) {
-            Ok(again) => again.start() == start,
-            Err(_) => grants(alloc),
-        },
-        Err(LayoutError::Memory(_)) => true,
-        Err(LayoutError::Shape(_)) => false,
+/// Whether a view once more starts there, or a request for that was refused.
+fn again_starts_or_is_refused<D: Lengths>(alloc: Global, view: &Strided<D>, start: usize) -> bool {
+    match view.duplicate(alloc) {
+        Ok(again) => again.start() == start,
+        Err(_) => grants(alloc),
     }
 }
 
-/// Whether this holds of the view of what is built along given strides, over `len` elements of four
-/// bytes.
-fn given_hold<D: Dimension, T: ShapeBuilder<Dim = D>>(
+/// Whether this holds of a view.
+fn made_holds<D: Lengths>(
+    rt: &impl Abort,
+    alloc: Global,
+    view: &Strided<D>,
+    asked: Asked<'_>,
+) -> bool {
+    match asked {
+        Asked::MadeOrRefused => grants(alloc),
+        Asked::StartOrRefused(start) => again_starts_or_is_refused(alloc, view, start),
+        _ => view_holds(rt, alloc, view, asked) && again_holds(rt, alloc, view, asked),
+    }
+}
+
+/// Whether this holds where a rule refuses the view.
+fn refusal_holds(rt: &impl Abort, fault: &ShapeError, asked: Asked<'_>) -> bool {
+    match asked {
+        Asked::Row(row) => is_refused(rt, &mut Row::new(row), fault.kind()),
+        _ => false,
+    }
+}
+
+/// Whether this holds where there was no memory for the view.
+fn want_of_memory_holds(alloc: Global, asked: Asked<'_>) -> bool {
+    match asked {
+        Asked::MadeOrRefused => grants(alloc),
+        Asked::StartOrRefused(_) => true,
+        _ => false,
+    }
+}
+
+/// Whether this holds of what a call that makes a view answers.
+fn holds<D: Lengths>(
+    rt: &impl Abort,
+    alloc: Global,
+    view: Result<Strided<D>, LayoutError>,
+    asked: Asked<'_>,
+) -> bool {
+    match view {
+        Ok(view) => made_holds(rt, alloc, &view, asked),
+        Err(LayoutError::Shape(fault)) => refusal_holds(rt, &fault, asked),
+        Err(LayoutError::Memory(_error)) => want_of_memory_holds(alloc, asked),
+    }
+}
+
+// ---- shapes and their views
+
+/// The size of an element and the length of some data.
+type Data = (usize, usize);
+
+/// A shape along given strides, or in column-major order where none are given.
+fn shape<D: Lengths, T: ShapeBuilder<Dim = D>>(
+    alloc: Global,
+    builder: T,
+    strides: Option<T::Strides>,
+) -> Result<StrideShape<D>, AllocError> {
+    match strides {
+        Some(strides) => builder.strides(alloc, strides),
+        None => StrideShape::from_builder(alloc, builder.f(alloc)?),
+    }
+}
+
+/// The view of a shape in owned mode.
+fn along<D: Dimension>(
+    alloc: Global,
+    shape: StrideShape<D>,
+    data: Data,
+) -> Result<Strided<D>, LayoutError> {
+    Strided::from_shape(alloc, shape, data.0, data.1, OwnedMutable)
+}
+
+/// Whether this holds of the view of a shape that is built so.
+fn built_holds<D: Dimension, T: ShapeBuilder<Dim = D>>(
     rt: &impl Abort,
     alloc: Global,
     builder: T,
-    strides: T::Strides,
-    len: usize,
-    asked: OfGiven<'_>,
+    strides: Option<T::Strides>,
+    data: Data,
+    asked: Asked<'_>,
 ) -> bool {
-    let view = match builder.strides(alloc, strides) {
-        Ok(shape) => along(alloc, shape, 4, len),
-        Err(error) => Err(error.into()),
-    };
-    match asked {
-        OfGiven::Row(row) => are_told(rt, alloc, view, row),
-        OfGiven::Axes(told) => is_in_turn(view, told),
-        OfGiven::StartOrRefused(start) => starts_or_is_refused(alloc, view, start),
+    match shape(alloc, builder, strides) {
+        Ok(shape) => holds(rt, alloc, along(alloc, shape, data), asked),
+        Err(_) => want_of_memory_holds(alloc, asked),
     }
 }
+
+/// The same of two rows of three elements.
+fn pair_holds(
+    rt: &impl Abort,
+    alloc: Global,
+    strides: Option<(usize, usize)>,
+    data: Data,
+    asked: Asked<'_>,
+) -> bool {
+    built_holds(rt, alloc, (2, 3), strides, data, asked)
+}
+
+/// The same of six axes, in column-major order.
+fn six_hold(rt: &impl Abort, alloc: Global, len: usize, asked: Asked<'_>) -> bool {
+    built_holds(rt, alloc, [2, 1, 3, 1, 2, 2], None, (1, len), asked)
+}
+
+/// The same of a list, at the type of any number of axes.
+fn any_hold(
+    rt: &impl Abort,
+    alloc: Global,
+    lens: &[usize],
+    strides: Option<&[usize]>,
+    data: Data,
+    asked: Asked<'_>,
+) -> bool {
+    built_holds(rt, alloc, lens, strides, data, asked)
+}
+
+/// Five axes.
+const FIVE: [usize; 5] = [2, 1, 3, 1, 2];
+
+// ---- shapes by their own strides
+
+#[test]
+fn r3_rows(rt: HostRuntime) {
+    let alloc = rt.alloc();
+    let whole = Asked::Row("is 2,3 1,2 0 0,2,4,1,3,5 0,1,2,3,4,5");
+    assert!(rt; pair_holds(&rt, alloc, None, (1, 6), whole));
+    assert!(rt; pair_holds(&rt, alloc, None, (1, 5), Asked::Row("OutOfBounds")));
+}
+
+/// Whether the view of five axes is told by a row.
+fn five_are_told(rt: &impl Abort, alloc: Global, len: usize, row: &str) -> bool {
+    any_hold(rt, alloc, &FIVE, None, (1, len), Asked::Row(row))
+}
+
+#[test]
+fn r3_rows_of_five_axes(rt: HostRuntime) {
+    let alloc = rt.alloc();
+    let whole = "is 2,1,3,1,2 1,2,2,6,6 0 0,6,2,8,4,10,1,7,3,9,5,11 0,1,2,3,4,5,6,7,8,9,10,11";
+    assert!(rt; five_are_told(&rt, alloc, 12, whole));
+    assert!(rt; five_are_told(&rt, alloc, 11, "OutOfBounds"));
+}
+
+// 1,100 axes of no entries.
+#[test]
+fn r3_rows_of_many_axes(rt: HostRuntime) {
+    assert!(rt; any_hold(&rt, rt.alloc(), &[0; 1100], None, (1, 0), Asked::Axes(1100)));
+}
+
+// ---- shapes along given strides
 
 // Two rows of three elements, from the last row back.
 #[test]
 fn r3_rows_along_given_strides(rt: HostRuntime) {
-    let row = OfGiven::Row("is 2,3 -3,1 3 3,4,5,0,1,2 3,0,4,1,5,2");
-    assert!(rt; given_hold(&rt, rt.alloc(), (2, 3), (unsigned(-3), 1), 6, row));
+    let (strides, row) = ((unsigned(-3), 1), "is 2,3 -3,1 3 3,4,5,0,1,2 3,0,4,1,5,2");
+    assert!(rt; pair_holds(&rt, rt.alloc(), Some(strides), (4, 6), Asked::Row(row)));
 }
 
 /// The same of five axes, of which the first leads back.
-fn five_given_hold(rt: &impl Abort, alloc: Global, asked: OfGiven<'_>) -> bool {
+fn five_given_hold(rt: &impl Abort, alloc: Global, asked: Asked<'_>) -> bool {
     let strides = [unsigned(-6), 9, 1, 9, 3];
-    let lens = [2, 1, 3, 1, 2];
-    given_hold(rt, alloc, lens.as_slice(), strides.as_slice(), 12, asked)
+    any_hold(rt, alloc, &FIVE, Some(strides.as_slice()), (4, 12), asked)
 }
 
 #[test]
 fn r3_rows_of_five_axes_along_given_strides(rt: HostRuntime) {
     let whole = "is 2,1,3,1,2 -6,9,1,9,3 6 6,9,7,10,8,11,0,3,1,4,2,5 6,0,7,1,8,2,9,3,10,4,11,5";
-    assert!(rt; five_given_hold(&rt, rt.alloc(), OfGiven::Row(whole)));
+    assert!(rt; five_given_hold(&rt, rt.alloc(), Asked::Row(whole)));
 }
 
 #[test]
 fn r3_rows_of_five_axes_in_turn(rt: HostRuntime) {
     let told = [(0, 2, -6), (4, 2, 3), (1, 1, 9), (3, 1, 9), (2, 3, 1)];
-    assert!(rt; five_given_hold(&rt, rt.alloc(), OfGiven::Axes(&told)));
+    assert!(rt; five_given_hold(&rt, rt.alloc(), Asked::InTurn(&told)));
 }
 
 // ---- refused memory
 
 #[test]
 fn memory_of_shapes_at_fixed_types(rt: HostRuntime) {
-    let (alloc, made) = (rt.alloc(), OfColumns::Made);
-    assert!(rt; fixed_columns_hold(&rt, alloc, &[2, 3], 24, made));
-    assert!(rt; fixed_columns_hold(&rt, alloc, &[2, 1, 3, 1, 2, 2], 24, made));
+    assert!(rt; pair_holds(&rt, rt.alloc(), None, (1, 24), Asked::Made));
+    assert!(rt; six_hold(&rt, rt.alloc(), 24, Asked::Made));
 }
 
 #[test]
 fn memory_of_a_shape_of_four(rt: HostRuntime) {
-    assert!(rt; any_columns_hold(&rt, rt.alloc(), &[2, 3, 2, 2], 24, OfColumns::Made));
+    assert!(rt; any_hold(&rt, rt.alloc(), &[2, 3, 2, 2], None, (1, 24), Asked::Made));
 }
 
 #[test]
 fn memory_of_a_shape_of_five(rt: HostRuntime) {
-    assert!(rt; any_columns_hold(&rt, rt.alloc(), &FIVE, 12, OfColumns::MadeOrRefused));
+    assert!(rt; any_hold(&rt, rt.alloc(), &FIVE, None, (1, 12), Asked::MadeOrRefused));
 }
 
 // The view itself takes two requests: the third and the fourth are those of what is asked here.
 #[test]
 fn late_memory_of_a_view_of_five(rt: HostRuntime) {
-    assert!(rt; five_given_hold(&rt, rt.alloc(), OfGiven::StartOrRefused(6)));
+    assert!(rt; five_given_hold(&rt, rt.alloc(), Asked::StartOrRefused(6)));
 }

@@ -2,7 +2,7 @@
 //!
 //! A row is a dimension type, a layout (size of an element, length and use of the data, shape,
 //! strides), the dimension type of the slice, its argument, and the answer.
-use crate::view::rows::hold;
+use crate::tables::{Told, hold};
 
 /// What slices leave: shape, strides, start, places by rows and by columns.
 const SLICES: &str = "\
@@ -33,7 +33,7 @@ Ix6 4 99 view 2,1,2,1,2,2 8,9,-4,9,2,-1 slice Ix5 ..,..,1,..,..;-1,.. is 2,1,1,2
 
 #[test]
 fn slices_at_every_dimension_type(rt: HostRuntime) {
-    hold(&rt, rt.alloc(), SLICES);
+    hold(&rt, rt.alloc(), Told::Views, SLICES);
 }
 
 /// The rules that refuse slices.
@@ -55,7 +55,7 @@ Ix2 1 6 owned 2,3 3,1 slice Ix1 2,.. OutOfBounds";
 
 #[test]
 fn refusals_at_every_dimension_type(rt: HostRuntime) {
-    hold(&rt, rt.alloc(), REFUSED);
+    hold(&rt, rt.alloc(), Told::Views, REFUSED);
 }
 
 /// Whole arguments, one entry of an axis, and how many places are picked.
@@ -84,7 +84,7 @@ IxDyn 1 9223372036854775807 owned 1,9223372036854775807 1,1 picked IxDyn ..,..;2
 
 #[test]
 fn r4_rows(rt: HostRuntime) {
-    hold(&rt, rt.alloc(), WHOLE);
+    hold(&rt, rt.alloc(), Told::Views, WHOLE);
 }
 
 /// Slices whose bounds are moved to the ends of their axis, and an index, which is not.
@@ -103,5 +103,5 @@ Ix2 1 6 owned 2,3 3,1 clamp_picked Ix2 .. IncompatibleShape";
 
 #[test]
 fn r14_rows(rt: HostRuntime) {
-    hold(&rt, rt.alloc(), CLAMPED);
+    hold(&rt, rt.alloc(), Told::Views, CLAMPED);
 }

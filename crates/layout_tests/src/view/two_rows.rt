@@ -2,22 +2,22 @@
 //!
 //! Each test passes plain, and with the first or the second request of its run refused.
 use crate::types::{AtType, at_type, dim_of};
-use crate::view::rows::owned;
+use crate::view::owned::owned;
 use Fit::Strict;
 use Order::RowMajor;
 use SliceInfoElem::{Index, NewAxis, Slice};
 use nd_testing::grants;
-use ndarray_layout::{Dimension, Fit, LayoutError, Order, SliceInfoElem, Strided};
+use ndarray_layout::{Fit, LayoutError, Lengths, Order, SliceInfoElem, Strided};
 use std::alloc::{AllocError, Global};
 use std::process::Abort;
 
 /// A list of two axes, as a value of a type that fixes their count.
-fn pair<D: Dimension>(rt: &impl Abort, alloc: Global, list: [usize; 2]) -> D {
+fn pair<D: Lengths>(rt: &impl Abort, alloc: Global, list: [usize; 2]) -> D {
     dim_of(rt, alloc, &list).expect(rt, "two axes need no memory")
 }
 
 /// Two rows of three elements.
-fn two_rows<D: Dimension>(rt: &impl Abort, alloc: Global) -> Strided<D> {
+fn two_rows<D: Lengths>(rt: &impl Abort, alloc: Global) -> Strided<D> {
     let (dim, strides) = (pair(rt, alloc, [2, 3]), pair(rt, alloc, [3, 1]));
     owned(dim, strides, 6).expect(rt, "refused")
 }
@@ -35,12 +35,7 @@ const fn from(start: isize) -> SliceInfoElem {
 type Parts = ([usize; 2], [usize; 2], usize);
 
 /// Whether a view has these.
-fn has_parts<D: Dimension>(
-    rt: &impl Abort,
-    alloc: Global,
-    view: &Strided<D>,
-    parts: Parts,
-) -> bool {
+fn has_parts<D: Lengths>(rt: &impl Abort, alloc: Global, view: &Strided<D>, parts: Parts) -> bool {
     let (dim, strides, start) = parts;
     *view.dim() == pair::<D>(rt, alloc, dim)
         && *view.strides() == pair::<D>(rt, alloc, strides)
@@ -48,16 +43,14 @@ fn has_parts<D: Dimension>(
 }
 
 /// A slice of two rows of three elements, by its elements, and what it has.
-#[derive(Drop)]
+#[derive(Clone, Copy)]
 struct SliceOfRows<'a> {
     elems: &'a [SliceInfoElem],
     left: Parts,
 }
 
 impl AtType for SliceOfRows<'_> {
-    type Answer = bool;
-
-    fn at<D: Dimension>(&self, rt: &impl Abort, alloc: Global) -> bool {
+    fn at<D: Lengths>(self, rt: &impl Abort, alloc: Global) -> bool {
         let view = two_rows::<D>(rt, alloc);
         let slice: Result<Strided<D>, LayoutError> = view.slice(alloc, &self.elems, Strict);
         has_parts(rt, alloc, &slice.expect(rt, "refused"), self.left)
@@ -66,7 +59,7 @@ impl AtType for SliceOfRows<'_> {
 
 /// Whether a slice of the type of two axes has this shape, strides and start.
 fn leaves(rt: &impl Abort, alloc: Global, elems: &[SliceInfoElem], left: Parts) -> bool {
-    at_type(rt, alloc, Some(2), &SliceOfRows { elems, left })
+    at_type(rt, alloc, Some(2), SliceOfRows { elems, left })
 }
 
 #[test]
@@ -81,28 +74,29 @@ fn memory_of_slice(rt: HostRuntime) {
     assert!(rt; leaves(&rt, rt.alloc(), &[from(0), from(1)], left));
 }
 
-/// The places of two rows of three elements.
-#[derive(Drop)]
-struct PlacesOfRows;
-
-impl AtType for PlacesOfRows {
-    type Answer = Result<Vec<usize>, AllocError>;
-
-    fn at<D: Dimension>(&self, rt: &impl Abort, alloc: Global) -> Result<Vec<usize>, AllocError> {
-        two_rows::<D>(rt, alloc).places(alloc, RowMajor)
+/// Whether these are the places of six elements, or the request of a small one behind them was granted.
+fn lists_six(places: Result<Vec<usize>, AllocError>, granted: bool) -> bool {
+    match places {
+        Ok(places) => places.as_slice() == [0, 1, 2, 3, 4, 5].as_slice(),
+        Err(_) => granted,
     }
 }
 
-/// The places of six elements, or that the request of a small one behind them was granted.
-fn lists_six_places(rt: &impl Abort, places: Result<Vec<usize>, AllocError>, granted: bool) {
-    match places {
-        Ok(places) => assert_eq!(rt; places.as_slice(), [0, 1, 2, 3, 4, 5].as_slice()),
-        Err(_) => assert!(rt; granted, "refused though no request was"),
+/// The places of two rows of three elements.
+#[derive(Clone, Copy)]
+struct PlacesOfRows;
+
+impl AtType for PlacesOfRows {
+    fn at<D: Lengths>(self, rt: &impl Abort, alloc: Global) -> bool {
+        let places = two_rows::<D>(rt, alloc).places(alloc, RowMajor);
+        lists_six(places, grants(alloc))
     }
 }
 
 #[test]
 fn memory_of_places(rt: HostRuntime) {
-    let places = at_type(&rt, rt.alloc(), Some(2), &PlacesOfRows);
-    lists_six_places(&rt, places, grants(rt.alloc()));
+    assert!(rt;
+        at_type(&rt, rt.alloc(), Some(2), PlacesOfRows),
+        "refused though no request was"
+    );
 }

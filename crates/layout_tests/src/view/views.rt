@@ -3,7 +3,7 @@
 //!
 //! A row is a dimension type, a layout (size of an element, length and use of the data, shape,
 //! strides), a question and its answer.
-use crate::view::rows::hold;
+use crate::tables::{Told, hold};
 
 /// Views: shape, strides, start, places by rows and by columns; or the rule that refuses one.
 const ROWS: &str = "\
@@ -16,7 +16,7 @@ Ix2 1 0 owned 0,9223372036854775807 0,0 view is 0,9223372036854775807 0,0 0 - -"
 
 #[test]
 fn r1_rows(rt: HostRuntime) {
-    hold(&rt, rt.alloc(), ROWS);
+    hold(&rt, rt.alloc(), Told::Views, ROWS);
 }
 
 /// Two entries on each of three axes, and the same with axes of one entry between them.
@@ -33,8 +33,8 @@ Ix0 1 0 owned - - view OutOfBounds";
 
 #[test]
 fn r3_rows(rt: HostRuntime) {
-    hold(&rt, rt.alloc(), TWO_BY_TWO);
-    hold(&rt, rt.alloc(), WITHOUT_AXES);
+    hold(&rt, rt.alloc(), Told::Views, TWO_BY_TWO);
+    hold(&rt, rt.alloc(), Told::Views, WITHOUT_AXES);
 }
 
 /// Layouts in which no two indices share an element: how far each reaches, over data that is one
@@ -64,7 +64,7 @@ IxDyn 4 12 owned 2,1,3,1,2 -6,9,1,9,3 view is 2,1,3,1,2 -6,9,1,9,3 6 6,9,7,10,8,
 
 #[test]
 fn places_at_every_dimension_type(rt: HostRuntime) {
-    hold(&rt, rt.alloc(), VIEWS);
+    hold(&rt, rt.alloc(), Told::Views, VIEWS);
 }
 
 /// More than 100 places, and more than four axes.
@@ -84,7 +84,7 @@ Ix6 8 48 owned 2,1,3,2,2,2 1,0,-2,6,12,-24 view is 2,1,3,2,2,2 1,0,-2,6,12,-24 2
 
 #[test]
 fn many_places(rt: HostRuntime) {
-    hold(&rt, rt.alloc(), MANY_PLACES);
+    hold(&rt, rt.alloc(), Told::Views, MANY_PLACES);
 }
 
 /// A view, an index, and its place where it is one of the shape.
@@ -108,5 +108,5 @@ Ix1 1 4 owned 4 -1 at 4 none";
 
 #[test]
 fn indices_at_every_dimension_type(rt: HostRuntime) {
-    hold(&rt, rt.alloc(), INDICES);
+    hold(&rt, rt.alloc(), Told::Views, INDICES);
 }
