@@ -2,8 +2,8 @@
 use crate::dim::lists::dim_of;
 use nd_base::FixedCount;
 use nd_dim::{
-    Axis, Dimension, ErrorKind, IntoDimension, IxDyn, Lengths, RemoveAxis, incompatible_shapes,
-    new_ixdyn,
+    Axis, Dimension, ErrorKind, IntoDimension, IxDyn, Lengths, RemoveAxis, default_strides,
+    fortran_strides, incompatible_shapes, new_ixdyn, product,
 };
 use nd_testing::hash_of;
 use std::alloc::{AllocError, Global};
@@ -37,7 +37,9 @@ pub(crate) fn is_one<D: Lengths + Hash>(dim: &D, made: Result<D, AllocError>) ->
 /// The product of the lengths, or none.
 pub(crate) fn has_size<D: Dimension>(dim: &D, wanted: &[usize]) -> bool {
     match dim.size_checked() {
-        Some(size) => [size].as_slice() == wanted && dim.size() == size,
+        Some(size) => {
+            [size].as_slice() == wanted && dim.size() == size && product(dim.slice()) == size
+        },
         None => wanted.is_empty(),
     }
 }
@@ -54,6 +56,18 @@ pub(crate) fn has_strides<D: Dimension>(
         && gives(dim.fortran_strides(alloc), fortran_strides)
 }
 
+/// The same strides of the list alone.
+pub(crate) fn has_strides_by_its_list<D: Dimension>(
+    alloc: Global,
+    dim: &D,
+    by_rows: &[usize],
+    by_columns: &[usize],
+) -> bool {
+    dim.size_checked().is_some()
+        && gives(default_strides(alloc, dim), by_rows)
+        && gives(fortran_strides(alloc, dim), by_columns)
+}
+
 /// Whether strides are equivalent to those of another type.
 pub(crate) fn is_equivalent<D: Dimension>(
     rt: &impl Abort,
@@ -68,7 +82,7 @@ pub(crate) fn is_equivalent<D: Dimension>(
 }
 
 /// The refusal of two shapes is of their kind.
-pub(crate) fn is_incompatible<D: Dimension>(
+pub(crate) fn is_incompatible<D: Lengths>(
     rt: &impl Abort,
     alloc: Global,
     dim: &D,

@@ -8,7 +8,7 @@ use crate::dim::lists::made;
 use crate::dim::told::{Told, demand, row_holds_at_any_count, table_at_its_type};
 use nd_dim::{
     Axis, Dimension, FixedCount, IntoDimension, IxDyn, IxDynImpl, Lengths, RemoveAxis, ShapeArg,
-    new_dim, new_ixdyn,
+    default_strides, fortran_strides, new_dim, new_ixdyn,
 };
 use nd_testing::{asked, rows};
 use std::alloc::{AllocError, Global};
@@ -131,7 +131,7 @@ fn any_of<D: Lengths>(alloc: Global, dim: &D) -> Result<Option<IxDyn>, AllocErro
     IxDyn::from_dimension(alloc, dim)
 }
 
-/// Strides ask for memory.
+/// Strides ask for memory, by the dimension and by its list.
 fn asks_for_strides<D: Dimension>(alloc: Global, call: Call, dim: &D) -> bool {
     if dim.size_checked().is_none() {
         return false;
@@ -140,12 +140,12 @@ fn asks_for_strides<D: Dimension>(alloc: Global, call: Call, dim: &D) -> bool {
         Call::DefaultStrides => asked(
             alloc,
             dim.default_strides(alloc),
-            dim.default_strides(alloc),
+            default_strides(alloc, dim),
         ),
         _ => asked(
             alloc,
             dim.fortran_strides(alloc),
-            dim.fortran_strides(alloc),
+            fortran_strides(alloc, dim),
         ),
     }
 }

@@ -10,10 +10,10 @@ use CanIndexCheckMode::{OwnedMutable, ReadOnly};
 use ErrorKind::{
     IncompatibleLayout, IncompatibleShape, OutOfBounds, Overflow, RangeLimited, Unsupported,
 };
-use nd_dim::{Dimension, ErrorKind, Lengths, ShapeError};
+use nd_dim::{ErrorKind, Lengths, ShapeError, default_strides, fortran_strides};
 use nd_shape::{
     CanIndexCheckMode, Strides, can_index_slice, can_index_slice_not_custom,
-    can_index_slice_with_strides, strides_non_negative,
+    can_index_slice_with_strides, size_of_shape_checked, strides_non_negative,
 };
 use nd_testing::fault_of;
 use std::alloc::{AllocError, Global};
@@ -131,10 +131,10 @@ fn is_accepted_along<D: Lengths>(dim: &D, strides: Result<D, AllocError>) -> boo
 }
 
 /// The same along its own strides, in both orders.
-pub(crate) fn is_accepted_along_its_own<D: Dimension>(alloc: Global, dim: &D) -> bool {
-    dim.size_checked().is_some()
-        && is_accepted_along(dim, dim.default_strides(alloc))
-        && is_accepted_along(dim, dim.fortran_strides(alloc))
+pub(crate) fn is_accepted_along_its_own<D: Lengths>(alloc: Global, dim: &D) -> bool {
+    size_of_shape_checked(dim).is_ok()
+        && is_accepted_along(dim, default_strides(alloc, dim))
+        && is_accepted_along(dim, fortran_strides(alloc, dim))
 }
 
 /// The same of lengths, at the type of so many axes.

@@ -7,9 +7,10 @@ ghost use Rattle.nd_shape.specs.ShapeBuilder.{strides_list};
 
 use crate::dim::lists::{Lists, dim_of};
 use crate::dim::told::{Told, table};
-use nd_dim::{Dimension, IntoDimension, Ix2, IxDyn, Lengths, new_ix2};
+use nd_dim::{IntoDimension, Ix2, IxDyn, Lengths, new_ix2};
 use nd_shape::{
     CanIndexCheckMode, Shape, ShapeBuilder, StrideShape, Strides, can_index_slice_with_strides,
+    size_of_shape_checked,
 };
 use nd_testing::asked;
 use std::alloc::{AllocError, Global};
@@ -19,20 +20,15 @@ use std::process::Abort;
 // ---- what is built
 
 /// Whether a shape has this size.
-fn has_size<D: Dimension>(shape: &Shape<D>, size: usize) -> bool {
-    match shape.raw_dim().size_checked() {
-        Some(_) => shape.size() == size,
-        None => false,
+fn has_size<D: Lengths>(shape: &Shape<D>, size: usize) -> bool {
+    match size_of_shape_checked(shape.raw_dim()) {
+        Ok(_) => shape.size() == size,
+        Err(_) => false,
     }
 }
 
 /// Whether a shape has these lengths, this size and this order.
-fn has<D: Dimension>(
-    shape: Result<Shape<D>, AllocError>,
-    dim: &D,
-    size: usize,
-    is_c: bool,
-) -> bool {
+fn has<D: Lengths>(shape: Result<Shape<D>, AllocError>, dim: &D, size: usize, is_c: bool) -> bool {
     match shape {
         Ok(shape) => {
             shape.raw_dim().equal(dim) && has_size(&shape, size) && shape.is_c() == is_c
@@ -75,7 +71,7 @@ fn follows<D: Lengths>(shape: Result<StrideShape<D>, AllocError>, dim: &D, is_c:
 }
 
 /// Whether these are the strides that a shape has.
-fn are_strides<D: Dimension>(alloc: Global, dim: &D, kept: Strides<D>, strides: &D) -> bool
+fn are_strides<D: Lengths>(alloc: Global, dim: &D, kept: Strides<D>, strides: &D) -> bool
     requires valid { IsValidLayout
         (D.list dim.now)
         (all_signed (strides_list D.list (D.list dim.now) kept)) }
@@ -88,7 +84,7 @@ fn are_strides<D: Dimension>(alloc: Global, dim: &D, kept: Strides<D>, strides: 
 
 /// Whether these are the strides of a shape, which data of as many elements as it has indices may
 /// be owned in.
-fn has_strides<D: Dimension>(
+fn has_strides<D: Lengths>(
     alloc: Global,
     shape: Result<StrideShape<D>, AllocError>,
     strides: &D,
@@ -96,7 +92,7 @@ fn has_strides<D: Dimension>(
     let Ok(StrideShape { dim, strides: kept }) = shape else {
         return false;
     };
-    let len = dim.size_checked().unwrap_or(0);
+    let len = size_of_shape_checked(&dim).unwrap_or(0);
     can_index_slice_with_strides(1, len, &dim, &kept, CanIndexCheckMode::OwnedMutable).is_ok()
         && are_strides(alloc, &dim, kept, strides)
 }
@@ -119,7 +115,7 @@ struct Built<'a, D> {
 }
 
 /// Whether a builder builds this in each order.
-fn builds<D: Dimension, T: ShapeBuilder<Dim = D> + Copy>(
+fn builds<D: Lengths, T: ShapeBuilder<Dim = D> + Copy>(
     alloc: Global,
     builder: T,
     built: &Built<'_, D>,
@@ -133,7 +129,7 @@ fn builds<D: Dimension, T: ShapeBuilder<Dim = D> + Copy>(
 }
 
 /// Whether a builder builds this with its own strides and with given ones, and shapes that are shown.
-fn gives<D: Dimension, T: ShapeBuilder<Dim = D> + Copy>(
+fn gives<D: Lengths, T: ShapeBuilder<Dim = D> + Copy>(
     alloc: Global,
     builder: T,
     strides: T::Strides,
@@ -150,7 +146,7 @@ fn gives<D: Dimension, T: ShapeBuilder<Dim = D> + Copy>(
 }
 
 /// Whether a builder builds all this.
-fn is_builder<D: Dimension, T: ShapeBuilder<Dim = D> + Copy>(
+fn is_builder<D: Lengths, T: ShapeBuilder<Dim = D> + Copy>(
     alloc: Global,
     builder: T,
     strides: T::Strides,
@@ -160,7 +156,7 @@ fn is_builder<D: Dimension, T: ShapeBuilder<Dim = D> + Copy>(
 }
 
 /// Whether what a builder builds, column-major, has these strides, those of its order.
-fn builds_columns<D: Dimension, T: ShapeBuilder<Dim = D>>(
+fn builds_columns<D: Lengths, T: ShapeBuilder<Dim = D>>(
     alloc: Global,
     builder: T,
     dim: &D,
@@ -172,7 +168,7 @@ fn builds_columns<D: Dimension, T: ShapeBuilder<Dim = D>>(
     }
 }
 
-fn columns_follow<D: Dimension>(alloc: Global, shape: Shape<D>, dim: &D, strides: &D) -> bool {
+fn columns_follow<D: Lengths>(alloc: Global, shape: Shape<D>, dim: &D, strides: &D) -> bool {
     match StrideShape::from_builder(alloc, shape) {
         Ok(shape) => {
             shape.raw_dim().equal(dim)
@@ -184,7 +180,7 @@ fn columns_follow<D: Dimension>(alloc: Global, shape: Shape<D>, dim: &D, strides
 }
 
 /// Whether what a builder builds along given strides has these.
-fn builds_along<D: Dimension, T: ShapeBuilder<Dim = D>>(
+fn builds_along<D: Lengths, T: ShapeBuilder<Dim = D>>(
     alloc: Global,
     builder: T,
     given: T::Strides,
@@ -194,7 +190,7 @@ fn builds_along<D: Dimension, T: ShapeBuilder<Dim = D>>(
 }
 
 /// Whether the column-major shape of a dimension is a builder of such shapes.
-fn shape_builds<D: Dimension + Copy>(
+fn shape_builds<D: Lengths + Copy>(
     alloc: Global,
     dim: D,
     size: usize,
@@ -226,7 +222,7 @@ fn all_build<D, P, A>(
     built: &Built<'_, D>,
 ) -> bool
 where
-    D: Dimension + IntoDimension<Dim = D> + Copy,
+    D: Lengths + IntoDimension<Dim = D> + Copy,
     P: IntoDimension<Dim = D> + Copy,
     A: IntoDimension<Dim = D> + Copy,
 {
@@ -262,7 +258,7 @@ enum OfList<'a> {
 }
 
 /// Whether a list of lengths builds shapes of this size and with these strides.
-fn list_builds<D: Dimension, T: ShapeBuilder<Dim = D, Strides = T> + Copy>(
+fn list_builds<D: Lengths, T: ShapeBuilder<Dim = D, Strides = T> + Copy>(
     rt: &impl Abort,
     alloc: Global,
     builder: T,
@@ -282,7 +278,7 @@ fn list_builds<D: Dimension, T: ShapeBuilder<Dim = D, Strides = T> + Copy>(
 }
 
 /// Whether this holds of a list of lengths.
-fn list_holds<D: Dimension, T: ShapeBuilder<Dim = D, Strides = T> + Copy>(
+fn list_holds<D: Lengths, T: ShapeBuilder<Dim = D, Strides = T> + Copy>(
     rt: &impl Abort,
     alloc: Global,
     builder: T,
@@ -304,7 +300,7 @@ fn holds_of_list(rt: &impl Abort, alloc: Global, lens: &[usize], of_list: OfList
 }
 
 /// Whether a dimension builds shapes of its lengths: along given strides, and with its own by columns.
-pub(crate) fn dimension_builds<D: Dimension + IntoDimension<Dim = D>>(
+pub(crate) fn dimension_builds<D: Lengths + IntoDimension<Dim = D>>(
     rt: &impl Abort,
     alloc: Global,
     dim: &D,

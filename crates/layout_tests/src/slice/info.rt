@@ -1,6 +1,6 @@
 //! Slice arguments whose type tells the shapes before and after.
 use nd_base::{ErrorKind, FixedCount, Ix0, Ix1, Ix2, Ix3, Ix6, IxDyn, ShapeError, new_ix2};
-use nd_dim::Dimension;
+use nd_dim::Lengths;
 use nd_slice::{Fit, NewAxis, SliceArg, SliceElems, SliceInfo, SliceInfoElem, check_slice};
 use nd_testing::or_fault;
 use std::alloc::Global;
@@ -94,7 +94,7 @@ fn is_argument<D: FixedCount, S: SliceArg<D>>(
 
 /// Whether an argument tells this, for shapes of its own type and of any number of axes, and keeps these
 /// elements.
-fn is_of<T: SliceElems, Dout: Dimension>(
+fn is_of<T: SliceElems, Dout: Lengths>(
     info: &SliceInfo<T, Ix2, Dout>,
     told: (usize, usize),
     elems: &[SliceInfoElem],
@@ -112,7 +112,7 @@ fn fits_some_rows<S: SliceElems>(arg: &S) -> bool {
 
 /// Whether an argument, and the same with its elements lent, tells this, keeps these elements, and fits some
 /// rows.
-fn is_of_both<T: SliceElems, Dout: Dimension>(
+fn is_of_both<T: SliceElems, Dout: Lengths>(
     info: &SliceInfo<T, Ix2, Dout>,
     told: (usize, usize),
     elems: &[SliceInfoElem],

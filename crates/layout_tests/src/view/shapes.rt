@@ -8,8 +8,8 @@ use crate::view::words::is_refused;
 use CanIndexCheckMode::OwnedMutable;
 use nd_testing::{Row, grants};
 use ndarray_layout::{
-    Axes, AxisDescription, CanIndexCheckMode, Dimension, LayoutError, Lengths, ShapeBuilder,
-    ShapeError, StrideShape, Strided, new_ix3, unsigned,
+    Axes, AxisDescription, CanIndexCheckMode, LayoutError, Lengths, ShapeBuilder, ShapeError,
+    StrideShape, Strided, new_ix3, unsigned,
 };
 use std::alloc::{AllocError, Global};
 use std::process::Abort;
@@ -172,7 +172,7 @@ fn shape<D: Lengths, T: ShapeBuilder<Dim = D>>(
 }
 
 /// The view of a shape in owned mode.
-fn along<D: Dimension>(
+fn along<D: Lengths>(
     alloc: Global,
     shape: StrideShape<D>,
     data: Data,
@@ -181,7 +181,7 @@ fn along<D: Dimension>(
 }
 
 /// Whether this holds of the view of a shape that is built so.
-fn built_holds<D: Dimension, T: ShapeBuilder<Dim = D>>(
+fn built_holds<D: Lengths, T: ShapeBuilder<Dim = D>>(
     rt: &impl Abort,
     alloc: Global,
     builder: T,
