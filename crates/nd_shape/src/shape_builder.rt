@@ -76,6 +76,16 @@ impl<D: Lengths> From<D> for Shape<D> {
     }
 }
 
+impl<D> StrideShape<D> {
+    /// The axis lengths. Upstream's `raw_dim`.
+    #[inline]
+    pub fn raw_dim(&self) -> &D
+        ensures { result.now ≡ self.now.dim }
+    {
+        &self.dim
+    }
+}
+
 impl<D: Lengths> StrideShape<D> {
     /// The shape that is built, with the strides of its order. In place of upstream's
     /// `From<T> for StrideShape<D>`.
@@ -96,19 +106,7 @@ impl<D: Lengths> StrideShape<D> {
             strides,
         })
     }
-}
 
-impl<D> StrideShape<D> {
-    /// The axis lengths. Upstream's `raw_dim`.
-    #[inline]
-    pub fn raw_dim(&self) -> &D
-        ensures { result.now ≡ self.now.dim }
-    {
-        &self.dim
-    }
-}
-
-impl<D: Lengths> StrideShape<D> {
     /// The number of indices, which fits. Upstream's `size`.
     #[inline]
     pub fn size(&self) -> usize

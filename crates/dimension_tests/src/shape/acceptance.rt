@@ -10,7 +10,9 @@ use CanIndexCheckMode::{OwnedMutable, ReadOnly};
 use ErrorKind::{
     IncompatibleLayout, IncompatibleShape, OutOfBounds, Overflow, RangeLimited, Unsupported,
 };
-use nd_dim::{ErrorKind, Lengths, ShapeError, default_strides, fortran_strides};
+use nd_dim::{
+    Axis, ErrorKind, Lengths, RemoveAxis, ShapeError, default_strides, fortran_strides, new_ix3,
+};
 use nd_shape::{
     CanIndexCheckMode, Strides, can_index_slice, can_index_slice_not_custom,
     can_index_slice_with_strides, size_of_shape_checked, strides_non_negative,
@@ -170,4 +172,27 @@ fn r3_rows_of_shapes_along_their_own_strides(rt: HostRuntime) {
             }
         }
     }
+}
+
+/// Whether what is left of a layout without its first axis is accepted over so many elements, at a type that
+/// is known as the smaller one alone.
+fn rest_is_accepted<D: RemoveAxis>(alloc: Global, dim: &D, strides: &D, len: usize) -> bool {
+    if dim.ndim() == 0 || strides.ndim() == 0 {
+        return false;
+    }
+    let (rest, along) = (
+        dim.remove_axis(alloc, Axis(0)),
+        strides.remove_axis(alloc, Axis(0)),
+    );
+    match (rest, along) {
+        (Ok(rest), Ok(along)) => can_index_slice(1, len, &rest, &along, OwnedMutable).is_ok(),
+        _ => false,
+    }
+}
+
+#[test]
+fn layouts_of_a_smaller_type(rt: HostRuntime) {
+    let (alloc, dim, strides) = (rt.alloc(), new_ix3(2, 3, 4), new_ix3(12, 4, 1));
+    assert!(rt; rest_is_accepted(alloc, &dim, &strides, 12));
+    assert!(rt; !rest_is_accepted(alloc, &dim, &strides, 11));
 }
