@@ -8,8 +8,7 @@
 //! length of 0.
 mod checks;
 mod conversions;
-mod layouts;
-pub(crate) mod lists;
+mod lists;
 mod memory;
 mod operators;
 mod steps;

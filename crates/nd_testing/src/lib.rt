@@ -4,10 +4,12 @@
 
 mod equality;
 mod faults;
+mod lists;
 mod memory;
 mod table;
 
 pub use equality::{are_distinct, hash_of};
 pub use faults::{fault_of, or_fault};
+pub use lists::{List, Lists, made};
 pub use memory::{asked, grants};
 pub use table::{Row, TableError, rows};

@@ -1,8 +1,7 @@
 //! Strides, and where indices lie.
-use crate::dim::lists::Lists;
 use crate::dim::told::demand;
 use nd_base::{index_offset, signed, stride_offset, stride_offset_checked, unsigned};
-use nd_testing::rows;
+use nd_testing::{Lists, rows};
 
 #[test]
 fn r1_rows(rt: HostRuntime) {

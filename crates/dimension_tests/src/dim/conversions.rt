@@ -1,10 +1,10 @@
 //! What makes a dimension, and what a dimension makes.
 use crate::dim::checks::{gives, is_one, makes};
-use crate::dim::lists::made;
 use nd_dim::{
     Dim, Dimension, IntoDimension, Ix2, Ix3, IxDyn, IxDynImpl, Lengths, Order, ShapeArg, new_dim,
     new_ix0, new_ix1, new_ix2, new_ix3, new_ix4, new_ix5, new_ix6,
 };
+use nd_testing::made;
 use std::alloc::Global;
 
 /// A value makes this dimension.

@@ -4,13 +4,12 @@
 //! A call that needs no memory goes well whatever is refused. A call that needs memory is made
 //! twice, before one small request. To make a list of more than four lengths is a request itself.
 use crate::dim::checks::is_one;
-use crate::dim::lists::made;
 use crate::dim::told::{Told, demand, row_holds_at_any_count, table_at_its_type};
 use nd_dim::{
     Axis, Dimension, FixedCount, IntoDimension, IxDyn, IxDynImpl, Lengths, RemoveAxis, ShapeArg,
     default_strides, fortran_strides, new_dim, new_ixdyn,
 };
-use nd_testing::{asked, rows};
+use nd_testing::{asked, made, rows};
 use std::alloc::{AllocError, Global};
 use std::process::Abort;
 

@@ -6,19 +6,14 @@ use crate::dim::checks::{
     is_equivalent, is_incompatible, keeps_list, list_becomes, narrows, stays, tries_to_narrow,
     widens, writes, writes_last, writes_slice,
 };
-use crate::dim::layouts::{is_filled, reaches};
-use crate::dim::lists::{Lists, dim_of, made};
+use crate::dim::lists::dim_of;
 use crate::dim::memory::{Call, asks, serves};
 use crate::dim::operators::{Operator, calculates, scales};
 use crate::dim::steps::{has_columns, has_rows};
-use crate::shape::acceptance::is_accepted_along_its_own;
-use crate::shape::indexes::{Walk, is_walked};
-use crate::shape::questions::{Question, is_answered};
-use crate::shape::shapes::dimension_builds;
 use nd_dim::{
     Dimension, IntoDimension, Ix0, Ix1, Ix2, Ix3, Ix4, Ix5, Ix6, IxDyn, Lengths, RemoveAxis,
 };
-use nd_testing::rows;
+use nd_testing::{Lists, made, rows};
 use std::alloc::Global;
 use std::process::Abort;
 
@@ -41,10 +36,6 @@ pub(crate) enum Told {
     Strides,
     /// Lengths, and two lists of strides that are equivalent, or are not.
     Equivalent(bool),
-    /// Lengths, and strides by which they are contiguous, or are not.
-    Contiguous(bool),
-    /// Lengths, strides, an index, and its offset or none.
-    Offset,
     /// Lengths, an index, and what an operator makes of them.
     Calculated(Operator),
     /// Lengths, a factor, and their products.
@@ -69,14 +60,6 @@ pub(crate) enum Told {
     Written,
     /// Lengths, and an axis: how a call goes about memory.
     Memory(Call),
-    /// Lengths, and their strides by columns: what a dimension builds.
-    Built,
-    /// Lengths, whose own strides are those by which they are accepted.
-    OwnStrides,
-    /// Lengths, and what is asked of the walks over their indices.
-    Walked(Walk),
-    /// A layout, and what is asked of it.
-    Asked(Question),
 }
 
 /// Whether a value keeps its list in what is made of it. Four axes make a value where no other count is
@@ -154,10 +137,7 @@ fn tells_of_layouts<D: Dimension>(
             has_strides(alloc, dim, second, third)
                 && has_strides_by_its_list(alloc, dim, second, third)
         },
-        Told::OwnStrides => is_accepted_along_its_own(alloc, dim),
         Told::Equivalent(answer) => is_equivalent(rt, alloc, dim, second, third) == answer,
-        Told::Contiguous(answer) => is_filled(rt, alloc, dim, second) == Some(answer),
-        Told::Offset => reaches(rt, alloc, dim, second, &row.third, row.fourth.as_slice()),
         _ => tells_of_indices(rt, told, alloc, dim, row),
     }
 }
@@ -202,8 +182,6 @@ fn tells<D: Dimension + IntoDimension<Dim = D>>(
         Told::Default => has_default::<D>(alloc, row.second.as_slice()),
         Told::Written => rewrites::<D>(rt, alloc, row),
         Told::Memory(call) => serves(alloc, call, dim, row.second.at(0)),
-        Told::Built => dimension_builds(rt, alloc, dim, row),
-        Told::Asked(question) => is_answered(rt, alloc, question, dim, row),
         _ => tells_of_axes(rt, told, alloc, dim, row),
     }
 }
@@ -216,19 +194,16 @@ fn may_want_memory<D: Lengths>(told: Told, row: &Lists<'_>) -> bool {
     }
 }
 
-/// Whether a row tells what the calls answer at a type whose values are copied.
-fn holds<D: Dimension + IntoDimension<Dim = D> + Copy>(
+/// The same where a value of the type has as many axes.
+fn holds<D: Dimension + IntoDimension<Dim = D>>(
     rt: &impl Abort,
     told: Told,
     alloc: Global,
     row: &Lists<'_>,
 ) -> bool {
-    match told {
-        Told::Walked(walk) => is_walked::<D>(rt, alloc, walk, row),
-        _ => match made::<D>(alloc, row.first.as_slice()) {
-            Some(dim) => tells::<D>(rt, told, alloc, &dim, row),
-            None => false,
-        },
+    match made::<D>(alloc, row.first.as_slice()) {
+        Some(dim) => tells::<D>(rt, told, alloc, &dim, row),
+        None => false,
     }
 }
 
@@ -250,7 +225,7 @@ fn tells_with_axes<D: RemoveAxis + IntoDimension<Dim = D>>(
     }
 }
 
-/// The same at a type that can have an axis to remove.
+/// The same where a value of such a type has as many axes.
 fn holds_with_axes<D: RemoveAxis + IntoDimension<Dim = D>>(
     rt: &impl Abort,
     told: Told,
@@ -260,19 +235,6 @@ fn holds_with_axes<D: RemoveAxis + IntoDimension<Dim = D>>(
     match made::<D>(alloc, row.first.as_slice()) {
         Some(dim) => tells_with_axes::<D>(rt, told, alloc, &dim, row),
         None => may_want_memory::<D>(told, row),
-    }
-}
-
-/// The same at such a type whose values are copied.
-fn holds_of_copies<D: RemoveAxis + IntoDimension<Dim = D> + Copy>(
-    rt: &impl Abort,
-    told: Told,
-    alloc: Global,
-    row: &Lists<'_>,
-) -> bool {
-    match told {
-        Told::Walked(walk) => is_walked::<D>(rt, alloc, walk, row),
-        _ => holds_with_axes::<D>(rt, told, alloc, row),
     }
 }
 
@@ -286,12 +248,12 @@ pub(crate) fn holds_at(
 ) -> bool {
     match ndim {
         Some(0) => holds::<Ix0>(rt, told, alloc, row),
-        Some(1) => holds_of_copies::<Ix1>(rt, told, alloc, row),
-        Some(2) => holds_of_copies::<Ix2>(rt, told, alloc, row),
-        Some(3) => holds_of_copies::<Ix3>(rt, told, alloc, row),
-        Some(4) => holds_of_copies::<Ix4>(rt, told, alloc, row),
-        Some(5) => holds_of_copies::<Ix5>(rt, told, alloc, row),
-        Some(6) => holds_of_copies::<Ix6>(rt, told, alloc, row),
+        Some(1) => holds_with_axes::<Ix1>(rt, told, alloc, row),
+        Some(2) => holds_with_axes::<Ix2>(rt, told, alloc, row),
+        Some(3) => holds_with_axes::<Ix3>(rt, told, alloc, row),
+        Some(4) => holds_with_axes::<Ix4>(rt, told, alloc, row),
+        Some(5) => holds_with_axes::<Ix5>(rt, told, alloc, row),
+        Some(6) => holds_with_axes::<Ix6>(rt, told, alloc, row),
         _ => holds_with_axes::<IxDyn>(rt, told, alloc, row),
     }
 }

@@ -1,0 +1,120 @@
+//! The lists of a row of a table, and the values that stand for lists.
+ghost use Rattle.std.specs.Prelude.{◌≡◌, IfSome};
+
+use crate::table::Row;
+use nd_base::{Lengths, unsigned};
+use std::alloc::Global;
+
+/// A list of a row. It needs no memory, so a row can be read where memory is refused.
+#[derive(Clone, Copy)]
+pub struct List {
+    entries: [usize; 16],
+    count: usize,
+}
+
+impl List {
+    pub fn as_slice(&self) -> &[usize] {
+        if self.count <= 16 {
+            &self.entries[..self.count]
+        } else {
+            &[]
+        }
+    }
+
+    /// The list of these numbers.
+    pub fn of(numbers: &[usize]) -> Option<List> {
+        let mut entries = [0; 16];
+        entries.get_mut(..numbers.len())?.copy_from_slice(numbers);
+        Some(List {
+            entries,
+            count: numbers.len(),
+        })
+    }
+
+    /// Adds a number, where there is room for it.
+    fn push(&mut self, number: usize) -> Option<()> {
+        *self.entries.get_mut(self.count)? = number;
+        self.count += 1;
+        Some(())
+    }
+
+    /// Adds the number that a part of a word stands for, or none.
+    fn read(&mut self, part: &str) -> Option<()> {
+        if part == "-" {
+            return Some(());
+        }
+        self.push(entry(part)?)
+    }
+
+    /// The number at a place, or none that is an axis.
+    pub fn at(&self, place: usize) -> usize {
+        self.as_slice().get(place).copied().unwrap_or(usize::MAX)
+    }
+}
+
+/// The lists of a row: numbers parted by commas, negative ones as they are kept. Those that the row
+/// doesn't have are empty. Behind an arrow stands what is told, if the lists don't.
+#[derive(Clone, Copy)]
+pub struct Lists<'a> {
+    pub first: List,
+    pub second: List,
+    pub third: List,
+    pub fourth: List,
+    pub answer: &'a str,
+}
+
+impl<'a> Lists<'a> {
+    pub fn read(line: &'a str) -> Option<Lists<'a>> {
+        let (lists, answer) = line.split_once(" => ").unwrap_or((line, ""));
+        let mut row = Row::new(lists);
+        let (first, second) = next_two(&mut row)?;
+        let (third, fourth) = next_two(&mut row)?;
+        Some(Lists {
+            first,
+            second,
+            third,
+            fourth,
+            answer,
+        })
+    }
+}
+
+/// The next two words of a row as lists.
+fn next_two(row: &mut Row<'_>) -> Option<(List, List)> {
+    let first = next_list(row)?;
+    Some((first, next_list(row)?))
+}
+
+/// The next word of a row as a list, or the empty one behind the last word.
+fn next_list(row: &mut Row<'_>) -> Option<List> {
+    let mut list = List {
+        entries: [0; 16],
+        count: 0,
+    };
+    for part in row.word().unwrap_or("-").split(',') {
+        list.read(part)?;
+    }
+    Some(list)
+}
+
+/// A length, or a stride as it is kept.
+fn entry(part: &str) -> Option<usize> {
+    if part.starts_with('-') {
+        let stride: isize = part.parse().ok()?;
+        return Some(unsigned(stride));
+    }
+    part.parse().ok()
+}
+
+/// The value of a type that stands for a list, if the type allows as many axes.
+pub fn made<D: Lengths>(alloc: Global, lens: &[usize]) -> Option<D>
+    ensures { IfSome result (λ dim. D.list dim ≡ lens.now) }
+{
+    match D::NDIM {
+        Some(count) if count != lens.len() => return None,
+        _ => {}
+    }
+    let mut dim = D::zeros(alloc, lens.len()).ok()?;
+    dim.slice_mut().copy_from_slice(lens);
+    Some(dim)
+}

@@ -1,0 +1,126 @@
+//! The shape that two shapes have in common.
+//!
+//! A row is two shapes, and what they have in common, in either order; or, behind an arrow, the fault.
+use crate::acceptance::name_of;
+use crate::questions::Question;
+use crate::told::{Told, row_holds_at_any_count, table};
+use nd_dim::{Ix2, Ix3, IxDyn, LayoutError, Lengths, new_ix2, new_ix3};
+use nd_shape::co_broadcast;
+use nd_testing::{Lists, grants};
+use std::alloc::Global;
+
+/// The shape that two shapes have in common; `None` where the type has none of its count.
+fn common<D1: Lengths, D2: Lengths, Output: Lengths>(
+    alloc: Global,
+    shape1: &D1,
+    shape2: &D2,
+) -> Option<Result<Output, LayoutError>> {
+    let (count1, count2) = (shape1.ndim(), shape2.ndim());
+    let count = if count1 < count2 { count2 } else { count1 };
+    match Output::NDIM {
+        Some(fixed) if fixed != count => None,
+        _ => Some(co_broadcast(alloc, shape1, shape2)),
+    }
+}
+
+/// Whether this is the fault of two shapes.
+fn is_fault(error: LayoutError, fault: &str) -> bool {
+    match error {
+        LayoutError::Shape(error) => name_of(Some(error.kind())) == fault,
+        LayoutError::Memory(_) => false,
+    }
+}
+
+/// Whether two shapes have these lengths in common, or this fault.
+fn is_common<D1: Lengths, D2: Lengths, Output: Lengths>(
+    alloc: Global,
+    shape1: &D1,
+    shape2: &D2,
+    lens: &[usize],
+    fault: &str,
+) -> bool {
+    match common::<D1, D2, Output>(alloc, shape1, shape2) {
+        Some(Ok(common)) => common.slice() == lens && fault.is_empty(),
+        Some(Err(error)) => is_fault(error, fault),
+        None => false,
+    }
+}
+
+/// Whether a row tells what two shapes have in common, in either order.
+pub(crate) fn shares<D: Lengths>(alloc: Global, shape: &D, other: &D, row: &Lists<'_>) -> bool {
+    let lens = row.third.as_slice();
+    is_common::<D, D, D>(alloc, shape, other, lens, row.answer)
+        && is_common::<D, D, D>(alloc, other, shape, lens, row.answer)
+}
+
+/// Whether the shape that two have in common asks for memory.
+pub(crate) fn asks_for_common<D: Lengths>(alloc: Global, shape: &D, other: &D) -> bool {
+    let first = common::<D, D, D>(alloc, shape, other);
+    let second = common::<D, D, D>(alloc, other, shape);
+    grants(alloc) && (matches!(first, Some(Ok(_))) || matches!(second, Some(Ok(_))))
+}
+
+const COMMON: &str = "\
+2,3 4,1,3 4,2,3
+3,4,5 - 3,4,5
+- - -
+1,1,3,1,5,1,7 2,1,4,1,6,1 1,2,3,4,5,6,7
+2,1,2 0 - => IncompatibleShape
+0 0,0,0 0,0,0
+1 1,0,0 1,0,0
+2,1,1 0,0,1,3,4 0,0,2,3,4
+1,2,2 1,3,4 - => IncompatibleShape
+1,2,1,3 1,2,1,3 1,2,1,3
+1,3,0,1,1 1,2,3,1 - => IncompatibleShape
+3,1 2,3,4 2,3,4
+2,3 3 2,3
+18446744073709551615,1 18446744073709551615 18446744073709551615,18446744073709551615
+2,3 2 - => IncompatibleShape
+0,3 2,3 - => IncompatibleShape
+5 1,1 1,5";
+
+#[test]
+fn r5_rows(rt: HostRuntime) {
+    table(&rt, rt.alloc(), Told::Asked(Question::Common), COMMON);
+}
+
+/// Whether shapes of two types have these lengths in common, in the type of the other one and in a third.
+fn types_share<D1: Lengths, D2: Lengths, D3: Lengths>(
+    alloc: Global,
+    shape: &D1,
+    other: &D2,
+    lens: &[usize],
+) -> bool {
+    is_common::<D1, D2, D2>(alloc, shape, other, lens, "")
+        && is_common::<D1, D2, D3>(alloc, shape, other, lens, "")
+}
+
+#[test]
+fn r5_rows_of_fixed_types(rt: HostRuntime) {
+    let (shape, other) = (new_ix2(2, 3), new_ix3(4, 1, 3));
+    assert!(rt; types_share::<Ix2, Ix3, IxDyn>(rt.alloc(), &shape, &other, &[4, 2, 3]));
+}
+
+// More than four axes ask for memory. To make the two shapes takes the first two requests.
+#[test]
+fn late_memory_of_broadcast(rt: HostRuntime) {
+    let (told, row) = (Told::Asked(Question::CommonAsks), "2,1,3,1,2 2,1,3,1,2");
+    assert!(rt; row_holds_at_any_count(&rt, rt.alloc(), told, row));
+}
+
+// Shapes that have none in common are refused for that.
+#[test]
+fn late_memory_after_the_shapes(rt: HostRuntime) {
+    let (told, row) = (
+        Told::Asked(Question::Common),
+        "2,1,3,1,2 2,1,3,1,4 - => IncompatibleShape",
+    );
+    assert!(rt; row_holds_at_any_count(&rt, rt.alloc(), told, row));
+}
+
+// Up to four axes lie in the value itself.
+#[test]
+fn r9_rows_of_broadcast(rt: HostRuntime) {
+    let (told, row) = (Told::Asked(Question::Common), "1,3 2,4,1 2,4,3");
+    assert!(rt; row_holds_at_any_count(&rt, rt.alloc(), told, row));
+}

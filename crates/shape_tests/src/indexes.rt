@@ -1,0 +1,494 @@
+//! Walks over all indices of a shape, in either order.
+//!
+//! A row is a shape and how many indices it has, and then, behind an arrow, these; or what a walk makes of them.
+ghost use Rattle.std.specs.Iterator.{IsFinite};
+ghost use Rattle.std.specs.Prelude.{◌<◌, ◌^◌, IfOk};
+ghost use Rattle.nd_base.specs.Dim.{lengths};
+ghost use Rattle.nd_base.specs.Size.{size};
+
+use crate::lists::dim_of;
+use crate::told::{Told, demand, row_holds_at_its_type, table_at_its_type};
+use nd_dim::{Dimension, IntoDimension, IxDyn, Lengths, Order, new_ixdyn};
+use nd_shape::{IndexCursor, IndexCursorF, IndicesIter, IndicesIterF, all_indices, indices_iter_f};
+use nd_testing::{List, Lists, Row, asked, rows};
+use std::alloc::{AllocError, Global};
+use std::process::Abort;
+
+// ---- what walks give
+
+/// The walk over a shape by rows.
+fn by_rows<D: Dimension + Copy>(alloc: Global, dim: D) -> Option<IndicesIter<D>> {
+    dim.size_checked()?;
+    match all_indices(alloc, dim.into_pattern()) {
+        Ok(indices) => Some(indices.into_iter()),
+        Err(_) => None,
+    }
+}
+
+/// The walk over a shape by columns.
+fn by_columns<D: Dimension + Copy>(alloc: Global, dim: D) -> Option<IndicesIterF<D>> {
+    dim.size_checked()?;
+    match indices_iter_f(alloc, dim.into_pattern()) {
+        Ok(walk) => Some(walk),
+        Err(_) => None,
+    }
+}
+
+/// Whether the next word of a row is these entries.
+fn tells(alloc: Global, row: &mut Row<'_>, entries: &[usize]) -> bool {
+    match row.lengths(alloc) {
+        Ok(wanted) => wanted.as_slice() == entries,
+        Err(_) => false,
+    }
+}
+
+/// Whether an item stands for the next word of a row.
+fn is_told<T: IntoDimension>(alloc: Global, row: &mut Row<'_>, item: T) -> bool {
+    match item.into_dimension(alloc) {
+        Ok(index) => tells(alloc, row, index.slice()),
+        Err(_) => false,
+    }
+}
+
+/// Whether there is no item.
+fn is_end<T: IntoDimension>(alloc: Global, item: Option<T>) -> bool {
+    match item {
+        Some(item) => {
+            number_of(alloc, item);
+            false
+        }
+        None => true,
+    }
+}
+
+/// Whether the indices of a walk are those of a row, while the length falls by ones, and none follow.
+fn yields<T: IntoDimension, W: ExactSizeIterator<Item = T> + Drop>(
+    alloc: Global,
+    mut walk: W,
+    row: &mut Row<'_>,
+    count: usize,
+) -> bool
+    requires can { (state : W) → W.can_next state }
+    requires ends { IsFinite (W.remaining walk) }
+{
+    for left in (0..count).rev() {
+        let told = match walk.next() {
+            Some(item) => is_told(alloc, row, item),
+            None => false,
+        };
+        if !told || walk.len() != left {
+            return false;
+        }
+    }
+    is_end(alloc, walk.next()) && is_end(alloc, walk.next()) && walk.size_hint() == (0, Some(0))
+}
+
+/// What lends the indices of a shape, in either order.
+trait LendingWalk {
+    fn lend(&mut self) -> Option<&[usize]>;
+
+    fn left(&self) -> usize;
+}
+
+impl LendingWalk for IndexCursor {
+    fn lend(&mut self) -> Option<&[usize]> {
+        self.next()
+    }
+
+    fn left(&self) -> usize {
+        self.len()
+    }
+}
+
+impl LendingWalk for IndexCursorF {
+    fn lend(&mut self) -> Option<&[usize]> {
+        self.next()
+    }
+
+    fn left(&self) -> usize {
+        self.len()
+    }
+}
+
+/// A shape, where its size fits.
+fn sized(dim: IxDyn) -> Result<IxDyn, AllocError>
+    ensures { IfOk result (λ dim. size (lengths dim) < 2 ^ 64) }
+{
+    match dim.size_checked() {
+        Some(_) => Ok(dim),
+        None => Err(AllocError),
+    }
+}
+
+/// The cursor over a shape by rows. (It is made here alone, since what is ensured of it is dear.)
+fn row_cursor(alloc: Global, dim: IxDyn) -> Result<IndexCursor, AllocError> {
+    IndexCursor::new(alloc, sized(dim)?)
+}
+
+/// The cursor over a shape by columns.
+fn column_cursor(alloc: Global, dim: IxDyn) -> Result<IndexCursorF, AllocError> {
+    IndexCursorF::new(alloc, sized(dim)?)
+}
+
+/// Whether the next index that a cursor lends is that of a row, and so many are left.
+fn lends_next<C: LendingWalk>(
+    alloc: Global,
+    cursor: &mut C,
+    row: &mut Row<'_>,
+    left: usize,
+) -> bool {
+    let is_told = match cursor.lend() {
+        Some(index) => tells(alloc, row, index),
+        None => false,
+    };
+    is_told && cursor.left() == left
+}
+
+/// Whether the indices that a cursor lends are those of a row, and none follow.
+fn lends_all<C: LendingWalk + Drop>(
+    alloc: Global,
+    cursor: Result<C, AllocError>,
+    row: &mut Row<'_>,
+    count: usize,
+) -> bool {
+    let Ok(mut cursor) = cursor else {
+        return false;
+    };
+    for left in (0..count).rev() {
+        if !lends_next(alloc, &mut cursor, row, left) {
+            return false;
+        }
+    }
+    cursor.lend().is_none() && cursor.lend().is_none() && cursor.left() == 0
+}
+
+/// What a row tells of the walks over a shape.
+#[derive(Clone, Copy)]
+pub(crate) enum Walk {
+    /// How many indices it has, and these in an order.
+    All(Order),
+    /// How many indices it has, and the first one.
+    Starts,
+    /// That a loop over a copy of a walk meets what is left, once so many indices are gone.
+    Folds(usize),
+    /// A factor, how many indices are gone, and what a fold makes of the others.
+    Folded,
+}
+
+/// Whether a walk has so many indices, and these are the first ones.
+fn starts<T: IntoDimension, W: ExactSizeIterator<Item = T> + Drop>(
+    alloc: Global,
+    mut walk: W,
+    row: &mut Row<'_>,
+    count: usize,
+) -> bool
+    requires can { (state : W) → W.can_next state }
+{
+    walk.len() == count
+        && match walk.next() {
+            Some(item) => is_told(alloc, row, item),
+            None => false,
+        }
+}
+
+/// Whether a row tells this of a walk by rows.
+fn tells_of<T: IntoDimension, W: ExactSizeIterator<Item = T> + Clone + Drop>(
+    alloc: Global,
+    told: Walk,
+    walk: W,
+    row: &Lists<'_>,
+) -> bool
+    requires can { (state : W) → W.can_next state }
+    requires ends { (state : W) → IsFinite (W.remaining state) }
+{
+    match told {
+        Walk::All(_) => yields(alloc, walk, &mut Row::new(row.answer), row.second.at(0)),
+        Walk::Starts => starts(alloc, walk, &mut Row::new(row.answer), row.second.at(0)),
+        Walk::Folds(gone) => folds(alloc, walk, gone),
+        Walk::Folded => is_folded(alloc, walk, row),
+    }
+}
+
+/// Whether a row tells this of the walk over a shape by rows.
+fn is_walked_by_rows<D: Dimension + Copy>(
+    alloc: Global,
+    told: Walk,
+    dim: D,
+    row: &Lists<'_>,
+) -> bool {
+    match by_rows(alloc, dim) {
+        Some(walk) => tells_of(alloc, told, walk, row),
+        None => false,
+    }
+}
+
+/// Whether a row tells the indices of a shape by columns.
+fn is_walked_by_columns<D: Dimension + Copy>(alloc: Global, dim: D, row: &Lists<'_>) -> bool {
+    match by_columns(alloc, dim) {
+        Some(walk) => yields(alloc, walk, &mut Row::new(row.answer), row.second.at(0)),
+        None => false,
+    }
+}
+
+/// Whether a row tells this at a type.
+pub(crate) fn is_walked<D: Dimension + Copy>(
+    rt: &impl Abort,
+    alloc: Global,
+    told: Walk,
+    row: &Lists<'_>,
+) -> bool {
+    let dim: D = dim_of(rt, alloc, row.first.as_slice());
+    match told {
+        Walk::All(Order::ColumnMajor) => is_walked_by_columns(alloc, dim, row),
+        _ => is_walked_by_rows(alloc, told, dim, row),
+    }
+}
+
+/// The same of a cursor.
+fn lends(alloc: Global, order: Order, line: &str) -> bool {
+    let Some(lists) = Lists::read(line) else {
+        return false;
+    };
+    let Ok(dim) = new_ixdyn(alloc, lists.first.as_slice()) else {
+        return false;
+    };
+    let (mut row, count) = (Row::new(lists.answer), lists.second.at(0));
+    match order {
+        Order::RowMajor => lends_all(alloc, row_cursor(alloc, dim), &mut row, count),
+        Order::ColumnMajor => lends_all(alloc, column_cursor(alloc, dim), &mut row, count),
+    }
+}
+
+/// The rows of a table, at their types and of cursors.
+fn table(rt: &impl Abort, alloc: Global, order: Order, table: &str) {
+    table_at_its_type(rt, alloc, Told::Walked(Walk::All(order)), table);
+    for line in rows(table) {
+        demand(rt, lends(alloc, order, line), line);
+    }
+}
+
+const TWO_AXES_BY_ROWS: &str = "\
+2,2 4 => 0,0 0,1 1,0 1,1
+3,4 12 => 0,0 0,1 0,2 0,3 1,0 1,1 1,2 1,3 2,0 2,1 2,2 2,3
+0,18446744073709551615 0";
+
+const TWO_AXES_BY_COLUMNS: &str = "\
+2,2 4 => 0,0 1,0 0,1 1,1
+3,4 12 => 0,0 1,0 2,0 0,1 1,1 2,1 0,2 1,2 2,2 0,3 1,3 2,3
+0,18446744073709551615 0";
+
+const THREE_AXES_BY_ROWS: &str = "\
+2,1,2 4 => 0,0,0 0,0,1 1,0,0 1,0,1
+2,0,3 0
+1099511627776,1099511627776,0 0
+0,1099511627776,1099511627776 0";
+
+const THREE_AXES_BY_COLUMNS: &str = "\
+2,1,2 4 => 0,0,0 1,0,0 0,0,1 1,0,1
+2,0,3 0
+1099511627776,1099511627776,0 0
+0,1099511627776,1099511627776 0";
+
+#[test]
+fn r7_rows(rt: HostRuntime) {
+    let alloc = rt.alloc();
+    table(&rt, alloc, Order::RowMajor, "- 1 => -");
+    table(&rt, alloc, Order::RowMajor, TWO_AXES_BY_ROWS);
+    table(&rt, alloc, Order::RowMajor, THREE_AXES_BY_ROWS);
+}
+
+#[test]
+fn r7_rows_by_columns(rt: HostRuntime) {
+    let alloc = rt.alloc();
+    table(&rt, alloc, Order::ColumnMajor, "- 1 => -");
+    table(&rt, alloc, Order::ColumnMajor, TWO_AXES_BY_COLUMNS);
+    table(&rt, alloc, Order::ColumnMajor, THREE_AXES_BY_COLUMNS);
+}
+
+#[test]
+fn r7_rows_of_the_longest_shape(rt: HostRuntime) {
+    let row = "18446744073709551615 18446744073709551615 => 0";
+    let told = Told::Walked(Walk::Starts);
+    assert!(rt; row_holds_at_its_type(&rt, told, rt.alloc(), row));
+}
+
+// ---- folds
+
+/// A number that tells an item from others.
+fn number_of<T: IntoDimension>(alloc: Global, item: T) -> usize {
+    let mut number = 1_usize;
+    if let Ok(index) = item.into_dimension(alloc) {
+        for entry in index.slice() {
+            number = number.wrapping_mul(7).wrapping_add(*entry);
+        }
+    }
+    number
+}
+
+/// How many items a walk has, and a number that tells them from others.
+fn met<T: IntoDimension, W: Iterator<Item = T> + Drop>(alloc: Global, walk: W) -> (usize, usize)
+    requires can { (state : W) → W.can_next state }
+    requires ends { IsFinite (W.remaining walk) }
+{
+    let (mut count, mut told) = (0_usize, 0_usize);
+    for item in walk {
+        count = count.wrapping_add(1);
+        told = told.wrapping_mul(31).wrapping_add(number_of(alloc, item));
+    }
+    (count, told)
+}
+
+/// A walk, once so many of its items are gone.
+fn left_of<T: IntoDimension, W: Iterator<Item = T> + Drop>(
+    alloc: Global,
+    mut walk: W,
+    gone: usize,
+) -> W
+    requires can { (state : W) → W.can_next state }
+    requires ends { (state : W) → IsFinite (W.remaining state) }
+{
+    for _ in 0..gone {
+        is_end(alloc, walk.next());
+    }
+    walk
+}
+
+/// Whether a loop over a copy of a walk meets the items that are still to come, as many as it tells.
+fn folds<T: IntoDimension, W: ExactSizeIterator<Item = T> + Clone + Drop>(
+    alloc: Global,
+    walk: W,
+    gone: usize,
+) -> bool
+    requires can { (state : W) → W.can_next state }
+    requires ends { (state : W) → IsFinite (W.remaining state) }
+{
+    let walk = left_of(alloc, walk, gone);
+    let (len, copy): (_, Result<_, _>) = (walk.len(), walk.clone());
+    match copy {
+        Ok(copy) => {
+            let told = met(alloc, copy);
+            told.0 == len && met(alloc, walk) == told
+        },
+        Err(_) => false,
+    }
+}
+
+const FOLDED: &str = "\
+-
+2
+2,3
+2,0,3
+2,3,4
+2,3,4,2";
+
+#[test]
+fn r7_rows_of_folds(rt: HostRuntime) {
+    for gone in 0..3 {
+        table_at_its_type(&rt, rt.alloc(), Told::Walked(Walk::Folds(gone)), FOLDED);
+    }
+}
+
+/// The rank of entries in a shape.
+fn rank(lens: &[usize], entries: &[usize]) -> usize {
+    let mut rank = 0_usize;
+    for (len, entry) in lens.iter().zip(entries) {
+        rank = rank.wrapping_mul(*len).wrapping_add(*entry);
+    }
+    rank
+}
+
+/// The rank of an index in a shape.
+fn rank_of<T: IntoDimension>(alloc: Global, lens: List, item: T) -> usize {
+    match item.into_dimension(alloc) {
+        Ok(index) => rank(lens.as_slice(), index.slice()),
+        Err(_) => 0,
+    }
+}
+
+/// What a fold over a walk makes of the ranks of its items in a shape.
+fn folded<T: IntoDimension, W: Iterator<Item = T> + Drop>(
+    alloc: Global,
+    walk: W,
+    lens: List,
+    factor: usize,
+) -> usize
+    requires can { (state : W) → W.can_next state }
+    requires ends { IsFinite (W.remaining walk) }
+{
+    walk.fold(1_usize, move |told, item| {
+        told.wrapping_mul(factor)
+            .wrapping_add(rank_of(alloc, lens, item))
+    })
+}
+
+/// Whether a fold over the items that are left makes what a row tells.
+fn is_folded<T: IntoDimension, W: Iterator<Item = T> + Drop>(
+    alloc: Global,
+    walk: W,
+    row: &Lists<'_>,
+) -> bool
+    requires can { (state : W) → W.can_next state }
+    requires ends { (state : W) → IsFinite (W.remaining state) }
+{
+    let (factor, gone) = (row.second.at(0), row.third.at(0));
+    folded(alloc, left_of(alloc, walk, gone), row.first, factor) == row.fourth.at(0)
+}
+
+const RANKS_FOLDED: &str = "\
+2,3 10 0 1012345
+2,3 10 1 112345
+2,3 10 2 12345
+2,3,4 31 0 9080093417489650957
+2,3,4 31 1 6872714081735186155
+2,3,4 31 2 14177832400027191308";
+
+#[test]
+fn r7_rows_of_folded_ranks(rt: HostRuntime) {
+    table_at_its_type(&rt, rt.alloc(), Told::Walked(Walk::Folded), RANKS_FOLDED);
+}
+
+// ---- memory
+
+/// Whether the cursor over a shape is made.
+fn is_made(alloc: Global, order: Order, lens: &[usize]) -> bool {
+    let Ok(dim) = new_ixdyn(alloc, lens) else {
+        return false;
+    };
+    match order {
+        Order::RowMajor => len_of(row_cursor(alloc, dim)).is_ok(),
+        Order::ColumnMajor => len_of(column_cursor(alloc, dim)).is_ok(),
+    }
+}
+
+/// Whether the cursors over a shape are made.
+fn are_made(alloc: Global, lens: &[usize]) -> bool {
+    is_made(alloc, Order::RowMajor, lens) && is_made(alloc, Order::ColumnMajor, lens)
+}
+
+#[test]
+fn ample_memory_for_cursors(rt: HostRuntime) {
+    let alloc = rt.alloc();
+    assert!(rt; are_made(alloc, &[1, 2, 1, 2, 1]));
+    let long = [1_usize; 1100];
+    assert!(rt; are_made(alloc, &long));
+}
+
+#[test]
+fn memory_of_cursors_of_four_axes(rt: HostRuntime) {
+    assert!(rt; are_made(rt.alloc(), &[1, 2, 3, 4]));
+}
+
+/// How many indices a cursor is to lend, if there was memory for it.
+fn len_of<C: LendingWalk + Drop>(cursor: Result<C, AllocError>) -> Result<usize, AllocError> {
+    Ok(cursor?.left())
+}
+
+// To make the two shapes takes the first two requests.
+#[test]
+fn late_memory_of_cursors(rt: HostRuntime) {
+    let (alloc, lens) = (rt.alloc(), [1, 2, 3, 2, 1]);
+    let (dim, other): (IxDyn, IxDyn) = (dim_of(&rt, alloc, &lens), dim_of(&rt, alloc, &lens));
+    let rows = len_of(row_cursor(alloc, dim));
+    let columns = len_of(column_cursor(alloc, other));
+    assert!(rt; asked(alloc, rows, columns));
+}

@@ -1,0 +1,29 @@
+//! Tests of `nd_shape`, by its public calls.
+#![tactic(auto)]
+
+#[cfg(test)]
+mod acceptance;
+#[cfg(test)]
+mod axes;
+#[cfg(test)]
+mod broadcast;
+#[cfg(test)]
+mod indexes;
+#[cfg(test)]
+mod indexing;
+#[cfg(test)]
+mod layout;
+#[cfg(test)]
+mod layouts;
+#[cfg(test)]
+mod lists;
+#[cfg(test)]
+mod merge;
+#[cfg(test)]
+mod offsets;
+#[cfg(test)]
+mod questions;
+#[cfg(test)]
+mod shapes;
+#[cfg(test)]
+mod told;
