@@ -4,7 +4,7 @@
 //! them; then, behind an arrow, the fault. Where the shape or the strides alone are asked for, they
 //! stand twice.
 use crate::questions::Question;
-use crate::told::{Told, holds_at, table};
+use crate::told::{Told, holds, table};
 use CanIndexCheckMode::{OwnedMutable, ReadOnly};
 use ErrorKind::{
     IncompatibleLayout, IncompatibleShape, OutOfBounds, Overflow, RangeLimited, Unsupported,
@@ -18,7 +18,6 @@ use nd_shape::{
 };
 use nd_testing::{List, Lists, fault_of};
 use std::alloc::{AllocError, Global};
-use std::process::Abort;
 
 /// The name of a fault, if there is one.
 pub(crate) fn name_of(fault: Option<ErrorKind>) -> &'static str {
@@ -138,8 +137,8 @@ pub(crate) fn is_accepted_along_its_own<D: Lengths>(alloc: Global, dim: &D) -> b
         && is_accepted_along(dim, fortran_strides(alloc, dim))
 }
 
-/// The same of lengths, at the type of so many axes.
-fn are_accepted(rt: &impl Abort, alloc: Global, ndim: Option<usize>, lens: &[usize]) -> bool {
+/// The same of lengths.
+fn are_accepted(alloc: Global, lens: &[usize]) -> bool {
     let Some(list) = List::of(lens) else {
         return false;
     };
@@ -150,16 +149,15 @@ fn are_accepted(rt: &impl Abort, alloc: Global, ndim: Option<usize>, lens: &[usi
         fourth: list,
         answer: "",
     };
-    holds_at(rt, Told::OwnStrides, alloc, ndim, &row)
+    holds(Told::Asked(Question::OwnStrides), alloc, &row)
 }
 
 /// The same of no axes, the first one, the first two and all three.
-fn three_are_accepted(rt: &impl Abort, alloc: Global, lens: [usize; 3]) -> bool {
-    are_accepted(rt, alloc, Some(3), &lens)
-        && are_accepted(rt, alloc, None, &lens[..0])
-        && are_accepted(rt, alloc, None, &lens[..1])
-        && are_accepted(rt, alloc, None, &lens[..2])
-        && are_accepted(rt, alloc, None, &lens)
+fn three_are_accepted(alloc: Global, lens: [usize; 3]) -> bool {
+    are_accepted(alloc, &lens[..0])
+        && are_accepted(alloc, &lens[..1])
+        && are_accepted(alloc, &lens[..2])
+        && are_accepted(alloc, &lens)
 }
 
 #[test]
@@ -167,7 +165,7 @@ fn r3_rows_of_shapes_along_their_own_strides(rt: HostRuntime) {
     for a in 0..4 {
         for b in 0..4 {
             for c in 0..4 {
-                assert!(rt; three_are_accepted(&rt, rt.alloc(), [a, b, c]));
+                assert!(rt; three_are_accepted(rt.alloc(), [a, b, c]));
             }
         }
     }
@@ -179,19 +177,19 @@ fn rest_is_accepted<D: RemoveAxis>(alloc: Global, dim: &D, strides: &D, len: usi
     if dim.ndim() == 0 || strides.ndim() == 0 {
         return false;
     }
-    let (rest, along) = (
-        dim.remove_axis(alloc, Axis(0)),
-        strides.remove_axis(alloc, Axis(0)),
-    );
-    match (rest, along) {
-        (Ok(rest), Ok(along)) => can_index_slice(1, len, &rest, &along, OwnedMutable).is_ok(),
-        _ => false,
+    match dim.remove_axis(alloc, Axis(0)) {
+        Ok(rest) => match strides.remove_axis(alloc, Axis(0)) {
+            Ok(along) => can_index_slice(1, len, &rest, &along, OwnedMutable).is_ok(),
+            Err(_) => false,
+        },
+        Err(_) => false,
     }
 }
 
 #[test]
 fn layouts_of_a_smaller_type(rt: HostRuntime) {
     let (alloc, dim, strides) = (rt.alloc(), new_ix3(2, 3, 4), new_ix3(12, 4, 1));
-    assert!(rt; rest_is_accepted(alloc, &dim, &strides, 12));
-    assert!(rt; !rest_is_accepted(alloc, &dim, &strides, 11));
+    assert!(rt;
+        rest_is_accepted(alloc, &dim, &strides, 12) && !rest_is_accepted(alloc, &dim, &strides, 11)
+    );
 }

@@ -3,31 +3,34 @@
 //! A row is two shapes, and what they have in common, in either order; or, behind an arrow, the fault.
 use crate::acceptance::name_of;
 use crate::questions::Question;
-use crate::told::{Told, row_holds_at_any_count, table};
+use crate::told::{Told, row_holds, table};
 use nd_dim::{Ix2, Ix3, IxDyn, LayoutError, Lengths, new_ix2, new_ix3};
 use nd_shape::co_broadcast;
 use nd_testing::{Lists, grants};
 use std::alloc::Global;
 
-/// The shape that two shapes have in common; `None` where the type has none of its count.
+/// The name of the fault of two shapes.
+fn fault_name(error: LayoutError) -> &'static str {
+    match error {
+        LayoutError::Shape(error) => name_of(Some(error.kind())),
+        LayoutError::Memory(_) => "memory",
+    }
+}
+
+/// The shape that two shapes have in common, or why there is none of its type.
 fn common<D1: Lengths, D2: Lengths, Output: Lengths>(
     alloc: Global,
     shape1: &D1,
     shape2: &D2,
-) -> Option<Result<Output, LayoutError>> {
+) -> Result<Output, &'static str> {
     let (count1, count2) = (shape1.ndim(), shape2.ndim());
     let count = if count1 < count2 { count2 } else { count1 };
-    match Output::NDIM {
-        Some(fixed) if fixed != count => None,
-        _ => Some(co_broadcast(alloc, shape1, shape2)),
+    if Output::NDIM.unwrap_or(count) != count {
+        return Err("another count");
     }
-}
-
-/// Whether this is the fault of two shapes.
-fn is_fault(error: LayoutError, fault: &str) -> bool {
-    match error {
-        LayoutError::Shape(error) => name_of(Some(error.kind())) == fault,
-        LayoutError::Memory(_) => false,
+    match co_broadcast(alloc, shape1, shape2) {
+        Ok(common) => Ok(common),
+        Err(error) => Err(fault_name(error)),
     }
 }
 
@@ -40,9 +43,8 @@ fn is_common<D1: Lengths, D2: Lengths, Output: Lengths>(
     fault: &str,
 ) -> bool {
     match common::<D1, D2, Output>(alloc, shape1, shape2) {
-        Some(Ok(common)) => common.slice() == lens && fault.is_empty(),
-        Some(Err(error)) => is_fault(error, fault),
-        None => false,
+        Ok(common) => common.slice() == lens && fault.is_empty(),
+        Err(name) => name == fault,
     }
 }
 
@@ -53,11 +55,17 @@ pub(crate) fn shares<D: Lengths>(alloc: Global, shape: &D, other: &D, row: &List
         && is_common::<D, D, D>(alloc, other, shape, lens, row.answer)
 }
 
-/// Whether the shape that two have in common asks for memory.
-pub(crate) fn asks_for_common<D: Lengths>(alloc: Global, shape: &D, other: &D) -> bool {
-    let first = common::<D, D, D>(alloc, shape, other);
-    let second = common::<D, D, D>(alloc, other, shape);
-    grants(alloc) && (matches!(first, Some(Ok(_))) || matches!(second, Some(Ok(_))))
+/// Whether to make the shape that two have in common asks for memory: of two such calls one may fail.
+pub(crate) fn asks_for_common<D: Lengths>(
+    alloc: Global,
+    shape: &D,
+    other: &D,
+    row: &Lists<'_>,
+) -> bool {
+    let lens = row.third.as_slice();
+    let first = is_common::<D, D, D>(alloc, shape, other, lens, row.answer);
+    let second = is_common::<D, D, D>(alloc, other, shape, lens, row.answer);
+    grants(alloc) && (first || second)
 }
 
 const COMMON: &str = "\
@@ -104,8 +112,11 @@ fn r5_rows_of_fixed_types(rt: HostRuntime) {
 // More than four axes ask for memory. To make the two shapes takes the first two requests.
 #[test]
 fn late_memory_of_broadcast(rt: HostRuntime) {
-    let (told, row) = (Told::Asked(Question::CommonAsks), "2,1,3,1,2 2,1,3,1,2");
-    assert!(rt; row_holds_at_any_count(&rt, rt.alloc(), told, row));
+    let (told, row) = (
+        Told::Asked(Question::CommonAsks),
+        "2,1,3,1,2 2,1,3,1,2 2,1,3,1,2",
+    );
+    assert!(rt; row_holds(told, rt.alloc(), row));
 }
 
 // Shapes that have none in common are refused for that.
@@ -115,12 +126,12 @@ fn late_memory_after_the_shapes(rt: HostRuntime) {
         Told::Asked(Question::Common),
         "2,1,3,1,2 2,1,3,1,4 - => IncompatibleShape",
     );
-    assert!(rt; row_holds_at_any_count(&rt, rt.alloc(), told, row));
+    assert!(rt; row_holds(told, rt.alloc(), row));
 }
 
 // Up to four axes lie in the value itself.
 #[test]
 fn r9_rows_of_broadcast(rt: HostRuntime) {
     let (told, row) = (Told::Asked(Question::Common), "1,3 2,4,1 2,4,3");
-    assert!(rt; row_holds_at_any_count(&rt, rt.alloc(), told, row));
+    assert!(rt; row_holds(told, rt.alloc(), row));
 }

@@ -6,33 +6,13 @@ ghost use Rattle.std.specs.Prelude.{◌<◌, ◌^◌, IfOk};
 ghost use Rattle.nd_base.specs.Dim.{lengths};
 ghost use Rattle.nd_base.specs.Size.{size};
 
-use crate::lists::dim_of;
-use crate::told::{Told, demand, row_holds_at_its_type, table_at_its_type};
+use crate::told::{Told, row_holds, table};
 use nd_dim::{Dimension, IntoDimension, IxDyn, Lengths, Order, new_ixdyn};
-use nd_shape::{IndexCursor, IndexCursorF, IndicesIter, IndicesIterF, all_indices, indices_iter_f};
-use nd_testing::{List, Lists, Row, asked, rows};
+use nd_shape::{IndexCursor, IndexCursorF, all_indices, indices_iter_f};
+use nd_testing::{List, Lists, Row, asked, made};
 use std::alloc::{AllocError, Global};
-use std::process::Abort;
 
 // ---- what walks give
-
-/// The walk over a shape by rows.
-fn by_rows<D: Dimension + Copy>(alloc: Global, dim: D) -> Option<IndicesIter<D>> {
-    dim.size_checked()?;
-    match all_indices(alloc, dim.into_pattern()) {
-        Ok(indices) => Some(indices.into_iter()),
-        Err(_) => None,
-    }
-}
-
-/// The walk over a shape by columns.
-fn by_columns<D: Dimension + Copy>(alloc: Global, dim: D) -> Option<IndicesIterF<D>> {
-    dim.size_checked()?;
-    match indices_iter_f(alloc, dim.into_pattern()) {
-        Ok(walk) => Some(walk),
-        Err(_) => None,
-    }
-}
 
 /// Whether the next word of a row is these entries.
 fn tells(alloc: Global, row: &mut Row<'_>, entries: &[usize]) -> bool {
@@ -216,54 +196,46 @@ fn is_walked_by_rows<D: Dimension + Copy>(
     dim: D,
     row: &Lists<'_>,
 ) -> bool {
-    match by_rows(alloc, dim) {
-        Some(walk) => tells_of(alloc, told, walk, row),
+    match dim.size_checked() {
+        Some(_) => match all_indices(alloc, dim.into_pattern()) {
+            Ok(indices) => tells_of(alloc, told, indices.into_iter(), row),
+            Err(_) => false,
+        },
         None => false,
     }
 }
 
 /// Whether a row tells the indices of a shape by columns.
 fn is_walked_by_columns<D: Dimension + Copy>(alloc: Global, dim: D, row: &Lists<'_>) -> bool {
-    match by_columns(alloc, dim) {
-        Some(walk) => yields(alloc, walk, &mut Row::new(row.answer), row.second.at(0)),
+    match dim.size_checked() {
+        Some(_) => match indices_iter_f(alloc, dim.into_pattern()) {
+            Ok(walk) => yields(alloc, walk, &mut Row::new(row.answer), row.second.at(0)),
+            Err(_) => false,
+        },
         None => false,
     }
 }
 
 /// Whether a row tells this at a type.
-pub(crate) fn is_walked<D: Dimension + Copy>(
-    rt: &impl Abort,
-    alloc: Global,
-    told: Walk,
-    row: &Lists<'_>,
-) -> bool {
-    let dim: D = dim_of(rt, alloc, row.first.as_slice());
-    match told {
-        Walk::All(Order::ColumnMajor) => is_walked_by_columns(alloc, dim, row),
-        _ => is_walked_by_rows(alloc, told, dim, row),
+pub(crate) fn is_walked<D: Dimension + Copy>(alloc: Global, told: Walk, row: &Lists<'_>) -> bool {
+    match made::<D>(alloc, row.first.as_slice()) {
+        Some(dim) => match told {
+            Walk::All(Order::ColumnMajor) => is_walked_by_columns(alloc, dim, row),
+            _ => is_walked_by_rows(alloc, told, dim, row),
+        },
+        None => false,
     }
 }
 
-/// The same of a cursor.
-fn lends(alloc: Global, order: Order, line: &str) -> bool {
-    let Some(lists) = Lists::read(line) else {
+/// Whether a row tells the indices of a shape in an order, as they are lent by its cursor.
+pub(crate) fn lends(alloc: Global, order: Order, row: &Lists<'_>) -> bool {
+    let Ok(dim) = new_ixdyn(alloc, row.first.as_slice()) else {
         return false;
     };
-    let Ok(dim) = new_ixdyn(alloc, lists.first.as_slice()) else {
-        return false;
-    };
-    let (mut row, count) = (Row::new(lists.answer), lists.second.at(0));
+    let (mut indices, count) = (Row::new(row.answer), row.second.at(0));
     match order {
-        Order::RowMajor => lends_all(alloc, row_cursor(alloc, dim), &mut row, count),
-        Order::ColumnMajor => lends_all(alloc, column_cursor(alloc, dim), &mut row, count),
-    }
-}
-
-/// The rows of a table, at their types and of cursors.
-fn table(rt: &impl Abort, alloc: Global, order: Order, table: &str) {
-    table_at_its_type(rt, alloc, Told::Walked(Walk::All(order)), table);
-    for line in rows(table) {
-        demand(rt, lends(alloc, order, line), line);
+        Order::RowMajor => lends_all(alloc, row_cursor(alloc, dim), &mut indices, count),
+        Order::ColumnMajor => lends_all(alloc, column_cursor(alloc, dim), &mut indices, count),
     }
 }
 
@@ -291,25 +263,24 @@ const THREE_AXES_BY_COLUMNS: &str = "\
 
 #[test]
 fn r7_rows(rt: HostRuntime) {
-    let alloc = rt.alloc();
-    table(&rt, alloc, Order::RowMajor, "- 1 => -");
-    table(&rt, alloc, Order::RowMajor, TWO_AXES_BY_ROWS);
-    table(&rt, alloc, Order::RowMajor, THREE_AXES_BY_ROWS);
+    let (alloc, told) = (rt.alloc(), Told::Walked(Walk::All(Order::RowMajor)));
+    table(&rt, alloc, told, "- 1 => -");
+    table(&rt, alloc, told, TWO_AXES_BY_ROWS);
+    table(&rt, alloc, told, THREE_AXES_BY_ROWS);
 }
 
 #[test]
 fn r7_rows_by_columns(rt: HostRuntime) {
-    let alloc = rt.alloc();
-    table(&rt, alloc, Order::ColumnMajor, "- 1 => -");
-    table(&rt, alloc, Order::ColumnMajor, TWO_AXES_BY_COLUMNS);
-    table(&rt, alloc, Order::ColumnMajor, THREE_AXES_BY_COLUMNS);
+    let (alloc, told) = (rt.alloc(), Told::Walked(Walk::All(Order::ColumnMajor)));
+    table(&rt, alloc, told, "- 1 => -");
+    table(&rt, alloc, told, TWO_AXES_BY_COLUMNS);
+    table(&rt, alloc, told, THREE_AXES_BY_COLUMNS);
 }
 
 #[test]
 fn r7_rows_of_the_longest_shape(rt: HostRuntime) {
     let row = "18446744073709551615 18446744073709551615 => 0";
-    let told = Told::Walked(Walk::Starts);
-    assert!(rt; row_holds_at_its_type(&rt, told, rt.alloc(), row));
+    assert!(rt; row_holds(Told::Walked(Walk::Starts), rt.alloc(), row));
 }
 
 // ---- folds
@@ -384,15 +355,15 @@ const FOLDED: &str = "\
 #[test]
 fn r7_rows_of_folds(rt: HostRuntime) {
     for gone in 0..3 {
-        table_at_its_type(&rt, rt.alloc(), Told::Walked(Walk::Folds(gone)), FOLDED);
+        table(&rt, rt.alloc(), Told::Walked(Walk::Folds(gone)), FOLDED);
     }
 }
 
 /// The rank of entries in a shape.
-fn rank(lens: &[usize], entries: &[usize]) -> usize {
+fn rank(lens: &List, entries: &[usize]) -> usize {
     let mut rank = 0_usize;
-    for (len, entry) in lens.iter().zip(entries) {
-        rank = rank.wrapping_mul(*len).wrapping_add(*entry);
+    for (axis, entry) in entries.iter().enumerate() {
+        rank = rank.wrapping_mul(lens.at(axis)).wrapping_add(*entry);
     }
     rank
 }
@@ -400,7 +371,7 @@ fn rank(lens: &[usize], entries: &[usize]) -> usize {
 /// The rank of an index in a shape.
 fn rank_of<T: IntoDimension>(alloc: Global, lens: List, item: T) -> usize {
     match item.into_dimension(alloc) {
-        Ok(index) => rank(lens.as_slice(), index.slice()),
+        Ok(index) => rank(&lens, index.slice()),
         Err(_) => 0,
     }
 }
@@ -444,7 +415,7 @@ const RANKS_FOLDED: &str = "\
 
 #[test]
 fn r7_rows_of_folded_ranks(rt: HostRuntime) {
-    table_at_its_type(&rt, rt.alloc(), Told::Walked(Walk::Folded), RANKS_FOLDED);
+    table(&rt, rt.alloc(), Told::Walked(Walk::Folded), RANKS_FOLDED);
 }
 
 // ---- memory
@@ -483,12 +454,20 @@ fn len_of<C: LendingWalk + Drop>(cursor: Result<C, AllocError>) -> Result<usize,
     Ok(cursor?.left())
 }
 
+/// Whether to make the cursors over a shape asks for memory, once there is some for the shape itself, twice.
+fn ask(alloc: Global, lens: &[usize]) -> bool {
+    let Ok(dim) = new_ixdyn(alloc, lens) else {
+        return false;
+    };
+    let Ok(other) = new_ixdyn(alloc, lens) else {
+        return false;
+    };
+    let rows = len_of(row_cursor(alloc, dim));
+    asked(alloc, rows, len_of(column_cursor(alloc, other)))
+}
+
 // To make the two shapes takes the first two requests.
 #[test]
 fn late_memory_of_cursors(rt: HostRuntime) {
-    let (alloc, lens) = (rt.alloc(), [1, 2, 3, 2, 1]);
-    let (dim, other): (IxDyn, IxDyn) = (dim_of(&rt, alloc, &lens), dim_of(&rt, alloc, &lens));
-    let rows = len_of(row_cursor(alloc, dim));
-    let columns = len_of(column_cursor(alloc, other));
-    assert!(rt; asked(alloc, rows, columns));
+    assert!(rt; ask(rt.alloc(), &[1, 2, 3, 2, 1]));
 }

@@ -1,43 +1,32 @@
 //! What can index an array, each at its types.
-ghost use Rattle.std.specs.Prelude.{IsTrue};
-ghost use Rattle.nd_base.specs.Signed.{all_signed};
-ghost use Rattle.nd_base.specs.ValidLayout.{IsValidLayout};
-
-use crate::lists::dim_of;
 use nd_dim::{
     Ix0, Ix1, Ix2, Ix3, Ix4, Ix5, Ix6, IxDyn, Lengths, new_ix0, new_ix1, new_ix2, new_ix3, new_ix4,
-    new_ix5, new_ix6, unsigned,
+    new_ix5, new_ix6, new_ixdyn, unsigned,
 };
 use nd_shape::{CanIndexCheckMode, NdIndex, can_index_slice};
+use std::alloc::Global;
 
-/// Whether the indices of a shape can lie along these strides.
-fn is_layout<D: Lengths>(dim: &D, strides: &D) -> bool
-    ensures { IsTrue result → IsValidLayout (D.list dim.now) (all_signed (D.list strides.now)) }
-{
-    can_index_slice(1, 120, dim, strides, CanIndexCheckMode::ReadOnly).is_ok()
-}
-
-/// Where an index lies, with a test and without, by its bound alone.
-fn place_of<E: Lengths, I: NdIndex<E>>(dim: &E, strides: &E, index: &I) -> Option<(isize, isize)>
-    requires valid { IsValidLayout (E.list dim.now) (all_signed (E.list strides.now)) }
-{
-    match index.index_checked(dim, strides) {
-        Some(checked) => Some((checked, index.index_unchecked(strides))),
-        None => None,
+/// Whether an index lies there in a layout, with a test and without; or nowhere.
+fn lies<E: Lengths, I: NdIndex<E>>(dim: &E, strides: &E, index: &I, place: Option<isize>) -> bool {
+    match can_index_slice(1, 120, dim, strides, CanIndexCheckMode::ReadOnly) {
+        Ok(()) => match index.index_checked(dim, strides) {
+            Some(checked) => {
+                Some(checked) == place && index.index_unchecked(strides) == checked
+            },
+            None => place.is_none(),
+        },
+        Err(_) => false,
     }
 }
 
 fn rows_of_no_axis_hold(dim: &Ix0, strides: &Ix0) -> bool {
-    is_layout(dim, strides)
-        && ().index_checked(dim, strides) == Some(0)
-        && [].index_checked(dim, strides) == Some(0)
+    lies(dim, strides, &(), Some(0)) && lies(dim, strides, &[], Some(0))
 }
 
 fn rows_of_one_axis_hold(dim: &Ix1, strides: &Ix1) -> bool {
-    is_layout(dim, strides)
-        && 3.index_checked(dim, strides) == Some(-6)
-        && [3].index_checked(dim, strides) == Some(-6)
-        && 4.index_checked(dim, strides) == None
+    lies(dim, strides, &3, Some(-6))
+        && lies(dim, strides, &[3], Some(-6))
+        && lies(dim, strides, &4, None)
 }
 
 #[test]
@@ -47,17 +36,15 @@ fn at_few_axes(rt: HostRuntime) {
 }
 
 fn rows_of_two_axes_hold(dim: &Ix2, strides: &Ix2) -> bool {
-    is_layout(dim, strides)
-        && [1, 2].index_checked(dim, strides) == Some(-1)
-        && (1, 3).index_checked(dim, strides) == None
-        && place_of(dim, strides, &(1, 2)) == Some((-1, -1))
+    lies(dim, strides, &[1, 2], Some(-1))
+        && lies(dim, strides, &(1, 3), None)
+        && lies(dim, strides, &(1, 2), Some(-1))
 }
 
 fn rows_of_three_axes_hold(dim: &Ix3, strides: &Ix3) -> bool {
-    is_layout(dim, strides)
-        && (1, 2, 3).index_checked(dim, strides) == Some(7)
-        && [1, 2, 3].index_checked(dim, strides) == Some(7)
-        && (1, 3, 0).index_checked(dim, strides) == None
+    lies(dim, strides, &(1, 2, 3), Some(7))
+        && lies(dim, strides, &[1, 2, 3], Some(7))
+        && lies(dim, strides, &(1, 3, 0), None)
 }
 
 #[test]
@@ -68,24 +55,21 @@ fn at_two_and_three_axes(rt: HostRuntime) {
 }
 
 fn rows_of_four_axes_hold(dim: &Ix4, strides: &Ix4) -> bool {
-    is_layout(dim, strides)
-        && (1, 2, 3, 4).index_checked(dim, strides) == Some(89)
-        && [1, 2, 3, 4].index_checked(dim, strides) == Some(89)
-        && (1, 2, 4, 0).index_checked(dim, strides) == None
+    lies(dim, strides, &(1, 2, 3, 4), Some(89))
+        && lies(dim, strides, &[1, 2, 3, 4], Some(89))
+        && lies(dim, strides, &(1, 2, 4, 0), None)
 }
 
 fn rows_of_five_axes_hold(dim: &Ix5, strides: &Ix5) -> bool {
-    is_layout(dim, strides)
-        && (1, 0, 2, 1, 1).index_checked(dim, strides) == Some(-1)
-        && [1, 0, 2, 1, 1].index_checked(dim, strides) == Some(-1)
-        && (0, 1, 0, 0, 0).index_checked(dim, strides) == None
+    lies(dim, strides, &(1, 0, 2, 1, 1), Some(-1))
+        && lies(dim, strides, &[1, 0, 2, 1, 1], Some(-1))
+        && lies(dim, strides, &(0, 1, 0, 0, 0), None)
 }
 
 fn rows_of_six_axes_hold(dim: &Ix6, strides: &Ix6) -> bool {
-    is_layout(dim, strides)
-        && (1, 0, 2, 1, 1, 1).index_checked(dim, strides) == Some(-10)
-        && [1, 0, 2, 1, 1, 1].index_checked(dim, strides) == Some(-10)
-        && (0, 0, 3, 0, 0, 0).index_checked(dim, strides) == None
+    lies(dim, strides, &(1, 0, 2, 1, 1, 1), Some(-10))
+        && lies(dim, strides, &[1, 0, 2, 1, 1, 1], Some(-10))
+        && lies(dim, strides, &(0, 0, 3, 0, 0, 0), None)
 }
 
 #[test]
@@ -100,35 +84,41 @@ fn at_more_axes(rt: HostRuntime) {
 
 /// Lists that are no `IxDyn`, on two axes.
 fn rows_of_lists_hold(dim: &IxDyn, strides: &IxDyn) -> bool {
-    is_layout(dim, strides)
-        && [1, 2].index_checked(dim, strides) == Some(5)
-        && [1].index_checked(dim, strides) == None
-        && [1, 2].as_slice().index_checked(dim, strides) == Some(5)
-        && [1, 2, 0].as_slice().index_checked(dim, strides) == None
-        && new_ix2(1, 2).index_checked(dim, strides) == Some(5)
-        && new_ix1(1).index_checked(dim, strides) == None
-        && 1.index_checked(dim, strides) == None
+    lies(dim, strides, &[1, 2], Some(5))
+        && lies(dim, strides, &[1], None)
+        && lies(dim, strides, &[1, 2].as_slice(), Some(5))
+        && lies(dim, strides, &[1, 2, 0].as_slice(), None)
+        && lies(dim, strides, &new_ix2(1, 2), Some(5))
+        && lies(dim, strides, &new_ix1(1), None)
+        && lies(dim, strides, &1, None)
 }
 
 /// Entries and dimensions, on one axis.
 fn rows_of_entries_hold(dim: &IxDyn, strides: &IxDyn) -> bool {
-    is_layout(dim, strides)
-        && 3.index_checked(dim, strides) == Some(9)
-        && 4.index_checked(dim, strides) == None
-        && (&dim).index_checked(dim, strides) == None
-        && place_of(dim, strides, &strides) == Some((9, 9))
+    lies(dim, strides, &3, Some(9))
+        && lies(dim, strides, &4, None)
+        && lies(dim, strides, &dim, None)
+        && lies(dim, strides, &strides, Some(9))
+}
+
+/// The rows of a layout of one axis or of two.
+fn rows_of_any_number_of_axes_hold(alloc: Global, lens: &[usize], strides: &[usize]) -> bool {
+    let Ok(dim) = new_ixdyn(alloc, lens) else {
+        return false;
+    };
+    match new_ixdyn(alloc, strides) {
+        Ok(strides) if lens.len() == 1 => rows_of_entries_hold(&dim, &strides),
+        Ok(strides) => rows_of_lists_hold(&dim, &strides),
+        Err(_) => false,
+    }
 }
 
 #[test]
 fn r3_rows(rt: HostRuntime) {
-    let dim: IxDyn = dim_of(&rt, rt.alloc(), &[2, 3]);
-    let strides: IxDyn = dim_of(&rt, rt.alloc(), &[3, 1]);
-    assert!(rt; rows_of_lists_hold(&dim, &strides));
+    assert!(rt; rows_of_any_number_of_axes_hold(rt.alloc(), &[2, 3], &[3, 1]));
 }
 
 #[test]
 fn at_one_of_any_number_of_axes(rt: HostRuntime) {
-    let dim: IxDyn = dim_of(&rt, rt.alloc(), &[4]);
-    let strides: IxDyn = dim_of(&rt, rt.alloc(), &[3]);
-    assert!(rt; rows_of_entries_hold(&dim, &strides));
+    assert!(rt; rows_of_any_number_of_axes_hold(rt.alloc(), &[4], &[3]));
 }

@@ -6,7 +6,6 @@ use crate::told::{Told, table};
 use nd_dim::Lengths;
 use nd_shape::{CanIndexCheckMode, Layout, can_index_slice, is_layout_c, is_layout_f};
 use std::alloc::Global;
-use std::process::Abort;
 
 /// How the indices of a layout lie one behind another, or that it isn't valid.
 fn orders<D: Lengths>(dim: &D, strides: &D) -> &'static str {
@@ -57,21 +56,27 @@ fn r5_rows(rt: HostRuntime) {
     table(&rt, rt.alloc(), Told::Asked(Question::Lies), LAYOUTS);
 }
 
-/// That a set of bits prints this text and has this tendency.
-fn prints(rt: &impl Abort, alloc: Global, layout: Layout, text: &str, tendency: i32) {
-    let printed = format!(in alloc; "{layout:?}").expect(rt, "memory");
-    assert_eq!(rt; (printed.as_str(), layout.tendency()), (text, tendency));
+/// Whether a set of bits prints this text and has this tendency.
+fn prints(alloc: Global, layout: Layout, text: &str, tendency: i32) -> bool {
+    match format!(in alloc; "{layout:?}") {
+        Ok(printed) => printed.as_str() == text && layout.tendency() == tendency,
+        Err(_) => false,
+    }
+}
+
+/// Whether each set of bits does.
+fn all_print(alloc: Global) -> bool {
+    prints(alloc, Layout::none(), "Custom (0x0)", 0)
+        && prints(alloc, Layout::one_dimensional(), "CFcf (0xf)", 0)
+        && prints(alloc, Layout::c(), "Cc (0x5)", 2)
+        && prints(alloc, Layout::f(), "Ff (0xa)", -2)
+        && prints(alloc, Layout::cpref(), "c (0x4)", 1)
+        && prints(alloc, Layout::fpref(), "f (0x8)", -1)
 }
 
 #[test]
 fn r5_rows_of_bits(rt: HostRuntime) {
-    let alloc = rt.alloc();
-    prints(&rt, alloc, Layout::none(), "Custom (0x0)", 0);
-    prints(&rt, alloc, Layout::one_dimensional(), "CFcf (0xf)", 0);
-    prints(&rt, alloc, Layout::c(), "Cc (0x5)", 2);
-    prints(&rt, alloc, Layout::f(), "Ff (0xa)", -2);
-    prints(&rt, alloc, Layout::cpref(), "c (0x4)", 1);
-    prints(&rt, alloc, Layout::fpref(), "f (0x8)", -1);
+    assert!(rt; all_print(rt.alloc()));
 }
 
 /// Whether a set has each of the bits.
@@ -84,36 +89,24 @@ fn bits_of(layout: Layout) -> [bool; 4] {
     ]
 }
 
+/// Whether what is made of two sets of bits prints as well.
+fn all_of_two_print(alloc: Global) -> bool {
+    let (also, shared) = (
+        Layout::c().also(Layout::fpref()),
+        Layout::c().intersect(Layout::cpref()),
+    );
+    prints(alloc, also, "Ccf (0xd)", 1)
+        && prints(alloc, shared, "c (0x4)", 1)
+        && prints(alloc, Layout::c().intersect(Layout::f()), "Custom (0x0)", 0)
+}
+
 #[test]
 fn r5_rows_of_two_sets_of_bits(rt: HostRuntime) {
-    let alloc = rt.alloc();
-    prints(
-        &rt,
-        alloc,
-        Layout::c().also(Layout::fpref()),
-        "Ccf (0xd)",
-        1,
+    assert!(rt; all_of_two_print(rt.alloc()));
+    let (order, prefer) = (
+        (Layout::CORDER, Layout::FORDER),
+        (Layout::CPREFER, Layout::FPREFER),
     );
-    prints(
-        &rt,
-        alloc,
-        Layout::c().intersect(Layout::cpref()),
-        "c (0x4)",
-        1,
-    );
-    prints(
-        &rt,
-        alloc,
-        Layout::c().intersect(Layout::f()),
-        "Custom (0x0)",
-        0,
-    );
-    let flags = [
-        Layout::CORDER,
-        Layout::FORDER,
-        Layout::CPREFER,
-        Layout::FPREFER,
-    ];
-    assert_eq!(rt; flags, [1, 2, 4, 8]);
-    assert_eq!(rt; bits_of(Layout::c()), [true, false, true, false]);
+    assert!(rt; order == (1, 2) && prefer == (4, 8));
+    assert!(rt; bits_of(Layout::c()) == [true, false, true, false]);
 }

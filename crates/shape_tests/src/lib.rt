@@ -16,8 +16,6 @@ mod layout;
 #[cfg(test)]
 mod layouts;
 #[cfg(test)]
-mod lists;
-#[cfg(test)]
 mod merge;
 #[cfg(test)]
 mod offsets;

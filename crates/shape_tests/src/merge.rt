@@ -8,7 +8,6 @@ use crate::told::{Told, table};
 use nd_dim::{Axis, Lengths};
 use nd_shape::{CanIndexCheckMode, can_index_slice, merge_axes, move_min_stride_axis_to_last};
 use nd_testing::Lists;
-use std::alloc::Global;
 
 /// Merges an axis into another, if the layout is valid and they are two of its axes.
 fn merged<D: Lengths>(dim: &mut D, strides: &mut D, take: usize, into: usize) -> &'static str {
@@ -27,11 +26,8 @@ fn merged<D: Lengths>(dim: &mut D, strides: &mut D, take: usize, into: usize) ->
 }
 
 /// Whether two axes of a layout are merged as a row tells, and the layout is this one afterwards.
-pub(crate) fn merges<D: Lengths>(alloc: Global, dim: &D, mut strides: D, row: &Lists<'_>) -> bool {
-    let Ok(mut dim) = dim.duplicate(alloc) else {
-        return false;
-    };
-    let told = merged(&mut dim, &mut strides, row.third.at(0), row.third.at(1));
+pub(crate) fn merges<D: Lengths>(dim: &mut D, strides: &mut D, row: &Lists<'_>) -> bool {
+    let told = merged(dim, strides, row.third.at(0), row.third.at(1));
     let after = row.fourth.as_slice();
     told == row.answer
         && after.len() == dim.ndim().saturating_mul(2)
@@ -62,14 +58,11 @@ const MERGED: &str = "\
 3,2 2,1 0,2 3,2,2,1 => no two axes";
 
 /// Whether a layout is this one once its least stride is moved to the end.
-pub(crate) fn moves<D: Lengths>(alloc: Global, dim: &D, mut strides: D, row: &Lists<'_>) -> bool {
-    let Ok(mut dim) = dim.duplicate(alloc) else {
-        return false;
-    };
+pub(crate) fn moves<D: Lengths>(dim: &mut D, strides: &mut D, row: &Lists<'_>) -> bool {
     if dim.ndim() != strides.ndim() {
         return false;
     }
-    move_min_stride_axis_to_last(&mut dim, &mut strides);
+    move_min_stride_axis_to_last(dim, strides);
     dim.slice() == row.third.as_slice() && strides.slice() == row.fourth.as_slice()
 }
 

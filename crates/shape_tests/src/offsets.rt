@@ -2,13 +2,11 @@
 //! indices lie. These are calls of `nd_dim`, asked here since a layout is told by its acceptance.
 //!
 //! A row is a shape and strides, and for offsets an index and its offset as it is kept, or none.
-use crate::lists::dim_of;
 use crate::told::{Told, table};
 use nd_dim::{Dimension, unsigned};
 use nd_shape::{CanIndexCheckMode, can_index_slice};
-use nd_testing::{List, made};
+use nd_testing::{Lists, made};
 use std::alloc::Global;
-use std::process::Abort;
 
 /// Whether a shape is contiguous by some strides, where these are a layout.
 fn is_contiguous<D: Dimension>(dim: &D, strides: &D) -> Option<bool> {
@@ -18,14 +16,41 @@ fn is_contiguous<D: Dimension>(dim: &D, strides: &D) -> Option<bool> {
     }
 }
 
-/// Whether a shape is contiguous by these strides.
-pub(crate) fn is_filled<D: Dimension>(
-    rt: &impl Abort,
+/// Whether an index has this offset in a layout, as it is kept, with a test and without; or none.
+fn has_offset<D: Dimension>(dim: &D, strides: &D, index: &D, wanted: Option<usize>) -> bool {
+    match can_index_slice(1, usize::MAX, dim, strides, CanIndexCheckMode::ReadOnly) {
+        Ok(()) => match dim.stride_offset_checked(strides, index) {
+            Some(offset) => {
+                Some(unsigned(offset)) == wanted && D::stride_offset(index, strides) == offset
+            },
+            None => wanted.is_none(),
+        },
+        Err(_) => false,
+    }
+}
+
+/// The same of lists. A list of another count is no index of a type that fixes its count.
+fn reaches<D: Dimension>(alloc: Global, dim: &D, strides: &D, row: &Lists<'_>) -> bool {
+    let offset = row.fourth.as_slice().first().copied();
+    match made::<D>(alloc, row.third.as_slice()) {
+        Some(index) => has_offset(dim, strides, &index, offset),
+        None => D::NDIM.is_some() && offset.is_none(),
+    }
+}
+
+/// Whether a row tells this of a layout.
+pub(crate) fn tells_of_layout<D: Dimension>(
+    told: Told,
     alloc: Global,
     dim: &D,
-    strides: &[usize],
-) -> Option<bool> {
-    is_contiguous(dim, &dim_of(rt, alloc, strides))
+    strides: &D,
+    row: &Lists<'_>,
+) -> bool {
+    match told {
+        Told::Contiguous(answer) => is_contiguous(dim, strides) == Some(answer),
+        Told::Offset => reaches(alloc, dim, strides, row),
+        _ => false,
+    }
 }
 
 /// Strides by which a shape is contiguous.
@@ -69,35 +94,6 @@ const NOT_CONTIGUOUS: &str = "\
 0,3 5,1
 2,2,2,2,2,2 32,16,8,4,1,1
 4611686018427387903,2 1,-4611686018427387904";
-
-/// Whether an index has this offset in a layout, as it is kept, with a test and without; or none.
-fn has_offset<D: Dimension>(dim: &D, strides: &D, index: &D, wanted: &[usize]) -> bool {
-    match can_index_slice(1, usize::MAX, dim, strides, CanIndexCheckMode::ReadOnly) {
-        Ok(()) => match dim.stride_offset_checked(strides, index) {
-            Some(offset) => {
-                [unsigned(offset)].as_slice() == wanted
-                    && D::stride_offset(index, strides) == offset
-            },
-            None => wanted.is_empty(),
-        },
-        Err(_) => false,
-    }
-}
-
-/// The same of lists. A list of another count is no index of a type that fixes its count.
-pub(crate) fn reaches<D: Dimension>(
-    rt: &impl Abort,
-    alloc: Global,
-    dim: &D,
-    strides: &[usize],
-    index: &List,
-    offset: &[usize],
-) -> bool {
-    match made::<D>(alloc, index.as_slice()) {
-        Some(index) => has_offset(dim, &dim_of(rt, alloc, strides), &index, offset),
-        None => D::NDIM.is_some() && offset.is_empty(),
-    }
-}
 
 const OFFSETS: &str = "\
 - - - 0

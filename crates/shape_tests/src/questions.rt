@@ -1,5 +1,5 @@
 //! What is asked of a layout at a dimension type, by rows of tables.
-use crate::acceptance::{has_fault, has_order_faults, has_sign_fault};
+use crate::acceptance::{has_fault, has_order_faults, has_sign_fault, is_accepted_along_its_own};
 use crate::axes::{has_lengths, has_sum, is_in_turn};
 use crate::broadcast::{asks_for_common, shares};
 use crate::layout::lies;
@@ -10,7 +10,6 @@ use nd_dim::Lengths;
 use nd_shape::CanIndexCheckMode;
 use nd_testing::{Lists, made};
 use std::alloc::Global;
-use std::process::Abort;
 
 /// What is asked of a layout. A row tells its shape and its strides.
 #[derive(Clone, Copy)]
@@ -23,6 +22,8 @@ pub(crate) enum Question {
     Owned,
     /// The same over data that is read.
     Read,
+    /// That the shape is accepted along its own strides as by them.
+    OwnStrides,
     /// The fault of the strides, as one leads back.
     Signs,
     /// The axes from the front and from the back in turn.
@@ -45,7 +46,6 @@ pub(crate) enum Question {
 
 /// Whether a row tells what is answered of its layout, with strides that are lent.
 fn is_told_along<D: Lengths>(
-    rt: &impl Abort,
     alloc: Global,
     question: Question,
     dim: &D,
@@ -53,48 +53,47 @@ fn is_told_along<D: Lengths>(
     row: &Lists<'_>,
 ) -> bool {
     match question {
-        Question::Layout => is_laid_out(rt, alloc, dim, strides, row),
+        Question::Layout => is_laid_out(alloc, dim, strides, row),
         Question::Orders => has_order_faults(row.fourth.at(1), dim, row.answer),
+        Question::OwnStrides => is_accepted_along_its_own(alloc, dim),
         Question::Signs => has_sign_fault(strides, row.answer),
         Question::InTurn => is_in_turn(dim, strides),
         Question::Lengths => has_lengths(dim, strides),
         Question::Sum => has_sum(dim, strides, row.third.at(0)),
         Question::Lies => lies(dim, strides, row.answer),
         Question::Common => shares(alloc, dim, strides, row),
-        Question::CommonAsks => asks_for_common(alloc, dim, strides),
+        Question::CommonAsks => asks_for_common(alloc, dim, strides, row),
         _ => false,
     }
 }
 
 /// The same, with strides that are given away.
 fn is_told_with<D: Lengths>(
-    rt: &impl Abort,
     alloc: Global,
     question: Question,
-    dim: &D,
-    strides: D,
+    dim: &mut D,
+    mut strides: D,
     row: &Lists<'_>,
 ) -> bool {
     match question {
         Question::Owned => has_fault(row.fourth.at(1), dim, strides, OwnedMutable, row.answer),
         Question::Read => has_fault(row.fourth.at(1), dim, strides, ReadOnly, row.answer),
-        Question::Merged => merges(alloc, dim, strides, row),
-        Question::Moved => moves(alloc, dim, strides, row),
-        _ => is_told_along(rt, alloc, question, dim, &strides, row),
+        Question::Merged => merges(dim, &mut strides, row),
+        Question::Moved => moves(dim, &mut strides, row),
+        _ => is_told_along(alloc, question, dim, &strides, row),
     }
 }
 
 /// Whether a row tells what is answered. Strides of another count are none of a type that fixes its
 /// count.
 pub(crate) fn is_answered<D: Lengths>(
-    rt: &impl Abort,
     alloc: Global,
     question: Question,
-    dim: &D,
+    dim: &mut D,
     row: &Lists<'_>,
 ) -> bool {
     match made::<D>(alloc, row.second.as_slice()) {
-        Some(strides) => is_told_with(rt, alloc, question, dim, strides, row),
+        Some(strides) => is_told_with(alloc, question, dim, strides, row),
         None => D::NDIM.is_some(),
     }
 }

@@ -5,17 +5,15 @@ ghost use Rattle.nd_base.specs.Signed.{all_signed};
 ghost use Rattle.nd_base.specs.ValidLayout.{IsValidLayout};
 ghost use Rattle.nd_shape.specs.ShapeBuilder.{strides_list};
 
-use crate::lists::dim_of;
 use crate::told::{Told, table};
 use nd_dim::{IntoDimension, Ix2, IxDyn, Lengths, new_ix2};
 use nd_shape::{
     CanIndexCheckMode, Shape, ShapeBuilder, StrideShape, Strides, can_index_slice_with_strides,
     size_of_shape_checked,
 };
-use nd_testing::{Lists, asked};
+use nd_testing::{Lists, asked, made};
 use std::alloc::{AllocError, Global};
 use std::fmt::Debug;
-use std::process::Abort;
 
 // ---- what is built
 
@@ -158,35 +156,50 @@ fn is_builder<D: Lengths, T: ShapeBuilder<Dim = D> + Copy>(
 /// Whether what a builder builds, column-major, has these strides, those of its order.
 fn builds_columns<D: Lengths, T: ShapeBuilder<Dim = D>>(
     alloc: Global,
-    builder: T,
+    builder: Option<T>,
     dim: &D,
     strides: &D,
 ) -> bool {
-    match builder.f(alloc) {
-        Ok(shape) => columns_follow(alloc, shape, dim, strides),
-        Err(_) => false,
+    match builder {
+        Some(builder) => columns_follow(alloc, builder.f(alloc), dim, strides),
+        None => false,
     }
 }
 
-fn columns_follow<D: Lengths>(alloc: Global, shape: Shape<D>, dim: &D, strides: &D) -> bool {
+/// The same of the shape that is built.
+fn columns_follow<D: Lengths>(
+    alloc: Global,
+    shape: Result<Shape<D>, AllocError>,
+    dim: &D,
+    strides: &D,
+) -> bool {
+    let Ok(shape) = shape else {
+        return false;
+    };
     match StrideShape::from_builder(alloc, shape) {
         Ok(shape) => {
             shape.raw_dim().equal(dim)
                 && are_of_order(&shape.strides, false)
                 && has_strides(alloc, Ok(shape), strides)
-        }
+        },
         Err(_) => false,
     }
 }
 
 /// Whether what a builder builds along given strides has these.
-fn builds_along<D: Lengths, T: ShapeBuilder<Dim = D>>(
+fn builds_along<D: Lengths, T: ShapeBuilder<Dim = D, Strides = T> + Drop>(
     alloc: Global,
-    builder: T,
-    given: T::Strides,
+    builder: Option<T>,
+    given: Option<T>,
     strides: &D,
 ) -> bool {
-    has_strides(alloc, builder.strides(alloc, given), strides)
+    match builder {
+        Some(builder) => match given {
+            Some(given) => has_strides(alloc, builder.strides(alloc, given), strides),
+            None => false,
+        },
+        None => false,
+    }
 }
 
 /// Whether the column-major shape of a dimension is a builder of such shapes.
@@ -259,65 +272,72 @@ enum OfList<'a> {
 
 /// Whether a list of lengths builds shapes of this size and with these strides.
 fn list_builds<D: Lengths, T: ShapeBuilder<Dim = D, Strides = T> + Copy>(
-    rt: &impl Abort,
     alloc: Global,
     builder: T,
     dim: &D,
     size: usize,
     strides: &[usize],
 ) -> bool {
-    let strides: D = dim_of(rt, alloc, strides);
-    let built = Built {
-        dim,
-        size,
-        is_c: true,
-        given: dim,
-        strides: &strides,
-    };
-    is_builder(alloc, builder, builder, &built)
+    match made::<D>(alloc, strides) {
+        Some(strides) => {
+            let built = Built {
+                dim,
+                size,
+                is_c: true,
+                given: dim,
+                strides: &strides,
+            };
+            is_builder(alloc, builder, builder, &built)
+        },
+        None => false,
+    }
 }
 
 /// Whether this holds of a list of lengths.
 fn list_holds<D: Lengths, T: ShapeBuilder<Dim = D, Strides = T> + Copy>(
-    rt: &impl Abort,
     alloc: Global,
     builder: T,
     lens: &[usize],
     of_list: OfList<'_>,
 ) -> bool {
     match of_list {
-        OfList::Builds(size, strides) => {
-            let dim: D = dim_of(rt, alloc, lens);
-            list_builds(rt, alloc, builder, &dim, size, strides)
+        OfList::Builds(size, strides) => match made::<D>(alloc, lens) {
+            Some(dim) => list_builds(alloc, builder, &dim, size, strides),
+            None => false,
         },
         OfList::Asks(call) => asks(alloc, call, builder),
     }
 }
 
 /// The same at its type.
-fn holds_of_list(rt: &impl Abort, alloc: Global, lens: &[usize], of_list: OfList<'_>) -> bool {
-    list_holds::<IxDyn, _>(rt, alloc, lens, lens, of_list)
+fn holds_of_list(alloc: Global, lens: &[usize], of_list: OfList<'_>) -> bool {
+    list_holds::<IxDyn, _>(alloc, lens, lens, of_list)
 }
 
 /// Whether a dimension builds shapes of its lengths: along given strides, and with its own by columns.
 pub(crate) fn dimension_builds<D: Lengths + IntoDimension<Dim = D>>(
-    rt: &impl Abort,
     alloc: Global,
     dim: &D,
     row: &Lists<'_>,
 ) -> bool {
     let (lens, by_columns) = (row.first.as_slice(), row.second.as_slice());
-    let strides: D = dim_of(rt, alloc, by_columns);
-    let builder: D = dim_of(rt, alloc, lens);
-    let given: D = dim_of(rt, alloc, by_columns);
-    builds_along(alloc, builder, given, &strides)
-        && builds_columns(alloc, dim_of::<D>(rt, alloc, lens), dim, &strides)
+    match made::<D>(alloc, by_columns) {
+        Some(strides) => {
+            builds_along(
+                alloc,
+                made::<D>(alloc, lens),
+                made::<D>(alloc, by_columns),
+                &strides,
+            ) && builds_columns(alloc, made::<D>(alloc, lens), dim, &strides)
+        },
+        None => false,
+    }
 }
 
 #[test]
 fn r3_rows_of_builders_of_any_number_of_axes(rt: HostRuntime) {
     let (alloc, built) = (rt.alloc(), OfList::Builds(24, &[12, 4, 4, 2, 1]));
-    assert!(rt; holds_of_list(&rt, alloc, &[2, 3, 1, 2, 2], built));
+    assert!(rt; holds_of_list(alloc, &[2, 3, 1, 2, 2], built));
     table(&rt, alloc, Told::Built, "2,3,1,2,2 1,2,6,6,12");
 }
 
@@ -337,7 +357,7 @@ fn shapes_are_copied(rt: HostRuntime) {
 #[test]
 fn r9_rows_of_builders(rt: HostRuntime) {
     let (alloc, built) = (rt.alloc(), OfList::Builds(12, &[6, 2, 2, 1]));
-    assert!(rt; holds_of_list(&rt, alloc, &[2, 3, 1, 2], built));
+    assert!(rt; holds_of_list(alloc, &[2, 3, 1, 2], built));
     table(&rt, alloc, Told::Built, "2,3,1,2 1,2,6,6");
 }
 
@@ -376,21 +396,21 @@ fn asks<D: Lengths, T: ShapeBuilder<Dim = D, Strides = T> + Copy>(
 }
 
 /// The same of a list of five lengths.
-fn five_ask(rt: &impl Abort, alloc: Global, call: Call) -> bool {
-    holds_of_list(rt, alloc, &[2, 3, 1, 2, 2], OfList::Asks(call))
+fn five_ask(alloc: Global, call: Call) -> bool {
+    holds_of_list(alloc, &[2, 3, 1, 2, 2], OfList::Asks(call))
 }
 
 #[test]
 fn memory_of_orders(rt: HostRuntime) {
-    assert!(rt; five_ask(&rt, rt.alloc(), Call::Orders));
+    assert!(rt; five_ask(rt.alloc(), Call::Orders));
 }
 
 #[test]
 fn memory_of_given_strides(rt: HostRuntime) {
-    assert!(rt; five_ask(&rt, rt.alloc(), Call::GivenStrides));
+    assert!(rt; five_ask(rt.alloc(), Call::GivenStrides));
 }
 
 #[test]
 fn memory_of_shapes(rt: HostRuntime) {
-    assert!(rt; five_ask(&rt, rt.alloc(), Call::OwnStrides));
+    assert!(rt; five_ask(rt.alloc(), Call::OwnStrides));
 }

@@ -1,12 +1,14 @@
 //! What the rows of a table tell, at the type of any number of axes and at that of as many as the row has.
 //!
-//! Each type is named in one place, since the check takes seconds for each function that names one.
-use crate::acceptance::is_accepted_along_its_own;
-use crate::indexes::{Walk, is_walked};
-use crate::offsets::{is_filled, reaches};
+//! Each type is named in one place, since the check takes seconds for each function that names one; and
+//! what is asked of lengths alone names none but that of so many axes.
+ghost use Rattle.std.specs.Prelude.{◌<◌};
+
+use crate::indexes::{Walk, is_walked, lends};
+use crate::offsets::tells_of_layout;
 use crate::questions::{Question, is_answered};
 use crate::shapes::dimension_builds;
-use nd_dim::{Dimension, IntoDimension, Ix0, Ix1, Ix2, Ix3, Ix4, Ix5, Ix6, IxDyn};
+use nd_dim::{Dim, Dimension, IntoDimension, Ix0, Ix1, Ix2, Ix3, Ix4, Ix5, Ix6, IxDyn, Lengths};
 use nd_testing::{Lists, made, rows};
 use std::alloc::Global;
 use std::process::Abort;
@@ -16,8 +18,6 @@ use std::process::Abort;
 pub(crate) enum Told {
     /// Lengths, and their strides by columns: what a dimension builds.
     Built,
-    /// Lengths, whose own strides are those by which they are accepted.
-    OwnStrides,
     /// Lengths, and strides by which they are contiguous, or are not.
     Contiguous(bool),
     /// Lengths, strides, an index, and its offset or none.
@@ -28,113 +28,109 @@ pub(crate) enum Told {
     Asked(Question),
 }
 
-/// Whether a row tells what the calls answer at a type.
-fn tells<D: Dimension + IntoDimension<Dim = D>>(
-    rt: &impl Abort,
-    told: Told,
-    alloc: Global,
-    dim: &D,
-    row: &Lists<'_>,
-) -> bool {
-    let second = row.second.as_slice();
-    match told {
-        Told::Built => dimension_builds(rt, alloc, dim, row),
-        Told::OwnStrides => is_accepted_along_its_own(alloc, dim),
-        Told::Asked(question) => is_answered(rt, alloc, question, dim, row),
-        Told::Contiguous(answer) => is_filled(rt, alloc, dim, second) == Some(answer),
-        Told::Offset => reaches(rt, alloc, dim, second, &row.third, row.fourth.as_slice()),
-        Told::Walked(_) => false,
+/// Whether a row tells what the calls answer at a type, which they know as one of lengths.
+fn tells<D: Lengths + IntoDimension<Dim = D>>(told: Told, alloc: Global, row: &Lists<'_>) -> bool {
+    match made::<D>(alloc, row.first.as_slice()) {
+        Some(mut dim) => match told {
+            Told::Built => dimension_builds(alloc, &dim, row),
+            Told::Asked(question) => is_answered(alloc, question, &mut dim, row),
+            _ => false,
+        },
+        None => false,
     }
 }
 
-/// The same where a value of the type has as many axes.
-fn holds<D: Dimension + IntoDimension<Dim = D>>(
-    rt: &impl Abort,
-    told: Told,
-    alloc: Global,
-    row: &Lists<'_>,
-) -> bool {
+/// The same at the type of so many axes.
+fn tells_of<const N: usize>(told: Told, alloc: Global, row: &Lists<'_>) -> bool
+    requires few { N < 7 }
+{
+    tells::<Dim<[usize; N]>>(told, alloc, row)
+}
+
+/// The same of a row with as many axes.
+fn tells_of_count(told: Told, alloc: Global, ndim: usize, row: &Lists<'_>) -> bool {
+    match ndim {
+        0 => tells_of::<0>(told, alloc, row),
+        1 => tells_of::<1>(told, alloc, row),
+        2 => tells_of::<2>(told, alloc, row),
+        3 => tells_of::<3>(told, alloc, row),
+        4 => tells_of::<4>(told, alloc, row),
+        5 => tells_of::<5>(told, alloc, row),
+        6 => tells_of::<6>(told, alloc, row),
+        _ => false,
+    }
+}
+
+/// Whether a row tells what is answered at a type by calls of a dimension.
+fn tells_of_dimension<D: Dimension>(told: Told, alloc: Global, row: &Lists<'_>) -> bool {
     match made::<D>(alloc, row.first.as_slice()) {
-        Some(dim) => tells::<D>(rt, told, alloc, &dim, row),
+        Some(dim) => match made::<D>(alloc, row.second.as_slice()) {
+            Some(strides) => tells_of_layout(told, alloc, &dim, &strides, row),
+            None => false,
+        },
         None => false,
     }
 }
 
 /// The same at a type whose values are copied.
-fn holds_of_copies<D: Dimension + IntoDimension<Dim = D> + Copy>(
-    rt: &impl Abort,
-    told: Told,
-    alloc: Global,
-    row: &Lists<'_>,
-) -> bool {
+fn tells_of_copies<D: Dimension + Copy>(told: Told, alloc: Global, row: &Lists<'_>) -> bool {
     match told {
-        Told::Walked(walk) => is_walked::<D>(rt, alloc, walk, row),
-        _ => holds::<D>(rt, told, alloc, row),
+        Told::Walked(walk) => is_walked::<D>(alloc, walk, row),
+        _ => tells_of_dimension::<D>(told, alloc, row),
     }
 }
 
-/// The same at the type of so many axes, or at that of any number.
-pub(crate) fn holds_at(
-    rt: &impl Abort,
-    told: Told,
-    alloc: Global,
-    ndim: Option<usize>,
-    row: &Lists<'_>,
-) -> bool {
+/// The same at the type of so many axes.
+fn tells_of_type(told: Told, alloc: Global, ndim: usize, row: &Lists<'_>) -> bool {
     match ndim {
-        Some(0) => holds_of_copies::<Ix0>(rt, told, alloc, row),
-        Some(1) => holds_of_copies::<Ix1>(rt, told, alloc, row),
-        Some(2) => holds_of_copies::<Ix2>(rt, told, alloc, row),
-        Some(3) => holds_of_copies::<Ix3>(rt, told, alloc, row),
-        Some(4) => holds_of_copies::<Ix4>(rt, told, alloc, row),
-        Some(5) => holds_of_copies::<Ix5>(rt, told, alloc, row),
-        Some(6) => holds_of_copies::<Ix6>(rt, told, alloc, row),
-        _ => holds::<IxDyn>(rt, told, alloc, row),
+        0 => tells_of_copies::<Ix0>(told, alloc, row),
+        1 => tells_of_copies::<Ix1>(told, alloc, row),
+        2 => tells_of_copies::<Ix2>(told, alloc, row),
+        3 => tells_of_copies::<Ix3>(told, alloc, row),
+        4 => tells_of_copies::<Ix4>(told, alloc, row),
+        5 => tells_of_copies::<Ix5>(told, alloc, row),
+        6 => tells_of_copies::<Ix6>(told, alloc, row),
+        _ => false,
     }
 }
 
-/// A row, at the type of as many axes as its first list has.
-pub(crate) fn row_holds_at_its_type(
-    rt: &impl Abort,
-    told: Told,
-    alloc: Global,
-    line: &str,
-) -> bool {
+/// Whether a row holds at the type of as many axes as its first list has.
+fn holds_at_its_type(told: Told, alloc: Global, row: &Lists<'_>) -> bool {
+    let ndim = row.first.as_slice().len();
+    match told {
+        Told::Built | Told::Asked(_) => tells_of_count(told, alloc, ndim, row),
+        _ => tells_of_type(told, alloc, ndim, row),
+    }
+}
+
+/// Whether a row holds at the type of any number of axes. Its indices are lent by a cursor, of which
+/// nothing else is asked.
+fn holds_at_any_count(told: Told, alloc: Global, row: &Lists<'_>) -> bool {
+    match told {
+        Told::Built | Told::Asked(_) => tells::<IxDyn>(told, alloc, row),
+        Told::Walked(Walk::All(order)) => lends(alloc, order, row),
+        Told::Walked(_) => true,
+        _ => tells_of_dimension::<IxDyn>(told, alloc, row),
+    }
+}
+
+/// Whether a row holds at both of its types. Past six axes it has that of any number alone.
+pub(crate) fn holds(told: Told, alloc: Global, row: &Lists<'_>) -> bool {
+    holds_at_any_count(told, alloc, row)
+        && (row.first.as_slice().len() > 6 || holds_at_its_type(told, alloc, row))
+}
+
+/// The same of a row of a table.
+pub(crate) fn row_holds(told: Told, alloc: Global, line: &str) -> bool {
     match Lists::read(line) {
-        Some(row) => holds_at(rt, told, alloc, Some(row.first.as_slice().len()), &row),
+        Some(row) => holds(told, alloc, &row),
         None => false,
     }
 }
 
-/// A row, at the type of any number of axes alone.
-pub(crate) fn row_holds_at_any_count(
-    rt: &impl Abort,
-    alloc: Global,
-    told: Told,
-    line: &str,
-) -> bool {
-    match Lists::read(line) {
-        Some(row) => holds_at(rt, told, alloc, None, &row),
-        None => false,
-    }
-}
-
-/// Fails, and tells the row, where it doesn't hold.
-pub(crate) fn demand(rt: &impl Abort, holds: bool, line: &str) {
-    assert!(rt; holds, "{line}");
-}
-
-/// The rows of a table, one by one, at their types alone.
-pub(crate) fn table_at_its_type(rt: &impl Abort, alloc: Global, told: Told, table: &str) {
-    for line in rows(table) {
-        demand(rt, row_holds_at_its_type(rt, told, alloc, line), line);
-    }
-}
-
-/// The rows of a table, one by one.
+/// The rows of a table, one by one. One that doesn't hold is told.
 pub(crate) fn table(rt: &impl Abort, alloc: Global, told: Told, table: &str) {
     for line in rows(table) {
-        demand(rt, row_holds_at_any_count(rt, alloc, told, line), line);
-        demand(rt, row_holds_at_its_type(rt, told, alloc, line), line);
+        assert!(rt; row_holds(told, alloc, line), "{line}");
     }
 }

@@ -1,21 +1,12 @@
 -- A list that is an index of an accepted layout may be looked up unchecked.
-use Rattle.std.proofs.Common.{◌≡◌, ℕ, ℤ, true, false, Bool, cond, List, Some, None, refl, arith, sym, ◌∙◌}
+use Rattle.std.proofs.Common.{arith, sym, ◌∙◌}
 use Rattle.std.proofs.lemmas.List.{length-map}
-use Rattle.nd_base.specs.Indices.{is_index}
-use Rattle.nd_base.specs.Offset.{offset_of, checked_offset}
 use Rattle.nd_base.specs.Signed.{signed, all_signed}
 use Rattle.nd_base.proofs.laws.IsIndex.{length_of_index}
 use Rattle.nd_base.proofs.laws.NonzeroSize.{entry_le_nonzero_size}
 use Rattle.nd_base.proofs.laws.Reach.{farthest_offset_le}
+use Rattle.shape_tests.proofs.IndexOfOffset.{index_of_offset}
 use Rattle.shape_tests.proofs.offsets.has_offset.Goals as goal
-
--- an offset that is given is that of an index
-index_of_offset : (shape : List ℕ) (strides : List ℤ) (index : List ℕ) (offset : ℤ) → checked_offset shape strides index ≡ Some offset → is_index shape index ≡ true
-index_of_offset shape strides index offset e = by (is_index shape index) refl e
-  where
-    by : (t : Bool) → is_index shape index ≡ t → cond t (Some (offset_of strides index)) None ≡ Some offset → is_index shape index ≡ true
-    by true h g = h
-    by false h g = absurd (cc)
 
 pub stride_offset-requires-clause-same_count : goal.stride_offset-requires-clause-same_count
 stride_offset-requires-clause-same_count g c =
