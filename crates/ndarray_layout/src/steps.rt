@@ -52,6 +52,14 @@ fn merge_axes_of(view: &mut Strided<IxDyn>, take: Axis, into: Axis) -> Result<()
     }
 }
 
+/// Puts the view that a step makes in the place of the one before it.
+#[inline(always)]
+fn step_to(view: &mut Strided<IxDyn>, next: Strided<IxDyn>)
+    ensures { view.new ≡ next }
+{
+    *view = next;
+}
+
 /// Takes one step. A refusal leaves the view.
 ///
 /// Errors: the fault of the step, then want of memory, which is none for at most four axes.
@@ -63,10 +71,16 @@ fn take_step(alloc: Global, view: &mut Strided<IxDyn>, step: &Step) -> Result<()
         may_want_memory (step_value step.now) ≡ false → IsOk result }
 {
     match step {
-        Step::Slice(elems, fit) => *view = view.slice(alloc, elems, *fit)?,
+        Step::Slice(elems, fit) => {
+            let sliced = view.slice(alloc, elems, *fit)?;
+            step_to(view, sliced);
+        },
         Step::Collapse(axis, index) => view.collapse(*axis, *index)?,
         Step::Merge(take, into) => merge_axes_of(view, *take, *into)?,
-        Step::Broadcast(dim) => *view = view.broadcast(alloc, dim)?,
+        Step::Broadcast(dim) => {
+            let stretched = view.broadcast(alloc, dim)?;
+            step_to(view, stretched);
+        },
     }
     Ok(())
 }

@@ -32,6 +32,12 @@ of_slice P fit fixed elems list start dim kept shape strides offset first new_di
     let made : view_of first new_dim new_kept ≡ slice_of fit list (view_of start dim kept) = rw (ap magnitude (begin ∙ ap (λ z. pos start +ℤ z) here), rw (same, named) at lengths, rw (same, also, named) at along) refl in
     subst P (sym (made ∙ ap (slice_of fit list) is)) (h (subst IsView is whole) (subst (λ (w : View). argument_fault fit w.shape list ≡ None) is fits))
 
+pub returns-clause-refusal : goal.returns-clause-refusal
+returns-clause-refusal g c = search rules
+
+pub returns-clause-memory : goal.returns-clause-memory
+returns-clause-memory g c = λ fits few. search rules
+
 pub offset_place-start-requires-clause-low : goal.offset_place-start-requires-clause-low
 offset_place-start-requires-clause-low g c =
     let f : FitsSigned w64 c.in_ok-dim.offset = search rules in
