@@ -2,9 +2,9 @@
 //!
 //! Each type is named in one place, since the check takes seconds for each function that names one.
 use crate::dim::checks::{
-    changes_type, gives, has_list, has_size, has_stride_axes, has_strides, has_strides_by_its_list,
-    is_equivalent, is_incompatible, keeps_list, list_becomes, narrows, stays, tries_to_narrow,
-    widens, writes, writes_last, writes_slice,
+    changes_type, gives, has_list, has_size, has_stride_axes, has_strides, is_equivalent,
+    is_incompatible, keeps_list, list_becomes, narrows, stays, tries_to_narrow, widens, writes,
+    writes_last, writes_slice,
 };
 use crate::dim::lists::dim_of;
 use crate::dim::memory::{Call, asks, serves};
@@ -133,10 +133,7 @@ fn tells_of_layouts<D: Dimension>(
     let (second, third) = (row.second.as_slice(), row.third.as_slice());
     match told {
         Told::Size => has_size(dim, second),
-        Told::Strides => {
-            has_strides(alloc, dim, second, third)
-                && has_strides_by_its_list(alloc, dim, second, third)
-        },
+        Told::Strides => has_strides(alloc, dim, second, third),
         Told::Equivalent(answer) => is_equivalent(rt, alloc, dim, second, third) == answer,
         _ => tells_of_indices(rt, told, alloc, dim, row),
     }
