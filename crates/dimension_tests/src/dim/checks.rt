@@ -38,6 +38,7 @@ pub(crate) fn is_one<D: Lengths + Hash>(
     }
 }
 
+/// A value is equal to one of these lengths, and has its hash.
 fn is_one_with<D: Lengths + Hash>(alloc: Global, lens: &[usize], other: &D) -> bool {
     match made::<D>(alloc, lens) {
         Some(dim) => dim == *other && hash_of(&dim) == hash_of(other),
