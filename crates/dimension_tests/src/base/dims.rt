@@ -3,17 +3,14 @@ ghost use Rattle.std.specs.Prelude.{◌<◌, ◌≤◌, length};
 
 use crate::base::lists::ixdyn;
 use nd_base::{
-    FixedCount, Ix0, Ix1, Ix2, Ix3, Ix4, Ix5, Ix6, IxDyn, Lengths, new_ix0, new_ix1, new_ix2,
-    new_ix3, new_ix4, new_ix5, new_ix6,
+    Dim, FixedCount, Ix1, Ix2, Ix3, IxDyn, Lengths, new_ix0, new_ix1, new_ix2, new_ix3, new_ix4,
+    new_ix5, new_ix6,
 };
 use std::alloc::{AllocError, Global};
 
-fn is(found: &[usize], lens: &[usize]) -> bool {
-    found == lens
-}
-
-fn has_one_axis(dim: Ix1) -> bool {
-    is(dim.slice(), &[4]) && Ix1::NDIM == Some(1)
+/// A value of a fixed count of axes has these lengths.
+fn is<const N: usize>(dim: Dim<[usize; N]>, lens: [usize; N]) -> bool {
+    dim.slice() == lens.as_slice()
 }
 
 fn zeros_of_two(alloc: Global) -> bool {
@@ -23,8 +20,9 @@ fn zeros_of_two(alloc: Global) -> bool {
 #[test]
 fn r1_rows(rt: HostRuntime) {
     assert!(rt;
-        has_one_axis(new_ix1(4))
-            && is_two(new_ix2(2, 3))
+        is(new_ix1(4), [4])
+            && Ix1::NDIM == Some(1)
+            && is(new_ix2(2, 3), [2, 3])
             && zeros_of_two(rt.alloc())
             && IxDyn::NDIM == None
     );
@@ -55,34 +53,17 @@ fn r1_rows_of_writes_to_equal_lengths(rt: HostRuntime) {
     assert!(rt; first == new_ix2(7, 3) && second == new_ix2(3, 7));
 }
 
-fn is_two(dim: Ix2) -> bool {
-    is(dim.slice(), &[2, 3])
-}
-
-fn is_three(dim: Ix3) -> bool {
-    is(dim.slice(), &[2, 3, 4]) && Ix3::default() == new_ix3(0, 0, 0)
-}
-
-fn are_few(none: Ix0, one: Ix1) -> bool {
-    is(none.slice(), &[]) && is(one.slice(), &[2])
-}
-
-fn are_four_and_five(four: Ix4, five: Ix5) -> bool {
-    is(four.slice(), &[2, 3, 4, 5]) && is(five.slice(), &[2, 3, 4, 5, 6])
-}
-
-fn is_six(dim: Ix6) -> bool {
-    is(dim.slice(), &[2, 3, 4, 5, 6, 7])
-}
-
 #[test]
 fn r2_rows(rt: HostRuntime) {
     assert!(rt;
-        are_few(new_ix0(), new_ix1(2))
-            && is_two(new_ix2(2, 3))
-            && is_three(new_ix3(2, 3, 4))
-            && are_four_and_five(new_ix4(2, 3, 4, 5), new_ix5(2, 3, 4, 5, 6))
-            && is_six(new_ix6(2, 3, 4, 5, 6, 7))
+        is(new_ix0(), [])
+            && is(new_ix1(2), [2])
+            && is(new_ix2(2, 3), [2, 3])
+            && is(new_ix3(2, 3, 4), [2, 3, 4])
+            && is(new_ix4(2, 3, 4, 5), [2, 3, 4, 5])
+            && is(new_ix5(2, 3, 4, 5, 6), [2, 3, 4, 5, 6])
+            && is(new_ix6(2, 3, 4, 5, 6, 7), [2, 3, 4, 5, 6, 7])
+            && Ix3::default() == new_ix3(0, 0, 0)
     );
 }
 
@@ -118,7 +99,7 @@ fn has(alloc: Global, lens: &[usize], other: &[usize]) -> bool
     requires few_other { length other.now ≤ 4 }
 {
     let dim = ixdyn(alloc, lens);
-    is(dim.slice(), lens) && dim.ndim() == lens.len() && !dim.equal(&ixdyn(alloc, other))
+    dim.slice() == lens && dim.ndim() == lens.len() && !dim.equal(&ixdyn(alloc, other))
 }
 
 fn gives(made: Result<IxDyn, AllocError>, lens: &[usize]) -> bool {

@@ -2,10 +2,10 @@
 use crate::dim::lists::dim_of;
 use nd_base::FixedCount;
 use nd_dim::{
-    Axis, Dimension, ErrorKind, IntoDimension, IxDyn, Lengths, RemoveAxis, default_strides,
+    Axis, Dimension, ErrorKind, IntoDimension, IxDyn, Lengths, Order, RemoveAxis, default_strides,
     fortran_strides, incompatible_shapes, new_ixdyn, product,
 };
-use nd_testing::hash_of;
+use nd_testing::{hash_of, made};
 use std::alloc::{AllocError, Global};
 use std::hash::Hash;
 use std::process::Abort;
@@ -26,11 +26,23 @@ pub(crate) fn gives<D: Lengths>(made: Result<D, AllocError>, lens: &[usize]) -> 
     }
 }
 
-/// Two lists that were made in two ways are equal, and have one hash.
-pub(crate) fn is_one<D: Lengths + Hash>(dim: &D, made: Result<D, AllocError>) -> bool {
+/// What a call made is equal to a value of these lengths, and has its hash.
+pub(crate) fn is_one<D: Lengths + Hash>(
+    alloc: Global,
+    lens: &[usize],
+    made: Result<D, AllocError>,
+) -> bool {
     match made {
-        Ok(made) => *dim == made && hash_of(dim) == hash_of(&made),
+        Ok(other) => is_one_with(alloc, lens, &other),
         Err(_) => false,
+    }
+}
+
+/// A value is equal to one of these lengths, and has its hash.
+fn is_one_with<D: Lengths + Hash>(alloc: Global, lens: &[usize], other: &D) -> bool {
+    match made::<D>(alloc, lens) {
+        Some(dim) => dim == *other && hash_of(&dim) == hash_of(other),
+        None => false,
     }
 }
 
@@ -44,28 +56,47 @@ pub(crate) fn has_size<D: Dimension>(dim: &D, wanted: &[usize]) -> bool {
     }
 }
 
-/// The strides that a shape has by itself.
-pub(crate) fn has_strides<D: Dimension>(
+/// The strides of a shape in an order, by the shape itself, where its size fits.
+pub(crate) fn own_strides<D: Dimension>(
     alloc: Global,
     dim: &D,
-    default_strides: &[usize],
-    fortran_strides: &[usize],
-) -> bool {
-    dim.size_checked().is_some()
-        && gives(dim.default_strides(alloc), default_strides)
-        && gives(dim.fortran_strides(alloc), fortran_strides)
+    order: Order,
+) -> Result<D, AllocError> {
+    if dim.size_checked().is_none() {
+        return Err(AllocError);
+    }
+    match order {
+        Order::RowMajor => dim.default_strides(alloc),
+        Order::ColumnMajor => dim.fortran_strides(alloc),
+    }
 }
 
 /// The same strides of the list alone.
-pub(crate) fn has_strides_by_its_list<D: Dimension>(
+pub(crate) fn strides_of_list<D: Dimension>(
+    alloc: Global,
+    dim: &D,
+    order: Order,
+) -> Result<D, AllocError> {
+    if dim.size_checked().is_none() {
+        return Err(AllocError);
+    }
+    match order {
+        Order::RowMajor => default_strides(alloc, dim),
+        Order::ColumnMajor => fortran_strides(alloc, dim),
+    }
+}
+
+/// The strides of a shape in either order, in either way.
+pub(crate) fn has_strides<D: Dimension>(
     alloc: Global,
     dim: &D,
     by_rows: &[usize],
     by_columns: &[usize],
 ) -> bool {
-    dim.size_checked().is_some()
-        && gives(default_strides(alloc, dim), by_rows)
-        && gives(fortran_strides(alloc, dim), by_columns)
+    gives(own_strides(alloc, dim, Order::C), by_rows)
+        && gives(own_strides(alloc, dim, Order::F), by_columns)
+        && gives(strides_of_list(alloc, dim, Order::C), by_rows)
+        && gives(strides_of_list(alloc, dim, Order::F), by_columns)
 }
 
 /// Whether strides are equivalent to those of another type.
@@ -182,7 +213,7 @@ pub(crate) fn changes_type<D: Dimension>(alloc: Global, dim: D, lens: &[usize]) 
 }
 
 /// A list is one of this type, or is none.
-fn becomes<D: Dimension>(alloc: Global, dynamic: &IxDyn, answer: bool) -> bool {
+pub(crate) fn becomes<D: Dimension>(alloc: Global, dynamic: &IxDyn, answer: bool) -> bool {
     match D::from_dimension(alloc, dynamic) {
         Ok(Some(made)) => answer && made.slice() == dynamic.slice(),
         Ok(None) => !answer,

@@ -7,11 +7,6 @@ use nd_dim::{
 use nd_testing::made;
 use std::alloc::Global;
 
-/// A value makes this dimension.
-fn converts<T: IntoDimension>(alloc: Global, value: T, wanted: &T::Dim) -> bool {
-    makes(value.into_dimension(alloc), wanted)
-}
-
 /// The pattern of a dimension of any number of axes is that dimension.
 fn is_its_pattern(alloc: Global, lens: &[usize]) -> bool {
     match made::<IxDyn>(alloc, lens) {
@@ -37,51 +32,53 @@ fn r2_rows_into_patterns(rt: HostRuntime) {
     );
 }
 
-/// An array makes this dimension, of as many axes.
-fn array_converts<const N: usize>(
+/// A pattern makes this dimension in either way, and so does an array of as many lengths.
+fn converts<T: IntoDimension<Dim = Dim<[usize; N]>> + Copy, const N: usize>(
     alloc: Global,
+    pattern: T,
     array: [usize; N],
-    wanted: &Dim<[usize; N]>,
+    wanted: Dim<[usize; N]>,
 ) -> bool {
-    converts(alloc, array, wanted)
+    makes(pattern.into_dimension(alloc), &wanted)
+        && makes(new_dim(alloc, pattern), &wanted)
+        && makes(array.into_dimension(alloc), &wanted)
 }
 
 #[test]
 fn r2_rows_from_patterns_and_arrays(rt: HostRuntime) {
     let alloc = rt.alloc();
-    let wanted = new_ix0();
-    assert!(rt; converts(alloc, (), &wanted) && array_converts(alloc, [], &wanted));
-    let wanted = new_ix1(2);
-    assert!(rt; converts(alloc, 2, &wanted) && array_converts(alloc, [2], &wanted));
-    assert!(rt; converts(alloc, (2,), &wanted));
-    let wanted = new_ix2(2, 3);
-    assert!(rt; converts(alloc, (2, 3), &wanted) && array_converts(alloc, [2, 3], &wanted));
-    let wanted = new_ix3(2, 3, 4);
-    assert!(rt; converts(alloc, (2, 3, 4), &wanted) && array_converts(alloc, [2, 3, 4], &wanted));
+    assert!(rt;
+        converts(alloc, (), [], new_ix0())
+            && converts(alloc, 2, [2], new_ix1(2))
+            && converts(alloc, (2,), [2], new_ix1(2))
+            && converts(alloc, (2, 3), [2, 3], new_ix2(2, 3))
+            && converts(alloc, (2, 3, 4), [2, 3, 4], new_ix3(2, 3, 4))
+    );
 }
 
 #[test]
 fn r2_rows_from_longer_patterns_and_arrays(rt: HostRuntime) {
     let alloc = rt.alloc();
-    let wanted = new_ix4(2, 3, 4, 5);
-    assert!(rt; converts(alloc, (2, 3, 4, 5), &wanted));
-    assert!(rt; array_converts(alloc, [2, 3, 4, 5], &wanted));
-    let wanted = new_ix5(2, 3, 4, 5, 6);
-    assert!(rt; converts(alloc, (2, 3, 4, 5, 6), &wanted));
-    assert!(rt; array_converts(alloc, [2, 3, 4, 5, 6], &wanted));
-    let wanted = new_ix6(2, 3, 4, 5, 6, 7);
-    assert!(rt; converts(alloc, (2, 3, 4, 5, 6, 7), &wanted));
-    assert!(rt; array_converts(alloc, [2, 3, 4, 5, 6, 7], &wanted));
+    assert!(rt;
+        converts(alloc, (2, 3, 4, 5), [2, 3, 4, 5], new_ix4(2, 3, 4, 5))
+            && converts(
+                alloc,
+                (2, 3, 4, 5, 6),
+                [2, 3, 4, 5, 6],
+                new_ix5(2, 3, 4, 5, 6)
+            )
+            && converts(
+                alloc,
+                (2, 3, 4, 5, 6, 7),
+                [2, 3, 4, 5, 6, 7],
+                new_ix6(2, 3, 4, 5, 6, 7)
+            )
+    );
 }
 
 /// A value makes a dimension of these lengths.
 fn stands_for<T: IntoDimension>(alloc: Global, value: T, lens: &[usize]) -> bool {
     gives(value.into_dimension(alloc), lens)
-}
-
-/// A new dimension of a value is this one.
-fn is_new<T: IntoDimension>(alloc: Global, value: T, wanted: &T::Dim) -> bool {
-    makes(new_dim(alloc, value), wanted)
 }
 
 /// A new dimension of a value has these lengths.
@@ -112,14 +109,14 @@ fn r2_rows_from_lists(rt: HostRuntime) {
     assert!(rt; stands_for(alloc, lens.as_slice(), &lens));
     assert!(rt; comes_of_vector(alloc, &lens) && comes_of_list(alloc, &lens));
     assert!(rt; is_new_of(alloc, lens.as_slice(), &lens));
-    assert!(rt; is_new(alloc, (3, 4), &new_ix2(3, 4)));
+    assert!(rt; converts(alloc, (3, 4), [3, 4], new_ix2(3, 4)));
 }
 
 /// A vector that is handed over makes a dimension equal to that of the same lengths.
 fn is_one_with_vector(alloc: Global, lens: &[usize]) -> bool {
-    match (made::<IxDyn>(alloc, lens), lens.to_vec(alloc)) {
-        (Some(dim), Ok(items)) => is_one(&dim, new_dim(alloc, items)),
-        _ => false,
+    match lens.to_vec(alloc) {
+        Ok(items) => is_one(alloc, lens, new_dim(alloc, items)),
+        Err(_) => false,
     }
 }
 

@@ -3,11 +3,11 @@
 //!
 //! A call that needs no memory goes well whatever is refused. A call that needs memory is made
 //! twice, before one small request. To make a list of more than four lengths is a request itself.
-use crate::dim::checks::is_one;
+use crate::dim::checks::{becomes, is_one, own_strides, strides_of_list};
 use crate::dim::told::{Told, demand, row_holds_at_any_count, table_at_its_type};
 use nd_dim::{
-    Axis, Dimension, FixedCount, IntoDimension, IxDyn, IxDynImpl, Lengths, RemoveAxis, ShapeArg,
-    default_strides, fortran_strides, new_dim, new_ixdyn,
+    Axis, Dimension, FixedCount, IntoDimension, IxDyn, IxDynImpl, Lengths, Order, RemoveAxis,
+    ShapeArg, new_dim, new_ixdyn,
 };
 use nd_testing::{asked, made, rows};
 use std::alloc::{AllocError, Global};
@@ -27,8 +27,7 @@ pub(crate) enum Call {
     /// To make a value of any number of axes asks for some, in either way.
     IntoAny,
     FromFixed,
-    DefaultStrides,
-    FortranStrides,
+    Strides(Order),
     Duplicate,
     StrideOrder,
     /// At the axis of the row, and at the end.
@@ -44,9 +43,8 @@ fn is_given<T: Drop>(made: Result<T, AllocError>) -> bool {
 
 /// What a call of a shape gives needs no memory.
 fn serves_shape<D: Dimension>(alloc: Global, dim: &D) -> bool {
-    dim.size_checked().is_some()
-        && is_given(dim.default_strides(alloc))
-        && is_given(dim.fortran_strides(alloc))
+    is_given(own_strides(alloc, dim, Order::C))
+        && is_given(own_strides(alloc, dim, Order::F))
         && is_given(dim._fastest_varying_stride_order(alloc))
 }
 
@@ -105,16 +103,13 @@ fn is_kept_as_any(alloc: Global, five: IxDyn) -> bool {
     is_given(five.into_dyn(alloc))
 }
 
-/// A value of a list of any number of axes needs no memory.
-fn is_made_of<D: Dimension>(alloc: Global, dim: &IxDyn) -> bool {
-    is_given(D::from_dimension(alloc, dim))
-}
-
 /// A value of a list of five of any number of axes needs no memory, nor does that list, if there was
 /// memory for it.
 fn makes_of_five<D: Dimension>(alloc: Global) -> bool {
     match new_ixdyn(alloc, &[1, 2, 3, 4, 5]) {
-        Ok(five) => is_made_of::<D>(alloc, &five) && is_kept_as_any(alloc, five),
+        Ok(five) => {
+            becomes::<D>(alloc, &five, D::NDIM.unwrap_or(5) == 5) && is_kept_as_any(alloc, five)
+        },
         Err(_) => true,
     }
 }
@@ -131,22 +126,12 @@ fn any_of<D: Lengths>(alloc: Global, dim: &D) -> Result<Option<IxDyn>, AllocErro
 }
 
 /// Strides ask for memory, by the dimension and by its list.
-fn asks_for_strides<D: Dimension>(alloc: Global, call: Call, dim: &D) -> bool {
-    if dim.size_checked().is_none() {
-        return false;
-    }
-    match call {
-        Call::DefaultStrides => asked(
-            alloc,
-            dim.default_strides(alloc),
-            default_strides(alloc, dim),
-        ),
-        _ => asked(
-            alloc,
-            dim.fortran_strides(alloc),
-            fortran_strides(alloc, dim),
-        ),
-    }
+fn asks_for_strides<D: Dimension>(alloc: Global, dim: &D, order: Order) -> bool {
+    asked(
+        alloc,
+        own_strides(alloc, dim, order),
+        strides_of_list(alloc, dim, order),
+    )
 }
 
 /// An axis more asks for memory.
@@ -181,7 +166,7 @@ pub(crate) fn serves<D: Dimension>(alloc: Global, call: Call, dim: &D, axis: usi
         Call::MakesAny => is_given(any_of(alloc, dim)) && is_handed_on(alloc, dim),
         Call::IntoAny => asks_into_any(alloc, dim),
         Call::FromFixed => asked(alloc, any_of(alloc, dim), any_of(alloc, dim)),
-        Call::DefaultStrides | Call::FortranStrides => asks_for_strides(alloc, call, dim),
+        Call::Strides(order) => asks_for_strides(alloc, dim, order),
         Call::Duplicate => asked(alloc, dim.duplicate(alloc), dim.duplicate(alloc)),
         Call::StrideOrder => asked(
             alloc,
@@ -266,11 +251,8 @@ fn r9_rows_insert_axis_into_three(rt: HostRuntime) {
 
 /// What is left of a list is one that was made so, and has its hash; if there was memory for it.
 fn leaves(alloc: Global, lens: &[usize], axis: usize, left: &[usize]) -> bool {
-    let Some(left) = made::<IxDyn>(alloc, left) else {
-        return false;
-    };
     match made::<IxDyn>(alloc, lens) {
-        Some(dim) => axis < dim.ndim() && is_one(&left, dim.remove_axis(alloc, Axis(axis))),
+        Some(dim) => axis < dim.ndim() && is_one(alloc, left, dim.remove_axis(alloc, Axis(axis))),
         None => lens.len() > 4,
     }
 }
@@ -319,12 +301,12 @@ fn r9_rows_list_of_five(rt: HostRuntime) {
 
 #[test]
 fn r9_rows_default_strides_of_five(rt: HostRuntime) {
-    hold_at_any_count(&rt, rt.alloc(), Call::DefaultStrides, "1,2,3,4,5");
+    hold_at_any_count(&rt, rt.alloc(), Call::Strides(Order::C), "1,2,3,4,5");
 }
 
 #[test]
 fn r9_rows_fortran_strides_of_five(rt: HostRuntime) {
-    hold_at_any_count(&rt, rt.alloc(), Call::FortranStrides, "1,2,3,4,5");
+    hold_at_any_count(&rt, rt.alloc(), Call::Strides(Order::F), "1,2,3,4,5");
 }
 
 #[test]

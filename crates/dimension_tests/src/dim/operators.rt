@@ -73,19 +73,6 @@ fn result_in_place<D: Arithmetic>(operator: Operator, mut dim: D, index: D) -> D
     dim
 }
 
-fn scaled<D: Scale>(dim: D, factor: usize) -> D
-    requires { ScaledFit (D.list dim) factor }
-{
-    dim * factor
-}
-
-fn scaled_in_place<D: Scale>(mut dim: D, factor: usize) -> D
-    requires { ScaledFit (D.list dim) factor }
-{
-    dim *= factor;
-    dim
-}
-
 /// A value has this list.
 fn is<D: Lengths>(dim: D, wanted: &[usize]) -> bool {
     dim.slice() == wanted
@@ -119,9 +106,12 @@ pub(crate) fn scales<D: Scale>(
     factor: usize,
     wanted: &[usize],
 ) -> bool {
-    fits_scaled(lens, factor)
-        && is::<D>(scaled(dim_of(rt, alloc, lens), factor), wanted)
-        && is::<D>(scaled_in_place(dim_of(rt, alloc, lens), factor), wanted)
+    if !fits_scaled(lens, factor) {
+        return false;
+    }
+    let mut dim = dim_of::<D>(rt, alloc, lens);
+    dim *= factor;
+    dim.slice() == wanted && is(dim_of::<D>(rt, alloc, lens) * factor, wanted)
 }
 
 const SUMS: &str = "\

@@ -2,9 +2,9 @@
 //!
 //! Each type is named in one place, since the check takes seconds for each function that names one.
 use crate::dim::checks::{
-    changes_type, gives, has_list, has_size, has_stride_axes, has_strides, has_strides_by_its_list,
-    is_equivalent, is_incompatible, keeps_list, list_becomes, narrows, stays, tries_to_narrow,
-    widens, writes, writes_last, writes_slice,
+    changes_type, gives, has_list, has_size, has_stride_axes, has_strides, is_equivalent,
+    is_incompatible, keeps_list, list_becomes, narrows, stays, tries_to_narrow, widens, writes,
+    writes_last, writes_slice,
 };
 use crate::dim::lists::dim_of;
 use crate::dim::memory::{Call, asks, serves};
@@ -98,8 +98,8 @@ fn rewrites<D: Lengths>(rt: &impl Abort, alloc: Global, row: &Lists<'_>) -> bool
     )
 }
 
-/// Whether a row tells of operators, steps and strides.
-fn tells_of_indices<D: Dimension>(
+/// Whether a row tells what the calls of a dimension answer, whatever its type.
+fn tells_of_dimension<D: Dimension>(
     rt: &impl Abort,
     told: Told,
     alloc: Global,
@@ -112,6 +112,15 @@ fn tells_of_indices<D: Dimension>(
         row.third.as_slice(),
     );
     match told {
+        Told::Made(answer) => list_becomes::<D>(rt, alloc, second, answer),
+        Told::Incompatible => is_incompatible(rt, alloc, dim, second),
+        Told::Inserted => widens(alloc, dim, row.second.at(0), third),
+        Told::Removed => tries_to_narrow(alloc, dim, row.second.at(0), third),
+        Told::Last => [dim.last_elem()].as_slice() == second,
+        Told::LastWritten => writes_last(dim_of::<D>(rt, alloc, first), row.second.at(0), third),
+        Told::Size => has_size(dim, second),
+        Told::Strides => has_strides(alloc, dim, second, third),
+        Told::Equivalent(answer) => is_equivalent(rt, alloc, dim, second, third) == answer,
         Told::Calculated(operator) => calculates::<D>(rt, alloc, operator, first, second, third),
         Told::Scaled => scales::<D>(rt, alloc, first, row.second.at(0), third),
         Told::Rows => has_rows(alloc, dim, row.second.at(0), third),
@@ -119,52 +128,6 @@ fn tells_of_indices<D: Dimension>(
         Told::StrideAxes => has_stride_axes(rt, alloc, dim, second, third),
         Told::Order => gives(dim._fastest_varying_stride_order(alloc), second),
         _ => false,
-    }
-}
-
-/// Whether a row tells of a shape and its strides.
-fn tells_of_layouts<D: Dimension>(
-    rt: &impl Abort,
-    told: Told,
-    alloc: Global,
-    dim: &D,
-    row: &Lists<'_>,
-) -> bool {
-    let (second, third) = (row.second.as_slice(), row.third.as_slice());
-    match told {
-        Told::Size => has_size(dim, second),
-        Told::Strides => {
-            has_strides(alloc, dim, second, third)
-                && has_strides_by_its_list(alloc, dim, second, third)
-        },
-        Told::Equivalent(answer) => is_equivalent(rt, alloc, dim, second, third) == answer,
-        _ => tells_of_indices(rt, told, alloc, dim, row),
-    }
-}
-
-/// Whether a row tells of other types, of an axis more or less, and of the last length.
-fn tells_of_axes<D: Dimension>(
-    rt: &impl Abort,
-    told: Told,
-    alloc: Global,
-    dim: &D,
-    row: &Lists<'_>,
-) -> bool {
-    let (second, third) = (row.second.as_slice(), row.third.as_slice());
-    match told {
-        Told::Made(answer) => list_becomes::<D>(rt, alloc, second, answer),
-        Told::Incompatible => is_incompatible(rt, alloc, dim, second),
-        Told::Inserted => widens(alloc, dim, row.second.at(0), third),
-        Told::Removed => tries_to_narrow(alloc, dim, row.second.at(0), third),
-        Told::Last => [dim.last_elem()].as_slice() == second,
-        Told::LastWritten => {
-            writes_last(
-                dim_of::<D>(rt, alloc, row.first.as_slice()),
-                row.second.at(0),
-                third,
-            )
-        },
-        _ => tells_of_layouts(rt, told, alloc, dim, row),
     }
 }
 
@@ -182,7 +145,7 @@ fn tells<D: Dimension + IntoDimension<Dim = D>>(
         Told::Default => has_default::<D>(alloc, row.second.as_slice()),
         Told::Written => rewrites::<D>(rt, alloc, row),
         Told::Memory(call) => serves(alloc, call, dim, row.second.at(0)),
-        _ => tells_of_axes(rt, told, alloc, dim, row),
+        _ => tells_of_dimension(rt, told, alloc, dim, row),
     }
 }
 
@@ -218,7 +181,7 @@ fn tells_with_axes<D: RemoveAxis + IntoDimension<Dim = D>>(
     match told {
         Told::Removed => {
             narrows(alloc, dim, row.second.at(0), row.third.as_slice())
-                && tells_of_axes(rt, told, alloc, dim, row)
+                && tells_of_dimension(rt, told, alloc, dim, row)
         },
         Told::Memory(call) => asks(alloc, call, dim, row.second.at(0)),
         _ => tells(rt, told, alloc, dim, row),
