@@ -6,6 +6,14 @@ use crate::base::lists::ixdyn;
 use nd_base::{Lengths, new_ix1, new_ix2};
 use std::alloc::Global;
 
+/// The same list in a value of its own, which needs no memory.
+fn copy_of<D: Lengths>(alloc: Global, dim: &D) -> D
+    requires { NeedsNoMemory D.NDIM (length (D.list dim.now)) }
+    ensures { D.list result ≡ D.list dim.now }
+{
+    dim.duplicate(alloc).unwrap()
+}
+
 /// `==` by the bound alone.
 fn are_one<D: Lengths>(dim: &D, other: &D) -> bool
     ensures { IsTrue result ↔ (D.list dim.now ≡ D.list other.now) }
@@ -17,7 +25,7 @@ fn are_one<D: Lengths>(dim: &D, other: &D) -> bool
 fn behaves<D: Lengths>(alloc: Global, dim: D) -> bool
     requires { NeedsNoMemory D.NDIM (length (D.list dim)) }
 {
-    let same = dim.duplicate(alloc).unwrap();
+    let same = copy_of(alloc, &dim);
     same.equal(&dim)
         && are_one(&same, &dim)
         && dim.slice().len() == dim.ndim()
