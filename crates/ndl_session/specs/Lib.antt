@@ -1,8 +1,1 @@
-pub mod Answer
-pub mod DataLine
-pub mod Elements
-pub mod Lists
-pub mod Reading
-pub mod Script
 pub mod Session
-pub mod StepLine

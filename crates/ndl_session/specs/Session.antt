@@ -1,6 +1,6 @@
 -- What a session writes.
 use Rattle.std.specs.Prelude.{ℕ, List, ◌⊎◌, codes, Option, IfSome}
-use Rattle.ndl_session.specs.Answer.{answer_of}
+use Rattle.ndl_answer.specs.Answer.{answer_of}
 use Rattle.ndl_text.specs.Device.{AppendsBeginning}
 
 -- the whole text where a read failed

@@ -1,12 +1,12 @@
 //! A session over a reader and a writer.
 ghost use Rattle.std.specs.Prelude.{◌≡◌, ◌≢◌, ◌≤◌, ◌↔◌, ◌⊎◌, true, false, Err, IfOk, IfSome, IsTrue, OnOk};
 ghost use Rattle.std.specs.Io.KnownBytes.{Appends, IsAtEnd};
-ghost use Rattle.ndl_session.specs.Answer.{answer_of, IsReply};
+ghost use Rattle.ndl_answer.specs.Answer.{answer_of, IsReply};
 ghost use Rattle.ndl_text.specs.Device.{AppendsBeginning};
 ghost use Rattle.ndl_session.specs.Session.{input_failed_text, out_of_memory_text, AppendsAnswerBeginning};
 ghost use Rattle.ndl_text.specs.Watched.{device, has_failed};
 
-use crate::answer::{Answer, answer_to};
+use ndl_answer::{Answer, answer_to};
 use ndl_text::{InputError, Watched, read_whole, write_whole};
 use std::alloc::Global;
 use std::io::{Read, Write};

@@ -1,6 +1,6 @@
 //! What a script says, of inputs whose answers don't tell it.
 use nd_shape::CanIndexCheckMode;
-use ndl_session::{Script, read_script};
+use ndl_answer::{Script, read_script};
 use std::alloc::{AllocError, Global};
 use std::test::Fail;
 

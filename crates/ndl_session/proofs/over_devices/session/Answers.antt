@@ -1,4 +1,5 @@
-use Rattle.std.proofs.Common.{inl, inr, arith}
+use Rattle.std.proofs.Common.{inl, inr, sym, ◌∙◌, arith}
+use Rattle.ndl_session.proofs.Answered.{answered}
 use Rattle.ndl_session.proofs.over_devices.session.Goals as goal
 use Rattle.ndl_session.proofs.over_devices.session.Goals.{in-Ok, in-Err-ReadFailed, in-Err-OutOfMemory}
 
@@ -45,4 +46,16 @@ returns-else-write_failed-clause-failed g c =
           | inr write_failed ↦ absurd (cc)
         ],
       )
+    ]
+
+-- Where nothing fails the answer's text went out whole, and its status is what is told.
+pub returns-else-write_failed-clause-answered : goal.returns-else-write_failed-clause-answered
+returns-else-write_failed-clause-answered g c not_memory not_failed =
+    let told = sym c.failed-write_failed.ensures ∙ c.if-write_failed.false in
+    elim c.match-answer_input.branch [
+      | in-Ok w ↦ (let is = w.writer-is in
+          rw is (answered _ _ _ w.in-Ok.answer _ _ w.in-Ok.ensures.answer
+          w.as_bytes.ensures.value (w.write_whole.ensures.whole (rw is at told)) w.status-is))
+      | in-Err-ReadFailed w ↦ absurd (not_failed w.status-is)
+      | in-Err-OutOfMemory w ↦ absurd (not_memory w.status-is)
     ]

@@ -1,0 +1,44 @@
+-- The text of a view from its three lines, and the statuses of replies.
+use Rattle.std.proofs.Common.{◌≡◌, ℕ, ◌+◌, ℤ, pos, ◌≤◌, List, [], ◌∷◌, ◌++◌, map, codes, decimal, Option, Some, None, refl, ap, ◌∙◌, sym, arith}
+use Rattle.std.specs.Fmt.{signed_decimal}
+use Rattle.nd_base.specs.declared.error.ErrorKind.{ErrorKind}
+use Rattle.nd_base.specs.declared.order.Order.TheVariants.{RowMajor}
+use Rattle.ndarray_layout.specs.View.{View, view_places}
+use Rattle.ndarray_layout.specs.Run.{Outcome}
+use Rattle.ndl_answer.specs.Answer.{Reply, listing, unless, reply_to_run, reply_to_script}
+use Rattle.ndl_answer.specs.Script.{ScriptValue}
+use Rattle.ndl_text.specs.Text.{line, listed}
+
+-- a place is not negative, so with a sign it prints as it does without
+printed_places : (places : List ℕ) → map signed_decimal (map pos places) ≡ map decimal places
+printed_places [] = refl
+printed_places (place ∷ places) = ap (λ texts. decimal place ∷ texts) (printed_places places)
+
+-- one line after another
+three_lines : (t0 t1 t2 t3 a b c : List ℕ) → t0 ≡ [] → t1 ≡ t0 ++ a → t2 ≡ t1 ++ b → t3 ≡ t2 ++ c → t3 ≡ a ++ b ++ c
+three_lines t0 t1 t2 t3 a b c e0 e1 e2 e3 = e3 ∙ ap (λ t. t ++ c) (e2 ∙ ap (λ t. t ++ b) (e1 ∙ ap (λ t. t ++ a) e0))
+
+pub places_texts : (view : View) (places : List ℕ) → map pos places ≡ view_places RowMajor view → map decimal places ≡ map signed_decimal (view_places RowMajor view)
+places_texts view places same = sym (printed_places places) ∙ ap (map signed_decimal) same
+
+pub listing_text : (view : View) (t0 t1 t2 t3 : List ℕ) (shape : List ℕ) → shape ≡ view.shape
+    → t0 ≡ []
+    → t1 ≡ t0 ++ line (codes "shape") (listed (codes ",") (map decimal shape))
+    → t2 ≡ t1 ++ line (codes "strides") (listed (codes ",") (map signed_decimal view.strides))
+    → t3 ≡ t2 ++ line (codes "places") (listed (codes " ") (map signed_decimal (view_places RowMajor view)))
+    → t3 ≡ (listing view).text
+listing_text view t0 t1 t2 t3 shape same e0 e1 e2 e3 =
+    three_lines t0 t1 t2 t3 _ _ _ e0
+    (e1 ∙ ap (λ lens. t0 ++ line (codes "shape") (listed (codes ",") (map decimal lens))) same)
+    e2 e3
+
+unless_small : (step : ℕ) (fault : Option ErrorKind) (reply : Reply) → reply.status ≤ 2 → (unless step fault reply).status ≤ 2
+unless_small step None reply small = small
+unless_small step (Some kind) reply small = omega arith
+
+reply_to_run_small : (fault : Option ErrorKind) (run : Outcome) → (reply_to_run fault run).status ≤ 2
+reply_to_run_small None run = omega arith
+reply_to_run_small (Some kind) run = omega arith
+
+pub reply_to_script_small : (script : ScriptValue) → (reply_to_script script).status ≤ 2
+reply_to_script_small script = unless_small 0 _ _ (reply_to_run_small _ _)

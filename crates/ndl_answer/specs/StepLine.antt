@@ -1,0 +1,84 @@
+-- The words of a line that asks for a step.
+use Rattle.std.specs.Prelude.{◌≡◌, ℕ, pos, Option, Some, None, if◌then◌else◌, List, [], ◌∷◌, codes, refl}
+use Rattle.std.specs.Option.{option_map}
+use Rattle.std.specs.Str.{bytes_eq}
+use Rattle.nd_slice.specs.declared.fit.Fit.{Fit}
+use Rattle.nd_slice.specs.declared.fit.Fit.TheVariants.{Strict, Clamp}
+use Rattle.nd_slice.specs.declared.slice.SliceInfoElem.TheVariants as elem
+use Rattle.ndarray_layout.specs.Step.{StepValue, SliceBy, CollapseTo, MergeInto, BroadcastTo}
+use Rattle.ndl_text.specs.Lines.{words_of}
+use Rattle.ndl_text.specs.Numbers.{number_of}
+use Rattle.ndl_answer.specs.Elements.{elements_of}
+use Rattle.ndl_answer.specs.Lists.{lengths_of}
+use Rattle.ndl_answer.specs.Reading.{◌>>=◌}
+
+-- what becomes of a bound past its axis, by the word that a slice begins with
+abbrev pub fit_of : List ℕ → Option Fit
+fit_of keyword = if bytes_eq keyword (codes "slice") then Some Strict else if bytes_eq keyword (codes "clamp") then Some Clamp else None
+
+-- `slice ELEMENTS` or `clamp ELEMENTS`
+abbrev pub slice_of_words : List ℕ → List ℕ → Option StepValue
+slice_of_words keyword word = do
+  fit ← fit_of keyword
+  elems ← elements_of word
+  Some (SliceBy elems fit)
+
+-- one of these, or `broadcast SHAPE`
+abbrev pub step_of_list : List ℕ → List ℕ → Option StepValue
+step_of_list keyword word = if bytes_eq keyword (codes "broadcast") then option_map BroadcastTo (lengths_of word) else slice_of_words keyword word
+
+-- the step of two numbers that a keyword stands for
+abbrev pub step_of_keyword : List ℕ → ℕ → ℕ → Option StepValue
+step_of_keyword keyword first second = if bytes_eq keyword (codes "collapse") then Some (CollapseTo first second) else if bytes_eq keyword (codes "merge") then Some (MergeInto first second) else None
+
+-- `collapse AXIS INDEX` or `merge TAKE INTO`
+abbrev pub step_of_numbers : List ℕ → List ℕ → List ℕ → Option StepValue
+step_of_numbers keyword first second = do
+  first ← number_of first
+  second ← number_of second
+  step_of_keyword keyword first second
+
+abbrev pub step_of : List (List ℕ) → Option StepValue
+step_of (keyword ∷ word ∷ []) = step_of_list keyword word
+step_of (keyword ∷ first ∷ second ∷ []) = step_of_numbers keyword first second
+step_of _ = None
+
+-- examples
+a_slice : step_of (words_of (codes "slice 1..")) ≡ Some (SliceBy (elem.Slice (pos 1) None (pos 1) ∷ []) Strict)
+a_slice = refl
+
+a_clamping_slice : step_of (words_of (codes "clamp 9,NewAxis")) ≡ Some (SliceBy (elem.Index (pos 9) ∷ elem.NewAxis ∷ []) Clamp)
+a_clamping_slice = refl
+
+a_collapse : step_of (words_of (codes "collapse 0 07")) ≡ Some (CollapseTo 0 7)
+a_collapse = refl
+
+a_merge : step_of (words_of (codes "merge 1 0")) ≡ Some (MergeInto 1 0)
+a_merge = refl
+
+a_broadcast : step_of (words_of (codes "broadcast 2,2,3")) ≡ Some (BroadcastTo (2 ∷ 2 ∷ 3 ∷ []))
+a_broadcast = refl
+
+to_no_axes : step_of (words_of (codes "broadcast -")) ≡ Some (BroadcastTo [])
+to_no_axes = refl
+
+without_elements : step_of (words_of (codes "clamp")) ≡ None
+without_elements = refl
+
+elements_in_two_words : step_of (words_of (codes "slice 1 ..")) ≡ None
+elements_in_two_words = refl
+
+one_number_of_two : step_of (words_of (codes "collapse 0")) ≡ None
+one_number_of_two = refl
+
+three_numbers : step_of (words_of (codes "merge 0 1 2")) ≡ None
+three_numbers = refl
+
+negative_index : step_of (words_of (codes "collapse 0 -1")) ≡ None
+negative_index = refl
+
+a_list_for_an_axis : step_of (words_of (codes "merge - 0")) ≡ None
+a_list_for_an_axis = refl
+
+misspelled : step_of (words_of (codes "slise ..")) ≡ None
+misspelled = refl

@@ -1,0 +1,67 @@
+//! Elements of a slice argument as words spell them.
+ghost use Rattle.std.specs.Prelude.{◌≡◌};
+ghost use Rattle.ndl_text.specs.Bytes.{dot};
+ghost use Rattle.ndl_text.specs.Lines.{parts};
+ghost use Rattle.ndl_answer.specs.Elements.{element_of, end_of, range_of, slice_of_bounds, start_of};
+
+use crate::lists::Entry;
+use nd_slice::SliceInfoElem;
+use ndl_text::{signed_number, split_once};
+
+/// The start of a range: the first entry where it is missing.
+fn start(text: &[u8]) -> Option<isize>
+    ensures { result ≡ start_of text.now }
+{
+    if text.is_empty() {
+        return Some(0);
+    }
+    signed_number(text)
+}
+
+/// The end of a range: none where it is missing.
+fn end(text: &[u8]) -> Option<Option<isize>>
+    ensures { result ≡ end_of text.now }
+{
+    if text.is_empty() {
+        return Some(None);
+    }
+    signed_number(text).map(Some)
+}
+
+/// A range with a step.
+fn slice(range: &[u8], step: isize) -> Option<SliceInfoElem>
+    ensures { result ≡ slice_of_bounds step (parts dot range.now) }
+{
+    let (start_text, rest) = split_once(range, b'.')?;
+    let end_text = rest.strip_prefix(b".")?;
+    Some(SliceInfoElem::Slice {
+        start: start(start_text)?,
+        end: end(end_text)?,
+        step,
+    })
+}
+
+/// A range, with an optional step behind a semicolon.
+fn range(text: &[u8]) -> Option<SliceInfoElem>
+    ensures { result ≡ range_of text.now }
+{
+    match split_once(text, b';') {
+        Some((bounds, step)) => slice(bounds, signed_number(step)?),
+        None => slice(text, 1),
+    }
+}
+
+impl Entry for SliceInfoElem {
+    ghost entry_of = { element_of };
+
+    /// A new axis by its name, an index by its number, or a range.
+    fn read(text: &[u8]) -> Option<SliceInfoElem> {
+        if text == b"NewAxis".as_slice() {
+            return Some(SliceInfoElem::NewAxis);
+        }
+        match signed_number(text) {
+            Some(index) => Some(SliceInfoElem::Index(index)),
+            None => range(text),
+        }
+    }
+}

@@ -1,0 +1,15 @@
+//! The answer to a script: where the elements that are left lie, after a layout and the steps taken from it.
+#![tactic(auto)]
+
+mod answer;
+mod data_line;
+mod elements;
+mod lists;
+mod script;
+mod step_line;
+mod strides;
+
+pub use answer::{Answer, answer_to};
+pub use data_line::Layout;
+pub use ndarray_layout::Step;
+pub use script::{ReadError, Script, read_script};
