@@ -150,14 +150,15 @@ pub(crate) fn tries_to_narrow<D: Dimension>(
         && gives(dim.try_remove_axis(alloc, Axis(axis)), smaller)
 }
 
-/// An axis less, where there is one.
+/// An axis less in either way, where there is one.
 pub(crate) fn narrows<D: RemoveAxis>(
     alloc: Global,
     dim: &D,
     axis: usize,
     smaller: &[usize],
 ) -> bool {
-    axis >= dim.ndim() || gives(dim.remove_axis(alloc, Axis(axis)), smaller)
+    tries_to_narrow(alloc, dim, axis, smaller)
+        && (axis >= dim.ndim() || gives(dim.remove_axis(alloc, Axis(axis)), smaller))
 }
 
 /// The axes of the least and of the greatest stride.
@@ -191,21 +192,24 @@ pub(crate) fn has_list<D: Lengths>(alloc: Global, dim: &D, lens: &[usize]) -> bo
 }
 
 /// To a pattern and back.
-pub(crate) fn keeps_list<D: Dimension>(alloc: Global, dim: D, lens: &[usize]) -> bool {
+pub(crate) fn keeps_list<D: Dimension>(rt: &impl Abort, alloc: Global, lens: &[usize]) -> bool {
+    let dim: D = dim_of(rt, alloc, lens);
     gives(dim.into_pattern().into_dimension(alloc), lens)
 }
 
 /// A dimension makes itself.
 pub(crate) fn stays<D: Lengths + IntoDimension<Dim = D>>(
+    rt: &impl Abort,
     alloc: Global,
-    dim: D,
     lens: &[usize],
 ) -> bool {
+    let dim: D = dim_of(rt, alloc, lens);
     gives(dim.into_dimension(alloc), lens)
 }
 
 /// To the type of any number of axes and back.
-pub(crate) fn changes_type<D: Dimension>(alloc: Global, dim: D, lens: &[usize]) -> bool {
+pub(crate) fn changes_type<D: Dimension>(rt: &impl Abort, alloc: Global, lens: &[usize]) -> bool {
+    let dim: D = dim_of(rt, alloc, lens);
     match dim.into_dyn(alloc) {
         Ok(dynamic) => dynamic.slice() == lens && becomes::<D>(alloc, &dynamic, true),
         Err(_) => false,

@@ -1,37 +1,44 @@
 //! Walks over the indices of a shape, in either order.
 //!
 //! A row is a shape, how many indices it has, and the entries of these.
-ghost use Rattle.std.specs.Prelude.{◌≡◌, true, IfSome};
+ghost use Rattle.std.specs.Prelude.{◌≡◌, true, IsTrue};
 ghost use Rattle.nd_base.specs.Indices.{is_index};
 
-use crate::dim::told::{Told, table};
+use crate::dim::told::{Told, Types, table};
 use nd_dim::Dimension;
 use std::alloc::Global;
 
 /// The first index of a shape, if there is one.
-fn first<D: Dimension>(alloc: Global, dim: &D) -> Option<D>
-    ensures { IfSome result (λ index. is_index (D.list dim.now) (D.list index) ≡ true) }
-{
+fn first<D: Dimension>(alloc: Global, dim: &D) -> Option<D> {
     match dim.first_index(alloc) {
         Ok(first) => first,
         Err(_) => None,
     }
 }
 
-/// The index behind one, by rows.
-fn behind<D: Dimension>(dim: &D, index: D) -> Option<D>
-    requires { is_index (D.list dim.now) (D.list index) ≡ true }
-    ensures { IfSome result (λ next. is_index (D.list dim.now) (D.list next) ≡ true) }
+/// Whether these are the entries of an index of a shape.
+fn is_inside(lens: &[usize], entries: &[usize]) -> bool
+    ensures { IsTrue result → is_index lens.now entries.now ≡ true }
 {
-    dim.next_for(index)
+    match (lens, entries) {
+        ([], []) => true,
+        ([len, lens @ ..], [entry, entries @ ..]) => *entry < *len && is_inside(lens, entries),
+        _ => false,
+    }
 }
 
-/// Goes on by columns.
-fn goes_on<D: Dimension>(dim: &D, index: &mut D) -> bool
-    requires { is_index (D.list dim.now) (D.list index.old) ≡ true }
-    ensures { is_index (D.list dim.now) (D.list index.new) ≡ true }
-{
-    dim.next_for_f(index)
+/// The index behind one, by rows.
+fn behind<D: Dimension>(dim: &D, index: D) -> Option<D> {
+    if is_inside(dim.slice(), index.slice()) {
+        dim.next_for(index)
+    } else {
+        None
+    }
+}
+
+/// Goes on by columns, and says whether there are more, as is wanted.
+fn goes_on<D: Dimension>(dim: &D, index: &mut D, more: bool) -> bool {
+    is_inside(dim.slice(), index.slice()) && dim.next_for_f(index) == more
 }
 
 /// Adds the entries of an index to a list.
@@ -57,11 +64,9 @@ fn adds_columns<D: Dimension>(
     index: &mut D,
     count: usize,
     entries: &mut Vec<usize>,
-) -> bool
-    requires { is_index (D.list dim.now) (D.list index.old) ≡ true }
-{
+) -> bool {
     for place in 1..=count {
-        if !add(entries, index.slice()) || goes_on(dim, index) != (place < count) {
+        if !add(entries, index.slice()) || !goes_on(dim, index, place < count) {
             return false;
         }
     }
@@ -109,6 +114,6 @@ const BY_COLUMNS: &str = "\
 
 #[test]
 fn indices_by_steps(rt: HostRuntime) {
-    table(&rt, rt.alloc(), Told::Rows, BY_ROWS);
-    table(&rt, rt.alloc(), Told::Columns, BY_COLUMNS);
+    table(&rt, rt.alloc(), Told::Rows, Types::Both, BY_ROWS);
+    table(&rt, rt.alloc(), Told::Columns, Types::Both, BY_COLUMNS);
 }

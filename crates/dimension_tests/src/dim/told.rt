@@ -62,6 +62,17 @@ pub(crate) enum Told {
     Memory(Call),
 }
 
+/// The types at which a row is asked.
+#[derive(Clone, Copy)]
+pub(crate) enum Types {
+    /// That of as many axes as the first list of the row has.
+    Fixed,
+    /// That of any number of axes.
+    AnyCount,
+    /// Both.
+    Both,
+}
+
 /// Whether a value keeps its list in what is made of it. Four axes make a value where no other count is
 /// fixed.
 fn keeps<D: Dimension + IntoDimension<Dim = D>>(
@@ -71,9 +82,9 @@ fn keeps<D: Dimension + IntoDimension<Dim = D>>(
     lens: &[usize],
 ) -> bool {
     has_list(alloc, dim, lens)
-        && keeps_list(alloc, dim_of::<D>(rt, alloc, lens), lens)
-        && stays(alloc, dim_of::<D>(rt, alloc, lens), lens)
-        && changes_type(alloc, dim_of::<D>(rt, alloc, lens), lens)
+        && keeps_list::<D>(rt, alloc, lens)
+        && stays::<D>(rt, alloc, lens)
+        && changes_type::<D>(rt, alloc, lens)
         && list_becomes::<D>(rt, alloc, &[1; 4], D::NDIM.unwrap_or(4) == 4)
 }
 
@@ -179,10 +190,7 @@ fn tells_with_axes<D: RemoveAxis + IntoDimension<Dim = D>>(
     row: &Lists<'_>,
 ) -> bool {
     match told {
-        Told::Removed => {
-            narrows(alloc, dim, row.second.at(0), row.third.as_slice())
-                && tells_of_dimension(rt, told, alloc, dim, row)
-        },
+        Told::Removed => narrows(alloc, dim, row.second.at(0), row.third.as_slice()),
         Told::Memory(call) => asks(alloc, call, dim, row.second.at(0)),
         _ => tells(rt, told, alloc, dim, row),
     }
@@ -221,30 +229,14 @@ pub(crate) fn holds_at(
     }
 }
 
-/// A row, at the type of as many axes as its first list has.
-pub(crate) fn row_holds_at_its_type(
-    rt: &impl Abort,
-    told: Told,
-    alloc: Global,
-    line: &str,
-) -> bool {
-    match Lists::read(line) {
-        Some(row) => holds_at(rt, told, alloc, Some(row.first.as_slice().len()), &row),
-        None => false,
-    }
-}
-
-/// A row, at the type of any number of axes alone.
-pub(crate) fn row_holds_at_any_count(
-    rt: &impl Abort,
-    alloc: Global,
-    told: Told,
-    line: &str,
-) -> bool {
-    match Lists::read(line) {
-        Some(row) => holds_at(rt, told, alloc, None, &row),
-        None => false,
-    }
+/// Whether a row of a table tells what the calls answer at these types.
+fn row_holds(rt: &impl Abort, alloc: Global, told: Told, types: Types, line: &str) -> bool {
+    let Some(row) = Lists::read(line) else {
+        return false;
+    };
+    let count = row.first.as_slice().len();
+    let at_fixed = matches!(types, Types::AnyCount) || holds_at(rt, told, alloc, Some(count), &row);
+    at_fixed && (matches!(types, Types::Fixed) || holds_at(rt, told, alloc, None, &row))
 }
 
 /// Fails, and tells the row, where it doesn't hold.
@@ -252,17 +244,9 @@ pub(crate) fn demand(rt: &impl Abort, holds: bool, line: &str) {
     assert!(rt; holds, "{line}");
 }
 
-/// The rows of a table, one by one, at their types alone.
-pub(crate) fn table_at_its_type(rt: &impl Abort, alloc: Global, told: Told, table: &str) {
+/// The rows of a table, one by one, at these types.
+pub(crate) fn table(rt: &impl Abort, alloc: Global, told: Told, types: Types, table: &str) {
     for line in rows(table) {
-        demand(rt, row_holds_at_its_type(rt, told, alloc, line), line);
-    }
-}
-
-/// The rows of a table, one by one.
-pub(crate) fn table(rt: &impl Abort, alloc: Global, told: Told, table: &str) {
-    for line in rows(table) {
-        demand(rt, row_holds_at_any_count(rt, alloc, told, line), line);
-        demand(rt, row_holds_at_its_type(rt, told, alloc, line), line);
+        demand(rt, row_holds(rt, alloc, told, types, line), line);
     }
 }
