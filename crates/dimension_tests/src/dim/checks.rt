@@ -191,20 +191,17 @@ pub(crate) fn has_list<D: Lengths>(alloc: Global, dim: &D, lens: &[usize]) -> bo
     }
 }
 
-/// To a pattern and back.
-pub(crate) fn keeps_list<D: Dimension>(rt: &impl Abort, alloc: Global, lens: &[usize]) -> bool {
-    let dim: D = dim_of(rt, alloc, lens);
-    gives(dim.into_pattern().into_dimension(alloc), lens)
-}
-
-/// A dimension makes itself.
-pub(crate) fn stays<D: Lengths + IntoDimension<Dim = D>>(
+/// To a pattern and back, and a dimension makes itself.
+pub(crate) fn stays<D: Dimension + IntoDimension<Dim = D>>(
     rt: &impl Abort,
     alloc: Global,
     lens: &[usize],
 ) -> bool {
     let dim: D = dim_of(rt, alloc, lens);
-    gives(dim.into_dimension(alloc), lens)
+    match dim.into_pattern().into_dimension(alloc) {
+        Ok(same) => same.slice() == lens && gives(same.into_dimension(alloc), lens),
+        Err(_) => false,
+    }
 }
 
 /// To the type of any number of axes and back.
@@ -244,25 +241,15 @@ pub(crate) fn writes_last<D: Dimension>(mut dim: D, len: usize, lens: &[usize]) 
     dim.last_elem() == len && dim.slice() == lens
 }
 
-/// Writes one length by its axis.
+/// Writes one length in the list, and by its axis where it was written back.
 pub(crate) fn writes<D: Lengths>(mut dim: D, axis: usize, len: usize, lens: &[usize]) -> bool {
     if axis >= dim.ndim() {
         return false;
     }
-    dim[axis] = len;
-    dim.slice() == lens
-}
-
-/// Writes one length in the list.
-pub(crate) fn writes_slice<D: Lengths>(
-    mut dim: D,
-    axis: usize,
-    len: usize,
-    lens: &[usize],
-) -> bool {
-    if axis >= dim.ndim() {
-        return false;
-    }
+    let old = dim[axis];
     dim.slice_mut()[axis] = len;
-    dim[axis] == len && dim.slice() == lens
+    let is_written = dim[axis] == len && dim.slice() == lens;
+    dim.slice_mut()[axis] = old;
+    dim[axis] = len;
+    is_written && dim.slice() == lens
 }

@@ -95,16 +95,11 @@ fn needs_none<D: Dimension>(alloc: Global, dim: &D) -> bool {
 /// A list of five of any number of axes needs no memory to be one, if there was memory for it: neither by
 /// itself nor handed on.
 fn keeps_five<D: Dimension + IntoDimension<Dim = D>>(alloc: Global) -> bool {
-    match made::<D>(alloc, &[1, 2, 3, 4, 5]) {
-        Some(five) => is_handed_on_kept(alloc, new_dim(alloc, five)),
-        None => D::NDIM.is_none(),
-    }
-}
-
-/// A value that a call gave needs no memory to be one of any number of axes.
-fn is_handed_on_kept<D: Dimension>(alloc: Global, made: Result<D, AllocError>) -> bool {
-    match made {
-        Ok(dim) => is_given(dim.into_dyn(alloc)),
+    let Some(five) = made::<D>(alloc, &[1, 2, 3, 4, 5]) else {
+        return D::NDIM.is_none();
+    };
+    match new_dim(alloc, five) {
+        Ok(kept) => is_given(kept.into_dyn(alloc)),
         Err(_) => false,
     }
 }

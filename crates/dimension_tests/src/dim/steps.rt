@@ -36,43 +36,6 @@ fn behind<D: Dimension>(dim: &D, index: D) -> Option<D> {
     }
 }
 
-/// Goes on by columns, and says whether there are more, as is wanted.
-fn goes_on<D: Dimension>(dim: &D, index: &mut D, more: bool) -> bool {
-    is_inside(dim.slice(), index.slice()) && dim.next_for_f(index) == more
-}
-
-/// Adds the entries of an index to a list.
-fn add(entries: &mut Vec<usize>, index: &[usize]) -> bool {
-    entries.extend_from_slice(index).is_ok()
-}
-
-/// Adds the indices by rows, and says whether there are so many.
-fn adds_rows<D: Dimension>(alloc: Global, dim: &D, count: usize, entries: &mut Vec<usize>) -> bool {
-    let mut next = first(alloc, dim);
-    for _ in 0..count {
-        match next {
-            Some(index) if add(entries, index.slice()) => next = behind(dim, index),
-            _ => return false,
-        }
-    }
-    next.is_none()
-}
-
-/// Adds so many indices by columns, and says whether there are no more and the first one follows them.
-fn adds_columns<D: Dimension>(
-    dim: &D,
-    index: &mut D,
-    count: usize,
-    entries: &mut Vec<usize>,
-) -> bool {
-    for place in 1..=count {
-        if !add(entries, index.slice()) || !goes_on(dim, index, place < count) {
-            return false;
-        }
-    }
-    index.slice().iter().all(|entry| *entry == 0)
-}
-
 /// Whether these are the indices by rows.
 pub(crate) fn has_rows<D: Dimension>(
     alloc: Global,
@@ -80,8 +43,39 @@ pub(crate) fn has_rows<D: Dimension>(
     count: usize,
     entries: &[usize],
 ) -> bool {
-    let mut found = Vec::new(alloc);
-    adds_rows(alloc, dim, count, &mut found) && found.as_slice() == entries
+    let mut next = first(alloc, dim);
+    let mut rest = entries;
+    for _ in 0..count {
+        let Some(index) = next else {
+            return false;
+        };
+        let Some(others) = rest.strip_prefix(index.slice()) else {
+            return false;
+        };
+        rest = others;
+        next = behind(dim, index);
+    }
+    next.is_none() && rest.is_empty()
+}
+
+/// Goes on by columns, and says whether there are more, as is wanted.
+fn goes_on<D: Dimension>(dim: &D, index: &mut D, more: bool) -> bool {
+    is_inside(dim.slice(), index.slice()) && dim.next_for_f(index) == more
+}
+
+/// Whether these are so many indices by columns from the first one on, and it follows the last of them.
+fn goes_round<D: Dimension>(dim: &D, index: &mut D, count: usize, entries: &[usize]) -> bool {
+    let mut rest = entries;
+    for place in 1..=count {
+        let Some(others) = rest.strip_prefix(index.slice()) else {
+            return false;
+        };
+        if !goes_on(dim, index, place < count) {
+            return false;
+        }
+        rest = others;
+    }
+    rest.is_empty() && entries.starts_with(index.slice())
 }
 
 /// Whether these are the indices by columns.
@@ -91,11 +85,8 @@ pub(crate) fn has_columns<D: Dimension>(
     count: usize,
     entries: &[usize],
 ) -> bool {
-    let mut found = Vec::new(alloc);
     match first(alloc, dim) {
-        Some(mut index) => {
-            adds_columns(dim, &mut index, count, &mut found) && found.as_slice() == entries
-        },
+        Some(mut index) => goes_round(dim, &mut index, count, entries),
         None => count == 0 && entries.is_empty(),
     }
 }

@@ -3,8 +3,7 @@
 //! Each type is named in one place, since the check takes seconds for each function that names one.
 use crate::dim::checks::{
     changes_type, gives, has_list, has_size, has_stride_axes, has_strides, is_equivalent,
-    is_incompatible, keeps_list, list_becomes, narrows, stays, tries_to_narrow, widens, writes,
-    writes_last, writes_slice,
+    is_incompatible, list_becomes, narrows, stays, tries_to_narrow, widens, writes, writes_last,
 };
 use crate::dim::lists::dim_of;
 use crate::dim::memory::{Call, asks, serves};
@@ -82,7 +81,6 @@ fn keeps<D: Dimension + IntoDimension<Dim = D>>(
     lens: &[usize],
 ) -> bool {
     has_list(alloc, dim, lens)
-        && keeps_list::<D>(rt, alloc, lens)
         && stays::<D>(rt, alloc, lens)
         && changes_type::<D>(rt, alloc, lens)
         && list_becomes::<D>(rt, alloc, &[1; 4], D::NDIM.unwrap_or(4) == 4)
@@ -95,16 +93,11 @@ fn has_default<D: Dimension>(alloc: Global, lens: &[usize]) -> bool {
 
 /// Whether a length is written in either way.
 fn rewrites<D: Lengths>(rt: &impl Abort, alloc: Global, row: &Lists<'_>) -> bool {
-    let (lens, axis, len) = (row.first.as_slice(), row.second.at(0), row.second.at(1));
+    let dim: D = dim_of(rt, alloc, row.first.as_slice());
     writes(
-        dim_of::<D>(rt, alloc, lens),
-        axis,
-        len,
-        row.third.as_slice(),
-    ) && writes_slice(
-        dim_of::<D>(rt, alloc, lens),
-        axis,
-        len,
+        dim,
+        row.second.at(0),
+        row.second.at(1),
         row.third.as_slice(),
     )
 }
