@@ -150,14 +150,15 @@ pub(crate) fn tries_to_narrow<D: Dimension>(
         && gives(dim.try_remove_axis(alloc, Axis(axis)), smaller)
 }
 
-/// An axis less, where there is one.
+/// An axis less in either way, where there is one.
 pub(crate) fn narrows<D: RemoveAxis>(
     alloc: Global,
     dim: &D,
     axis: usize,
     smaller: &[usize],
 ) -> bool {
-    axis >= dim.ndim() || gives(dim.remove_axis(alloc, Axis(axis)), smaller)
+    tries_to_narrow(alloc, dim, axis, smaller)
+        && (axis >= dim.ndim() || gives(dim.remove_axis(alloc, Axis(axis)), smaller))
 }
 
 /// The axes of the least and of the greatest stride.
@@ -190,22 +191,22 @@ pub(crate) fn has_list<D: Lengths>(alloc: Global, dim: &D, lens: &[usize]) -> bo
     }
 }
 
-/// To a pattern and back.
-pub(crate) fn keeps_list<D: Dimension>(alloc: Global, dim: D, lens: &[usize]) -> bool {
-    gives(dim.into_pattern().into_dimension(alloc), lens)
-}
-
-/// A dimension makes itself.
-pub(crate) fn stays<D: Lengths + IntoDimension<Dim = D>>(
+/// To a pattern and back, and a dimension makes itself.
+pub(crate) fn stays<D: Dimension + IntoDimension<Dim = D>>(
+    rt: &impl Abort,
     alloc: Global,
-    dim: D,
     lens: &[usize],
 ) -> bool {
-    gives(dim.into_dimension(alloc), lens)
+    let dim: D = dim_of(rt, alloc, lens);
+    match dim.into_pattern().into_dimension(alloc) {
+        Ok(same) => same.slice() == lens && gives(same.into_dimension(alloc), lens),
+        Err(_) => false,
+    }
 }
 
 /// To the type of any number of axes and back.
-pub(crate) fn changes_type<D: Dimension>(alloc: Global, dim: D, lens: &[usize]) -> bool {
+pub(crate) fn changes_type<D: Dimension>(rt: &impl Abort, alloc: Global, lens: &[usize]) -> bool {
+    let dim: D = dim_of(rt, alloc, lens);
     match dim.into_dyn(alloc) {
         Ok(dynamic) => dynamic.slice() == lens && becomes::<D>(alloc, &dynamic, true),
         Err(_) => false,
@@ -240,25 +241,15 @@ pub(crate) fn writes_last<D: Dimension>(mut dim: D, len: usize, lens: &[usize]) 
     dim.last_elem() == len && dim.slice() == lens
 }
 
-/// Writes one length by its axis.
+/// Writes one length in the list, and by its axis where it was written back.
 pub(crate) fn writes<D: Lengths>(mut dim: D, axis: usize, len: usize, lens: &[usize]) -> bool {
     if axis >= dim.ndim() {
         return false;
     }
-    dim[axis] = len;
-    dim.slice() == lens
-}
-
-/// Writes one length in the list.
-pub(crate) fn writes_slice<D: Lengths>(
-    mut dim: D,
-    axis: usize,
-    len: usize,
-    lens: &[usize],
-) -> bool {
-    if axis >= dim.ndim() {
-        return false;
-    }
+    let old = dim[axis];
     dim.slice_mut()[axis] = len;
-    dim[axis] == len && dim.slice() == lens
+    let is_written = dim[axis] == len && dim.slice() == lens;
+    dim.slice_mut()[axis] = old;
+    dim[axis] = len;
+    is_written && dim.slice() == lens
 }

@@ -4,12 +4,12 @@
 //! A call that needs no memory goes well whatever is refused. A call that needs memory is made
 //! twice, before one small request. To make a list of more than four lengths is a request itself.
 use crate::dim::checks::{becomes, is_one, own_strides, strides_of_list};
-use crate::dim::told::{Told, demand, row_holds_at_any_count, table_at_its_type};
+use crate::dim::told::{Told, Types, table};
 use nd_dim::{
     Axis, Dimension, FixedCount, IntoDimension, IxDyn, IxDynImpl, Lengths, Order, RemoveAxis,
     ShapeArg, new_dim, new_ixdyn,
 };
-use nd_testing::{asked, made, rows};
+use nd_testing::{asked, made};
 use std::alloc::{AllocError, Global};
 use std::process::Abort;
 
@@ -18,10 +18,12 @@ use std::process::Abort;
 pub(crate) enum Call {
     /// None is needed at a type of a fixed count of axes, nor with up to four axes at another.
     NeedsNone,
-    /// None is needed for an axis less than five, for the default, and for the list itself.
+    /// None is needed for an axis less than five, nor for the default.
     NeedsNoneOfFive,
-    /// None is needed to make a value of a list of five of any number of axes, nor to hand it on.
+    /// None is needed to make a value of a list of five of any number of axes.
     MakesOfFive,
+    /// None is needed for a list of five itself, nor to hand it on.
+    KeepsFive,
     /// None is needed to make a value of any number of axes.
     MakesAny,
     /// To make a value of any number of axes asks for some, in either way.
@@ -90,26 +92,22 @@ fn needs_none<D: Dimension>(alloc: Global, dim: &D) -> bool {
         && (dim.ndim() > 4 || is_handed_on(alloc, dim))
 }
 
-/// A value itself needs no memory, if there was memory for it.
-fn is_kept<D: Lengths + IntoDimension<Dim = D>>(alloc: Global, dim: &D) -> bool {
-    match made::<D>(alloc, dim.slice()) {
-        Some(same) => is_given(new_dim(alloc, same)),
-        None => D::NDIM.is_none() && dim.ndim() > 4,
+/// A list of five of any number of axes needs no memory to be one, if there was memory for it: neither by
+/// itself nor handed on.
+fn keeps_five<D: Dimension + IntoDimension<Dim = D>>(alloc: Global) -> bool {
+    let Some(five) = made::<D>(alloc, &[1, 2, 3, 4, 5]) else {
+        return D::NDIM.is_none();
+    };
+    match new_dim(alloc, five) {
+        Ok(kept) => is_given(kept.into_dyn(alloc)),
+        Err(_) => false,
     }
 }
 
-/// A list of five of any number of axes needs no memory to be one.
-fn is_kept_as_any(alloc: Global, five: IxDyn) -> bool {
-    is_given(five.into_dyn(alloc))
-}
-
-/// A value of a list of five of any number of axes needs no memory, nor does that list, if there was
-/// memory for it.
+/// A value of a list of five of any number of axes needs no memory, if there was memory for that list.
 fn makes_of_five<D: Dimension>(alloc: Global) -> bool {
     match new_ixdyn(alloc, &[1, 2, 3, 4, 5]) {
-        Ok(five) => {
-            becomes::<D>(alloc, &five, D::NDIM.unwrap_or(5) == 5) && is_kept_as_any(alloc, five)
-        },
+        Ok(five) => becomes::<D>(alloc, &five, D::NDIM.unwrap_or(5) == 5),
         Err(_) => true,
     }
 }
@@ -174,7 +172,7 @@ pub(crate) fn serves<D: Dimension>(alloc: Global, call: Call, dim: &D, axis: usi
             dim._fastest_varying_stride_order(alloc),
         ),
         Call::InsertAxis => asks_for_axis(alloc, dim, axis),
-        Call::NeedsNoneOfFive | Call::RemoveAxis => false,
+        Call::NeedsNoneOfFive | Call::KeepsFive | Call::RemoveAxis => false,
     }
 }
 
@@ -191,19 +189,21 @@ pub(crate) fn asks<D: RemoveAxis + IntoDimension<Dim = D>>(
             is_narrower(alloc, dim, 2)
                 && is_narrower(alloc, dim, 4)
                 && is_given(D::default_in(alloc))
-                && is_kept(alloc, dim)
         },
+        Call::KeepsFive => keeps_five::<D>(alloc),
         Call::RemoveAxis => asks_without_axis(alloc, dim),
         _ => serves(alloc, call, dim, axis),
     }
 }
 
-/// The rows of a table, at the type of any number of axes.
-fn hold_at_any_count(rt: &impl Abort, alloc: Global, call: Call, table: &str) {
-    for line in rows(table) {
-        let holds = row_holds_at_any_count(rt, alloc, Told::Memory(call), line);
-        demand(rt, holds, line);
-    }
+/// The rows of a table, which tell how a call goes about memory at the type of any number of axes.
+fn table_at_any_count(rt: &impl Abort, alloc: Global, call: Call, rows: &str) {
+    table(rt, alloc, Told::Memory(call), Types::AnyCount, rows);
+}
+
+/// The same at the types of fixed counts of axes.
+fn table_at_fixed(rt: &impl Abort, alloc: Global, call: Call, rows: &str) {
+    table(rt, alloc, Told::Memory(call), Types::Fixed, rows);
 }
 
 const AT_FIXED_TYPES: &str = "\
@@ -217,12 +217,7 @@ const AT_FIXED_TYPES: &str = "\
 
 #[test]
 fn r9_rows_at_fixed_types(rt: HostRuntime) {
-    table_at_its_type(
-        &rt,
-        rt.alloc(),
-        Told::Memory(Call::NeedsNone),
-        AT_FIXED_TYPES,
-    );
+    table_at_fixed(&rt, rt.alloc(), Call::NeedsNone, AT_FIXED_TYPES);
 }
 
 const AT_ANY_COUNT: &str = "\
@@ -239,14 +234,14 @@ fn four_need_none(alloc: Global, four: &[usize]) -> bool {
 #[test]
 fn r9_rows(rt: HostRuntime) {
     let alloc = rt.alloc();
-    hold_at_any_count(&rt, alloc, Call::NeedsNone, AT_ANY_COUNT);
-    table_at_its_type(&rt, alloc, Told::Memory(Call::MakesAny), "1,2,3,4");
+    table_at_any_count(&rt, alloc, Call::NeedsNone, AT_ANY_COUNT);
+    table_at_fixed(&rt, alloc, Call::MakesAny, "1,2,3,4");
     assert!(rt; four_need_none(alloc, &[1, 2, 3, 4]));
 }
 
 #[test]
 fn r9_rows_insert_axis_into_three(rt: HostRuntime) {
-    hold_at_any_count(&rt, rt.alloc(), Call::NeedsNone, "1,2,3");
+    table_at_any_count(&rt, rt.alloc(), Call::NeedsNone, "1,2,3");
 }
 
 /// What is left of a list is one that was made so, and has its hash; if there was memory for it.
@@ -265,22 +260,22 @@ fn r9_rows_of_equality(rt: HostRuntime) {
 
 #[test]
 fn r9_rows_remove_axis_from_five(rt: HostRuntime) {
-    hold_at_any_count(&rt, rt.alloc(), Call::NeedsNoneOfFive, "1,2,3,4,5");
+    table_at_any_count(&rt, rt.alloc(), Call::NeedsNoneOfFive, "1,2,3,4,5");
 }
 
 #[test]
 fn r9_rows_five_into_dyn(rt: HostRuntime) {
-    table_at_its_type(
-        &rt,
-        rt.alloc(),
-        Told::Memory(Call::MakesOfFive),
-        "1,2,3,4,5",
-    );
+    table_at_any_count(&rt, rt.alloc(), Call::KeepsFive, "1");
+}
+
+#[test]
+fn r9_rows_five_into_five(rt: HostRuntime) {
+    table_at_fixed(&rt, rt.alloc(), Call::MakesOfFive, "1,2,3,4,5");
 }
 
 #[test]
 fn r9_rows_five_into_three(rt: HostRuntime) {
-    table_at_its_type(&rt, rt.alloc(), Told::Memory(Call::MakesOfFive), "1,2,3");
+    table_at_fixed(&rt, rt.alloc(), Call::MakesOfFive, "1,2,3");
 }
 
 #[test]
@@ -301,32 +296,32 @@ fn r9_rows_list_of_five(rt: HostRuntime) {
 
 #[test]
 fn r9_rows_default_strides_of_five(rt: HostRuntime) {
-    hold_at_any_count(&rt, rt.alloc(), Call::Strides(Order::C), "1,2,3,4,5");
+    table_at_any_count(&rt, rt.alloc(), Call::Strides(Order::C), "1,2,3,4,5");
 }
 
 #[test]
 fn r9_rows_fortran_strides_of_five(rt: HostRuntime) {
-    hold_at_any_count(&rt, rt.alloc(), Call::Strides(Order::F), "1,2,3,4,5");
+    table_at_any_count(&rt, rt.alloc(), Call::Strides(Order::F), "1,2,3,4,5");
 }
 
 #[test]
 fn r9_rows_duplicate_of_five(rt: HostRuntime) {
-    hold_at_any_count(&rt, rt.alloc(), Call::Duplicate, "1,2,3,4,5");
+    table_at_any_count(&rt, rt.alloc(), Call::Duplicate, "1,2,3,4,5");
 }
 
 #[test]
 fn r9_rows_stride_order_of_five(rt: HostRuntime) {
-    hold_at_any_count(&rt, rt.alloc(), Call::StrideOrder, "1,2,3,4,5");
+    table_at_any_count(&rt, rt.alloc(), Call::StrideOrder, "1,2,3,4,5");
 }
 
 #[test]
 fn r9_rows_insert_axis_into_four(rt: HostRuntime) {
-    hold_at_any_count(&rt, rt.alloc(), Call::InsertAxis, "1,2,3,4 1");
+    table_at_any_count(&rt, rt.alloc(), Call::InsertAxis, "1,2,3,4 1");
 }
 
 #[test]
 fn r9_rows_remove_axis_from_six(rt: HostRuntime) {
-    hold_at_any_count(&rt, rt.alloc(), Call::RemoveAxis, "1,2,3,4,5,6");
+    table_at_any_count(&rt, rt.alloc(), Call::RemoveAxis, "1,2,3,4,5,6");
 }
 
 // These ask for memory at once.
@@ -352,18 +347,17 @@ fn r9_rows_shape_of_five(rt: HostRuntime) {
 
 #[test]
 fn r9_rows_insert_axis_into_six(rt: HostRuntime) {
-    let told = Told::Memory(Call::InsertAxis);
-    table_at_its_type(&rt, rt.alloc(), told, "1,2,3,4,5,6 0");
+    table_at_fixed(&rt, rt.alloc(), Call::InsertAxis, "1,2,3,4,5,6 0");
 }
 
 #[test]
 fn r9_rows_into_dyn_of_five(rt: HostRuntime) {
-    table_at_its_type(&rt, rt.alloc(), Told::Memory(Call::IntoAny), "1,2,3,4,5");
+    table_at_fixed(&rt, rt.alloc(), Call::IntoAny, "1,2,3,4,5");
 }
 
 #[test]
 fn r9_rows_from_dimension_of_five(rt: HostRuntime) {
-    table_at_its_type(&rt, rt.alloc(), Told::Memory(Call::FromFixed), "1,2,3,4,5");
+    table_at_fixed(&rt, rt.alloc(), Call::FromFixed, "1,2,3,4,5");
 }
 
 #[test]

@@ -1,11 +1,11 @@
 //! The operators of a dimension type, by the bound alone.
 //!
 //! A row is a shape, an index or a factor, and what an operator makes of them.
-ghost use Rattle.std.specs.Prelude.{IsTrue};
+ghost use Rattle.std.specs.Prelude.{◌+◌, ◌*◌, ◌^◌, ◌<◌, ◌≤◌, IsTrue};
 ghost use Rattle.nd_base.specs.Entrywise.{SumsFit, DifferencesFit, ProductsFit, ScaledFit};
 
 use crate::dim::lists::dim_of;
-use crate::dim::told::{Told, table};
+use crate::dim::told::{Told, Types, table};
 use nd_dim::{Arithmetic, Lengths, Scale};
 use std::alloc::Global;
 use std::process::Abort;
@@ -18,6 +18,17 @@ pub(crate) enum Operator {
     Mul,
 }
 
+/// Whether each result of two entries fits.
+fn entries_fit(len: usize, other: usize) -> bool
+    ensures sum { IsTrue result → len + other < 2 ^ 64 }
+    ensures difference { IsTrue result → other ≤ len }
+    ensures product { IsTrue result → len * other < 2 ^ 64 }
+{
+    len.checked_add(other).is_some()
+        && len.checked_sub(other).is_some()
+        && len.checked_mul(other).is_some()
+}
+
 /// Whether two lists have as many entries, and each result of theirs fits.
 fn fit(lens: &[usize], others: &[usize]) -> bool
     ensures sums { IsTrue result → SumsFit lens.now others.now }
@@ -26,12 +37,7 @@ fn fit(lens: &[usize], others: &[usize]) -> bool
 {
     match (lens, others) {
         ([], []) => true,
-        ([len, lens @ ..], [other, others @ ..]) => {
-            len.checked_add(*other).is_some()
-                && len.checked_sub(*other).is_some()
-                && len.checked_mul(*other).is_some()
-                && fit(lens, others)
-        },
+        ([len, lens @ ..], [other, others @ ..]) => entries_fit(*len, *other) && fit(lens, others),
         _ => false,
     }
 }
@@ -163,20 +169,62 @@ const DOUBLES: &str = "\
 
 /// Each operator on what the one before it left, first of 3, 5 and 1, 2.
 fn tables_of_operators_in_turn(rt: &impl Abort, alloc: Global) {
-    table(rt, alloc, Told::Calculated(Operator::Mul), "3,5 1,2 3,10");
-    table(rt, alloc, Told::Scaled, "3,10 2 6,20");
-    table(rt, alloc, Told::Calculated(Operator::Add), "3,5 1,2 4,7");
-    table(rt, alloc, Told::Calculated(Operator::Mul), "4,7 1,2 4,14");
-    table(rt, alloc, Told::Calculated(Operator::Sub), "4,14 1,2 3,12");
-    table(rt, alloc, Told::Scaled, "3,12 3 9,36");
+    table(
+        rt,
+        alloc,
+        Told::Calculated(Operator::Mul),
+        Types::Both,
+        "3,5 1,2 3,10",
+    );
+    table(rt, alloc, Told::Scaled, Types::Both, "3,10 2 6,20");
+    table(
+        rt,
+        alloc,
+        Told::Calculated(Operator::Add),
+        Types::Both,
+        "3,5 1,2 4,7",
+    );
+    table(
+        rt,
+        alloc,
+        Told::Calculated(Operator::Mul),
+        Types::Both,
+        "4,7 1,2 4,14",
+    );
+    table(
+        rt,
+        alloc,
+        Told::Calculated(Operator::Sub),
+        Types::Both,
+        "4,14 1,2 3,12",
+    );
+    table(rt, alloc, Told::Scaled, Types::Both, "3,12 3 9,36");
 }
 
 #[test]
 fn r2_rows_of_operators(rt: HostRuntime) {
     let alloc = rt.alloc();
-    table(&rt, alloc, Told::Calculated(Operator::Add), SUMS);
-    table(&rt, alloc, Told::Calculated(Operator::Sub), DIFFERENCES);
-    table(&rt, alloc, Told::Calculated(Operator::Mul), PRODUCTS);
-    table(&rt, alloc, Told::Scaled, DOUBLES);
+    table(
+        &rt,
+        alloc,
+        Told::Calculated(Operator::Add),
+        Types::Both,
+        SUMS,
+    );
+    table(
+        &rt,
+        alloc,
+        Told::Calculated(Operator::Sub),
+        Types::Both,
+        DIFFERENCES,
+    );
+    table(
+        &rt,
+        alloc,
+        Told::Calculated(Operator::Mul),
+        Types::Both,
+        PRODUCTS,
+    );
+    table(&rt, alloc, Told::Scaled, Types::Both, DOUBLES);
     tables_of_operators_in_turn(&rt, alloc);
 }

@@ -1,5 +1,5 @@
 //! Tables of rows of one call each.
-use crate::dim::told::{Told, table, table_at_its_type};
+use crate::dim::told::{Told, Types, table};
 use std::alloc::Global;
 use std::process::Abort;
 
@@ -239,9 +239,9 @@ const DIMENSIONS: &str = "\
 #[test]
 fn r2_rows_of_other_types(rt: HostRuntime) {
     let alloc = rt.alloc();
-    table_at_its_type(&rt, alloc, Told::Made(false), "3,4 3,4,5");
-    table_at_its_type(&rt, alloc, Told::Made(true), "3,4 3,4");
-    table_at_its_type(&rt, alloc, Told::Incompatible, "2,3,4 2,3");
+    table(&rt, alloc, Told::Made(false), Types::Fixed, "3,4 3,4,5");
+    table(&rt, alloc, Told::Made(true), Types::Fixed, "3,4 3,4");
+    table(&rt, alloc, Told::Incompatible, Types::Fixed, "2,3,4 2,3");
 }
 
 const ZEROS: &str = "\
@@ -267,7 +267,7 @@ const DEFAULTS: &str = "\
 
 #[test]
 fn r2_rows_of_default(rt: HostRuntime) {
-    table_at_its_type(&rt, rt.alloc(), Told::Default, DEFAULTS);
+    table(&rt, rt.alloc(), Told::Default, Types::Fixed, DEFAULTS);
 }
 
 const LAST_LENGTHS: &str = "\
@@ -311,28 +311,40 @@ const WRITTEN: &str = "\
 
 /// What is told of shapes and their strides.
 fn tables_of_strides(rt: &impl Abort, alloc: Global) {
-    table(rt, alloc, Told::Size, SIZES);
-    table(rt, alloc, Told::Strides, STRIDES);
-    table(rt, alloc, Told::Equivalent(true), EQUIVALENT);
-    table(rt, alloc, Told::Equivalent(false), NOT_EQUIVALENT);
-    table(rt, alloc, Told::StrideAxes, STRIDE_AXES);
-    table(rt, alloc, Told::Order, ORDERS);
+    table(rt, alloc, Told::Size, Types::Both, SIZES);
+    table(rt, alloc, Told::Strides, Types::Both, STRIDES);
+    table(rt, alloc, Told::Equivalent(true), Types::Both, EQUIVALENT);
+    table(
+        rt,
+        alloc,
+        Told::Equivalent(false),
+        Types::Both,
+        NOT_EQUIVALENT,
+    );
+    table(rt, alloc, Told::StrideAxes, Types::Both, STRIDE_AXES);
+    table(rt, alloc, Told::Order, Types::Both, ORDERS);
 }
 
 /// What is told of values and their lengths.
 fn tables_of_lengths(rt: &impl Abort, alloc: Global) {
-    table(rt, alloc, Told::Values, VALUES);
-    table(rt, alloc, Told::Values, DIMENSIONS);
-    table(rt, alloc, Told::Zeros, ZEROS);
-    table(rt, alloc, Told::Last, LAST_LENGTHS);
-    table(rt, alloc, Told::LastWritten, LAST_LENGTHS_WRITTEN);
-    table(rt, alloc, Told::Written, WRITTEN);
+    table(rt, alloc, Told::Values, Types::Both, VALUES);
+    table(rt, alloc, Told::Values, Types::Both, DIMENSIONS);
+    table(rt, alloc, Told::Zeros, Types::Both, ZEROS);
+    table(rt, alloc, Told::Last, Types::Both, LAST_LENGTHS);
+    table(
+        rt,
+        alloc,
+        Told::LastWritten,
+        Types::Both,
+        LAST_LENGTHS_WRITTEN,
+    );
+    table(rt, alloc, Told::Written, Types::Both, WRITTEN);
 }
 
 #[test]
 fn r2_rows(rt: HostRuntime) {
     tables_of_strides(&rt, rt.alloc());
     tables_of_lengths(&rt, rt.alloc());
-    table(&rt, rt.alloc(), Told::Inserted, INSERTED);
-    table(&rt, rt.alloc(), Told::Removed, REMOVED);
+    table(&rt, rt.alloc(), Told::Inserted, Types::Both, INSERTED);
+    table(&rt, rt.alloc(), Told::Removed, Types::Both, REMOVED);
 }

@@ -3,8 +3,7 @@
 //! Each type is named in one place, since the check takes seconds for each function that names one.
 use crate::dim::checks::{
     changes_type, gives, has_list, has_size, has_stride_axes, has_strides, is_equivalent,
-    is_incompatible, keeps_list, list_becomes, narrows, stays, tries_to_narrow, widens, writes,
-    writes_last, writes_slice,
+    is_incompatible, list_becomes, narrows, stays, tries_to_narrow, widens, writes, writes_last,
 };
 use crate::dim::lists::dim_of;
 use crate::dim::memory::{Call, asks, serves};
@@ -62,6 +61,17 @@ pub(crate) enum Told {
     Memory(Call),
 }
 
+/// The types at which a row is asked.
+#[derive(Clone, Copy)]
+pub(crate) enum Types {
+    /// That of as many axes as the first list of the row has.
+    Fixed,
+    /// That of any number of axes.
+    AnyCount,
+    /// Both.
+    Both,
+}
+
 /// Whether a value keeps its list in what is made of it. Four axes make a value where no other count is
 /// fixed.
 fn keeps<D: Dimension + IntoDimension<Dim = D>>(
@@ -71,9 +81,8 @@ fn keeps<D: Dimension + IntoDimension<Dim = D>>(
     lens: &[usize],
 ) -> bool {
     has_list(alloc, dim, lens)
-        && keeps_list(alloc, dim_of::<D>(rt, alloc, lens), lens)
-        && stays(alloc, dim_of::<D>(rt, alloc, lens), lens)
-        && changes_type(alloc, dim_of::<D>(rt, alloc, lens), lens)
+        && stays::<D>(rt, alloc, lens)
+        && changes_type::<D>(rt, alloc, lens)
         && list_becomes::<D>(rt, alloc, &[1; 4], D::NDIM.unwrap_or(4) == 4)
 }
 
@@ -84,16 +93,11 @@ fn has_default<D: Dimension>(alloc: Global, lens: &[usize]) -> bool {
 
 /// Whether a length is written in either way.
 fn rewrites<D: Lengths>(rt: &impl Abort, alloc: Global, row: &Lists<'_>) -> bool {
-    let (lens, axis, len) = (row.first.as_slice(), row.second.at(0), row.second.at(1));
+    let dim: D = dim_of(rt, alloc, row.first.as_slice());
     writes(
-        dim_of::<D>(rt, alloc, lens),
-        axis,
-        len,
-        row.third.as_slice(),
-    ) && writes_slice(
-        dim_of::<D>(rt, alloc, lens),
-        axis,
-        len,
+        dim,
+        row.second.at(0),
+        row.second.at(1),
         row.third.as_slice(),
     )
 }
@@ -179,10 +183,7 @@ fn tells_with_axes<D: RemoveAxis + IntoDimension<Dim = D>>(
     row: &Lists<'_>,
 ) -> bool {
     match told {
-        Told::Removed => {
-            narrows(alloc, dim, row.second.at(0), row.third.as_slice())
-                && tells_of_dimension(rt, told, alloc, dim, row)
-        },
+        Told::Removed => narrows(alloc, dim, row.second.at(0), row.third.as_slice()),
         Told::Memory(call) => asks(alloc, call, dim, row.second.at(0)),
         _ => tells(rt, told, alloc, dim, row),
     }
@@ -221,30 +222,14 @@ pub(crate) fn holds_at(
     }
 }
 
-/// A row, at the type of as many axes as its first list has.
-pub(crate) fn row_holds_at_its_type(
-    rt: &impl Abort,
-    told: Told,
-    alloc: Global,
-    line: &str,
-) -> bool {
-    match Lists::read(line) {
-        Some(row) => holds_at(rt, told, alloc, Some(row.first.as_slice().len()), &row),
-        None => false,
-    }
-}
-
-/// A row, at the type of any number of axes alone.
-pub(crate) fn row_holds_at_any_count(
-    rt: &impl Abort,
-    alloc: Global,
-    told: Told,
-    line: &str,
-) -> bool {
-    match Lists::read(line) {
-        Some(row) => holds_at(rt, told, alloc, None, &row),
-        None => false,
-    }
+/// Whether a row of a table tells what the calls answer at these types.
+fn row_holds(rt: &impl Abort, alloc: Global, told: Told, types: Types, line: &str) -> bool {
+    let Some(row) = Lists::read(line) else {
+        return false;
+    };
+    let count = row.first.as_slice().len();
+    let at_fixed = matches!(types, Types::AnyCount) || holds_at(rt, told, alloc, Some(count), &row);
+    at_fixed && (matches!(types, Types::Fixed) || holds_at(rt, told, alloc, None, &row))
 }
 
 /// Fails, and tells the row, where it doesn't hold.
@@ -252,17 +237,9 @@ pub(crate) fn demand(rt: &impl Abort, holds: bool, line: &str) {
     assert!(rt; holds, "{line}");
 }
 
-/// The rows of a table, one by one, at their types alone.
-pub(crate) fn table_at_its_type(rt: &impl Abort, alloc: Global, told: Told, table: &str) {
+/// The rows of a table, one by one, at these types.
+pub(crate) fn table(rt: &impl Abort, alloc: Global, told: Told, types: Types, table: &str) {
     for line in rows(table) {
-        demand(rt, row_holds_at_its_type(rt, told, alloc, line), line);
-    }
-}
-
-/// The rows of a table, one by one.
-pub(crate) fn table(rt: &impl Abort, alloc: Global, told: Told, table: &str) {
-    for line in rows(table) {
-        demand(rt, row_holds_at_any_count(rt, alloc, told, line), line);
-        demand(rt, row_holds_at_its_type(rt, told, alloc, line), line);
+        demand(rt, row_holds(rt, alloc, told, types, line), line);
     }
 }
