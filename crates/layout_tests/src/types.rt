@@ -2,7 +2,7 @@
 //!
 //! Each type is named in this one place, since the check takes seconds for each function that names one.
 use nd_dim::{Ix0, Ix1, Ix2, Ix3, Ix4, Ix5, Ix6, IxDyn, Lengths};
-use std::alloc::{AllocError, Global};
+use std::alloc::Global;
 use std::process::Abort;
 
 /// What can be asked at any dimension type.
@@ -25,16 +25,4 @@ pub fn at_type<A: AtType>(rt: &impl Abort, alloc: Global, ndim: Option<usize>, a
         Some(6) => asked.at::<Ix6>(rt, alloc),
         _ => asked.at::<IxDyn>(rt, alloc),
     }
-}
-
-/// The value of a dimension type that stands for a list. No memory is asked for but its own: none where the
-/// type fixes the count or there are at most four axes.
-pub fn dim_of<D: Lengths>(rt: &impl Abort, alloc: Global, lens: &[usize]) -> Result<D, AllocError> {
-    match D::NDIM {
-        Some(count) => assert!(rt; count == lens.len(), "another count of axes"),
-        None => {}
-    }
-    let mut dim = D::zeros(alloc, lens.len())?;
-    dim.slice_mut().copy_from_slice(lens);
-    Ok(dim)
 }

@@ -2,7 +2,31 @@
 ghost use Rattle.std.specs.Prelude.{◌≡◌};
 ghost use Rattle.std.specs.Result.{result_err};
 
-use nd_base::{ErrorKind, ShapeError};
+use ErrorKind::{
+    IncompatibleLayout, IncompatibleShape, OutOfBounds, Overflow, RangeLimited, Unsupported,
+};
+use nd_base::{ErrorKind, LayoutError, ShapeError};
+
+/// The name of a fault, or `none`.
+pub fn name_of(fault: Option<ErrorKind>) -> &'static str {
+    match fault {
+        None => "none",
+        Some(IncompatibleLayout) => "IncompatibleLayout",
+        Some(IncompatibleShape) => "IncompatibleShape",
+        Some(OutOfBounds) => "OutOfBounds",
+        Some(Overflow) => "Overflow",
+        Some(RangeLimited) => "RangeLimited",
+        Some(Unsupported) => "Unsupported",
+    }
+}
+
+/// The name of the fault of a layout, or `memory` where a request for it was refused.
+pub fn layout_fault_name(fault: &LayoutError) -> &'static str {
+    match fault {
+        LayoutError::Shape(fault) => name_of(Some(fault.kind())),
+        LayoutError::Memory(_) => "memory",
+    }
+}
 
 /// The fault that a call names, if any.
 pub fn fault_of(answer: Result<(), ShapeError>) -> Option<ErrorKind>

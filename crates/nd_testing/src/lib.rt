@@ -9,7 +9,7 @@ mod memory;
 mod table;
 
 pub use equality::{are_distinct, hash_of};
-pub use faults::{fault_of, or_fault};
+pub use faults::{fault_of, layout_fault_name, name_of, or_fault};
 pub use lists::{List, Lists, made};
 pub use memory::{asked, grants};
 pub use table::{Row, TableError, rows};

@@ -1,8 +1,8 @@
 //! The lists of a row of a table, and the values that stand for lists.
 ghost use Rattle.std.specs.Prelude.{◌≡◌, IfSome};
 
-use crate::table::Row;
-use nd_base::{Lengths, unsigned};
+use crate::table::{Row, entry};
+use nd_base::Lengths;
 use std::alloc::Global;
 
 /// A list of a row. It needs no memory, so a row can be read where memory is refused.
@@ -95,15 +95,6 @@ fn next_list(row: &mut Row<'_>) -> Option<List> {
         list.read(part)?;
     }
     Some(list)
-}
-
-/// A length, or a stride as it is kept.
-fn entry(part: &str) -> Option<usize> {
-    if part.starts_with('-') {
-        let stride: isize = part.parse().ok()?;
-        return Some(unsigned(stride));
-    }
-    part.parse().ok()
 }
 
 /// The value of a type that stands for a list, if the type allows as many axes.

@@ -1,5 +1,6 @@
 //! Tables as text: a row is a line of words, a list is a word of numbers parted by commas, `-` is the
 //! empty list.
+use nd_base::unsigned;
 use std::alloc::{AllocError, Global};
 use std::str::{Lines, SplitWhitespace};
 
@@ -54,31 +55,29 @@ impl<'a> Row<'a> {
         self.word()?.parse().ok().ok_or(TableError::NotANumber)
     }
 
-    /// The next word as a list of lengths.
+    /// The next word as a list of lengths, or of strides as they are kept.
     pub fn lengths(&mut self, alloc: Global) -> Result<Vec<usize>, TableError> {
         let mut lengths = Vec::new(alloc);
         for part in self.word()?.split(',') {
             if part != "-" {
-                push(&mut lengths, part.parse().ok())?;
+                push(&mut lengths, entry(part))?;
             }
         }
         Ok(lengths)
     }
+}
 
-    /// The next word as a list of signed numbers.
-    pub fn numbers(&mut self, alloc: Global) -> Result<Vec<isize>, TableError> {
-        let mut numbers = Vec::new(alloc);
-        for part in self.word()?.split(',') {
-            if part != "-" {
-                push(&mut numbers, part.parse().ok())?;
-            }
-        }
-        Ok(numbers)
+/// A length, or a stride as it is kept.
+pub(crate) fn entry(part: &str) -> Option<usize> {
+    if part.starts_with('-') {
+        let stride: isize = part.parse().ok()?;
+        return Some(unsigned(stride));
     }
+    part.parse().ok()
 }
 
 /// Adds what a word was read as, if it was.
-fn push<T: Drop>(list: &mut Vec<T>, item: Option<T>) -> Result<(), TableError> {
+fn push(list: &mut Vec<usize>, item: Option<usize>) -> Result<(), TableError> {
     match list.push(item.ok_or(TableError::NotANumber)?) {
         Ok(()) => Ok(()),
         Err(error) => Err(AllocError::from(error).into()),

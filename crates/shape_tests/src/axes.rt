@@ -29,18 +29,14 @@ pub(crate) fn is_in_turn<D: Lengths>(dim: &D, strides: &D) -> bool {
     dim.ndim() == strides.ndim() && are_in_turn(axes_of(dim, strides))
 }
 
-/// Whether so many axes are left.
-fn are_left(axes: Axes<'_>, count: usize) -> bool {
-    axes.len() == count && axes.size_hint() == (count, Some(count))
-}
-
 /// Whether of three axes two are left behind the first one, and one before the last one, of which
 /// the walk that was copied knows nothing.
 fn have_lengths(mut axes: Axes<'_>) -> bool {
     axes.next();
     let rest = axes;
     axes.next_back();
-    are_left(rest, 2) && are_left(axes, 1)
+    (rest.len(), rest.size_hint()) == (2, (2, Some(2)))
+        && (axes.len(), axes.size_hint()) == (1, (1, Some(1)))
 }
 
 /// The same of the axes of a layout.

@@ -1,40 +1,15 @@
 //! The shape that two shapes have in common.
 //!
 //! A row is two shapes, and what they have in common, in either order; or, behind an arrow, the fault.
-use crate::acceptance::name_of;
 use crate::questions::Question;
 use crate::told::{Told, row_holds, table};
-use nd_dim::{Ix2, Ix3, IxDyn, LayoutError, Lengths, new_ix2, new_ix3};
+use nd_dim::{Ix2, Ix3, IxDyn, Lengths, new_ix2, new_ix3};
 use nd_shape::co_broadcast;
-use nd_testing::{Lists, grants};
+use nd_testing::{Lists, grants, layout_fault_name};
 use std::alloc::Global;
 
-/// The name of the fault of two shapes.
-fn fault_name(error: LayoutError) -> &'static str {
-    match error {
-        LayoutError::Shape(error) => name_of(Some(error.kind())),
-        LayoutError::Memory(_) => "memory",
-    }
-}
-
-/// The shape that two shapes have in common, or why there is none of its type.
-fn common<D1: Lengths, D2: Lengths, Output: Lengths>(
-    alloc: Global,
-    shape1: &D1,
-    shape2: &D2,
-) -> Result<Output, &'static str> {
-    let (count1, count2) = (shape1.ndim(), shape2.ndim());
-    let count = if count1 < count2 { count2 } else { count1 };
-    if Output::NDIM.unwrap_or(count) != count {
-        return Err("another count");
-    }
-    match co_broadcast(alloc, shape1, shape2) {
-        Ok(common) => Ok(common),
-        Err(error) => Err(fault_name(error)),
-    }
-}
-
-/// Whether two shapes have these lengths in common, or this fault.
+/// Whether two shapes have these lengths in common, or this fault. (The call is made here alone, since what is
+/// ensured of it is dear.)
 fn is_common<D1: Lengths, D2: Lengths, Output: Lengths>(
     alloc: Global,
     shape1: &D1,
@@ -42,9 +17,14 @@ fn is_common<D1: Lengths, D2: Lengths, Output: Lengths>(
     lens: &[usize],
     fault: &str,
 ) -> bool {
-    match common::<D1, D2, Output>(alloc, shape1, shape2) {
+    let (count1, count2) = (shape1.ndim(), shape2.ndim());
+    let count = if count1 < count2 { count2 } else { count1 };
+    if Output::NDIM.unwrap_or(count) != count {
+        return false;
+    }
+    match co_broadcast::<D1, D2, Output>(alloc, shape1, shape2) {
         Ok(common) => common.slice() == lens && fault.is_empty(),
-        Err(name) => name == fault,
+        Err(error) => layout_fault_name(&error) == fault,
     }
 }
 

@@ -34,33 +34,41 @@ fn is_told<T: IntoDimension>(alloc: Global, row: &mut Row<'_>, item: T) -> bool 
 fn is_end<T: IntoDimension>(alloc: Global, item: Option<T>) -> bool {
     match item {
         Some(item) => {
-            number_of(alloc, item);
+            let _let_go = item.into_dimension(alloc);
             false
         }
         None => true,
     }
 }
 
-/// Whether the indices of a walk are those of a row, while the length falls by ones, and none follow.
+/// Whether a walk has so many indices and the first ones are those of a row, while the length falls by ones;
+/// and none follow where these are all.
 fn yields<T: IntoDimension, W: ExactSizeIterator<Item = T> + Drop>(
     alloc: Global,
     mut walk: W,
-    row: &mut Row<'_>,
-    count: usize,
+    row: &Lists<'_>,
+    first: usize,
 ) -> bool
     requires can { (state : W) → W.can_next state }
     requires ends { IsFinite (W.remaining walk) }
 {
-    for left in (0..count).rev() {
-        let told = match walk.next() {
-            Some(item) => is_told(alloc, row, item),
-            None => false,
-        };
-        if !told || walk.len() != left {
+    let (mut indices, count) = (Row::new(row.answer), row.second.at(0));
+    let rest = count.saturating_sub(first);
+    for left in (rest..count).rev() {
+        let told = walk.len().wrapping_sub(1) == left
+            && match walk.next() {
+                Some(item) => is_told(alloc, &mut indices, item),
+                None => false,
+            };
+        if !told {
             return false;
         }
     }
-    is_end(alloc, walk.next()) && is_end(alloc, walk.next()) && walk.size_hint() == (0, Some(0))
+    walk.len() == rest
+        && (rest > 0
+            || is_end(alloc, walk.next())
+                && is_end(alloc, walk.next())
+                && walk.size_hint() == (0, Some(0)))
 }
 
 /// What lends the indices of a shape, in either order.
@@ -155,22 +163,6 @@ pub(crate) enum Walk {
     Folded,
 }
 
-/// Whether a walk has so many indices, and these are the first ones.
-fn starts<T: IntoDimension, W: ExactSizeIterator<Item = T> + Drop>(
-    alloc: Global,
-    mut walk: W,
-    row: &mut Row<'_>,
-    count: usize,
-) -> bool
-    requires can { (state : W) → W.can_next state }
-{
-    walk.len() == count
-        && match walk.next() {
-            Some(item) => is_told(alloc, row, item),
-            None => false,
-        }
-}
-
 /// Whether a row tells this of a walk by rows.
 fn tells_of<T: IntoDimension, W: ExactSizeIterator<Item = T> + Clone + Drop>(
     alloc: Global,
@@ -182,9 +174,9 @@ fn tells_of<T: IntoDimension, W: ExactSizeIterator<Item = T> + Clone + Drop>(
     requires ends { (state : W) → IsFinite (W.remaining state) }
 {
     match told {
-        Walk::All(_) => yields(alloc, walk, &mut Row::new(row.answer), row.second.at(0)),
-        Walk::Starts => starts(alloc, walk, &mut Row::new(row.answer), row.second.at(0)),
-        Walk::Folds(gone) => folds(alloc, walk, gone),
+        Walk::All(_) => yields(alloc, walk, row, usize::MAX),
+        Walk::Starts => yields(alloc, walk, row, 1),
+        Walk::Folds(gone) => folds(alloc, walk, gone, row.first),
         Walk::Folded => is_folded(alloc, walk, row),
     }
 }
@@ -209,7 +201,7 @@ fn is_walked_by_rows<D: Dimension + Copy>(
 fn is_walked_by_columns<D: Dimension + Copy>(alloc: Global, dim: D, row: &Lists<'_>) -> bool {
     match dim.size_checked() {
         Some(_) => match indices_iter_f(alloc, dim.into_pattern()) {
-            Ok(walk) => yields(alloc, walk, &mut Row::new(row.answer), row.second.at(0)),
+            Ok(walk) => yields(alloc, walk, row, usize::MAX),
             Err(_) => false,
         },
         None => false,
@@ -285,26 +277,38 @@ fn r7_rows_of_the_longest_shape(rt: HostRuntime) {
 
 // ---- folds
 
-/// A number that tells an item from others.
-fn number_of<T: IntoDimension>(alloc: Global, item: T) -> usize {
-    let mut number = 1_usize;
-    if let Ok(index) = item.into_dimension(alloc) {
-        for entry in index.slice() {
-            number = number.wrapping_mul(7).wrapping_add(*entry);
-        }
+/// The rank of entries in a shape.
+fn rank(lens: &List, entries: &[usize]) -> usize {
+    let mut rank = 0_usize;
+    for (axis, entry) in entries.iter().enumerate() {
+        rank = rank.wrapping_mul(lens.at(axis)).wrapping_add(*entry);
     }
-    number
+    rank
 }
 
-/// How many items a walk has, and a number that tells them from others.
-fn met<T: IntoDimension, W: Iterator<Item = T> + Drop>(alloc: Global, walk: W) -> (usize, usize)
+/// The rank of an index in a shape.
+fn rank_of<T: IntoDimension>(alloc: Global, lens: List, item: T) -> usize {
+    match item.into_dimension(alloc) {
+        Ok(index) => rank(&lens, index.slice()),
+        Err(_) => 0,
+    }
+}
+
+/// How many items a walk has, and a number that tells their ranks in a shape from others.
+fn met<T: IntoDimension, W: Iterator<Item = T> + Drop>(
+    alloc: Global,
+    walk: W,
+    lens: List,
+) -> (usize, usize)
     requires can { (state : W) → W.can_next state }
     requires ends { IsFinite (W.remaining walk) }
 {
     let (mut count, mut told) = (0_usize, 0_usize);
     for item in walk {
         count = count.wrapping_add(1);
-        told = told.wrapping_mul(31).wrapping_add(number_of(alloc, item));
+        told = told
+            .wrapping_mul(31)
+            .wrapping_add(rank_of(alloc, lens, item));
     }
     (count, told)
 }
@@ -324,11 +328,13 @@ fn left_of<T: IntoDimension, W: Iterator<Item = T> + Drop>(
     walk
 }
 
-/// Whether a loop over a copy of a walk meets the items that are still to come, as many as it tells.
+/// Whether a loop over a copy of a walk over a shape meets the items that are still to come, as many as it
+/// tells.
 fn folds<T: IntoDimension, W: ExactSizeIterator<Item = T> + Clone + Drop>(
     alloc: Global,
     walk: W,
     gone: usize,
+    lens: List,
 ) -> bool
     requires can { (state : W) → W.can_next state }
     requires ends { (state : W) → IsFinite (W.remaining state) }
@@ -337,8 +343,8 @@ fn folds<T: IntoDimension, W: ExactSizeIterator<Item = T> + Clone + Drop>(
     let (len, copy): (_, Result<_, _>) = (walk.len(), walk.clone());
     match copy {
         Ok(copy) => {
-            let told = met(alloc, copy);
-            told.0 == len && met(alloc, walk) == told
+            let told = met(alloc, copy, lens);
+            told.0 == len && met(alloc, walk, lens) == told
         },
         Err(_) => false,
     }
@@ -359,40 +365,7 @@ fn r7_rows_of_folds(rt: HostRuntime) {
     }
 }
 
-/// The rank of entries in a shape.
-fn rank(lens: &List, entries: &[usize]) -> usize {
-    let mut rank = 0_usize;
-    for (axis, entry) in entries.iter().enumerate() {
-        rank = rank.wrapping_mul(lens.at(axis)).wrapping_add(*entry);
-    }
-    rank
-}
-
-/// The rank of an index in a shape.
-fn rank_of<T: IntoDimension>(alloc: Global, lens: List, item: T) -> usize {
-    match item.into_dimension(alloc) {
-        Ok(index) => rank(&lens, index.slice()),
-        Err(_) => 0,
-    }
-}
-
-/// What a fold over a walk makes of the ranks of its items in a shape.
-fn folded<T: IntoDimension, W: Iterator<Item = T> + Drop>(
-    alloc: Global,
-    walk: W,
-    lens: List,
-    factor: usize,
-) -> usize
-    requires can { (state : W) → W.can_next state }
-    requires ends { IsFinite (W.remaining walk) }
-{
-    walk.fold(1_usize, move |told, item| {
-        told.wrapping_mul(factor)
-            .wrapping_add(rank_of(alloc, lens, item))
-    })
-}
-
-/// Whether a fold over the items that are left makes what a row tells.
+/// Whether a fold over the items that are left makes of their ranks in a shape what a row tells.
 fn is_folded<T: IntoDimension, W: Iterator<Item = T> + Drop>(
     alloc: Global,
     walk: W,
@@ -401,8 +374,12 @@ fn is_folded<T: IntoDimension, W: Iterator<Item = T> + Drop>(
     requires can { (state : W) → W.can_next state }
     requires ends { (state : W) → IsFinite (W.remaining state) }
 {
-    let (factor, gone) = (row.second.at(0), row.third.at(0));
-    folded(alloc, left_of(alloc, walk, gone), row.first, factor) == row.fourth.at(0)
+    let (lens, factor) = (row.first, row.second.at(0));
+    let told = left_of(alloc, walk, row.third.at(0)).fold(1_usize, move |told, item| {
+        told.wrapping_mul(factor)
+            .wrapping_add(rank_of(alloc, lens, item))
+    });
+    told == row.fourth.at(0)
 }
 
 const RANKS_FOLDED: &str = "\

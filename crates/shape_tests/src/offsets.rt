@@ -8,12 +8,10 @@ use nd_shape::{CanIndexCheckMode, can_index_slice};
 use nd_testing::{Lists, made};
 use std::alloc::Global;
 
-/// Whether a shape is contiguous by some strides, where these are a layout.
-fn is_contiguous<D: Dimension>(dim: &D, strides: &D) -> Option<bool> {
-    match can_index_slice(1, usize::MAX, dim, strides, CanIndexCheckMode::ReadOnly) {
-        Ok(()) => Some(D::is_contiguous(dim, strides)),
-        Err(_) => None,
-    }
+/// Whether strides are a layout of a shape, by which it is contiguous or not as told.
+fn is_contiguous<D: Dimension>(dim: &D, strides: &D, told: bool) -> bool {
+    can_index_slice(1, usize::MAX, dim, strides, CanIndexCheckMode::ReadOnly).is_ok()
+        && D::is_contiguous(dim, strides) == told
 }
 
 /// Whether an index has this offset in a layout, as it is kept, with a test and without; or none.
@@ -29,16 +27,7 @@ fn has_offset<D: Dimension>(dim: &D, strides: &D, index: &D, wanted: Option<usiz
     }
 }
 
-/// The same of lists. A list of another count is no index of a type that fixes its count.
-fn reaches<D: Dimension>(alloc: Global, dim: &D, strides: &D, row: &Lists<'_>) -> bool {
-    let offset = row.fourth.as_slice().first().copied();
-    match made::<D>(alloc, row.third.as_slice()) {
-        Some(index) => has_offset(dim, strides, &index, offset),
-        None => D::NDIM.is_some() && offset.is_none(),
-    }
-}
-
-/// Whether a row tells this of a layout.
+/// Whether a row tells this of a layout. A list of another count is no index of a type that fixes its count.
 pub(crate) fn tells_of_layout<D: Dimension>(
     told: Told,
     alloc: Global,
@@ -47,8 +36,14 @@ pub(crate) fn tells_of_layout<D: Dimension>(
     row: &Lists<'_>,
 ) -> bool {
     match told {
-        Told::Contiguous(answer) => is_contiguous(dim, strides) == Some(answer),
-        Told::Offset => reaches(alloc, dim, strides, row),
+        Told::Contiguous(answer) => is_contiguous(dim, strides, answer),
+        Told::Offset => {
+            let offset = row.fourth.as_slice().first().copied();
+            match made::<D>(alloc, row.third.as_slice()) {
+                Some(index) => has_offset(dim, strides, &index, offset),
+                None => D::NDIM.is_some() && offset.is_none(),
+            }
+        },
         _ => false,
     }
 }

@@ -39,7 +39,7 @@ fn has<D: Lengths>(shape: Result<Shape<D>, AllocError>, dim: &D, size: usize, is
 fn are_given<D: Lengths>(strides: &Strides<D>, given: &D) -> bool {
     match strides {
         Strides::Custom(custom) => strides.is_custom() && custom.equal(given),
-        Strides::C | Strides::F => false,
+        _ => false,
     }
 }
 

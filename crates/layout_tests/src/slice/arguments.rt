@@ -3,13 +3,12 @@ use crate::tables::{Told, hold};
 use crate::types::{AtType, at_type};
 use crate::view::elems::elems;
 use crate::view::question::{dim, fixed_count};
-use crate::view::words::name_of;
 use Fit::{Clamp, Strict};
 use SliceInfoElem::{Index, NewAxis};
 use nd_base::{ErrorKind, ShapeError};
 use nd_dim::Lengths;
 use nd_slice::{Fit, SliceInfoElem, check_elems, check_slice, in_ndim_of, out_ndim_of};
-use nd_testing::{Row, fault_of};
+use nd_testing::{Row, fault_of, name_of};
 use std::alloc::Global;
 use std::process::Abort;
 
@@ -24,7 +23,7 @@ const ALL: SliceInfoElem = SliceInfoElem::Slice {
 fn name(answer: Result<(), ShapeError>) -> &'static str {
     match answer {
         Ok(()) => "fits",
-        Err(fault) => name_of(fault.kind()),
+        Err(fault) => name_of(Some(fault.kind())),
     }
 }
 

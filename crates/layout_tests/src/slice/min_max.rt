@@ -4,7 +4,7 @@
 use crate::tables::{Told, hold};
 use crate::view::elems::elem;
 use crate::view::question::number;
-use crate::view::words::says;
+use crate::view::words::{says, word};
 use Fit::{Clamp, Strict};
 use nd_slice::{Fit, Slice, SliceInfoElem, slice_min_max, to_abs_slice};
 use nd_testing::Row;
@@ -20,7 +20,7 @@ fn ends(len: usize, slice: Slice, fit: Fit) -> Option<Option<(usize, usize)>> {
 
 /// The slice that the next word of a row spells.
 pub fn slice(rt: &impl Abort, row: &mut Row<'_>) -> Option<Slice> {
-    match elem(rt, row.word().expect(rt, "a slice")) {
+    match elem(rt, word(rt, row)) {
         SliceInfoElem::Slice { start, end, step } => Some(Slice { start, end, step }),
         _ => None,
     }

@@ -3,7 +3,6 @@ use crate::types::{AtType, at_type};
 use crate::view::elems::elems;
 use crate::view::question::{
     Asked, Made, OfView, Question, dim, fixed_count, lens, number, read_layout, read_question,
-    strides,
 };
 use crate::view::words::{is_number, is_refused, says};
 use Order::{ColumnMajor, RowMajor};
@@ -17,14 +16,9 @@ use std::process::Abort;
 
 // ---- views as rows tell them
 
-/// Whether the next word of a row lists these lengths.
+/// Whether the next word of a row lists these lengths, strides or places.
 fn lists(rt: &impl Abort, alloc: Global, row: &mut Row<'_>, list: &[usize]) -> bool {
     lens(rt, alloc, row).as_slice() == list
-}
-
-/// Whether the next word of a row lists these strides.
-fn lists_strides(rt: &impl Abort, alloc: Global, row: &mut Row<'_>, list: &[usize]) -> bool {
-    strides(rt, alloc, row).as_slice() == list
 }
 
 /// Whether the next word of a row lists the places of a view in an order.
@@ -43,7 +37,7 @@ fn lists_places<D: Lengths>(
 /// columns.
 fn shows<D: Lengths>(rt: &impl Abort, alloc: Global, row: &mut Row<'_>, view: &Strided<D>) -> bool {
     lists(rt, alloc, row, view.dim().slice())
-        && lists_strides(rt, alloc, row, view.strides().slice())
+        && lists(rt, alloc, row, view.strides().slice())
         && number(rt, row) == view.start()
         && lists_places(rt, alloc, row, view, RowMajor)
         && lists_places(rt, alloc, row, view, ColumnMajor)

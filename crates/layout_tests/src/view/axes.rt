@@ -4,9 +4,9 @@
 //! strides), a question and its answer. After `merge` stand the axis to take and the one to merge into,
 //! after `broadcast` the dimension type of the shape, and the shape.
 use crate::tables::{Told, hold};
-use crate::types::{AtType, at_type, dim_of};
+use crate::types::{AtType, at_type};
 use crate::view::owned::owned;
-use nd_testing::grants;
+use nd_testing::{grants, made};
 use ndarray_layout::{Lengths, new_ix2};
 use std::alloc::Global;
 use std::process::Abort;
@@ -130,8 +130,8 @@ struct Columns<'a> {
 }
 
 impl AtType for Columns<'_> {
-    fn at<E: Lengths>(self, rt: &impl Abort, alloc: Global) -> bool {
-        let Ok(shape) = dim_of::<E>(rt, alloc, self.shape) else {
+    fn at<E: Lengths>(self, _rt: &impl Abort, alloc: Global) -> bool {
+        let Some(shape) = made::<E>(alloc, self.shape) else {
             return matches!(self.times, Times::TwiceOrRefused);
         };
         match self.times {

@@ -1,4 +1,5 @@
 //! Slice arguments as words.
+use crate::view::words::word;
 use SliceInfoElem::{Index, NewAxis, Slice};
 use nd_testing::Row;
 use ndarray_layout::{SliceInfoElem, in_ndim_of, out_ndim_of};
@@ -42,7 +43,7 @@ pub fn elem(rt: &impl Abort, word: &str) -> SliceInfoElem {
 /// The next word of a row as elements, parted by commas; `-` for none.
 pub fn elems(rt: &impl Abort, alloc: Global, row: &mut Row<'_>) -> Vec<SliceInfoElem> {
     let mut elems = Vec::new(alloc);
-    let word = row.word().expect(rt, "a slice");
+    let word = word(rt, row);
     if word == "-" {
         return elems;
     }

@@ -1,9 +1,9 @@
 //! Layouts and what is asked of them, as rows of tables tell it.
-use crate::types::dim_of;
+use crate::view::words::word;
 use CanIndexCheckMode::{OwnedMutable, ReadOnly};
 use Fit::{Clamp, Strict};
-use nd_testing::Row;
-use ndarray_layout::{CanIndexCheckMode, Fit, Lengths, unsigned};
+use nd_testing::{Row, made};
+use ndarray_layout::{CanIndexCheckMode, Fit, Lengths};
 use std::alloc::Global;
 use std::process::Abort;
 
@@ -56,28 +56,14 @@ pub enum Question {
     Of(OfView),
 }
 
-/// The next word of a row as lengths.
+/// The next word of a row as lengths, or as strides as they are kept.
 pub fn lens(rt: &impl Abort, alloc: Global, row: &mut Row<'_>) -> Vec<usize> {
-    row.lengths(alloc).expect(rt, "a list of lengths")
-}
-
-/// The next word of a row as strides, as they are kept.
-pub fn strides(rt: &impl Abort, alloc: Global, row: &mut Row<'_>) -> Vec<usize> {
-    let mut strides = Vec::new(alloc);
-    for stride in row.numbers(alloc).expect(rt, "a list of strides") {
-        strides.push(unsigned(stride)).expect(rt, "memory");
-    }
-    strides
+    row.lengths(alloc).expect(rt, "a list")
 }
 
 /// The next word of a row as a value of a dimension type.
 pub fn dim<D: Lengths>(rt: &impl Abort, alloc: Global, row: &mut Row<'_>) -> D {
-    dim_of(rt, alloc, lens(rt, alloc, row).as_slice()).expect(rt, "memory")
-}
-
-/// The next word of a row as strides in a value of a dimension type.
-fn dim_of_strides<D: Lengths>(rt: &impl Abort, alloc: Global, row: &mut Row<'_>) -> D {
-    dim_of(rt, alloc, strides(rt, alloc, row).as_slice()).expect(rt, "memory")
+    made(alloc, lens(rt, alloc, row).as_slice()).expect(rt, "a list of as many axes")
 }
 
 /// The use of the data that a word names.
@@ -99,49 +85,39 @@ pub fn read_layout<D: Lengths>(rt: &impl Abort, alloc: Global, row: &mut Row<'_>
     Asked {
         elem_size: number(rt, row),
         len: number(rt, row),
-        mode: mode(row.word().expect(rt, "a mode")),
+        mode: mode(word(rt, row)),
         shape: dim(rt, alloc, row),
-        strides: dim_of_strides(rt, alloc, row),
+        strides: dim(rt, alloc, row),
     }
 }
 
 /// The count of axes that the next word fixes, the name of a dimension type.
 pub fn fixed_count(rt: &impl Abort, row: &mut Row<'_>) -> Option<usize> {
-    let name = row.word().expect(rt, "a dimension type");
-    name.strip_prefix("Ix")?.parse().ok()
+    word(rt, row).strip_prefix("Ix")?.parse().ok()
 }
 
 /// The next word of a row as a question.
 pub fn read_question(rt: &impl Abort, row: &mut Row<'_>) -> Question {
-    match row.word().expect(rt, "a question") {
+    match word(rt, row) {
         "view" => Question::View,
         "span" => Question::Span,
-        word => Question::Of(about_view(rt, word)),
+        word => Question::Of(about_view(word).expect(rt, "a question")),
     }
 }
 
-/// The question about a view that a word names.
-fn about_view(rt: &impl Abort, word: &str) -> OfView {
+/// The question about a view that a word names, if it names one.
+fn about_view(word: &str) -> Option<OfView> {
     match word {
-        "at" => OfView::Place,
-        "picked" => OfView::Picked(Strict),
-        "clamp_picked" => OfView::Picked(Clamp),
-        "collapse" => OfView::Collapse,
-        "merge" => OfView::Merge,
-        "in_order" => OfView::InOrder,
-        "second_row" => OfView::SecondRow,
-        _ => OfView::Made(way_to_make(rt, word)),
-    }
-}
-
-/// The way to make a view that a word names.
-fn way_to_make(rt: &impl Abort, word: &str) -> Made {
-    match word {
-        "broadcast" => Made::Broadcast,
-        "clamp" => Made::Slice(Clamp),
-        _ => {
-            assert!(rt; word == "slice", "a question");
-            Made::Slice(Strict)
-        }
+        "at" => Some(OfView::Place),
+        "picked" => Some(OfView::Picked(Strict)),
+        "clamp_picked" => Some(OfView::Picked(Clamp)),
+        "collapse" => Some(OfView::Collapse),
+        "merge" => Some(OfView::Merge),
+        "in_order" => Some(OfView::InOrder),
+        "second_row" => Some(OfView::SecondRow),
+        "broadcast" => Some(OfView::Made(Made::Broadcast)),
+        "slice" => Some(OfView::Made(Made::Slice(Strict))),
+        "clamp" => Some(OfView::Made(Made::Slice(Clamp))),
+        _ => None,
     }
 }

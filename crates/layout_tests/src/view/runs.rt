@@ -1,13 +1,10 @@
 //! Runs of steps from the view of a shape of three axes, and where they stop.
 //!
 //! Each test passes plain, and with the first or the second request of its run refused.
-use crate::view::owned::owned;
-use ErrorKind::{IncompatibleLayout, OutOfBounds};
+use crate::view::owned::{Left, is_left, owned};
 use SliceInfoElem::Slice;
-use ndarray_layout::{
-    Axis, ErrorKind, Fit, IxDyn, LayoutError, Lengths, SliceInfoElem, Step, Stopped, Strided,
-    new_ixdyn, run,
-};
+use nd_testing::layout_fault_name;
+use ndarray_layout::{Axis, Fit, IxDyn, SliceInfoElem, Step, Stopped, Strided, new_ixdyn, run};
 use std::alloc::{AllocError, Global};
 use std::process::Abort;
 
@@ -18,31 +15,17 @@ fn grid(rt: &impl Abort, alloc: Global) -> Strided<IxDyn> {
     owned(shape, strides, 24).expect(rt, "a view")
 }
 
-/// The kind of a fault, apart from want of memory.
-fn kind_of(fault: &LayoutError) -> Option<ErrorKind> {
-    match fault {
-        LayoutError::Shape(fault) => Some(fault.kind()),
-        LayoutError::Memory(_) => None,
-    }
-}
-
-/// Whether a view has this start, shape and strides.
-fn is_left<D: Lengths>(view: &Strided<D>, left: (usize, &[usize], &[usize])) -> bool {
-    (view.start(), view.dim().slice(), view.strides().slice()) == left
-}
-
-/// A run ended after so many steps, by a fault of this kind if it was stopped by one, with this view
-/// left: its start, shape and strides.
+/// A run ended after so many steps, by the fault of this name if it was stopped by one, with this view left.
 fn ends(
     ended: Result<Strided<IxDyn>, Stopped>,
-    taken: Option<(usize, Option<ErrorKind>)>,
-    left: (usize, &[usize], &[usize]),
+    taken: Option<(usize, &str)>,
+    left: Left<'_>,
 ) -> bool {
     let (stopped, view) = match ended {
         Ok(view) => (None, view),
         Err(stopped) => {
             let Stopped { at, fault, view } = stopped;
-            (Some((at, kind_of(&fault))), view)
+            (Some((at, layout_fault_name(&fault))), view)
         },
     };
     stopped == taken && is_left(&view, left)
@@ -53,8 +36,8 @@ fn stops(
     rt: &impl Abort,
     alloc: Global,
     steps: &[Step],
-    taken: Option<(usize, Option<ErrorKind>)>,
-    left: (usize, &[usize], &[usize]),
+    taken: Option<(usize, &str)>,
+    left: Left<'_>,
 ) -> bool {
     ends(run(alloc, grid(rt, alloc), steps), taken, left)
 }
@@ -69,24 +52,24 @@ fn r8_rows(rt: HostRuntime) {
         Step::Collapse(Axis(9), 9),
     ];
     let steps = all.as_slice();
-    let left: (usize, &[usize], &[usize]) = (8, &[1, 2, 4], &[12, 12, 1]);
+    let left: Left<'_> = (8, &[1, 2, 4], &[12, 12, 1]);
     assert!(rt; stops(&rt, rt.alloc(), &steps[..2], None, left));
     assert!(rt;
         stops(
             &rt,
             rt.alloc(),
             steps,
-            Some((2, Some(IncompatibleLayout))),
+            Some((2, "IncompatibleLayout")),
             left
         )
     );
-    let whole: (usize, &[usize], &[usize]) = (0, &[2, 3, 4], &[12, 4, 1]);
+    let whole: Left<'_> = (0, &[2, 3, 4], &[12, 4, 1]);
     assert!(rt;
         stops(
             &rt,
             rt.alloc(),
             &steps[3..],
-            Some((0, Some(OutOfBounds))),
+            Some((0, "OutOfBounds")),
             whole
         )
     );
@@ -119,7 +102,7 @@ fn r9_rows_of_runs(rt: HostRuntime) {
         Step::Collapse(Axis(1), 1),
         Step::Broadcast(wide),
     ];
-    let left: (usize, &[usize], &[usize]) = (12, &[3, 1, 2, 2], &[0, 0, 0, 2]);
+    let left: Left<'_> = (12, &[3, 1, 2, 2], &[0, 0, 0, 2]);
     assert!(rt; ends(run(rt.alloc(), grid(&rt, rt.alloc()), &steps), None, left));
 }
 
@@ -131,11 +114,10 @@ fn memory_of_a_run(rt: HostRuntime) {
     };
     let steps = [Step::Collapse(Axis(0), 1), Step::Broadcast(wide)];
     let ended = run(rt.alloc(), grid(&rt, rt.alloc()), &steps);
-    if ended.is_ok() {
-        let left: (usize, &[usize], &[usize]) = (12, &[2, 1, 2, 3, 4], &[0, 0, 0, 4, 1]);
-        assert!(rt; ends(ended, None, left));
+    let (taken, left): (_, Left<'_>) = if ended.is_ok() {
+        (None, (12, &[2, 1, 2, 3, 4], &[0, 0, 0, 4, 1]))
     } else {
-        let left: (usize, &[usize], &[usize]) = (12, &[1, 3, 4], &[12, 4, 1]);
-        assert!(rt; ends(ended, Some((1, None)), left));
-    }
+        (Some((1, "memory")), (12, &[1, 3, 4], &[12, 4, 1]))
+    };
+    assert!(rt; ends(ended, taken, left));
 }

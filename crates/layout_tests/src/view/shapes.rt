@@ -21,10 +21,12 @@ type Told = (usize, usize, isize);
 
 /// Whether an axis is told, or none.
 fn is(axis: Option<AxisDescription>, told: Option<&Told>) -> bool {
-    match (axis, told) {
-        (Some(axis), Some(told)) => (axis.axis.0, axis.len, axis.stride) == *told,
-        (None, None) => true,
-        _ => false,
+    match axis {
+        Some(axis) => match told {
+            Some(told) => axis.axis.0 == told.0 && axis.len == told.1 && axis.stride == told.2,
+            None => false,
+        },
+        None => told.is_none(),
     }
 }
 

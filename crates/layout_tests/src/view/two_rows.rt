@@ -1,19 +1,19 @@
 //! Two rows of three elements: slices as values of their type, and refused memory.
 //!
 //! Each test passes plain, and with the first or the second request of its run refused.
-use crate::types::{AtType, at_type, dim_of};
-use crate::view::owned::owned;
+use crate::types::{AtType, at_type};
+use crate::view::owned::{Left, is_left, owned};
 use Fit::Strict;
 use Order::RowMajor;
 use SliceInfoElem::{Index, NewAxis, Slice};
-use nd_testing::grants;
+use nd_testing::{grants, made};
 use ndarray_layout::{Fit, LayoutError, Lengths, Order, SliceInfoElem, Strided};
 use std::alloc::{AllocError, Global};
 use std::process::Abort;
 
 /// A list of two axes, as a value of a type that fixes their count.
 fn pair<D: Lengths>(rt: &impl Abort, alloc: Global, list: [usize; 2]) -> D {
-    dim_of(rt, alloc, &list).expect(rt, "two axes need no memory")
+    made(alloc, &list).expect(rt, "two axes need no memory")
 }
 
 /// Two rows of three elements.
@@ -31,46 +31,35 @@ const fn from(start: isize) -> SliceInfoElem {
     }
 }
 
-/// What a view has: shape, strides and start.
-type Parts = ([usize; 2], [usize; 2], usize);
-
-/// Whether a view has these.
-fn has_parts<D: Lengths>(rt: &impl Abort, alloc: Global, view: &Strided<D>, parts: Parts) -> bool {
-    let (dim, strides, start) = parts;
-    *view.dim() == pair::<D>(rt, alloc, dim)
-        && *view.strides() == pair::<D>(rt, alloc, strides)
-        && view.start() == start
-}
-
 /// A slice of two rows of three elements, by its elements, and what it has.
 #[derive(Clone, Copy)]
 struct SliceOfRows<'a> {
     elems: &'a [SliceInfoElem],
-    left: Parts,
+    left: Left<'a>,
 }
 
 impl AtType for SliceOfRows<'_> {
     fn at<D: Lengths>(self, rt: &impl Abort, alloc: Global) -> bool {
         let view = two_rows::<D>(rt, alloc);
         let slice: Result<Strided<D>, LayoutError> = view.slice(alloc, &self.elems, Strict);
-        has_parts(rt, alloc, &slice.expect(rt, "refused"), self.left)
+        is_left(&slice.expect(rt, "refused"), self.left)
     }
 }
 
 /// Whether a slice of the type of two axes has this shape, strides and start.
-fn leaves(rt: &impl Abort, alloc: Global, elems: &[SliceInfoElem], left: Parts) -> bool {
+fn leaves(rt: &impl Abort, alloc: Global, elems: &[SliceInfoElem], left: Left<'_>) -> bool {
     at_type(rt, alloc, Some(2), SliceOfRows { elems, left })
 }
 
 #[test]
 fn row_with_a_new_axis(rt: HostRuntime) {
-    let left = ([1, 3], [0, 1], 3);
+    let left: Left<'_> = (3, &[1, 3], &[0, 1]);
     assert!(rt; leaves(&rt, rt.alloc(), &[Index(-1), NewAxis, from(0)], left));
 }
 
 #[test]
 fn memory_of_slice(rt: HostRuntime) {
-    let left = ([2, 2], [3, 1], 1);
+    let left: Left<'_> = (1, &[2, 2], &[3, 1]);
     assert!(rt; leaves(&rt, rt.alloc(), &[from(0), from(1)], left));
 }
 

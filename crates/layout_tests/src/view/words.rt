@@ -1,28 +1,21 @@
 //! Answers as words of rows.
-use ErrorKind::{IncompatibleShape, OutOfBounds, Overflow, Unsupported};
-use nd_testing::Row;
+use nd_testing::{Row, name_of};
 use ndarray_layout::ErrorKind;
 use std::process::Abort;
 
-/// The name of a kind of fault that is answered here.
-pub fn name_of(kind: ErrorKind) -> &'static str {
-    match kind {
-        Overflow => "Overflow",
-        IncompatibleShape => "IncompatibleShape",
-        OutOfBounds => "OutOfBounds",
-        Unsupported => "Unsupported",
-        _ => "another",
-    }
+/// The next word of a row.
+pub fn word<'a>(rt: &impl Abort, row: &mut Row<'a>) -> &'a str {
+    row.word().expect(rt, "a word")
 }
 
 /// Whether this is the next word of a row.
-pub fn says(rt: &impl Abort, row: &mut Row<'_>, word: &str) -> bool {
-    row.word().expect(rt, "an answer") == word
+pub fn says(rt: &impl Abort, row: &mut Row<'_>, answer: &str) -> bool {
+    word(rt, row) == answer
 }
 
 /// Whether the next word of a row names a kind of fault.
 pub fn is_refused(rt: &impl Abort, row: &mut Row<'_>, kind: ErrorKind) -> bool {
-    says(rt, row, name_of(kind))
+    says(rt, row, name_of(Some(kind)))
 }
 
 /// Whether the next word of a row is a number, or `none`.
