@@ -132,7 +132,7 @@ struct Columns<'a> {
 impl AtType for Columns<'_> {
     fn at<E: Lengths>(self, _rt: &impl Abort, alloc: Global) -> bool {
         let Some(shape) = made::<E>(alloc, self.shape) else {
-            return matches!(self.times, Times::TwiceOrRefused);
+            return E::NDIM.is_none() && matches!(self.times, Times::TwiceOrRefused);
         };
         match self.times {
             Times::Once => columns_are_read(alloc, &shape),
