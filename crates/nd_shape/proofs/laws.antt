@@ -1,15 +1,10 @@
 pub mod Acceptance
 pub mod Axes
-pub mod CommonShape
 pub mod DefaultStrides
 pub mod DistinctOffsets
 pub mod IndicesLeft
 pub mod Inside
 pub mod LayoutOrder
-pub mod Merge
-pub mod OwnedRule
-pub mod OwnedWalk
 pub mod Place
 pub mod ShapeBuilder
 pub mod StandardStrides
-pub mod Stretches

@@ -1,14 +1,10 @@
-pub mod Acceptance
+pub mod AcceptanceByStrides
 pub mod Axes
-pub mod CommonShape
 pub mod DistinctOffsets
 pub mod IndicesLeft
 pub mod Inside
 pub mod Layout
 pub mod LayoutOrder
-pub mod Merge
 pub mod MinStride
-pub mod OwnedRule
-pub mod OwnedWalk
 pub mod Place
 pub mod ShapeBuilder

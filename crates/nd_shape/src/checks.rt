@@ -1,5 +1,5 @@
 //! Tests of a shape and its strides against the type limits and the data.
-ghost use Rattle.std.specs.Prelude.{◌≡◌, ℕ, ◌*◌, ◌≤◌, IfOk, OnOk, SomeIff, Some, None, nat_lt, if◌then◌else◌};
+ghost use Rattle.std.specs.Prelude.{◌≡◌, IfOk, OnOk, Some, None, nat_lt, if◌then◌else◌};
 ghost use Rattle.std.specs.Int.{is_negative};
 ghost use Rattle.std.specs.List.{list_any};
 ghost use Rattle.std.specs.Result.{result_err};
@@ -9,35 +9,15 @@ ghost use Rattle.nd_base.specs.Span.{span, low_span};
 ghost use Rattle.nd_base.specs.ValidLayout.{IsValidLayout};
 ghost use Rattle.nd_base.specs.declared.error.ErrorKind.TheVariants.{Overflow};
 ghost use Rattle.nd_base.specs.declared.order.Order.{Order};
-ghost use Rattle.nd_shape.specs.Acceptance.{size_fault, acceptance, acceptance_of_standard, acceptance_by_strides, sign_fault};
+ghost use Rattle.nd_rules.specs.Acceptance.{size_fault, acceptance};
+ghost use Rattle.nd_shape.specs.AcceptanceByStrides.{acceptance_of_standard, acceptance_by_strides, sign_fault};
 ghost use Rattle.nd_shape.specs.DistinctOffsets.{HasDistinctOffsets};
 ghost use Rattle.nd_shape.specs.Inside.{LiesInside};
 ghost use Rattle.nd_shape.specs.ShapeBuilder.{standard_strides, strides_list};
 
-use crate::limits::{checked_nonzero_size, checked_span, multiply};
-use crate::overlap::has_overlap;
 use crate::shape_builder::Strides;
 use nd_dim::{ErrorKind, Lengths, ShapeError, from_kind, signed};
-
-/// How a layout is going to be used. Upstream's `CanIndexCheckMode`.
-#[derive(Clone, Copy, PartialEq)]
-pub enum CanIndexCheckMode {
-    /// Elements are owned or written: no two indices may share one.
-    OwnedMutable,
-    /// Elements are only read.
-    ReadOnly,
-}
-
-/// The number of indices of a shape.
-#[inline(always)]
-fn size_of_lengths(shape: &[usize]) -> Result<usize, ShapeError>
-    ensures ok { IfOk result (λ n. n ≡ size shape.now) }
-    ensures fault { result_err result ≡
-        (if nat_lt limit (nonzero_size shape.now) then Some Overflow else None) }
-{
-    let size = checked_nonzero_size(shape).ok_or(from_kind(ErrorKind::Overflow))?;
-    Ok(if shape.contains(&0) { 0 } else { size })
-}
+use nd_rules::{CanIndexCheckMode, accept, size_of_lengths, span_of_lengths};
 
 /// The number of indices of a shape: the product of its lengths, which is 0 with a zero axis.
 ///
@@ -49,38 +29,6 @@ pub fn size_of_shape_checked<D: Lengths>(dim: &D) -> Result<usize, ShapeError>
         (if nat_lt limit (nonzero_size (D.list dim.now)) then Some Overflow else None) }
 {
     size_of_lengths(dim.slice())
-}
-
-/// The span of a layout, where the product of the lengths that are not 0, the span, and the span
-/// in bytes are each at most the greatest `isize`.
-#[inline(always)]
-fn span_within_limits(elem_size: usize, shape: &[usize], strides: &[usize]) -> Option<usize>
-    ensures { SomeIff result
-        ((nonzero_size shape.now ≤ limit)
-        × (span shape.now (all_signed strides.now) ≤ limit)
-        × (span shape.now (all_signed strides.now) * elem_size ≤ limit))
-        (span shape.now (all_signed strides.now)) }
-{
-    checked_nonzero_size(shape)?;
-    let span = checked_span(shape, strides)?;
-    multiply(span, elem_size)?;
-    Some(span)
-}
-
-/// The span of a layout.
-#[inline(always)]
-fn span_of_lengths(
-    elem_size: usize,
-    shape: &[usize],
-    strides: &[usize],
-) -> Result<usize, ShapeError>
-    ensures fault { result_err result ≡ size_fault elem_size shape.now (all_signed strides.now) }
-    ensures span { IfOk result (λ n. n ≡ span shape.now (all_signed strides.now)) }
-{
-    if shape.len() != strides.len() {
-        return Err(from_kind(ErrorKind::IncompatibleLayout));
-    }
-    span_within_limits(elem_size, shape, strides).ok_or(from_kind(ErrorKind::Overflow))
 }
 
 /// The span of a layout: how many elements lie from its lowest to its highest index.
@@ -99,30 +47,6 @@ pub fn max_abs_offset_check_overflow<D: Lengths>(
         (λ n. n ≡ span (D.list dim.now) (all_signed (D.list strides.now))) }
 {
     span_of_lengths(elem_size, dim.slice(), strides.slice())
-}
-
-/// Whether a layout is accepted over data of `len` elements.
-#[inline(always)]
-fn accept(
-    elem_size: usize,
-    len: usize,
-    shape: &[usize],
-    strides: &[usize],
-    mode: CanIndexCheckMode,
-) -> Result<(), ShapeError>
-    ensures fault { result_err result ≡
-        acceptance elem_size len mode shape.now (all_signed strides.now) }
-{
-    let span = span_of_lengths(elem_size, shape, strides)?;
-    let is_empty = shape.contains(&0);
-    let leaves_data = if is_empty { len < span } else { len <= span };
-    if leaves_data {
-        return Err(from_kind(ErrorKind::OutOfBounds));
-    }
-    if mode == CanIndexCheckMode::OwnedMutable && has_overlap(shape, strides) {
-        return Err(from_kind(ErrorKind::Unsupported));
-    }
-    Ok(())
 }
 
 /// Whether a layout may be used over data of `len` elements of `elem_size` bytes.

@@ -7,7 +7,6 @@ mod checks;
 mod indexes;
 mod layout;
 mod layout_order;
-mod limits;
 mod merge;
 mod min_stride;
 mod ndindex;
@@ -18,7 +17,7 @@ mod shape_builder;
 pub use axes::{Axes, AxisDescription, axes_of};
 pub use broadcast::co_broadcast;
 pub use checks::{
-    CanIndexCheckMode, can_index_slice, can_index_slice_not_custom, can_index_slice_with_strides,
+    can_index_slice, can_index_slice_not_custom, can_index_slice_with_strides,
     max_abs_offset_check_overflow, size_of_shape_checked, strides_non_negative,
 };
 pub use indexes::{
@@ -28,6 +27,7 @@ pub use layout::Layout;
 pub use layout_order::{is_layout_c, is_layout_f};
 pub use merge::merge_axes;
 pub use min_stride::move_min_stride_axis_to_last;
+pub use nd_rules::CanIndexCheckMode;
 pub use ndindex::NdIndex;
 pub use offsets::offset_from_low_addr_ptr_to_logical_ptr;
 pub use overlap::dim_stride_overlap;

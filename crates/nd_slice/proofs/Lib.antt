@@ -1,7 +1,1 @@
-pub mod Every
-pub mod Axis
-pub mod Ends
-pub mod Picks
-pub mod Slicing
-pub mod Times
 pub mod laws

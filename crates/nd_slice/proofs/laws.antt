@@ -1,4 +1,2 @@
-pub mod Picks
+pub mod ArgumentFault
 pub mod Selected
-pub mod SliceFault
-pub mod Sliced

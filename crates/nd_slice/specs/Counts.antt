@@ -1,9 +1,9 @@
 -- Which slice arguments are for a type of as many axes as they have, and leave one of as many.
 use Rattle.std.specs.Prelude.{ℕ, pos, negsuc, Option, Some, None, List, [], ◌∷◌, refl}
 use Rattle.nd_base.specs.Lengths.{IsCount}
-use Rattle.nd_slice.specs.declared.slice.SliceInfoElem.{SliceInfoElem}
-use Rattle.nd_slice.specs.declared.slice.SliceInfoElem.TheVariants as elem
-use Rattle.nd_slice.specs.SliceFault.{in_count, out_count}
+use Rattle.nd_slice.specs.declared.elem.SliceInfoElem.{SliceInfoElem}
+use Rattle.nd_slice.specs.declared.elem.SliceInfoElem.TheVariants as elem
+use Rattle.nd_slice.specs.ArgumentFault.{in_count, out_count}
 
 -- the counts of axes before and after, where types fix them
 pub record HasCounts (before after : Option ℕ) (elems : List SliceInfoElem) : Type 0 where

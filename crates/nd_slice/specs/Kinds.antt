@@ -1,7 +1,7 @@
 -- Of which kind an element of a slice argument is.
 use Rattle.std.specs.Prelude.{Bool, true, false}
-use Rattle.nd_slice.specs.declared.slice.SliceInfoElem.{SliceInfoElem}
-use Rattle.nd_slice.specs.declared.slice.SliceInfoElem.TheVariants as elem
+use Rattle.nd_slice.specs.declared.elem.SliceInfoElem.{SliceInfoElem}
+use Rattle.nd_slice.specs.declared.elem.SliceInfoElem.TheVariants as elem
 
 -- a range with a step
 abbrev pub is_slice : SliceInfoElem → Bool

@@ -1,8 +1,6 @@
-pub mod Picks
-pub mod SliceFault
-pub mod Sliced
-pub mod Selected
-pub mod Kinds
-pub mod Ranges
-pub mod Text
+pub mod ArgumentFault
 pub mod Counts
+pub mod Kinds
+pub mod Selected
+pub mod Sliced
+pub mod Text

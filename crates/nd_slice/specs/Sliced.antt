@@ -1,19 +1,11 @@
 -- The shape, strides and offset that a slice argument gives.
-use Rattle.std.specs.Prelude.{◌≡◌, ℕ, ℤ, pos, negsuc, ◌+ℤ◌, ◌*ℤ◌, nat_le, if◌then◌else◌, Some, None, List, [], ◌∷◌, length, refl}
-use Rattle.nd_slice.specs.declared.fit.Fit.{Fit}
-use Rattle.nd_slice.specs.declared.fit.Fit.TheVariants.{Strict, Clamp}
-use Rattle.nd_slice.specs.declared.slice.SliceInfoElem.{SliceInfoElem}
-use Rattle.nd_slice.specs.declared.slice.SliceInfoElem.TheVariants as elem
-use Rattle.nd_slice.specs.Picks.{slice_with, meaning, picks}
-
--- the stride of an axis of count entries that lie so many entries of the old axis apart; one entry needs none
-abbrev pub picked_stride : ℕ → ℤ → ℤ → ℤ
-picked_stride count stride step = if nat_le count 1 then pos 0 else stride *ℤ step
-
--- how far the first pick lies from the first entry
-abbrev pub first_offset : List ℕ → ℤ → ℤ
-first_offset [] stride = pos 0
-first_offset (pick ∷ others) stride = pos pick *ℤ stride
+use Rattle.std.specs.Prelude.{◌≡◌, ℕ, ℤ, pos, negsuc, ◌+ℤ◌, ◌*ℤ◌, Some, None, List, [], ◌∷◌, length, refl}
+use Rattle.nd_axis_slice.specs.declared.fit.Fit.{Fit}
+use Rattle.nd_axis_slice.specs.declared.fit.Fit.TheVariants.{Strict, Clamp}
+use Rattle.nd_slice.specs.declared.elem.SliceInfoElem.{SliceInfoElem}
+use Rattle.nd_slice.specs.declared.elem.SliceInfoElem.TheVariants as elem
+use Rattle.nd_axis_slice.specs.Picked.{picked_stride, first_offset}
+use Rattle.nd_axis_slice.specs.Picks.{slice_with, meaning, picks}
 
 -- the lengths that are left
 abbrev pub sliced_shape : Fit → List SliceInfoElem → List ℕ → List ℕ

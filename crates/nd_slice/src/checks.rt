@@ -1,12 +1,11 @@
 //! Which slice arguments fit a shape.
 ghost use Rattle.std.specs.Prelude.{◌≡◌};
 ghost use Rattle.std.specs.Result.{result_err};
-ghost use Rattle.nd_slice.specs.SliceFault.{argument_fault, in_count, out_count};
+ghost use Rattle.nd_slice.specs.ArgumentFault.{argument_fault, in_count, out_count};
 
-use crate::axis_slice::{entry_of, to_abs_slice};
+use crate::elem::SliceInfoElem;
 use crate::elems::SliceElems;
-use crate::fit::Fit;
-use crate::slice::{Slice, SliceInfoElem};
+use nd_axis_slice::{Fit, Slice, entry_of, to_abs_slice};
 use nd_base::{ErrorKind, Lengths, ShapeError, from_kind};
 
 /// How many axes of a shape a slice argument is for: one for each element but a new axis. Upstream's

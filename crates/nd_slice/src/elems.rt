@@ -1,8 +1,8 @@
 //! Values that hold the elements of a slice argument.
 ghost use Rattle.std.specs.Prelude.{◌≡◌, List};
-ghost use Rattle.nd_slice.specs.declared.slice.SliceInfoElem.{SliceInfoElem};
+ghost use Rattle.nd_slice.specs.declared.elem.SliceInfoElem.{SliceInfoElem};
 
-use crate::slice::SliceInfoElem;
+use crate::elem::SliceInfoElem;
 
 /// The elements of a slice argument, however they are kept. For upstream's bound
 /// `AsRef<[SliceInfoElem]>` of `SliceArg`.

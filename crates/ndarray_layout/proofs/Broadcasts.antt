@@ -10,7 +10,7 @@ use Rattle.nd_base.specs.Offset.{offset_of}
 use Rattle.nd_base.specs.Signed.{signed, all_signed}
 use Rattle.nd_base.specs.Span.{sum_over_axes, reach_down, reach_up, low_span, high_span}
 use Rattle.nd_base.proofs.laws.IsIndex.{length_of_index}
-use Rattle.nd_shape.proofs.laws.Stretches.{StretchesTo}
+use Rattle.nd_rules.proofs.laws.Stretches.{StretchesTo}
 use Rattle.ndarray_layout.specs.BroadcastView.{broadcast_source, broadcast_strides, entries_within, new_axes, stretched_strides}
 
 -- ---- axes that were there

@@ -10,8 +10,8 @@ use Rattle.nd_base.specs.Offset.{offset_of}
 use Rattle.nd_base.specs.Size.{nonzero_size}
 use Rattle.nd_base.specs.Span.{sum_over_axes, reach_down, reach_up, low_span, high_span}
 use Rattle.nd_base.proofs.laws.IsIndex.{entry_of_index, length_of_index}
-use Rattle.nd_shape.specs.Merge.{IsMergedStride, merged_shape}
-use Rattle.nd_shape.proofs.laws.Merge.{goes_on, lasting_stride, how_it_goes_on}
+use Rattle.nd_rules.specs.Merge.{IsMergedStride, merged_shape}
+use Rattle.nd_rules.proofs.laws.Merge.{goes_on, lasting_stride, how_it_goes_on}
 use Rattle.ndarray_layout.specs.MergedView.{merge_source}
 use Rattle.ndarray_layout.proofs.Replaced.{sum_replaced, factor, factor_of_zero, factor_of_other, factor_pos, size_replaced, offset_by_stride, offset_by_entry, index_restored, same_with_entry}
 

@@ -5,14 +5,15 @@ use Rattle.std.proofs.lemmas.List.{length-drop, drop_all, drop_more}
 use Rattle.std.proofs.Math.Nat.{mul-le-mul_left, mul-le-mul_right, le-mul_of_pos_right, mul_assoc, one-mul}
 use Rattle.nd_base.specs.Size.{limit, nonzero_size, size}
 use Rattle.nd_base.proofs.laws.NonzeroSize.{nonzero_size_pos}
-use Rattle.nd_slice.specs.declared.fit.Fit.{Fit}
-use Rattle.nd_slice.specs.declared.slice.Slice.{Slice}
-use Rattle.nd_slice.specs.declared.slice.SliceInfoElem.{SliceInfoElem}
-use Rattle.nd_slice.specs.declared.slice.SliceInfoElem.TheVariants as elem
-use Rattle.nd_slice.specs.Picks.{picks}
-use Rattle.nd_slice.specs.SliceFault.{argument_fault, slice_fault, index_fault, in_count, first_fault}
+use Rattle.nd_axis_slice.specs.declared.fit.Fit.{Fit}
+use Rattle.nd_axis_slice.specs.declared.slice.Slice.{Slice}
+use Rattle.nd_slice.specs.declared.elem.SliceInfoElem.{SliceInfoElem}
+use Rattle.nd_slice.specs.declared.elem.SliceInfoElem.TheVariants as elem
+use Rattle.nd_axis_slice.specs.Picks.{picks}
+use Rattle.nd_axis_slice.specs.SliceFault.{slice_fault, index_fault}
+use Rattle.nd_slice.specs.ArgumentFault.{argument_fault, in_count, first_fault}
 use Rattle.nd_slice.specs.Sliced.{sliced_shape}
-use Rattle.nd_slice.proofs.laws.SliceFault.{elements_of_no_fault}
+use Rattle.nd_slice.proofs.laws.ArgumentFault.{elements_of_no_fault}
 use Rattle.ndarray_layout.proofs.PicksFit.{picks_fit}
 use Rattle.ndarray_layout.proofs.Slices.{or_none}
 

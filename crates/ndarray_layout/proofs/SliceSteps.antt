@@ -13,13 +13,15 @@ use Rattle.nd_base.specs.Signed.{magnitude, signed, all_signed}
 use Rattle.nd_base.specs.Size.{limit, nonzero_size}
 use Rattle.nd_base.specs.Span.{reach, reach_down, reach_up, low_span, high_span, span}
 use Rattle.nd_base.specs.ValidLayout.{IsValidLayout}
-use Rattle.nd_slice.specs.declared.fit.Fit.{Fit}
-use Rattle.nd_slice.specs.declared.slice.Slice.{Slice}
-use Rattle.nd_slice.specs.declared.slice.SliceInfoElem.{SliceInfoElem}
-use Rattle.nd_slice.specs.declared.slice.SliceInfoElem.TheVariants as elem
-use Rattle.nd_slice.specs.Picks.{meaning, picks}
-use Rattle.nd_slice.specs.SliceFault.{slice_fault, index_fault, in_count, out_count, first_fault}
-use Rattle.nd_slice.specs.Sliced.{sliced_shape, sliced_strides, sliced_offset, picked_stride, first_offset}
+use Rattle.nd_axis_slice.specs.declared.fit.Fit.{Fit}
+use Rattle.nd_axis_slice.specs.declared.slice.Slice.{Slice}
+use Rattle.nd_slice.specs.declared.elem.SliceInfoElem.{SliceInfoElem}
+use Rattle.nd_slice.specs.declared.elem.SliceInfoElem.TheVariants as elem
+use Rattle.nd_axis_slice.specs.Picks.{meaning, picks}
+use Rattle.nd_axis_slice.specs.SliceFault.{slice_fault, index_fault}
+use Rattle.nd_slice.specs.ArgumentFault.{in_count, out_count, first_fault}
+use Rattle.nd_axis_slice.specs.Picked.{picked_stride, first_offset}
+use Rattle.nd_slice.specs.Sliced.{sliced_shape, sliced_strides, sliced_offset}
 use Rattle.ndarray_layout.proofs.OneAxis.{Within, axis_within}
 use Rattle.ndarray_layout.proofs.Picked.{slice_kept}
 use Rattle.ndarray_layout.proofs.PicksFit.{picks_fit}

@@ -11,12 +11,13 @@ use Rattle.nd_base.specs.Offset.{offset_of}
 use Rattle.nd_base.specs.Signed.{magnitude}
 use Rattle.nd_base.specs.Size.{nonzero_size}
 use Rattle.nd_base.specs.Span.{reach_down, reach_up, low_span, high_span}
-use Rattle.nd_slice.specs.declared.fit.Fit.{Fit}
-use Rattle.nd_slice.specs.declared.slice.Slice.{Slice}
-use Rattle.nd_slice.specs.declared.slice.SliceInfoElem.{SliceInfoElem}
-use Rattle.nd_slice.specs.declared.slice.SliceInfoElem.TheVariants as elem
-use Rattle.nd_slice.specs.Picks.{picks, meaning, is_entry}
-use Rattle.nd_slice.specs.SliceFault.{slice_fault, index_fault, in_count, first_fault}
+use Rattle.nd_axis_slice.specs.declared.fit.Fit.{Fit}
+use Rattle.nd_axis_slice.specs.declared.slice.Slice.{Slice}
+use Rattle.nd_slice.specs.declared.elem.SliceInfoElem.{SliceInfoElem}
+use Rattle.nd_slice.specs.declared.elem.SliceInfoElem.TheVariants as elem
+use Rattle.nd_axis_slice.specs.Picks.{picks, meaning, is_entry}
+use Rattle.nd_axis_slice.specs.SliceFault.{slice_fault, index_fault}
+use Rattle.nd_slice.specs.ArgumentFault.{in_count, first_fault}
 use Rattle.nd_slice.specs.Sliced.{sliced_shape, sliced_strides, sliced_offset}
 use Rattle.nd_slice.specs.Selected.{selected}
 use Rattle.ndarray_layout.proofs.OneAxis.{Within, axis_within}

@@ -5,7 +5,7 @@ use Rattle.std.specs.Cmp.Lexicographic.{pointwise}
 use Rattle.nd_base.specs.declared.error.ErrorKind.{ErrorKind}
 use Rattle.nd_base.specs.declared.error.ErrorKind.TheVariants.{IncompatibleShape, Overflow}
 use Rattle.nd_base.specs.Size.{nonzero_size, limit}
-use Rattle.nd_shape.specs.CommonShape.{common_shape}
+use Rattle.nd_rules.specs.CommonShape.{common_shape}
 use Rattle.ndarray_layout.specs.View.{View}
 
 -- a shape is the one that it and another have in common, so that views of the other can be read as views of it

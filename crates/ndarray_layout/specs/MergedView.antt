@@ -4,7 +4,7 @@ use Rattle.std.specs.Option.{option_or}
 use Rattle.std.specs.Ordering.{int_eq}
 use Rattle.nd_base.specs.declared.error.ErrorKind.{ErrorKind}
 use Rattle.nd_base.specs.declared.error.ErrorKind.TheVariants.{IncompatibleLayout, OutOfBounds, Unsupported}
-use Rattle.nd_shape.specs.Merge.{MergeFits, merged_shape}
+use Rattle.nd_rules.specs.Merge.{MergeFits, merged_shape}
 use Rattle.ndarray_layout.specs.View.{View}
 
 -- the fault of the axes that are named: both are there, and they are two

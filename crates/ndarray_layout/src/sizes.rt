@@ -1,7 +1,7 @@
 //! How many indices a slice argument leaves of a shape.
 ghost use Rattle.std.specs.Prelude.{◌≡◌, ◌≤◌, None};
 ghost use Rattle.nd_base.specs.Size.{nonzero_size, size, limit};
-ghost use Rattle.nd_slice.specs.SliceFault.{argument_fault};
+ghost use Rattle.nd_slice.specs.ArgumentFault.{argument_fault};
 ghost use Rattle.nd_slice.specs.Sliced.{sliced_shape};
 
 use crate::slicing::count_of_picks;

@@ -6,7 +6,7 @@ use Rattle.nd_base.specs.declared.order.Order.TheVariants.{RowMajor}
 use Rattle.nd_base.specs.ErrorText.{shape_error_text}
 use Rattle.nd_base.specs.Signed.{unsigned}
 use Rattle.nd_base.specs.Span.{low_span}
-use Rattle.nd_shape.specs.Acceptance.{acceptance}
+use Rattle.nd_rules.specs.Acceptance.{acceptance}
 use Rattle.ndarray_layout.specs.Run.{Outcome, run_of}
 use Rattle.ndarray_layout.specs.Step.{StepValue}
 use Rattle.ndarray_layout.specs.View.{View, view_of, view_places}

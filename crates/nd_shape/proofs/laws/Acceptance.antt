@@ -9,19 +9,20 @@ use Rattle.nd_base.specs.Span.{span, low_span}
 use Rattle.nd_base.specs.ValidLayout.{IsValidLayout}
 use Rattle.nd_base.specs.declared.order.Order.{Order}
 use Rattle.nd_base.specs.declared.order.Order.TheVariants.{RowMajor, ColumnMajor}
-use Rattle.nd_shape.specs.Acceptance.{acceptance, acceptance_of_standard, acceptance_by_strides, leaves_data}
+use Rattle.nd_rules.specs.Acceptance.{acceptance, leaves_data}
+use Rattle.nd_shape.specs.AcceptanceByStrides.{acceptance_of_standard, acceptance_by_strides}
 use Rattle.nd_shape.specs.DistinctOffsets.{HasDistinctOffsets}
 use Rattle.nd_shape.specs.Inside.{LiesInside}
-use Rattle.nd_shape.specs.OwnedRule.{meets_owned_rule}
-use Rattle.nd_shape.specs.declared.checks.CanIndexCheckMode.{CanIndexCheckMode}
-use Rattle.nd_shape.specs.declared.checks.CanIndexCheckMode.TheVariants.{OwnedMutable}
+use Rattle.nd_rules.specs.OwnedRule.{meets_owned_rule}
+use Rattle.nd_rules.specs.declared.checks.CanIndexCheckMode.{CanIndexCheckMode}
+use Rattle.nd_rules.specs.declared.checks.CanIndexCheckMode.TheVariants.{OwnedMutable}
 use Rattle.nd_shape.specs.declared.shape_builder.Strides.{Strides}
 use Rattle.nd_shape.specs.declared.shape_builder.Strides.TheVariants.{C, F, Custom}
 use Rattle.nd_shape.specs.ShapeBuilder.{standard_strides, strides_list}
 use Rattle.nd_base.proofs.laws.IsIndex.{nonempty_from_index}
 use Rattle.nd_shape.proofs.laws.DistinctOffsets.{distinct_from_rule}
 use Rattle.nd_shape.proofs.laws.Inside.{lies_inside_from_span}
-use Rattle.nd_shape.proofs.laws.OwnedRule.{no_overlap}
+use Rattle.nd_rules.proofs.laws.OwnedRule.{no_overlap}
 use Rattle.nd_shape.proofs.laws.StandardStrides.{standard_valid, standard_low_span, standard_inside, standard_distinct}
 
 -- an accepted layout does not leave the data

@@ -10,9 +10,9 @@ use Rattle.nd_base.specs.Signed.{magnitude}
 use Rattle.nd_base.specs.Span.{reach}
 use Rattle.nd_shape.specs.DistinctOffsets.{HasDistinctOffsets}
 use Rattle.nd_dim.specs.AxisOrder.{magnitude_at}
-use Rattle.nd_shape.specs.OwnedRule.{span_up_to, span_of_others, MeetsOwnedRule}
+use Rattle.nd_rules.specs.OwnedRule.{span_up_to, span_of_others, MeetsOwnedRule}
 use Rattle.nd_base.proofs.laws.IsIndex.{length_of_index, entry_of_index}
-use Rattle.nd_shape.proofs.OwnedRule.{reach_up_to}
+use Rattle.nd_rules.proofs.laws.OwnedRule.{reach_up_to}
 
 -- where two lists of entries differ, the strides are of magnitude at most m
 abbrev DiffersUpTo : ℕ → List ℤ → List ℕ → List ℕ → Type 0

@@ -9,8 +9,8 @@ use Rattle.std.specs.Prelude.{nat_eq}
 use Rattle.nd_base.specs.declared.error.ErrorKind.TheVariants.{IncompatibleShape, Overflow}
 use Rattle.nd_base.specs.Size.{nonzero_size, limit}
 use Rattle.nd_base.proofs.laws.Span.{low_high_span}
-use Rattle.nd_shape.specs.CommonShape.{common_shape}
-use Rattle.nd_shape.proofs.laws.Stretches.{StretchesTo, common_from_stretches, stretches_to_common}
+use Rattle.nd_rules.specs.CommonShape.{common_shape}
+use Rattle.nd_rules.proofs.laws.Stretches.{StretchesTo, common_from_stretches, stretches_to_common}
 use Rattle.ndarray_layout.specs.BroadcastView.{takes_in, broadcast_fault, broadcast_of, broadcast_source}
 use Rattle.ndarray_layout.specs.KeepsPlaces.{KeepsPlaces}
 use Rattle.ndarray_layout.specs.View.{View, IsView, LiesWithin}

@@ -2,8 +2,8 @@
 use Rattle.std.proofs.Common.{◌≡◌, ℕ, ℤ, None, List, arith}
 use Rattle.std.proofs.lemmas.Int.{ints}
 use Rattle.nd_base.specs.Offset.{offset_of}
-use Rattle.nd_shape.specs.Acceptance.{acceptance}
-use Rattle.nd_shape.specs.declared.checks.CanIndexCheckMode.TheVariants.{OwnedMutable}
+use Rattle.nd_rules.specs.Acceptance.{acceptance}
+use Rattle.nd_rules.specs.declared.checks.CanIndexCheckMode.TheVariants.{OwnedMutable}
 use Rattle.nd_shape.specs.DistinctOffsets.{HasDistinctOffsets}
 use Rattle.nd_shape.proofs.laws.Acceptance.{accepted_distinct}
 use Rattle.ndarray_layout.specs.DistinctPlaces.{HasDistinctPlaces}

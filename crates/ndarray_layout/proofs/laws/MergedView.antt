@@ -9,8 +9,8 @@ use Rattle.std.specs.Prelude.{◌&&◌}
 use Rattle.nd_base.specs.declared.error.ErrorKind.{ErrorKind}
 use Rattle.nd_base.specs.declared.error.ErrorKind.TheVariants.{IncompatibleLayout, OutOfBounds, Unsupported}
 use Rattle.nd_base.proofs.laws.Span.{low_high_span}
-use Rattle.nd_shape.specs.Merge.{IsMergedStride}
-use Rattle.nd_shape.proofs.laws.Merge.{goes_on-Decides, lasting_stride, lasting_stride_serves}
+use Rattle.nd_rules.specs.Merge.{IsMergedStride}
+use Rattle.nd_rules.proofs.laws.Merge.{goes_on-Decides, lasting_stride, lasting_stride_serves}
 use Rattle.ndarray_layout.specs.DistinctPlaces.{HasDistinctPlaces}
 use Rattle.ndarray_layout.specs.KeepsPlaces.{KeepsPlaces}
 use Rattle.ndarray_layout.specs.MergedView.{axes_fault, HasMergedStride, has_merged_stride, merge_fault, lasting_axis, merge_of, merge_source}

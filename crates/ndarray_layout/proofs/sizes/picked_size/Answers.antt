@@ -1,7 +1,7 @@
 use Rattle.std.proofs.Common.{rules, FitsSigned, arith}
 use Rattle.std.specs.Int.{w64}
 use Rattle.std.proofs.lemmas.Int.{to_z-of_z}
-use Rattle.nd_slice.specs.declared.slice.Slice.{Slice}
+use Rattle.nd_axis_slice.specs.declared.slice.Slice.{Slice}
 use Rattle.ndarray_layout.proofs.PickedSize.{none_picked, all_picked, axis_there, slice_picked, index_picked, new_axis_picked, size_small, next_elem, next_axis, fits_axis}
 use Rattle.ndarray_layout.proofs.SliceSteps.{len_small}
 use Rattle.ndarray_layout.proofs.sizes.picked_size.Goals as goal

@@ -7,8 +7,8 @@ use Rattle.nd_base.specs.declared.error.ErrorKind.{ErrorKind}
 use Rattle.nd_base.specs.Lengths.{NeedsNoMemory}
 use Rattle.nd_base.specs.ShapeFault.{shape_fault}
 use Rattle.nd_base.specs.Signed.{all_signed}
-use Rattle.nd_slice.specs.declared.slice.SliceInfoElem.{SliceInfoElem}
-use Rattle.nd_slice.specs.SliceFault.{first_fault, in_count, out_count}
+use Rattle.nd_slice.specs.declared.elem.SliceInfoElem.{SliceInfoElem}
+use Rattle.nd_slice.specs.ArgumentFault.{first_fault, in_count, out_count}
 use Rattle.ndarray_layout.specs.SlicedView.{counts_differ}
 use Rattle.ndarray_layout.proofs.slicing.sliced_axes.Goals as goal
 

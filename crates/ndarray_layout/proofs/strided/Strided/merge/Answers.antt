@@ -4,7 +4,7 @@ use Rattle.std.specs.Prelude.{◌&&◌}
 use Rattle.std.proofs.Math.ListN.{get_or-map}
 use Rattle.std.proofs.lemmas.List.{map-set}
 use Rattle.nd_base.specs.Signed.{signed, all_signed}
-use Rattle.nd_shape.specs.Merge.{merged_shape, merged_strides}
+use Rattle.nd_rules.specs.Merge.{merged_shape, merged_strides}
 use Rattle.ndarray_layout.specs.DistinctPlaces.{HasDistinctPlaces}
 use Rattle.ndarray_layout.specs.KeepsPlaces.{KeepsPlaces}
 use Rattle.ndarray_layout.specs.MergedView.{HasMergedStride, axes_fault, lasting_axis, merge_fault, merge_of, merge_source}

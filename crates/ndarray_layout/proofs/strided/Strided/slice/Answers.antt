@@ -4,9 +4,9 @@ use Rattle.std.specs.Int.{w64}
 use Rattle.std.proofs.lemmas.Int.{to_z-of_z}
 use Rattle.nd_base.specs.Signed.{all_signed, magnitude}
 use Rattle.nd_base.specs.Size.{limit}
-use Rattle.nd_slice.specs.declared.fit.Fit.{Fit}
-use Rattle.nd_slice.specs.declared.slice.SliceInfoElem.{SliceInfoElem}
-use Rattle.nd_slice.specs.SliceFault.{argument_fault}
+use Rattle.nd_axis_slice.specs.declared.fit.Fit.{Fit}
+use Rattle.nd_slice.specs.declared.elem.SliceInfoElem.{SliceInfoElem}
+use Rattle.nd_slice.specs.ArgumentFault.{argument_fault}
 use Rattle.nd_slice.specs.Sliced.{sliced_shape, sliced_strides, sliced_offset}
 use Rattle.nd_slice.specs.Selected.{selected}
 use Rattle.ndarray_layout.specs.DistinctPlaces.{HasDistinctPlaces}

@@ -1,0 +1,7 @@
+pub mod CommonShape
+pub mod MergedStride
+pub mod OwnedRule
+pub mod SumLoop
+pub mod WalkOrder
+pub mod WrappedProduct
+pub mod laws

@@ -1,0 +1,64 @@
+//! The elements of a slice argument.
+ghost use Rattle.std.specs.Prelude.{◌≡◌, ◌≤◌, pos};
+ghost use Rattle.nd_base.specs.Size.{limit};
+ghost use Rattle.nd_slice.specs.Kinds.{is_slice, is_index, is_new_axis};
+
+mod display;
+mod from;
+
+/// A new axis of length 1. Upstream's `NewAxis`.
+#[derive(Clone, Copy, Debug)]
+pub struct NewAxis;
+
+/// One element of a slice argument. Upstream's `SliceInfoElem`.
+#[derive(Clone, Copy, PartialEq, Eq, Hash, Debug)]
+pub enum SliceInfoElem {
+    /// A range with a step, which keeps the axis.
+    Slice {
+        /// The first entry of the range.
+        start: isize,
+        /// The entry that the range stops before.
+        end: Option<isize>,
+        /// How many entries on the next pick lies.
+        step: isize,
+    },
+    /// One entry; the axis goes.
+    Index(isize),
+    /// A new axis of length 1.
+    NewAxis,
+}
+
+impl SliceInfoElem {
+    /// One entry, counted from the front and at most `isize::MAX`. For upstream's `From` of a `usize`.
+    #[inline]
+    pub fn index_usize(index: usize) -> SliceInfoElem
+        requires { index ≤ limit }
+        ensures { result ≡ SliceInfoElem.Index (pos index) }
+    {
+        SliceInfoElem::Index(index as isize)
+    }
+
+    /// Whether it is a range with a step. Upstream's `SliceInfoElem::is_slice`.
+    #[inline]
+    pub fn is_slice(&self) -> bool
+        ensures { result ≡ is_slice self.now }
+    {
+        matches!(self, SliceInfoElem::Slice { .. })
+    }
+
+    /// Whether it is one entry. Upstream's `SliceInfoElem::is_index`.
+    #[inline]
+    pub fn is_index(&self) -> bool
+        ensures { result ≡ is_index self.now }
+    {
+        matches!(self, SliceInfoElem::Index(_))
+    }
+
+    /// Whether it is a new axis. Upstream's `SliceInfoElem::is_new_axis`.
+    #[inline]
+    pub fn is_new_axis(&self) -> bool
+        ensures { result ≡ is_new_axis self.now }
+    {
+        matches!(self, SliceInfoElem::NewAxis)
+    }
+}
