@@ -1,5 +1,5 @@
 -- What the program writes, and its exit status, for each input.
-use Rattle.std.specs.Prelude.{◌≡◌, ℕ, ◌+◌, Option, Some, None, Result, Ok, Err, List, [], ◌∷◌, ◌++◌, map, codes, decimal, string_bytes, refl}
+use Rattle.std.specs.Prelude.{◌≡◌, ℕ, ◌+◌, Option, Some, None, Result, Ok, Err, List, ◌++◌, map, codes, decimal, string_bytes, refl}
 use Rattle.std.specs.Fmt.{signed_decimal, digits}
 use Rattle.nd_base.specs.declared.error.ErrorKind.{ErrorKind}
 use Rattle.nd_base.specs.declared.order.Order.TheVariants.{RowMajor}

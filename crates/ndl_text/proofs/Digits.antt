@@ -1,22 +1,21 @@
 -- What `parse` reads, in the words of the grammar.
-use Rattle.std.proofs.Common.{◌≡◌, ◌≢◌, ℕ, ◌^◌, ◌<◌, ℤ, pos, Bool, true, false, cond, ◌&&◌, ltb, eqb, List, [], ◌∷◌, length, get_or, drop, Some, None, Result, Ok, Err, refl, sym, ap, ◌∙◌, subst, inl, inr, arith, eqb-true, nat_eq, Bor, MatchResult}
+use Rattle.std.proofs.Common.{◌≡◌, ◌≢◌, ℕ, ◌^◌, ◌<◌, ℤ, pos, Bool, true, false, cond, ◌&&◌, ltb, eqb, List, [], ◌∷◌, length, get_or, drop, Some, None, Result, Ok, Err, refl, sym, ap, ◌∙◌, inl, inr, arith, eqb-true, nat_eq, Bor, MatchResult}
 use Rattle.std.specs.Result.{OkIff, result_ok}
 use Rattle.std.specs.Bool.{Decides}
-use Rattle.std.specs.Int.{IsInRange, w64}
+use Rattle.std.specs.Int.{w64}
 use Rattle.std.specs.Str.{IsUtf8, IsAscii, all_ascii_digits}
 use Rattle.std.specs.Str.Parse.{digits_value, ParsesUnsigned, ParsesSigned}
 use Rattle.std.proofs.lemmas.Bool.{and_parts, and_from, and_left, ltb-true, lt-ltb, leb-true, le-leb, eq-eqb, ne_eqb, cases_eq, false_from_ne_true, eqb-false}
 use Rattle.std.proofs.lemmas.Bool.Decides.{Decides-ltb}
-use Rattle.std.proofs.lemmas.Option.{cond_some, same_Some}
+use Rattle.std.proofs.lemmas.Option.{same_Some}
 use Rattle.std.proofs.Math.Bool.{and-true}
 use Rattle.std.specs.List.{starts_with}
 use Rattle.std.proofs.lemmas.Fmt.{IsAscii-from_digits}
 use Rattle.std.proofs.lemmas.Str.{IsUtf8-from_ascii}
 use Rattle.std.proofs.lemmas.Str.Ascii.{IsAscii-cons}
 use Rattle.std.proofs.lemmas.Str.Parse.{IsNumeralModel, numerals_by_value, tells_all_ascii_digits, not_in_digits, parse_plain, parse_signed_minus, parse_signed_plain}
-use Rattle.ndl_text.specs.Bytes.{plus_sign, minus_sign, digit_zero, digit_nine}
+use Rattle.ndl_text.specs.Bytes.{plus_sign, minus_sign}
 use Rattle.ndl_text.specs.Numbers.{is_decimal, number_of, negative_of, signed_number_of}
-use Rattle.ndl_text.specs.Lines.{parts}
 
 own : IsNumeralModel (λ ds. all_ascii_digits ds ≡ true) (digits_value 10)
 own = numerals_by_value _ tells_all_ascii_digits

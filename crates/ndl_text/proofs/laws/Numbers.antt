@@ -1,5 +1,5 @@
 -- Laws of numbers: what spells one has no separator in it.
-use Rattle.std.proofs.Common.{◌≡◌, ◌≢◌, ℕ, ◌^◌, ◌<◌, ◌≤◌, ℤ, pos, Bool, true, cond, ◌&&◌, ltb, eqb, List, [], ◌∷◌, length, get_or, drop, Some, None, refl, sym, ◌∙◌, subst, inl, inr, arith}
+use Rattle.std.proofs.Common.{◌≡◌, ◌≢◌, ℕ, ℤ, Bool, true, cond, ◌&&◌, List, [], ◌∷◌, get_or, drop, Some, None, refl, sym, ◌∙◌, subst, inl, inr}
 use Rattle.std.specs.Int.{IsInRange}
 use Rattle.std.specs.Str.{all_ascii_digits}
 use Rattle.std.proofs.lemmas.Bool.{and_parts, ne_eqb, cases_eq}
