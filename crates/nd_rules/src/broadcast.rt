@@ -10,8 +10,8 @@ fn go_together(len: usize, other: usize) -> bool
     (len == other) | (len == 1) | (other == 1)
 }
 
-/// Whether each axis of the shorter list goes together with the axis of the longer one that lies as
-/// far from the last.
+/// Whether two shapes have one in common: each axis of the shorter list goes together with the axis
+/// of the longer one that lies as far from the last. The test of upstream's `co_broadcast`.
 #[inline(always)]
 pub fn have_common_shape(longer: &[usize], shorter: &[usize]) -> bool
     requires { length shorter.now ≤ length longer.now }
@@ -35,7 +35,8 @@ fn stretched(len: usize, other: usize) -> usize
     if len == 1 { other } else { len }
 }
 
-/// Writes the common shape of two shapes that have one.
+/// Writes the common shape of two shapes that have one, over as many lengths as the longer list
+/// has. What upstream's `co_broadcast` makes.
 #[inline(always)]
 pub fn fill_common_shape(longer: &[usize], shorter: &[usize], common: &mut [usize])
     requires shorter { length shorter.now ≤ length longer.now }

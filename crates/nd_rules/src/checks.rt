@@ -20,7 +20,10 @@ pub enum CanIndexCheckMode {
     ReadOnly,
 }
 
-/// The number of indices of a shape.
+/// The number of indices of a shape: the product of its lengths, which is 0 with a zero axis.
+///
+/// Refused with `Overflow` where the product of the lengths that are not 0 passes the greatest
+/// `isize`. The list under upstream's `size_of_shape_checked`.
 #[inline(always)]
 pub fn size_of_lengths(shape: &[usize]) -> Result<usize, ShapeError>
     ensures ok { IfOk result (λ n. n ≡ size shape.now) }
@@ -47,7 +50,12 @@ fn span_within_limits(elem_size: usize, shape: &[usize], strides: &[usize]) -> O
     Some(span)
 }
 
-/// The span of a layout.
+/// The span of a layout: how many elements lie from its lowest to its highest index, where one is
+/// of `elem_size` bytes.
+///
+/// Refused with `IncompatibleLayout` where there are not as many strides as lengths, and then with
+/// `Overflow` where the product of the lengths that are not 0, the span, or the span in bytes
+/// passes the greatest `isize`. The lists under upstream's `max_abs_offset_check_overflow`.
 #[inline(always)]
 pub fn span_of_lengths(
     elem_size: usize,
@@ -63,7 +71,12 @@ pub fn span_of_lengths(
     span_within_limits(elem_size, shape, strides).ok_or(from_kind(ErrorKind::Overflow))
 }
 
-/// Whether a layout is accepted over data of `len` elements.
+/// Whether a layout is accepted over data of `len` elements of `elem_size` bytes.
+///
+/// Refused as `span_of_lengths` is; then with `OutOfBounds` where an index would leave the data, or
+/// where a layout without an index spans more than the data; then with `Unsupported` where elements
+/// are owned or written and two indices may share one (`has_overlap`). The lists under upstream's
+/// `can_index_slice`.
 #[inline(always)]
 pub fn accept(
     elem_size: usize,

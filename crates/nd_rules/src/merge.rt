@@ -19,7 +19,9 @@ fn is_multiple(stride: usize, count: usize, step: usize) -> bool
     stride == count.wrapping_mul(step)
 }
 
-/// Merges an axis into another where that fits.
+/// Merges the axis `take` into the axis `into` where one stride serves for the entries of both, and
+/// answers whether it did; else nothing changes. The layout is valid, and the axes are two
+/// different ones that it has. The lists under upstream's `merge_axes`.
 #[inline(always)]
 pub fn merge_fitting(shape: &mut [usize], strides: &mut [usize], take: usize, into: usize) -> bool
     requires valid { IsValidLayout shape.old (all_signed strides.old) }

@@ -108,8 +108,8 @@ fn overlap_on_walk(shape: &[usize], strides: &[usize], from_last: bool) -> Optio
 /// Whether an axis of more than one entry has a stride that steps over no more than the axes of no
 /// greater stride span together.
 ///
-/// One walk along axes that stand in order of their strides tells; others are compared one by one, and
-/// two axes at once.
+/// One walk along axes that stand in order of their strides tells; others are compared one by one,
+/// and two axes at once.
 #[inline(always)]
 fn breaks_owned_rule(shape: &[usize], strides: &[usize]) -> bool
     requires same_count { length shape.now ≡ length strides.now }
@@ -127,7 +127,9 @@ fn breaks_owned_rule(shape: &[usize], strides: &[usize]) -> bool
     some_overlaps_others(shape, strides)
 }
 
-/// Whether the layout has an index, and breaks the rule.
+/// Whether two indices of a layout may share an element: it has an index, and breaks the rule for
+/// owned data. There is a stride for each length, and the span fits. The lists under upstream's
+/// `dim_stride_overlap`.
 #[inline(always)]
 pub fn has_overlap(shape: &[usize], strides: &[usize]) -> bool
     requires same_count { length shape.now ≡ length strides.now }
