@@ -6,8 +6,8 @@ use Rattle.std.specs.List.{All, Contains}
 use Rattle.std.specs.Prelude.{◌<ℤ◌, ◌≤ℤ◌}
 use Rattle.std.proofs.lemmas.Int.{ints}
 use Rattle.nd_base.specs.Signed.{magnitude}
-use Rattle.nd_axis_slice.proofs.Axis.{between, between_within, pick_up, pick_down}
-use Rattle.nd_axis_slice.proofs.Slicing.{some_between}
+use Rattle.nd_axis_slice.specs.Picks.{between}
+use Rattle.nd_axis_slice.proofs.laws.Between.{between_within, pick_up, pick_down, some_between}
 
 -- both are among the picks, and every pick lies between them
 pub record AreEnds (picks : List ℕ) (least greatest : ℕ) : Type 0 where
@@ -65,3 +65,8 @@ ends_back (negsuc k) start end extent back order far = ends_down k start end ext
 pub ends_on : (step : ℤ) (start end extent : ℕ) → pos 0 ≤ℤ step → 0 < magnitude step → start < end → IsExtent step start end extent → AreEnds (between step start end) start (start + extent)
 ends_on (pos k) start end extent on moves order far = ends_up k start end extent moves order far
 ends_on (negsuc k) start end extent on moves order far = absurd (omega (arith, ints, on))
+
+-- for a step back the first pick is the last entry
+pub first_back : (step : ℤ) (start end : ℕ) → step <ℤ pos 0 → 0 < magnitude step → start < end → end - 1 ≡ get_or (between step start end) 0 0
+first_back (pos k) start end h p some = absurd (omega (arith, ints, h))
+first_back (negsuc k) start end h p some = omega (arith, pick_down k start end 0 (some_between (negsuc k) start end p some))

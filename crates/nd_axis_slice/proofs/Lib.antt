@@ -1,7 +1,5 @@
-pub mod Axis
 pub mod Ends
 pub mod Every
 pub mod Picks
-pub mod Slicing
 pub mod Times
 pub mod laws

@@ -1,3 +1,3 @@
-pub mod Picked
+pub mod Between
 pub mod Picks
 pub mod SliceFault

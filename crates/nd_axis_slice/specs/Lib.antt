@@ -1,4 +1,3 @@
-pub mod Picked
 pub mod Picks
 pub mod Ranges
 pub mod SliceFault

@@ -57,9 +57,13 @@ abbrev pub directed : ℤ → List ℕ → List ℕ
 directed (pos step) items = items
 directed (negsuc step) items = reverse items
 
+-- what a step picks from one number up to, not including, another
+abbrev pub between : ℤ → ℕ → ℕ → List ℕ
+between step start end = every (magnitude step) (directed step (range start end))
+
 -- what a slice that fits picks, in order
 abbrev pub picks : Fit → ℕ → Slice → List ℕ
-picks fit len slice = every (magnitude slice.step) (directed slice.step (range (magnitude (start_meaning fit len slice)) (magnitude (end_meaning fit len slice))))
+picks fit len slice = between slice.step (magnitude (start_meaning fit len slice)) (magnitude (end_meaning fit len slice))
 
 -- examples
 from_the_back : picks Strict 4 (record { start = pos 1; end = None; step = negsuc 1 }) ≡ 3 ∷ 1 ∷ []

@@ -1,18 +1,14 @@
-//! A slice of one axis: the entries that it means, and the axis that it leaves.
-ghost use Rattle.std.specs.Prelude.{◌≡◌, ℕ, ◌-◌, ◌*◌, ◌<◌, ◌≤◌, ◌^◌, max, pos, ◌+ℤ◌, ◌*ℤ◌, ◌≤ℤ◌, ◌↔◌, IsOk, IfOk, OnOk, OnErr, OkIff, IsOkUnless, IsTrue, FitsSigned, MatchOption, [], length, slice_index};
-ghost use Rattle.std.specs.Int.{w64};
+//! A slice of one axis: whether it fits, and the entries that it picks.
+ghost use Rattle.std.specs.Prelude.{◌≡◌, ◌-◌, ◌*◌, ◌<◌, ◌≤◌, max, pos, ◌≤ℤ◌, ◌↔◌, IsOk, IfOk, OkIff, IsOkUnless, IsTrue, MatchOption, [], length, slice_index};
 ghost use Rattle.std.specs.List.{All, Contains};
 ghost use Rattle.std.specs.Result.{result_err};
-ghost use Rattle.nd_base.specs.Signed.{magnitude, signed as signed_reading};
-ghost use Rattle.nd_base.specs.Size.{limit};
-ghost use Rattle.nd_base.specs.Span.{reach};
-ghost use Rattle.nd_axis_slice.specs.Picks.{meaning, is_bound, bound_meaning, start_meaning, end_meaning, range, directed, every, picks};
+ghost use Rattle.nd_base.specs.Signed.{magnitude};
+ghost use Rattle.nd_axis_slice.specs.Picks.{meaning, is_bound, bound_meaning, start_meaning, end_meaning, between, picks};
 ghost use Rattle.nd_axis_slice.specs.SliceFault.{slice_fault, index_fault, SliceFits};
-ghost use Rattle.nd_axis_slice.specs.Picked.{picked_stride, first_offset};
 
 use crate::fit::Fit;
 use crate::slice::Slice;
-use nd_base::{ErrorKind, ShapeError, from_kind, signed, stride_offset, unsigned};
+use nd_base::{ErrorKind, ShapeError, from_kind};
 use num_traits::clamp;
 
 /// The entry that an index means on an axis of `len` entries: itself, or `len + index` where it is
@@ -88,82 +84,32 @@ pub fn to_abs_slice(len: usize, slice: Slice, fit: Fit) -> Result<(usize, usize,
     Ok((start, end.max(start), slice.step))
 }
 
-/// How many entries a step picks between two bounds.
+/// How many entries a step picks from `start` up to, not including, `end`. The project's own.
 #[inline(always)]
-fn pick_count(start: usize, end: usize, step: isize) -> usize
+pub fn pick_count(start: usize, end: usize, step: isize) -> usize
     requires order { start ≤ end }
     requires moves { 0 < magnitude step }
-    ensures { result ≡ length (every (magnitude step) (directed step (range start end))) }
+    ensures { result ≡ length (between step start end) }
 {
     (end - start).div_ceil(step.unsigned_abs())
 }
 
-/// The entry that a step picks first between two bounds: the last one for a step back.
+/// The entry that a step picks first from `start` up to, not including, `end`: the last one for a
+/// step back. The project's own.
 #[inline(always)]
-fn first_pick(start: usize, end: usize, step: isize) -> usize
+pub fn first_pick(start: usize, end: usize, step: isize) -> usize
     requires order { start < end }
     requires moves { 0 < magnitude step }
-    ensures { result ≡ slice_index (every (magnitude step) (directed step (range start end))) 0 }
+    ensures { result ≡ slice_index (between step start end) 0 }
 {
     if step < 0 { end - 1 } else { start }
-}
-
-/// The stride of `count` entries that lie `step` entries of an axis of a stride apart; at most one
-/// needs none.
-#[inline(always)]
-fn stepped_stride(count: usize, stride: usize, step: isize) -> usize
-    requires { 1 < count → FitsSigned w64 (signed_reading stride *ℤ step) }
-    ensures { signed_reading result ≡ picked_stride count (signed_reading stride) step }
-{
-    if count <= 1 {
-        0
-    } else {
-        unsigned(signed(stride) * step)
-    }
-}
-
-/// Slices one axis in place: its length becomes the number of entries picked and its stride the
-/// distance in elements from one of them to the next, 0 where there is at most one. Answers how many
-/// elements the first of them lies behind the first entry, with its sign; 0 where there is none.
-/// Refused as `to_abs_slice` is, and then the length and the stride stay. Upstream's `do_slice`.
-#[inline]
-pub fn do_slice(
-    dim: &mut usize,
-    stride: &mut usize,
-    slice: Slice,
-    fit: Fit,
-) -> Result<isize, ShapeError>
-    requires len_fits { dim.old < 2 ^ 63 }
-    requires span_fits { reach dim.old (signed_reading stride.old) ≤ limit }
-    ensures fault { result_err result ≡ slice_fault fit dim.old slice }
-    ensures len { OnOk result (dim.new ≡ length (picks fit dim.old slice)) }
-    ensures stride { OnOk result (signed_reading stride.new
-        ≡ picked_stride (length (picks fit dim.old slice)) (signed_reading stride.old) slice.step) }
-    ensures offset { IfOk result (λ offset.
-        offset ≡ first_offset (picks fit dim.old slice) (signed_reading stride.old)) }
-    ensures steps { IfOk result (λ offset. (j : ℕ) → j < dim.new →
-        pos (slice_index (picks fit dim.old slice) j) *ℤ signed_reading stride.old
-        ≡ offset +ℤ (pos j *ℤ signed_reading stride.new)) }
-    ensures within { OnOk result ((j : ℕ) → j < dim.new →
-        slice_index (picks fit dim.old slice) j < dim.old) }
-    ensures refusal { OnErr result ((dim.new ≡ dim.old) × (stride.new ≡ stride.old)) }
-{
-    let (start, end, step) = to_abs_slice(*dim, slice, fit)?;
-    let offset = if start < end {
-        stride_offset(first_pick(start, end, step), *stride)
-    } else {
-        0
-    };
-    *dim = pick_count(start, end, step);
-    *stride = stepped_stride(*dim, *stride, step);
-    Ok(offset)
 }
 
 /// How many entries lie between the first entry that a step picks between two bounds and the last.
 fn pick_extent(start: usize, end: usize, step: isize) -> usize
     requires order { start < end }
     requires moves { 0 < magnitude step }
-    ensures extent { result ≡ (length (every (magnitude step) (directed step (range start end))) - 1)
+    ensures extent { result ≡ (length (between step start end) - 1)
         * magnitude step }
     ensures within { result < end - start }
 {
@@ -174,10 +120,10 @@ fn pick_extent(start: usize, end: usize, step: isize) -> usize
 fn pick_ends(start: usize, end: usize, step: isize) -> (usize, usize)
     requires order { start < end }
     requires moves { 0 < magnitude step }
-    ensures least { Contains (every (magnitude step) (directed step (range start end))) result.0 }
-    ensures greatest { Contains (every (magnitude step) (directed step (range start end))) result.1 }
+    ensures least { Contains (between step start end) result.0 }
+    ensures greatest { Contains (between step start end) result.1 }
     ensures between { All (λ pick. (result.0 ≤ pick) × (pick ≤ result.1))
-        (every (magnitude step) (directed step (range start end))) }
+        (between step start end) }
 {
     let extent = pick_extent(start, end, step);
     if step < 0 {

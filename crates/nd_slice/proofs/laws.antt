@@ -1,2 +1,3 @@
 pub mod ArgumentFault
+pub mod Picked
 pub mod Selected

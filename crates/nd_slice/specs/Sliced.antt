@@ -4,7 +4,7 @@ use Rattle.nd_axis_slice.specs.declared.fit.Fit.{Fit}
 use Rattle.nd_axis_slice.specs.declared.fit.Fit.TheVariants.{Strict, Clamp}
 use Rattle.nd_slice.specs.declared.elem.SliceInfoElem.{SliceInfoElem}
 use Rattle.nd_slice.specs.declared.elem.SliceInfoElem.TheVariants as elem
-use Rattle.nd_axis_slice.specs.Picked.{picked_stride, first_offset}
+use Rattle.nd_slice.specs.Picked.{picked_stride, first_offset}
 use Rattle.nd_axis_slice.specs.Picks.{slice_with, meaning, picks}
 
 -- the lengths that are left

@@ -3,7 +3,7 @@ use Rattle.std.proofs.Common.{◌≡◌, ℕ, suc, ◌-◌, ◌*◌, ◌<◌, �
 use Rattle.std.proofs.lemmas.Int.{ints}
 use Rattle.std.proofs.lemmas.Bool.{cases_lt, cond-true, cond-false, le-leb, lt-leb}
 use Rattle.nd_base.specs.Span.{reach, reach_down, reach_up}
-use Rattle.nd_axis_slice.specs.Picked.{picked_stride, first_offset}
+use Rattle.nd_slice.specs.Picked.{picked_stride, first_offset}
 use Rattle.nd_base.proofs.laws.Span.{reach_parts}
 use Rattle.ndarray_layout.proofs.OneAxis.{Within, axis_within}
 

@@ -20,7 +20,7 @@ use Rattle.nd_slice.specs.declared.elem.SliceInfoElem.TheVariants as elem
 use Rattle.nd_axis_slice.specs.Picks.{meaning, picks}
 use Rattle.nd_axis_slice.specs.SliceFault.{slice_fault, index_fault}
 use Rattle.nd_slice.specs.ArgumentFault.{in_count, out_count, first_fault}
-use Rattle.nd_axis_slice.specs.Picked.{picked_stride, first_offset}
+use Rattle.nd_slice.specs.Picked.{picked_stride, first_offset}
 use Rattle.nd_slice.specs.Sliced.{sliced_shape, sliced_strides, sliced_offset}
 use Rattle.ndarray_layout.proofs.OneAxis.{Within, axis_within}
 use Rattle.ndarray_layout.proofs.Picked.{slice_kept}

@@ -10,7 +10,7 @@ ghost use Rattle.nd_base.specs.ValidLayout.{IsValidLayout};
 ghost use Rattle.nd_axis_slice.specs.Picks.{picks};
 ghost use Rattle.nd_axis_slice.specs.SliceFault.{slice_fault};
 ghost use Rattle.nd_slice.specs.ArgumentFault.{first_fault, in_count, out_count};
-ghost use Rattle.nd_axis_slice.specs.Picked.{picked_stride, first_offset};
+ghost use Rattle.nd_slice.specs.Picked.{picked_stride, first_offset};
 ghost use Rattle.nd_slice.specs.Sliced.{sliced_shape, sliced_strides, sliced_offset};
 ghost use Rattle.ndarray_layout.specs.SlicedView.{counts_differ, slice_refusal};
 

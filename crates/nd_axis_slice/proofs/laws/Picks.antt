@@ -9,7 +9,7 @@ use Rattle.nd_axis_slice.specs.declared.fit.Fit.{Fit}
 use Rattle.nd_axis_slice.specs.declared.slice.Slice.{Slice}
 use Rattle.nd_axis_slice.specs.Picks.{start_meaning, end_meaning, picks}
 use Rattle.nd_axis_slice.specs.SliceFault.{SliceFits}
-use Rattle.nd_axis_slice.proofs.Axis.{length-between, between_within, between_below, between_steps, between_apart, between_once}
+use Rattle.nd_axis_slice.proofs.laws.Between.{length-between, between_within, between_below, between_steps, between_apart, between_once}
 use Rattle.nd_axis_slice.proofs.laws.SliceFault.{step_moves, end_below}
 
 -- a slice that fits picks every step-th entry of its range, and so many in all

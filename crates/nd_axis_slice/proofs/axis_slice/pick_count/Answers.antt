@@ -2,7 +2,7 @@ use Rattle.std.proofs.Common.{◌≡◌, ◌-◌, sym, ap, ◌∙◌}
 use Rattle.std.specs.Int.{w64, div_ceil}
 use Rattle.std.proofs.lemmas.Int.{to_z-of_z}
 use Rattle.nd_base.specs.Signed.{magnitude}
-use Rattle.nd_axis_slice.proofs.Axis.{length-between}
+use Rattle.nd_axis_slice.proofs.laws.Between.{length-between}
 use Rattle.nd_axis_slice.proofs.axis_slice.pick_count.Goals as goal
 
 pub returns : goal.returns

@@ -2,7 +2,7 @@
 use Rattle.std.proofs.Common.{arith}
 use Rattle.std.specs.Int.{w64}
 use Rattle.std.proofs.lemmas.Int.{ints, to_z-of_z}
-use Rattle.nd_axis_slice.proofs.Slicing.{some_between}
+use Rattle.nd_axis_slice.proofs.laws.Between.{some_between}
 use Rattle.nd_axis_slice.proofs.Ends.{IsExtent, ends_back, ends_on}
 use Rattle.nd_axis_slice.proofs.axis_slice.pick_ends.Goals as goal
 use Rattle.nd_axis_slice.proofs.axis_slice.pick_ends.Goals.{After-pick_extent-extent}

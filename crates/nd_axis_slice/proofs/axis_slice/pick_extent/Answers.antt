@@ -2,7 +2,7 @@ use Rattle.std.proofs.Common.{◌≡◌, ◌-◌, ◌*◌, ap, ◌∙◌, arith}
 use Rattle.std.specs.Int.{w64}
 use Rattle.std.proofs.lemmas.Int.{to_z-of_z}
 use Rattle.nd_base.specs.Signed.{magnitude}
-use Rattle.nd_axis_slice.proofs.Slicing.{some_between}
+use Rattle.nd_axis_slice.proofs.laws.Between.{some_between}
 use Rattle.nd_axis_slice.proofs.Ends.{extent_of}
 use Rattle.nd_axis_slice.proofs.axis_slice.pick_extent.Goals as goal
 

@@ -1,22 +1,21 @@
 -- Facts for one axis that is sliced between two bounds.
-use Rattle.std.proofs.Common.{◌≡◌, ℕ, zero, suc, ◌+◌, ◌-◌, ◌*◌, ◌<◌, ◌≤◌, max, List, [], ◌∷◌, length, get_or, arith, refl, sym, ap, ◌∙◌, inl, inr, None, subst}
+use Rattle.std.proofs.Common.{◌≡◌, ℕ, ◌-◌, ◌*◌, ◌<◌, ◌≤◌, max, List, [], ◌∷◌, length, get_or, arith, refl, sym, ap, ◌∙◌, inl, inr, None, subst}
 use Rattle.std.proofs.lemmas.Bool.{cases_lt, le-leb, lt-leb}
 use Rattle.std.proofs.lemmas.Int.{ints, fits_signed_mul}
-use Rattle.std.proofs.lemmas.Grind.{div_ceil_times}
-use Rattle.std.proofs.Math.IntN.{ℤ, pos, negsuc, ◌+ℤ◌, ◌*ℤ◌, *ℤ-zero}
-use Rattle.std.specs.Prelude.{FitsSigned, ◌<ℤ◌, if◌then◌else◌}
+use Rattle.std.proofs.Math.IntN.{ℤ, pos, ◌+ℤ◌, ◌*ℤ◌, *ℤ-zero}
+use Rattle.std.specs.Prelude.{FitsSigned, if◌then◌else◌}
 use Rattle.std.specs.List.{range_with_len}
-use Rattle.std.specs.Int.{w64, div_ceil}
+use Rattle.std.specs.Int.{w64}
 use Rattle.nd_base.specs.Signed.{magnitude}
 use Rattle.nd_base.specs.Size.{limit}
 use Rattle.nd_base.specs.Span.{reach}
 use Rattle.nd_axis_slice.specs.declared.fit.Fit.{Fit}
 use Rattle.nd_axis_slice.specs.declared.slice.Slice.{Slice}
-use Rattle.nd_axis_slice.specs.Picks.{every, directed, start_meaning, end_meaning, picks}
+use Rattle.nd_axis_slice.specs.Picks.{every, directed, start_meaning, end_meaning, picks, between}
 use Rattle.nd_axis_slice.specs.SliceFault.{slice_fault}
-use Rattle.nd_axis_slice.specs.Picked.{first_offset, picked_stride}
+use Rattle.nd_slice.specs.Picked.{first_offset, picked_stride}
 use Rattle.nd_axis_slice.proofs.laws.SliceFault.{fits_of_no_fault, step_moves}
-use Rattle.nd_axis_slice.proofs.Axis.{between, between_steps, between_below, between_within, length-between, pick_down}
+use Rattle.nd_axis_slice.proofs.laws.Between.{between_steps, between_below, between_within, some_between, none_between}
 
 -- the picks of a slice, by the bounds that it means
 pub picks_between : (fit : Fit) (len : ℕ) (slice : Slice) (start end : ℕ) → pos start ≡ start_meaning fit len slice → end ≡ max start (magnitude (end_meaning fit len slice)) → picks fit len slice ≡ between slice.step start end
@@ -30,25 +29,6 @@ picks_between fit len slice start end s e =
 -- a slice that fits has a step
 pub moves : (fit : Fit) (len : ℕ) (slice : Slice) (step : ℤ) → None ≡ slice_fault fit len slice → step ≡ slice.step → 0 < magnitude step
 moves fit len slice step e same = subst (λ z. 0 < magnitude z) (sym same) (step_moves fit len slice (fits_of_no_fault fit len slice (sym e)))
-
--- a count rounded up
-count_of_some : (n k c : ℕ) → n ≤ c * k → 0 < n → 0 < c
-count_of_some n k zero h p = omega arith
-count_of_some n k (suc c) h p = omega arith
-
-count_of_none : (n k c : ℕ) → c * k < n + k → n ≡ 0 → c ≡ 0
-count_of_none n k zero h e = refl
-count_of_none n k (suc c) h e = absurd (omega arith)
-
--- entries between two bounds
-pub some_between : (step : ℤ) (start end : ℕ) → 0 < magnitude step → start < end → 0 < length (between step start end)
-some_between step start end p h =
-    let count = length-between step start end p in
-    omega (arith, count, count_of_some (end - start) (magnitude step) (div_ceil (end - start) (magnitude step)) (div_ceil_times (end - start) (magnitude step) p).0 (omega arith))
-
-pub none_between : (step : ℤ) (start end : ℕ) → 0 < magnitude step → end ≤ start → length (between step start end) ≡ 0
-none_between step start end p h =
-    length-between step start end p ∙ count_of_none (end - start) (magnitude step) (div_ceil (end - start) (magnitude step)) (div_ceil_times (end - start) (magnitude step) p).1 (omega arith)
 
 -- how far the first of them lies
 pub offset_of_some : (xs : List ℕ) (s : ℤ) → 0 < length xs → first_offset xs s ≡ pos (get_or xs 0 0) *ℤ s
@@ -87,11 +67,6 @@ picked_steps step start end j s below =
           let still : pos j *ℤ picked_stride (length xs) s step ≡ pos 0 = ap (λ x. pos j *ℤ x) (picked_few (length xs) s step few) ∙ *ℤ-zero (pos j) in
           omega (arith, ints, here, still, first)
     ]
-
--- for a step back the first pick is the last entry
-pub first_back : (step : ℤ) (start end : ℕ) → step <ℤ pos 0 → 0 < magnitude step → start < end → end - 1 ≡ get_or (between step start end) 0 0
-first_back (pos k) start end h p some = absurd (omega (arith, ints, h))
-first_back (negsuc k) start end h p some = omega (arith, pick_down k start end 0 (some_between (negsuc k) start end p some))
 
 -- the first pick is an entry
 pub first_below : (step : ℤ) (start end first : ℕ) → 0 < magnitude step → start < end → first ≡ get_or (between step start end) 0 0 → first < end

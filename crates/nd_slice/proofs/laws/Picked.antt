@@ -4,8 +4,8 @@ use Rattle.nd_base.specs.Signed.{magnitude}
 use Rattle.nd_axis_slice.specs.declared.fit.Fit.{Fit}
 use Rattle.nd_axis_slice.specs.declared.slice.Slice.{Slice}
 use Rattle.nd_axis_slice.specs.Picks.{start_meaning, end_meaning, picks}
-use Rattle.nd_axis_slice.specs.Picked.{first_offset, picked_stride}
-use Rattle.nd_axis_slice.proofs.Slicing.{picked_steps}
+use Rattle.nd_slice.specs.Picked.{first_offset, picked_stride}
+use Rattle.nd_slice.proofs.Slicing.{picked_steps}
 
 -- pick j lies j new strides behind the first
 pub pick_offset : (fit : Fit) (len : ℕ) (slice : Slice) (j : ℕ) (stride : ℤ) → j < length (picks fit len slice) → pos (slice_index (picks fit len slice) j) *ℤ stride ≡ first_offset (picks fit len slice) stride +ℤ (pos j *ℤ picked_stride (length (picks fit len slice)) stride slice.step)

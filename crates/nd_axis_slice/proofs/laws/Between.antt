@@ -1,20 +1,17 @@
--- The picks between two bounds, by their step.
-use Rattle.std.proofs.Common.{◌≡◌, ℕ, zero, suc, ◌+◌, ◌-◌, ◌*◌, ◌<◌, List, length, get_or, arith, sym, ap, ◌∙◌, reverse}
+-- What a step picks between two bounds: how many, where, and none of them twice.
+use Rattle.std.proofs.Common.{◌≡◌, ℕ, zero, suc, ◌+◌, ◌-◌, ◌*◌, ◌<◌, ◌≤◌, length, get_or, arith, refl, sym, ap, ◌∙◌, reverse}
 use Rattle.std.proofs.lemmas.List.{get_or-reverse, length-reverse}
 use Rattle.std.proofs.lemmas.List.FromFn.{length-range_with_len, get_or-range_with_len}
+use Rattle.std.proofs.lemmas.Grind.{div_ceil_times}
 use Rattle.std.proofs.lemmas.Int.{ints}
 use Rattle.std.proofs.Math.IntN.{ℤ, pos, negsuc, ◌+ℤ◌, ◌*ℤ◌, zero-*ℤ, +ℤ_idr}
 use Rattle.std.proofs.Math.Nat.{eq_of_mul-eq-mul_right}
 use Rattle.std.specs.Int.{div_ceil}
 use Rattle.nd_base.specs.Signed.{magnitude}
-use Rattle.nd_axis_slice.specs.Picks.{every, directed, range}
+use Rattle.nd_axis_slice.specs.Picks.{directed, range, between}
 use Rattle.nd_axis_slice.proofs.Every.{one_of_zero}
 use Rattle.nd_axis_slice.proofs.Times.{times_up, times_down}
 use Rattle.nd_axis_slice.proofs.Picks.{length-every, get-every, every_within}
-
--- the picks of a step from one bound up to another
-abbrev pub between : ℤ → ℕ → ℕ → List ℕ
-between step start end = every (magnitude step) (directed step (range start end))
 
 length-directed : (step : ℤ) (start end : ℕ) → length (directed step (range start end)) ≡ end - start
 length-directed (pos k) start end = length-range_with_len start (end - start)
@@ -90,3 +87,22 @@ between_once (negsuc k) start end i j p q e =
     let at_i : get_or (between (negsuc k) start end) i 0 + i * suc k + 1 ≡ end = pick_down k start end i p in
     let at_j : get_or (between (negsuc k) start end) j 0 + j * suc k + 1 ≡ end = pick_down k start end j q in
     eq_of_mul-eq-mul_right (suc k) (omega arith) i j (omega arith)
+
+-- a count rounded up
+count_of_some : (n k c : ℕ) → n ≤ c * k → 0 < n → 0 < c
+count_of_some n k zero h p = omega arith
+count_of_some n k (suc c) h p = omega arith
+
+count_of_none : (n k c : ℕ) → c * k < n + k → n ≡ 0 → c ≡ 0
+count_of_none n k zero h e = refl
+count_of_none n k (suc c) h e = absurd (omega arith)
+
+-- entries between two bounds
+pub some_between : (step : ℤ) (start end : ℕ) → 0 < magnitude step → start < end → 0 < length (between step start end)
+some_between step start end p h =
+    let count = length-between step start end p in
+    omega (arith, count, count_of_some (end - start) (magnitude step) (div_ceil (end - start) (magnitude step)) (div_ceil_times (end - start) (magnitude step) p).0 (omega arith))
+
+pub none_between : (step : ℤ) (start end : ℕ) → 0 < magnitude step → end ≤ start → length (between step start end) ≡ 0
+none_between step start end p h =
+    length-between step start end p ∙ count_of_none (end - start) (magnitude step) (div_ceil (end - start) (magnitude step)) (div_ceil_times (end - start) (magnitude step) p).1 (omega arith)

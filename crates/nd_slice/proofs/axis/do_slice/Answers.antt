@@ -2,12 +2,12 @@ use Rattle.std.proofs.Common.{rules, ◌≡◌, ◌<◌, arith, ap, sym, ◌∙�
 use Rattle.std.specs.Int.{w64}
 use Rattle.std.proofs.lemmas.Int.{to_z-of_z}
 use Rattle.nd_base.specs.Signed.{magnitude, signed}
-use Rattle.nd_axis_slice.specs.Picks.{picks}
-use Rattle.nd_axis_slice.specs.Picked.{picked_stride, first_offset}
-use Rattle.nd_axis_slice.proofs.Axis.{between, between_below}
-use Rattle.nd_axis_slice.proofs.Slicing.{moves, picks_between, first_below, offset_fits, stride_fits, picked_steps, offset_at_some, offset_at_none}
-use Rattle.nd_axis_slice.proofs.axis_slice.do_slice.Goals as goal
-use Rattle.nd_axis_slice.proofs.axis_slice.do_slice.Goals.{then-start-end, else-start-end}
+use Rattle.nd_axis_slice.specs.Picks.{picks, between}
+use Rattle.nd_slice.specs.Picked.{picked_stride, first_offset}
+use Rattle.nd_axis_slice.proofs.laws.Between.{between_below}
+use Rattle.nd_slice.proofs.Slicing.{moves, picks_between, first_below, offset_fits, stride_fits, picked_steps, offset_at_some, offset_at_none}
+use Rattle.nd_slice.proofs.axis.do_slice.Goals as goal
+use Rattle.nd_slice.proofs.axis.do_slice.Goals.{then-start-end, else-start-end}
 
 pub stride_offset-offset-requires-clause-small : goal.stride_offset-offset-requires-clause-small
 stride_offset-offset-requires-clause-small c =
