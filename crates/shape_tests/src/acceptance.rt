@@ -9,13 +9,13 @@ use CanIndexCheckMode::{OwnedMutable, ReadOnly};
 use nd_dim::{Axis, Lengths, RemoveAxis, ShapeError, default_strides, fortran_strides, new_ix3};
 use nd_shape::{
     CanIndexCheckMode, Strides, can_index_slice, can_index_slice_not_custom,
-    can_index_slice_with_strides, size_of_shape_checked, strides_non_negative,
+    can_index_slice_with_strides, size_of_shape_checked,
 };
-use nd_testing::{List, Lists, fault_of, name_of};
+use nd_testing::{List, Lists, fault_of, made, name_of};
 use std::alloc::{AllocError, Global};
 
 /// Whether a call names this fault.
-fn is_fault(answer: Result<(), ShapeError>, fault: &str) -> bool {
+pub(crate) fn is_fault(answer: Result<(), ShapeError>, fault: &str) -> bool {
     name_of(fault_of(answer)) == fault
 }
 
@@ -40,19 +40,21 @@ pub(crate) fn has_order_faults<D: Lengths>(len: usize, dim: &D, fault: &str) -> 
         && has_order_fault(len, dim, &Strides::F, fault)
 }
 
-/// Whether a shape with given strides has this fault.
+/// Whether a shape with the strides of a row, which are given, has the fault of that row.
 pub(crate) fn has_fault<D: Lengths>(
-    len: usize,
+    alloc: Global,
     dim: &D,
-    strides: D,
     mode: CanIndexCheckMode,
-    fault: &str,
+    row: &Lists<'_>,
 ) -> bool {
+    let Some(strides) = made::<D>(alloc, row.second.as_slice()) else {
+        return false;
+    };
     let given = Strides::Custom(strides);
     given.is_custom()
         && is_fault(
-            can_index_slice_with_strides(1, len, dim, &given, mode),
-            fault,
+            can_index_slice_with_strides(1, row.fourth.at(1), dim, &given, mode),
+            row.answer,
         )
 }
 
@@ -74,11 +76,6 @@ const READ: &str = "\
 3,2 2,3 - 1,8 => none
 3,2 2,3 - 1,7 => OutOfBounds";
 
-/// Whether strides have this fault, as they lead back, or none.
-pub(crate) fn has_sign_fault<D: Lengths>(strides: &D, fault: &str) -> bool {
-    is_fault(strides_non_negative(strides), fault)
-}
-
 const SIGNS: &str = "\
 - - - 1,0 => none
 3,0 3,0 - 1,0 => none
@@ -92,8 +89,13 @@ fn r3_rows(rt: HostRuntime) {
     let alloc = rt.alloc();
     table(&rt, alloc, Told::Asked(Question::Orders), ORDERS_OF_TWO);
     table(&rt, alloc, Told::Asked(Question::Orders), ORDERS_OF_FIVE);
-    table(&rt, alloc, Told::Asked(Question::Owned), OWNED);
-    table(&rt, alloc, Told::Asked(Question::Read), READ);
+    table(
+        &rt,
+        alloc,
+        Told::Asked(Question::Given(OwnedMutable)),
+        OWNED,
+    );
+    table(&rt, alloc, Told::Asked(Question::Given(ReadOnly)), READ);
     table(&rt, alloc, Told::Asked(Question::Signs), SIGNS);
 }
 
@@ -165,7 +167,9 @@ fn rest_is_accepted<D: RemoveAxis>(alloc: Global, dim: &D, strides: &D, len: usi
 
 #[test]
 fn layouts_of_a_smaller_type(rt: HostRuntime) {
-    let (alloc, dim, strides) = (rt.alloc(), new_ix3(2, 3, 4), new_ix3(12, 4, 1));
+    let alloc = rt.alloc();
+    let dim = new_ix3(2, 3, 4);
+    let strides = new_ix3(12, 4, 1);
     assert!(rt;
         rest_is_accepted(alloc, &dim, &strides, 12) && !rest_is_accepted(alloc, &dim, &strides, 11)
     );

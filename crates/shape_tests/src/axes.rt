@@ -7,6 +7,7 @@ use crate::questions::Question;
 use crate::told::{Told, table};
 use nd_dim::Lengths;
 use nd_shape::{Axes, AxisDescription, axes_of};
+use nd_testing::Lists;
 
 /// Whether this is the next axis.
 fn is(axis: Option<AxisDescription>, number: usize, len: usize, stride: isize) -> bool {
@@ -24,11 +25,6 @@ fn are_in_turn(mut axes: Axes<'_>) -> bool {
         && axes.next().is_none()
 }
 
-/// The same of the axes of a layout.
-pub(crate) fn is_in_turn<D: Lengths>(dim: &D, strides: &D) -> bool {
-    dim.ndim() == strides.ndim() && are_in_turn(axes_of(dim, strides))
-}
-
 /// Whether of three axes two are left behind the first one, and one before the last one, of which
 /// the walk that was copied knows nothing.
 fn have_lengths(mut axes: Axes<'_>) -> bool {
@@ -37,11 +33,6 @@ fn have_lengths(mut axes: Axes<'_>) -> bool {
     axes.next_back();
     (rest.len(), rest.size_hint()) == (2, (2, Some(2)))
         && (axes.len(), axes.size_hint()) == (1, (1, Some(1)))
-}
-
-/// The same of the axes of a layout.
-pub(crate) fn has_lengths<D: Lengths>(dim: &D, strides: &D) -> bool {
-    dim.ndim() == strides.ndim() && have_lengths(axes_of(dim, strides))
 }
 
 /// The lengths of all axes together, by one walk along them, where they fit.
@@ -56,21 +47,57 @@ fn sum_of_lens<D: Lengths>(dim: &D, strides: &D) -> Option<usize>
     Some(total)
 }
 
-/// Whether this is the sum.
-pub(crate) fn has_sum<D: Lengths>(dim: &D, strides: &D, total: usize) -> bool {
-    dim.ndim() == strides.ndim() && sum_of_lens(dim, strides) == Some(total)
+/// What is asked of the axes of a layout.
+#[derive(Clone, Copy)]
+pub(crate) enum AskedOfAxes {
+    /// The axes from the front and from the back in turn.
+    InTurn,
+    /// How many axes are left.
+    Lengths,
+    /// The lengths of all axes together.
+    Sum,
+}
+
+/// Whether this is told of the axes of a layout.
+pub(crate) fn are_told<D: Lengths>(
+    asked: AskedOfAxes,
+    dim: &D,
+    strides: &D,
+    row: &Lists<'_>,
+) -> bool {
+    dim.ndim() == strides.ndim()
+        && match asked {
+            AskedOfAxes::InTurn => are_in_turn(axes_of(dim, strides)),
+            AskedOfAxes::Lengths => have_lengths(axes_of(dim, strides)),
+            AskedOfAxes::Sum => sum_of_lens(dim, strides) == Some(row.third.at(0)),
+        }
 }
 
 #[test]
 fn r3_rows(rt: HostRuntime) {
     let alloc = rt.alloc();
-    table(&rt, alloc, Told::Asked(Question::InTurn), "2,3,4 12,-4,1");
-    table(&rt, alloc, Told::Asked(Question::Lengths), "2,3,4 2,3,4");
-    table(&rt, alloc, Told::Asked(Question::Sum), "2,3,4 12,4,1 9");
     table(
         &rt,
         alloc,
-        Told::Asked(Question::Sum),
+        Told::Asked(Question::Axes(AskedOfAxes::InTurn)),
+        "2,3,4 12,-4,1",
+    );
+    table(
+        &rt,
+        alloc,
+        Told::Asked(Question::Axes(AskedOfAxes::Lengths)),
+        "2,3,4 2,3,4",
+    );
+    table(
+        &rt,
+        alloc,
+        Told::Asked(Question::Axes(AskedOfAxes::Sum)),
+        "2,3,4 12,4,1 9",
+    );
+    table(
+        &rt,
+        alloc,
+        Told::Asked(Question::Axes(AskedOfAxes::Sum)),
         "2,3,1,4,2 2,3,1,4,2 12",
     );
 }

@@ -17,7 +17,8 @@ fn is_common<D1: Lengths, D2: Lengths, Output: Lengths>(
     lens: &[usize],
     fault: &str,
 ) -> bool {
-    let (count1, count2) = (shape1.ndim(), shape2.ndim());
+    let count1 = shape1.ndim();
+    let count2 = shape2.ndim();
     let count = if count1 < count2 { count2 } else { count1 };
     if Output::NDIM.unwrap_or(count) != count {
         return false;
@@ -28,24 +29,30 @@ fn is_common<D1: Lengths, D2: Lengths, Output: Lengths>(
     }
 }
 
-/// Whether a row tells what two shapes have in common, in either order.
-pub(crate) fn shares<D: Lengths>(alloc: Global, shape: &D, other: &D, row: &Lists<'_>) -> bool {
-    let lens = row.third.as_slice();
-    is_common::<D, D, D>(alloc, shape, other, lens, row.answer)
-        && is_common::<D, D, D>(alloc, other, shape, lens, row.answer)
+/// What is asked of the shape that two have in common.
+#[derive(Clone, Copy)]
+pub(crate) enum Sharing {
+    /// That it is as told, in either order.
+    IsTold,
+    /// That to make it asks for memory: of two such calls one may fail.
+    Asks,
 }
 
-/// Whether to make the shape that two have in common asks for memory: of two such calls one may fail.
-pub(crate) fn asks_for_common<D: Lengths>(
+/// Whether a row tells this of what two shapes have in common.
+pub(crate) fn shares<D: Lengths>(
     alloc: Global,
     shape: &D,
     other: &D,
+    sharing: Sharing,
     row: &Lists<'_>,
 ) -> bool {
     let lens = row.third.as_slice();
     let first = is_common::<D, D, D>(alloc, shape, other, lens, row.answer);
     let second = is_common::<D, D, D>(alloc, other, shape, lens, row.answer);
-    grants(alloc) && (first || second)
+    match sharing {
+        Sharing::IsTold => first && second,
+        Sharing::Asks => grants(alloc) && (first || second),
+    }
 }
 
 const COMMON: &str = "\
@@ -69,7 +76,12 @@ const COMMON: &str = "\
 
 #[test]
 fn r5_rows(rt: HostRuntime) {
-    table(&rt, rt.alloc(), Told::Asked(Question::Common), COMMON);
+    table(
+        &rt,
+        rt.alloc(),
+        Told::Asked(Question::Common(Sharing::IsTold)),
+        COMMON,
+    );
 }
 
 /// Whether shapes of two types have these lengths in common, in the type of the other one and in a third.
@@ -85,33 +97,31 @@ fn types_share<D1: Lengths, D2: Lengths, D3: Lengths>(
 
 #[test]
 fn r5_rows_of_fixed_types(rt: HostRuntime) {
-    let (shape, other) = (new_ix2(2, 3), new_ix3(4, 1, 3));
+    let shape = new_ix2(2, 3);
+    let other = new_ix3(4, 1, 3);
     assert!(rt; types_share::<Ix2, Ix3, IxDyn>(rt.alloc(), &shape, &other, &[4, 2, 3]));
 }
 
 // More than four axes ask for memory. To make the two shapes takes the first two requests.
 #[test]
 fn late_memory_of_broadcast(rt: HostRuntime) {
-    let (told, row) = (
-        Told::Asked(Question::CommonAsks),
-        "2,1,3,1,2 2,1,3,1,2 2,1,3,1,2",
-    );
+    let told = Told::Asked(Question::Common(Sharing::Asks));
+    let row = "2,1,3,1,2 2,1,3,1,2 2,1,3,1,2";
     assert!(rt; row_holds(told, rt.alloc(), row));
 }
 
 // Shapes that have none in common are refused for that.
 #[test]
 fn late_memory_after_the_shapes(rt: HostRuntime) {
-    let (told, row) = (
-        Told::Asked(Question::Common),
-        "2,1,3,1,2 2,1,3,1,4 - => IncompatibleShape",
-    );
+    let told = Told::Asked(Question::Common(Sharing::IsTold));
+    let row = "2,1,3,1,2 2,1,3,1,4 - => IncompatibleShape";
     assert!(rt; row_holds(told, rt.alloc(), row));
 }
 
 // Up to four axes lie in the value itself.
 #[test]
 fn r9_rows_of_broadcast(rt: HostRuntime) {
-    let (told, row) = (Told::Asked(Question::Common), "1,3 2,4,1 2,4,3");
+    let told = Told::Asked(Question::Common(Sharing::IsTold));
+    let row = "1,3 2,4,1 2,4,3";
     assert!(rt; row_holds(told, rt.alloc(), row));
 }

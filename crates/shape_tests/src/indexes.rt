@@ -52,7 +52,8 @@ fn yields<T: IntoDimension, W: ExactSizeIterator<Item = T> + Drop>(
     requires can { (state : W) → W.can_next state }
     requires ends { IsFinite (W.remaining walk) }
 {
-    let (mut indices, count) = (Row::new(row.answer), row.second.at(0));
+    let count = row.second.at(0);
+    let mut indices = Row::new(row.answer);
     let rest = count.saturating_sub(first);
     for left in (rest..count).rev() {
         let told = walk.len().wrapping_sub(1) == left
@@ -118,32 +119,22 @@ fn column_cursor(alloc: Global, dim: IxDyn) -> Result<IndexCursorF, AllocError> 
     IndexCursorF::new(alloc, sized(dim)?)
 }
 
-/// Whether the next index that a cursor lends is that of a row, and so many are left.
-fn lends_next<C: LendingWalk>(
-    alloc: Global,
-    cursor: &mut C,
-    row: &mut Row<'_>,
-    left: usize,
-) -> bool {
-    let is_told = match cursor.lend() {
-        Some(index) => tells(alloc, row, index),
-        None => false,
-    };
-    is_told && cursor.left() == left
-}
-
 /// Whether the indices that a cursor lends are those of a row, and none follow.
 fn lends_all<C: LendingWalk + Drop>(
     alloc: Global,
     cursor: Result<C, AllocError>,
-    row: &mut Row<'_>,
-    count: usize,
+    row: &Lists<'_>,
 ) -> bool {
     let Ok(mut cursor) = cursor else {
         return false;
     };
-    for left in (0..count).rev() {
-        if !lends_next(alloc, &mut cursor, row, left) {
+    let mut indices = Row::new(row.answer);
+    for left in (0..row.second.at(0)).rev() {
+        let is_told = match cursor.lend() {
+            Some(index) => tells(alloc, &mut indices, index),
+            None => false,
+        };
+        if !is_told || cursor.left() != left {
             return false;
         }
     }
@@ -181,41 +172,24 @@ fn tells_of<T: IntoDimension, W: ExactSizeIterator<Item = T> + Clone + Drop>(
     }
 }
 
-/// Whether a row tells this of the walk over a shape by rows.
-fn is_walked_by_rows<D: Dimension + Copy>(
-    alloc: Global,
-    told: Walk,
-    dim: D,
-    row: &Lists<'_>,
-) -> bool {
-    match dim.size_checked() {
-        Some(_) => match all_indices(alloc, dim.into_pattern()) {
-            Ok(indices) => tells_of(alloc, told, indices.into_iter(), row),
-            Err(_) => false,
-        },
-        None => false,
+/// Whether a row tells this of the walk over a shape at a type.
+pub(crate) fn is_walked<D: Dimension + Copy>(alloc: Global, told: Walk, row: &Lists<'_>) -> bool {
+    let Some(dim) = made::<D>(alloc, row.first.as_slice()) else {
+        return false;
+    };
+    if dim.size_checked().is_none() {
+        return false;
     }
-}
-
-/// Whether a row tells the indices of a shape by columns.
-fn is_walked_by_columns<D: Dimension + Copy>(alloc: Global, dim: D, row: &Lists<'_>) -> bool {
-    match dim.size_checked() {
-        Some(_) => match indices_iter_f(alloc, dim.into_pattern()) {
+    let pattern = dim.into_pattern();
+    match told {
+        Walk::All(Order::ColumnMajor) => match indices_iter_f(alloc, pattern) {
             Ok(walk) => yields(alloc, walk, row, usize::MAX),
             Err(_) => false,
         },
-        None => false,
-    }
-}
-
-/// Whether a row tells this at a type.
-pub(crate) fn is_walked<D: Dimension + Copy>(alloc: Global, told: Walk, row: &Lists<'_>) -> bool {
-    match made::<D>(alloc, row.first.as_slice()) {
-        Some(dim) => match told {
-            Walk::All(Order::ColumnMajor) => is_walked_by_columns(alloc, dim, row),
-            _ => is_walked_by_rows(alloc, told, dim, row),
+        _ => match all_indices(alloc, pattern) {
+            Ok(indices) => tells_of(alloc, told, indices.into_iter(), row),
+            Err(_) => false,
         },
-        None => false,
     }
 }
 
@@ -224,10 +198,9 @@ pub(crate) fn lends(alloc: Global, order: Order, row: &Lists<'_>) -> bool {
     let Ok(dim) = new_ixdyn(alloc, row.first.as_slice()) else {
         return false;
     };
-    let (mut indices, count) = (Row::new(row.answer), row.second.at(0));
     match order {
-        Order::RowMajor => lends_all(alloc, row_cursor(alloc, dim), &mut indices, count),
-        Order::ColumnMajor => lends_all(alloc, column_cursor(alloc, dim), &mut indices, count),
+        Order::RowMajor => lends_all(alloc, row_cursor(alloc, dim), row),
+        Order::ColumnMajor => lends_all(alloc, column_cursor(alloc, dim), row),
     }
 }
 
@@ -255,7 +228,8 @@ const THREE_AXES_BY_COLUMNS: &str = "\
 
 #[test]
 fn r7_rows(rt: HostRuntime) {
-    let (alloc, told) = (rt.alloc(), Told::Walked(Walk::All(Order::RowMajor)));
+    let alloc = rt.alloc();
+    let told = Told::Walked(Walk::All(Order::RowMajor));
     table(&rt, alloc, told, "- 1 => -");
     table(&rt, alloc, told, TWO_AXES_BY_ROWS);
     table(&rt, alloc, told, THREE_AXES_BY_ROWS);
@@ -263,7 +237,8 @@ fn r7_rows(rt: HostRuntime) {
 
 #[test]
 fn r7_rows_by_columns(rt: HostRuntime) {
-    let (alloc, told) = (rt.alloc(), Told::Walked(Walk::All(Order::ColumnMajor)));
+    let alloc = rt.alloc();
+    let told = Told::Walked(Walk::All(Order::ColumnMajor));
     table(&rt, alloc, told, "- 1 => -");
     table(&rt, alloc, told, TWO_AXES_BY_COLUMNS);
     table(&rt, alloc, told, THREE_AXES_BY_COLUMNS);
@@ -277,21 +252,15 @@ fn r7_rows_of_the_longest_shape(rt: HostRuntime) {
 
 // ---- folds
 
-/// The rank of entries in a shape.
-fn rank(lens: &List, entries: &[usize]) -> usize {
-    let mut rank = 0_usize;
-    for (axis, entry) in entries.iter().enumerate() {
-        rank = rank.wrapping_mul(lens.at(axis)).wrapping_add(*entry);
-    }
-    rank
-}
-
 /// The rank of an index in a shape.
 fn rank_of<T: IntoDimension>(alloc: Global, lens: List, item: T) -> usize {
-    match item.into_dimension(alloc) {
-        Ok(index) => rank(&lens, index.slice()),
-        Err(_) => 0,
+    let mut rank = 0_usize;
+    if let Ok(index) = item.into_dimension(alloc) {
+        for (axis, entry) in index.slice().iter().enumerate() {
+            rank = rank.wrapping_mul(lens.at(axis)).wrapping_add(*entry);
+        }
     }
+    rank
 }
 
 /// How many items a walk has, and a number that tells their ranks in a shape from others.
@@ -303,7 +272,8 @@ fn met<T: IntoDimension, W: Iterator<Item = T> + Drop>(
     requires can { (state : W) → W.can_next state }
     requires ends { IsFinite (W.remaining walk) }
 {
-    let (mut count, mut told) = (0_usize, 0_usize);
+    let mut count = 0_usize;
+    let mut told = 0_usize;
     for item in walk {
         count = count.wrapping_add(1);
         told = told
@@ -340,8 +310,8 @@ fn folds<T: IntoDimension, W: ExactSizeIterator<Item = T> + Clone + Drop>(
     requires ends { (state : W) → IsFinite (W.remaining state) }
 {
     let walk = left_of(alloc, walk, gone);
-    let (len, copy): (_, Result<_, _>) = (walk.len(), walk.clone());
-    match copy {
+    let len = walk.len();
+    match walk.clone() {
         Ok(copy) => {
             let told = met(alloc, copy, lens);
             told.0 == len && met(alloc, walk, lens) == told
@@ -365,6 +335,24 @@ fn r7_rows_of_folds(rt: HostRuntime) {
     }
 }
 
+/// What a fold makes of the ranks of items in a shape.
+#[derive(Clone, Copy)]
+struct Folding {
+    alloc: Global,
+    lens: List,
+    factor: usize,
+    told: usize,
+}
+
+/// The same with one item more.
+fn folded<T: IntoDimension>(folding: Folding, item: T) -> Folding {
+    let rank = rank_of(folding.alloc, folding.lens, item);
+    Folding {
+        told: folding.told.wrapping_mul(folding.factor).wrapping_add(rank),
+        ..folding
+    }
+}
+
 /// Whether a fold over the items that are left makes of their ranks in a shape what a row tells.
 fn is_folded<T: IntoDimension, W: Iterator<Item = T> + Drop>(
     alloc: Global,
@@ -374,12 +362,14 @@ fn is_folded<T: IntoDimension, W: Iterator<Item = T> + Drop>(
     requires can { (state : W) → W.can_next state }
     requires ends { (state : W) → IsFinite (W.remaining state) }
 {
-    let (lens, factor) = (row.first, row.second.at(0));
-    let told = left_of(alloc, walk, row.third.at(0)).fold(1_usize, move |told, item| {
-        told.wrapping_mul(factor)
-            .wrapping_add(rank_of(alloc, lens, item))
-    });
-    told == row.fourth.at(0)
+    let first = Folding {
+        alloc,
+        lens: row.first,
+        factor: row.second.at(0),
+        told: 1,
+    };
+    let last = left_of(alloc, walk, row.third.at(0)).fold(first, folded);
+    last.told == row.fourth.at(0)
 }
 
 const RANKS_FOLDED: &str = "\
@@ -397,42 +387,22 @@ fn r7_rows_of_folded_ranks(rt: HostRuntime) {
 
 // ---- memory
 
-/// Whether the cursor over a shape is made.
-fn is_made(alloc: Global, order: Order, lens: &[usize]) -> bool {
-    let Ok(dim) = new_ixdyn(alloc, lens) else {
-        return false;
-    };
-    match order {
-        Order::RowMajor => len_of(row_cursor(alloc, dim)).is_ok(),
-        Order::ColumnMajor => len_of(column_cursor(alloc, dim)).is_ok(),
-    }
-}
-
-/// Whether the cursors over a shape are made.
-fn are_made(alloc: Global, lens: &[usize]) -> bool {
-    is_made(alloc, Order::RowMajor, lens) && is_made(alloc, Order::ColumnMajor, lens)
-}
-
-#[test]
-fn ample_memory_for_cursors(rt: HostRuntime) {
-    let alloc = rt.alloc();
-    assert!(rt; are_made(alloc, &[1, 2, 1, 2, 1]));
-    let long = [1_usize; 1100];
-    assert!(rt; are_made(alloc, &long));
-}
-
-#[test]
-fn memory_of_cursors_of_four_axes(rt: HostRuntime) {
-    assert!(rt; are_made(rt.alloc(), &[1, 2, 3, 4]));
-}
-
 /// How many indices a cursor is to lend, if there was memory for it.
 fn len_of<C: LendingWalk + Drop>(cursor: Result<C, AllocError>) -> Result<usize, AllocError> {
     Ok(cursor?.left())
 }
 
-/// Whether to make the cursors over a shape asks for memory, once there is some for the shape itself, twice.
-fn ask(alloc: Global, lens: &[usize]) -> bool {
+/// What is asked of the cursors over a shape.
+#[derive(Clone, Copy)]
+enum Making {
+    /// That both are made.
+    IsDone,
+    /// That to make them asks for memory, once there is some for the shape itself, twice.
+    Asks,
+}
+
+/// Whether this holds of the cursors over a shape.
+fn holds_of_making(alloc: Global, making: Making, lens: &[usize]) -> bool {
     let Ok(dim) = new_ixdyn(alloc, lens) else {
         return false;
     };
@@ -440,11 +410,28 @@ fn ask(alloc: Global, lens: &[usize]) -> bool {
         return false;
     };
     let rows = len_of(row_cursor(alloc, dim));
-    asked(alloc, rows, len_of(column_cursor(alloc, other)))
+    let columns = len_of(column_cursor(alloc, other));
+    match making {
+        Making::IsDone => rows.is_ok() && columns.is_ok(),
+        Making::Asks => asked(alloc, rows, columns),
+    }
+}
+
+#[test]
+fn ample_memory_for_cursors(rt: HostRuntime) {
+    let alloc = rt.alloc();
+    assert!(rt; holds_of_making(alloc, Making::IsDone, &[1, 2, 1, 2, 1]));
+    let long = [1_usize; 1100];
+    assert!(rt; holds_of_making(alloc, Making::IsDone, &long));
+}
+
+#[test]
+fn memory_of_cursors_of_four_axes(rt: HostRuntime) {
+    assert!(rt; holds_of_making(rt.alloc(), Making::IsDone, &[1, 2, 3, 4]));
 }
 
 // To make the two shapes takes the first two requests.
 #[test]
 fn late_memory_of_cursors(rt: HostRuntime) {
-    assert!(rt; ask(rt.alloc(), &[1, 2, 3, 2, 1]));
+    assert!(rt; holds_of_making(rt.alloc(), Making::Asks, &[1, 2, 3, 2, 1]));
 }

@@ -8,7 +8,7 @@ use nd_shape::{CanIndexCheckMode, Layout, can_index_slice, is_layout_c, is_layou
 use std::alloc::Global;
 
 /// How the indices of a layout lie one behind another, or that it isn't valid.
-fn orders<D: Lengths>(dim: &D, strides: &D) -> &'static str {
+pub(crate) fn orders<D: Lengths>(dim: &D, strides: &D) -> &'static str {
     if dim.ndim() != strides.ndim()
         || can_index_slice(0, usize::MAX, dim, strides, CanIndexCheckMode::ReadOnly).is_err()
     {
@@ -20,11 +20,6 @@ fn orders<D: Lengths>(dim: &D, strides: &D) -> &'static str {
         (false, true) => "by columns",
         (false, false) => "neither",
     }
-}
-
-/// Whether the indices of a layout lie so.
-pub(crate) fn lies<D: Lengths>(dim: &D, strides: &D, answer: &str) -> bool {
-    orders(dim, strides) == answer
 }
 
 const LAYOUTS: &str = "\
@@ -64,19 +59,17 @@ fn prints(alloc: Global, layout: Layout, text: &str, tendency: i32) -> bool {
     }
 }
 
-/// Whether each set of bits does.
-fn all_print(alloc: Global) -> bool {
-    prints(alloc, Layout::none(), "Custom (0x0)", 0)
-        && prints(alloc, Layout::one_dimensional(), "CFcf (0xf)", 0)
-        && prints(alloc, Layout::c(), "Cc (0x5)", 2)
-        && prints(alloc, Layout::f(), "Ff (0xa)", -2)
-        && prints(alloc, Layout::cpref(), "c (0x4)", 1)
-        && prints(alloc, Layout::fpref(), "f (0x8)", -1)
-}
-
 #[test]
 fn r5_rows_of_bits(rt: HostRuntime) {
-    assert!(rt; all_print(rt.alloc()));
+    let alloc = rt.alloc();
+    assert!(rt;
+        prints(alloc, Layout::none(), "Custom (0x0)", 0)
+            && prints(alloc, Layout::one_dimensional(), "CFcf (0xf)", 0)
+            && prints(alloc, Layout::c(), "Cc (0x5)", 2)
+            && prints(alloc, Layout::f(), "Ff (0xa)", -2)
+            && prints(alloc, Layout::cpref(), "c (0x4)", 1)
+            && prints(alloc, Layout::fpref(), "f (0x8)", -1)
+    );
 }
 
 /// Whether a set has each of the bits.
@@ -89,24 +82,20 @@ fn bits_of(layout: Layout) -> [bool; 4] {
     ]
 }
 
-/// Whether what is made of two sets of bits prints as well.
-fn all_of_two_print(alloc: Global) -> bool {
-    let (also, shared) = (
-        Layout::c().also(Layout::fpref()),
-        Layout::c().intersect(Layout::cpref()),
-    );
-    prints(alloc, also, "Ccf (0xd)", 1)
-        && prints(alloc, shared, "c (0x4)", 1)
-        && prints(alloc, Layout::c().intersect(Layout::f()), "Custom (0x0)", 0)
-}
-
 #[test]
 fn r5_rows_of_two_sets_of_bits(rt: HostRuntime) {
-    assert!(rt; all_of_two_print(rt.alloc()));
-    let (order, prefer) = (
-        (Layout::CORDER, Layout::FORDER),
-        (Layout::CPREFER, Layout::FPREFER),
+    let alloc = rt.alloc();
+    let by_rows = Layout::c();
+    assert!(rt;
+        prints(alloc, by_rows.also(Layout::fpref()), "Ccf (0xd)", 1)
+            && prints(alloc, by_rows.intersect(Layout::cpref()), "c (0x4)", 1)
+            && prints(alloc, by_rows.intersect(Layout::f()), "Custom (0x0)", 0)
+            && bits_of(by_rows) == [true, false, true, false]
+            && [
+                Layout::CORDER,
+                Layout::FORDER,
+                Layout::CPREFER,
+                Layout::FPREFER,
+            ] == [1, 2, 4, 8]
     );
-    assert!(rt; order == (1, 2) && prefer == (4, 8));
-    assert!(rt; bits_of(Layout::c()) == [true, false, true, false]);
 }

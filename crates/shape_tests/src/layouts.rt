@@ -250,7 +250,8 @@ const LIMITS: &str = "\
 
 #[test]
 fn r3_rows(rt: HostRuntime) {
-    let (alloc, told) = (rt.alloc(), Told::Asked(Question::Layout));
+    let alloc = rt.alloc();
+    let told = Told::Asked(Question::Layout);
     table(&rt, alloc, told, R1);
     table(&rt, alloc, told, REACH);
     table(&rt, alloc, told, SMALL);

@@ -8,26 +8,8 @@ use nd_shape::{CanIndexCheckMode, can_index_slice};
 use nd_testing::{Lists, made};
 use std::alloc::Global;
 
-/// Whether strides are a layout of a shape, by which it is contiguous or not as told.
-fn is_contiguous<D: Dimension>(dim: &D, strides: &D, told: bool) -> bool {
-    can_index_slice(1, usize::MAX, dim, strides, CanIndexCheckMode::ReadOnly).is_ok()
-        && D::is_contiguous(dim, strides) == told
-}
-
-/// Whether an index has this offset in a layout, as it is kept, with a test and without; or none.
-fn has_offset<D: Dimension>(dim: &D, strides: &D, index: &D, wanted: Option<usize>) -> bool {
-    match can_index_slice(1, usize::MAX, dim, strides, CanIndexCheckMode::ReadOnly) {
-        Ok(()) => match dim.stride_offset_checked(strides, index) {
-            Some(offset) => {
-                Some(unsigned(offset)) == wanted && D::stride_offset(index, strides) == offset
-            },
-            None => wanted.is_none(),
-        },
-        Err(_) => false,
-    }
-}
-
-/// Whether a row tells this of a layout. A list of another count is no index of a type that fixes its count.
+/// Whether a row tells this of a layout: that it is contiguous or isn't; or the offset of its index, as it is
+/// kept, with a test and without, or none. A list of another count is no index of a type that fixes its count.
 pub(crate) fn tells_of_layout<D: Dimension>(
     told: Told,
     alloc: Global,
@@ -35,16 +17,23 @@ pub(crate) fn tells_of_layout<D: Dimension>(
     strides: &D,
     row: &Lists<'_>,
 ) -> bool {
-    match told {
-        Told::Contiguous(answer) => is_contiguous(dim, strides, answer),
-        Told::Offset => {
-            let offset = row.fourth.as_slice().first().copied();
-            match made::<D>(alloc, row.third.as_slice()) {
-                Some(index) => has_offset(dim, strides, &index, offset),
-                None => D::NDIM.is_some() && offset.is_none(),
-            }
+    let wanted = row.fourth.as_slice().first().copied();
+    match can_index_slice(1, usize::MAX, dim, strides, CanIndexCheckMode::ReadOnly) {
+        Ok(()) => match told {
+            Told::Contiguous(answer) => D::is_contiguous(dim, strides) == answer,
+            Told::Offset => match made::<D>(alloc, row.third.as_slice()) {
+                Some(index) => match dim.stride_offset_checked(strides, &index) {
+                    Some(offset) => {
+                        Some(unsigned(offset)) == wanted
+                            && D::stride_offset(&index, strides) == offset
+                    },
+                    None => wanted.is_none(),
+                },
+                None => D::NDIM.is_some() && wanted.is_none(),
+            },
+            _ => false,
         },
-        _ => false,
+        Err(_) => false,
     }
 }
 

@@ -1,13 +1,12 @@
 //! What is asked of a layout at a dimension type, by rows of tables.
-use crate::acceptance::{has_fault, has_order_faults, has_sign_fault, is_accepted_along_its_own};
-use crate::axes::{has_lengths, has_sum, is_in_turn};
-use crate::broadcast::{asks_for_common, shares};
-use crate::layout::lies;
+use crate::acceptance::{has_fault, has_order_faults, is_accepted_along_its_own, is_fault};
+use crate::axes::{AskedOfAxes, are_told};
+use crate::broadcast::{Sharing, shares};
+use crate::layout::orders;
 use crate::layouts::is_laid_out;
 use crate::merge::{merges, moves};
-use CanIndexCheckMode::{OwnedMutable, ReadOnly};
 use nd_dim::Lengths;
-use nd_shape::CanIndexCheckMode;
+use nd_shape::{CanIndexCheckMode, strides_non_negative};
 use nd_testing::{Lists, made};
 use std::alloc::Global;
 
@@ -18,69 +17,44 @@ pub(crate) enum Question {
     Layout,
     /// The fault of the shape by the strides of either order, in either mode.
     Orders,
-    /// The fault by its strides, which are given, over data that is owned.
-    Owned,
-    /// The same over data that is read.
-    Read,
+    /// The fault by its strides, which are given, over data in a mode.
+    Given(CanIndexCheckMode),
     /// That the shape is accepted along its own strides as by them.
     OwnStrides,
     /// The fault of the strides, as one leads back.
     Signs,
-    /// The axes from the front and from the back in turn.
-    InTurn,
-    /// How many axes are left.
-    Lengths,
-    /// The lengths of all axes together.
-    Sum,
+    /// Its axes one by one.
+    Axes(AskedOfAxes),
     /// In which order its indices lie one behind another.
     Lies,
     /// Two axes as one.
     Merged,
     /// The axis of the least stride as the last one.
     Moved,
-    /// The shape, and in place of strides another one: what they have in common.
-    Common,
-    /// That to make what they have in common asks for memory.
-    CommonAsks,
+    /// The shape, and in place of strides another one: what they have in common; or that to make it asks for
+    /// memory.
+    Common(Sharing),
 }
 
-/// Whether a row tells what is answered of its layout, with strides that are lent.
-fn is_told_along<D: Lengths>(
+/// Whether a row tells what is answered of its layout.
+fn is_told<D: Lengths>(
     alloc: Global,
     question: Question,
-    dim: &D,
-    strides: &D,
+    dim: &mut D,
+    strides: &mut D,
     row: &Lists<'_>,
 ) -> bool {
     match question {
         Question::Layout => is_laid_out(alloc, dim, strides, row),
         Question::Orders => has_order_faults(row.fourth.at(1), dim, row.answer),
+        Question::Given(mode) => has_fault(alloc, dim, mode, row),
         Question::OwnStrides => is_accepted_along_its_own(alloc, dim),
-        Question::Signs => has_sign_fault(strides, row.answer),
-        Question::InTurn => is_in_turn(dim, strides),
-        Question::Lengths => has_lengths(dim, strides),
-        Question::Sum => has_sum(dim, strides, row.third.at(0)),
-        Question::Lies => lies(dim, strides, row.answer),
-        Question::Common => shares(alloc, dim, strides, row),
-        Question::CommonAsks => asks_for_common(alloc, dim, strides, row),
-        _ => false,
-    }
-}
-
-/// The same, with strides that are given away.
-fn is_told_with<D: Lengths>(
-    alloc: Global,
-    question: Question,
-    dim: &mut D,
-    mut strides: D,
-    row: &Lists<'_>,
-) -> bool {
-    match question {
-        Question::Owned => has_fault(row.fourth.at(1), dim, strides, OwnedMutable, row.answer),
-        Question::Read => has_fault(row.fourth.at(1), dim, strides, ReadOnly, row.answer),
-        Question::Merged => merges(dim, &mut strides, row),
-        Question::Moved => moves(dim, &mut strides, row),
-        _ => is_told_along(alloc, question, dim, &strides, row),
+        Question::Signs => is_fault(strides_non_negative(strides), row.answer),
+        Question::Axes(asked) => are_told(asked, dim, strides, row),
+        Question::Lies => orders(dim, strides) == row.answer,
+        Question::Merged => merges(dim, strides, row),
+        Question::Moved => moves(dim, strides, row),
+        Question::Common(asks) => shares(alloc, dim, strides, asks, row),
     }
 }
 
@@ -93,7 +67,7 @@ pub(crate) fn is_answered<D: Lengths>(
     row: &Lists<'_>,
 ) -> bool {
     match made::<D>(alloc, row.second.as_slice()) {
-        Some(strides) => is_told_with(alloc, question, dim, strides, row),
+        Some(mut strides) => is_told(alloc, question, dim, &mut strides, row),
         None => D::NDIM.is_some(),
     }
 }

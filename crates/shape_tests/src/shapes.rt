@@ -17,55 +17,59 @@ use std::fmt::Debug;
 
 // ---- what is built
 
-/// Whether a shape has this size.
-fn has_size<D: Lengths>(shape: &Shape<D>, size: usize) -> bool {
-    match size_of_shape_checked(shape.raw_dim()) {
-        Ok(_) => shape.size() == size,
-        Err(_) => false,
-    }
+/// What is built: its lengths, strides that are given, and its own strides in its order.
+#[derive(Drop)]
+struct Built<'a, D> {
+    dim: &'a D,
+    size: usize,
+    is_c: bool,
+    given: &'a D,
+    strides: &'a D,
 }
 
-/// Whether a shape has these lengths, this size and this order.
-fn has<D: Lengths>(shape: Result<Shape<D>, AllocError>, dim: &D, size: usize, is_c: bool) -> bool {
+/// Whether a shape has the lengths and the size of what is built, and this order.
+fn has<D: Lengths>(shape: Result<Shape<D>, AllocError>, built: &Built<'_, D>, is_c: bool) -> bool {
     match shape {
         Ok(shape) => {
-            shape.raw_dim().equal(dim) && has_size(&shape, size) && shape.is_c() == is_c
+            shape.raw_dim().equal(built.dim)
+                && size_of_shape_checked(shape.raw_dim()).is_ok()
+                && shape.size() == built.size
+                && shape.is_c() == is_c
         }
         Err(_) => false,
     }
 }
 
-/// Whether these strides are given, and no others.
-fn are_given<D: Lengths>(strides: &Strides<D>, given: &D) -> bool {
-    match strides {
-        Strides::Custom(custom) => strides.is_custom() && custom.equal(given),
-        _ => false,
-    }
+/// Which strides a shape keeps.
+#[derive(Clone, Copy)]
+enum Kept {
+    /// Those of row-major order where the answer is yes, and else of column-major order.
+    OfOrder(bool),
+    /// Those that are given.
+    Given,
 }
 
-/// Whether a shape has these lengths, and these strides, which are given.
-fn is_given<D: Lengths>(shape: Result<StrideShape<D>, AllocError>, dim: &D, strides: &D) -> bool {
-    match shape {
-        Ok(shape) => shape.raw_dim().equal(dim) && are_given(&shape.strides, strides),
-        Err(_) => false,
-    }
-}
-
-/// Whether these strides are those of this order.
-fn are_of_order<D>(strides: &Strides<D>, is_c: bool) -> bool {
-    match strides {
-        Strides::C => is_c,
-        Strides::F => !is_c,
-        Strides::Custom(_) => false,
-    }
-}
-
-/// Whether a shape has these lengths, and the strides of this order.
-fn follows<D: Lengths>(shape: Result<StrideShape<D>, AllocError>, dim: &D, is_c: bool) -> bool {
-    match shape {
-        Ok(shape) => shape.raw_dim().equal(dim) && are_of_order(&shape.strides, is_c),
-        Err(_) => false,
-    }
+/// Whether a shape has the lengths of what is built, and keeps these strides of it.
+fn keeps<D: Lengths>(
+    shape: Result<StrideShape<D>, AllocError>,
+    built: &Built<'_, D>,
+    kept: Kept,
+) -> bool {
+    let Ok(shape) = shape else {
+        return false;
+    };
+    shape.raw_dim().equal(built.dim)
+        && match kept {
+            Kept::OfOrder(is_c) => match &shape.strides {
+                Strides::C => is_c,
+                Strides::F => !is_c,
+                Strides::Custom(_) => false,
+            },
+            Kept::Given => match &shape.strides {
+                Strides::Custom(custom) => shape.strides.is_custom() && custom.equal(built.given),
+                _ => false,
+            },
+        }
 }
 
 /// Whether these are the strides that a shape has.
@@ -102,38 +106,33 @@ fn is_shown<T: Debug + Drop>(value: Result<T, AllocError>) -> bool {
 
 // ---- what builds it
 
-/// What is built: its lengths, strides that are given, and its own strides in its order.
-#[derive(Drop)]
-struct Built<'a, D> {
-    dim: &'a D,
-    size: usize,
-    is_c: bool,
-    given: &'a D,
-    strides: &'a D,
-}
-
 /// Whether a builder builds this in each order.
 fn builds<D: Lengths, T: ShapeBuilder<Dim = D> + Copy>(
     alloc: Global,
     builder: T,
     built: &Built<'_, D>,
 ) -> bool {
-    let (dim, size) = (built.dim, built.size);
-    has(builder.into_shape_with_order(alloc), dim, size, built.is_c)
-        && has(builder.f(alloc), dim, size, false)
-        && has(builder.set_f(alloc, true), dim, size, false)
-        && has(builder.set_f(alloc, false), dim, size, true)
-        && follows(StrideShape::from_builder(alloc, builder), dim, built.is_c)
+    has(builder.into_shape_with_order(alloc), built, built.is_c)
+        && has(builder.f(alloc), built, false)
+        && has(builder.set_f(alloc, true), built, false)
+        && has(builder.set_f(alloc, false), built, true)
+        && keeps(
+            StrideShape::from_builder(alloc, builder),
+            built,
+            Kept::OfOrder(built.is_c),
+        )
 }
 
-/// Whether a builder builds this with its own strides and with given ones, and shapes that are shown.
-fn gives<D: Lengths, T: ShapeBuilder<Dim = D> + Copy>(
+/// Whether a builder builds this in each order, with its own strides and with given ones, and shapes that are
+/// shown.
+fn is_builder<D: Lengths, T: ShapeBuilder<Dim = D> + Copy>(
     alloc: Global,
     builder: T,
     strides: T::Strides,
     built: &Built<'_, D>,
 ) -> bool {
-    is_given(builder.strides(alloc, strides), built.dim, built.given)
+    keeps(builder.strides(alloc, strides), built, Kept::Given)
+        && builds(alloc, builder, built)
         && has_strides(
             alloc,
             StrideShape::from_builder(alloc, builder),
@@ -143,16 +142,6 @@ fn gives<D: Lengths, T: ShapeBuilder<Dim = D> + Copy>(
         && is_shown(StrideShape::from_builder(alloc, builder))
 }
 
-/// Whether a builder builds all this.
-fn is_builder<D: Lengths, T: ShapeBuilder<Dim = D> + Copy>(
-    alloc: Global,
-    builder: T,
-    strides: T::Strides,
-    built: &Built<'_, D>,
-) -> bool {
-    gives(alloc, builder, strides, built) && builds(alloc, builder, built)
-}
-
 /// Whether what a builder builds, column-major, has these strides, those of its order.
 fn builds_columns<D: Lengths, T: ShapeBuilder<Dim = D>>(
     alloc: Global,
@@ -160,26 +149,16 @@ fn builds_columns<D: Lengths, T: ShapeBuilder<Dim = D>>(
     dim: &D,
     strides: &D,
 ) -> bool {
-    match builder {
-        Some(builder) => columns_follow(alloc, builder.f(alloc), dim, strides),
-        None => false,
-    }
-}
-
-/// The same of the shape that is built.
-fn columns_follow<D: Lengths>(
-    alloc: Global,
-    shape: Result<Shape<D>, AllocError>,
-    dim: &D,
-    strides: &D,
-) -> bool {
-    let Ok(shape) = shape else {
+    let Some(builder) = builder else {
+        return false;
+    };
+    let Ok(shape) = builder.f(alloc) else {
         return false;
     };
     match StrideShape::from_builder(alloc, shape) {
         Ok(shape) => {
             shape.raw_dim().equal(dim)
-                && are_of_order(&shape.strides, false)
+                && matches!(shape.strides, Strides::F)
                 && has_strides(alloc, Ok(shape), strides)
         },
         Err(_) => false,
@@ -202,31 +181,8 @@ fn builds_along<D: Lengths, T: ShapeBuilder<Dim = D, Strides = T> + Drop>(
     }
 }
 
-/// Whether the column-major shape of a dimension is a builder of such shapes.
-fn shape_builds<D: Lengths + Copy>(
-    alloc: Global,
-    dim: D,
-    size: usize,
-    given: D,
-    strides: &D,
-) -> bool {
-    match Shape::from(dim).f(alloc) {
-        Ok(shape) => {
-            let built = Built {
-                dim: &dim,
-                size,
-                is_c: false,
-                given: &given,
-                strides,
-            };
-            is_builder(alloc, shape, given, &built)
-        }
-        Err(_) => false,
-    }
-}
-
 /// Whether this is built of lengths and strides in two forms, of the dimension itself and of its shape; and
-/// these are the strides of that shape by columns.
+/// of that shape by columns the same with these strides.
 fn all_build<D, P, A>(
     alloc: Global,
     patterns: (P, P),
@@ -239,17 +195,29 @@ where
     P: IntoDimension<Dim = D> + Copy,
     A: IntoDimension<Dim = D> + Copy,
 {
-    let (dim, given) = (*built.dim, *built.given);
+    let dim = *built.dim;
+    let given = *built.given;
+    let Ok(columns) = Shape::from(dim).f(alloc) else {
+        return false;
+    };
+    let of_columns = Built {
+        dim: &dim,
+        size: built.size,
+        is_c: false,
+        given: &given,
+        strides: by_columns,
+    };
     is_builder(alloc, patterns.0, patterns.1, built)
         && is_builder(alloc, arrays.0, arrays.1, built)
         && is_builder(alloc, dim, given, built)
         && is_builder(alloc, Shape::from(dim), given, built)
-        && shape_builds(alloc, dim, built.size, given, by_columns)
+        && is_builder(alloc, columns, given, &of_columns)
 }
 
 #[test]
 fn r3_rows_of_builders_of_two_axes(rt: HostRuntime) {
-    let (dim, given) = (new_ix2(2, 3), new_ix2(4, 7));
+    let dim = new_ix2(2, 3);
+    let given = new_ix2(4, 7);
     let built = Built {
         dim: &dim,
         size: 6,
@@ -257,7 +225,8 @@ fn r3_rows_of_builders_of_two_axes(rt: HostRuntime) {
         given: &given,
         strides: &new_ix2(3, 1),
     };
-    let (patterns, arrays) = (((2, 3), (4, 7)), ([2, 3], [4, 7]));
+    let patterns = ((2, 3), (4, 7));
+    let arrays = ([2, 3], [4, 7]);
     assert!(rt; all_build(rt.alloc(), patterns, arrays, &new_ix2(1, 2), &built));
 }
 
@@ -320,7 +289,8 @@ pub(crate) fn dimension_builds<D: Lengths + IntoDimension<Dim = D>>(
     dim: &D,
     row: &Lists<'_>,
 ) -> bool {
-    let (lens, by_columns) = (row.first.as_slice(), row.second.as_slice());
+    let lens = row.first.as_slice();
+    let by_columns = row.second.as_slice();
     match made::<D>(alloc, by_columns) {
         Some(strides) => {
             builds_along(
@@ -336,7 +306,8 @@ pub(crate) fn dimension_builds<D: Lengths + IntoDimension<Dim = D>>(
 
 #[test]
 fn r3_rows_of_builders_of_any_number_of_axes(rt: HostRuntime) {
-    let (alloc, built) = (rt.alloc(), OfList::Builds(24, &[12, 4, 4, 2, 1]));
+    let alloc = rt.alloc();
+    let built = OfList::Builds(24, &[12, 4, 4, 2, 1]);
     assert!(rt; holds_of_list(alloc, &[2, 3, 1, 2, 2], built));
     table(&rt, alloc, Told::Built, "2,3,1,2,2 1,2,6,6,12");
 }
@@ -356,7 +327,8 @@ fn shapes_are_copied(rt: HostRuntime) {
 // Builders of at most four axes are never refused.
 #[test]
 fn r9_rows_of_builders(rt: HostRuntime) {
-    let (alloc, built) = (rt.alloc(), OfList::Builds(12, &[6, 2, 2, 1]));
+    let alloc = rt.alloc();
+    let built = OfList::Builds(12, &[6, 2, 2, 1]);
     assert!(rt; holds_of_list(alloc, &[2, 3, 1, 2], built));
     table(&rt, alloc, Told::Built, "2,3,1,2 1,2,6,6");
 }

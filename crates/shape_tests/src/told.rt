@@ -1,14 +1,11 @@
 //! What the rows of a table tell, at the type of any number of axes and at that of as many as the row has.
 //!
-//! Each type is named in one place, since the check takes seconds for each function that names one; and
-//! what is asked of lengths alone names none but that of so many axes.
-ghost use Rattle.std.specs.Prelude.{◌<◌};
-
+//! Each type is named in one place, since the check takes seconds for each function that names one.
 use crate::indexes::{Walk, is_walked, lends};
 use crate::offsets::tells_of_layout;
 use crate::questions::{Question, is_answered};
 use crate::shapes::dimension_builds;
-use nd_dim::{Dim, Dimension, IntoDimension, Ix0, Ix1, Ix2, Ix3, Ix4, Ix5, Ix6, IxDyn, Lengths};
+use nd_dim::{Dimension, IntoDimension, Ix0, Ix1, Ix2, Ix3, Ix4, Ix5, Ix6, IxDyn, Lengths};
 use nd_testing::{Lists, made, rows};
 use std::alloc::Global;
 use std::process::Abort;
@@ -40,27 +37,6 @@ fn tells<D: Lengths + IntoDimension<Dim = D>>(told: Told, alloc: Global, row: &L
     }
 }
 
-/// The same at the type of so many axes.
-fn tells_of<const N: usize>(told: Told, alloc: Global, row: &Lists<'_>) -> bool
-    requires few { N < 7 }
-{
-    tells::<Dim<[usize; N]>>(told, alloc, row)
-}
-
-/// The same of a row with as many axes.
-fn tells_of_count(told: Told, alloc: Global, ndim: usize, row: &Lists<'_>) -> bool {
-    match ndim {
-        0 => tells_of::<0>(told, alloc, row),
-        1 => tells_of::<1>(told, alloc, row),
-        2 => tells_of::<2>(told, alloc, row),
-        3 => tells_of::<3>(told, alloc, row),
-        4 => tells_of::<4>(told, alloc, row),
-        5 => tells_of::<5>(told, alloc, row),
-        6 => tells_of::<6>(told, alloc, row),
-        _ => false,
-    }
-}
-
 /// Whether a row tells what is answered at a type by calls of a dimension.
 fn tells_of_dimension<D: Dimension>(told: Told, alloc: Global, row: &Lists<'_>) -> bool {
     match made::<D>(alloc, row.first.as_slice()) {
@@ -72,9 +48,13 @@ fn tells_of_dimension<D: Dimension>(told: Told, alloc: Global, row: &Lists<'_>) 
     }
 }
 
-/// The same at a type whose values are copied.
-fn tells_of_copies<D: Dimension + Copy>(told: Told, alloc: Global, row: &Lists<'_>) -> bool {
+/// Whether a row tells what is answered at a type whose values are copied.
+fn tells_of_copies<D>(told: Told, alloc: Global, row: &Lists<'_>) -> bool
+where
+    D: Dimension + IntoDimension<Dim = D> + Copy,
+{
     match told {
+        Told::Built | Told::Asked(_) => tells::<D>(told, alloc, row),
         Told::Walked(walk) => is_walked::<D>(alloc, walk, row),
         _ => tells_of_dimension::<D>(told, alloc, row),
     }
@@ -94,30 +74,17 @@ fn tells_of_type(told: Told, alloc: Global, ndim: usize, row: &Lists<'_>) -> boo
     }
 }
 
-/// Whether a row holds at the type of as many axes as its first list has.
-fn holds_at_its_type(told: Told, alloc: Global, row: &Lists<'_>) -> bool {
+/// Whether a row holds at the type of any number of axes, where its indices are lent by a cursor, of which
+/// nothing else is asked; and at that of as many as its first list has, if these are up to six.
+pub(crate) fn holds(told: Told, alloc: Global, row: &Lists<'_>) -> bool {
     let ndim = row.first.as_slice().len();
-    match told {
-        Told::Built | Told::Asked(_) => tells_of_count(told, alloc, ndim, row),
-        _ => tells_of_type(told, alloc, ndim, row),
-    }
-}
-
-/// Whether a row holds at the type of any number of axes. Its indices are lent by a cursor, of which
-/// nothing else is asked.
-fn holds_at_any_count(told: Told, alloc: Global, row: &Lists<'_>) -> bool {
-    match told {
+    let holds_at_any_count = match told {
         Told::Built | Told::Asked(_) => tells::<IxDyn>(told, alloc, row),
         Told::Walked(Walk::All(order)) => lends(alloc, order, row),
         Told::Walked(_) => true,
         _ => tells_of_dimension::<IxDyn>(told, alloc, row),
-    }
-}
-
-/// Whether a row holds at both of its types. Past six axes it has that of any number alone.
-pub(crate) fn holds(told: Told, alloc: Global, row: &Lists<'_>) -> bool {
-    holds_at_any_count(told, alloc, row)
-        && (row.first.as_slice().len() > 6 || holds_at_its_type(told, alloc, row))
+    };
+    holds_at_any_count && (ndim > 6 || tells_of_type(told, alloc, ndim, row))
 }
 
 /// The same of a row of a table.
