@@ -35,6 +35,9 @@ fn behaves<D: Lengths>(alloc: Global, dim: D) -> bool
 #[test]
 fn r1_rows_of_lengths(rt: HostRuntime) {
     let alloc = rt.alloc();
-    assert!(rt; behaves(alloc, new_ix1(4)) && behaves(alloc, new_ix2(2, 3)));
-    assert!(rt; behaves(alloc, ixdyn(alloc, &[2, 3])));
+    assert!(rt;
+        behaves(alloc, new_ix1(4))
+            && behaves(alloc, new_ix2(2, 3))
+            && behaves(alloc, ixdyn(alloc, &[2, 3]))
+    );
 }

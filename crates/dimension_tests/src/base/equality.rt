@@ -16,12 +16,15 @@ const KINDS: [ErrorKind; 6] = [
 
 /// The refusals of all kinds.
 fn refusals() -> [ShapeError; 6] {
-    KINDS.map(refusal_of)
-}
-
-/// The refusal of a kind.
-fn refusal_of(kind: ErrorKind) -> ShapeError {
-    from_kind(kind)
+    let [shape, layout, range, bounds, unsupported, overflow] = KINDS;
+    [
+        from_kind(shape),
+        from_kind(layout),
+        from_kind(range),
+        from_kind(bounds),
+        from_kind(unsupported),
+        from_kind(overflow),
+    ]
 }
 
 #[test]

@@ -56,33 +56,30 @@ pub(crate) fn has_size<D: Dimension>(dim: &D, wanted: &[usize]) -> bool {
     }
 }
 
-/// The strides of a shape in an order, by the shape itself, where its size fits.
-pub(crate) fn own_strides<D: Dimension>(
-    alloc: Global,
-    dim: &D,
-    order: Order,
-) -> Result<D, AllocError> {
-    if dim.size_checked().is_none() {
-        return Err(AllocError);
-    }
-    match order {
-        Order::RowMajor => dim.default_strides(alloc),
-        Order::ColumnMajor => dim.fortran_strides(alloc),
-    }
+/// What makes strides.
+#[derive(Clone, Copy)]
+pub(crate) enum By {
+    /// The shape itself.
+    Shape,
+    /// Its list alone.
+    List,
 }
 
-/// The same strides of the list alone.
-pub(crate) fn strides_of_list<D: Dimension>(
+/// The strides of a shape in an order, where its size fits.
+pub(crate) fn strides<D: Dimension>(
     alloc: Global,
     dim: &D,
     order: Order,
+    by: By,
 ) -> Result<D, AllocError> {
     if dim.size_checked().is_none() {
         return Err(AllocError);
     }
-    match order {
-        Order::RowMajor => default_strides(alloc, dim),
-        Order::ColumnMajor => fortran_strides(alloc, dim),
+    match (order, by) {
+        (Order::RowMajor, By::Shape) => dim.default_strides(alloc),
+        (Order::ColumnMajor, By::Shape) => dim.fortran_strides(alloc),
+        (Order::RowMajor, By::List) => default_strides(alloc, dim),
+        (Order::ColumnMajor, By::List) => fortran_strides(alloc, dim),
     }
 }
 
@@ -93,10 +90,10 @@ pub(crate) fn has_strides<D: Dimension>(
     by_rows: &[usize],
     by_columns: &[usize],
 ) -> bool {
-    gives(own_strides(alloc, dim, Order::C), by_rows)
-        && gives(own_strides(alloc, dim, Order::F), by_columns)
-        && gives(strides_of_list(alloc, dim, Order::C), by_rows)
-        && gives(strides_of_list(alloc, dim, Order::F), by_columns)
+    gives(strides(alloc, dim, Order::C, By::Shape), by_rows)
+        && gives(strides(alloc, dim, Order::F, By::Shape), by_columns)
+        && gives(strides(alloc, dim, Order::C, By::List), by_rows)
+        && gives(strides(alloc, dim, Order::F, By::List), by_columns)
 }
 
 /// Whether strides are equivalent to those of another type.
@@ -169,10 +166,10 @@ pub(crate) fn has_stride_axes<D: Dimension>(
     strides: &[usize],
     axes: &[usize],
 ) -> bool {
-    let strides: D = dim_of(rt, alloc, strides);
-    if dim.ndim() == 0 || dim.ndim() != strides.ndim() {
+    if dim.ndim() == 0 || dim.ndim() != strides.len() {
         return false;
     }
+    let strides: D = dim_of(rt, alloc, strides);
     [
         dim.min_stride_axis(&strides).0,
         dim.max_stride_axis(&strides).0,
@@ -204,32 +201,38 @@ pub(crate) fn stays<D: Dimension + IntoDimension<Dim = D>>(
     }
 }
 
-/// To the type of any number of axes and back.
-pub(crate) fn changes_type<D: Dimension>(rt: &impl Abort, alloc: Global, lens: &[usize]) -> bool {
-    let dim: D = dim_of(rt, alloc, lens);
-    match dim.into_dyn(alloc) {
-        Ok(dynamic) => dynamic.slice() == lens && becomes::<D>(alloc, &dynamic, true),
-        Err(_) => false,
+/// A list of this type, as a value of any number of axes.
+pub(crate) fn handed_on<D: Dimension>(alloc: Global, lens: &[usize]) -> Result<IxDyn, AllocError> {
+    match made::<D>(alloc, lens) {
+        Some(dim) => dim.into_dyn(alloc),
+        None => Err(AllocError),
     }
 }
 
-/// A list is one of this type, or is none.
-pub(crate) fn becomes<D: Dimension>(alloc: Global, dynamic: &IxDyn, answer: bool) -> bool {
-    match D::from_dimension(alloc, dynamic) {
-        Ok(Some(made)) => answer && made.slice() == dynamic.slice(),
+/// A value of any number of axes that a call made has these lengths, and is one of this type or is none.
+/// Whether the call may want memory is told as well.
+pub(crate) fn becomes<D: Dimension>(
+    alloc: Global,
+    dynamic: Result<IxDyn, AllocError>,
+    lens: &[usize],
+    answer: bool,
+    may_want_memory: bool,
+) -> bool {
+    match dynamic {
+        Ok(dynamic) => {
+            dynamic.slice() == lens && may_give(D::from_dimension(alloc, &dynamic), lens, answer)
+        },
+        Err(_) => may_want_memory,
+    }
+}
+
+/// A call made a value of these lengths, or none.
+fn may_give<D: Lengths>(made: Result<Option<D>, AllocError>, lens: &[usize], answer: bool) -> bool {
+    match made {
+        Ok(Some(made)) => answer && made.slice() == lens,
         Ok(None) => !answer,
         Err(_) => false,
     }
-}
-
-/// The same of a list of its own.
-pub(crate) fn list_becomes<D: Dimension>(
-    rt: &impl Abort,
-    alloc: Global,
-    lens: &[usize],
-    answer: bool,
-) -> bool {
-    becomes::<D>(alloc, &new_ixdyn(alloc, lens).expect(rt, "memory"), answer)
 }
 
 /// Writes the last length.

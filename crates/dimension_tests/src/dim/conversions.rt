@@ -81,11 +81,6 @@ fn stands_for<T: IntoDimension>(alloc: Global, value: T, lens: &[usize]) -> bool
     gives(value.into_dimension(alloc), lens)
 }
 
-/// A new dimension of a value has these lengths.
-fn is_new_of<T: IntoDimension>(alloc: Global, value: T, lens: &[usize]) -> bool {
-    gives(new_dim(alloc, value), lens)
-}
-
 /// A vector makes the dimension of its items.
 fn comes_of_vector(alloc: Global, lens: &[usize]) -> bool {
     match lens.to_vec(alloc) {
@@ -106,10 +101,13 @@ fn comes_of_list(alloc: Global, lens: &[usize]) -> bool {
 fn r2_rows_from_lists(rt: HostRuntime) {
     let alloc = rt.alloc();
     let lens = [2, 3, 4, 5, 6, 7, 8];
-    assert!(rt; stands_for(alloc, lens.as_slice(), &lens));
-    assert!(rt; comes_of_vector(alloc, &lens) && comes_of_list(alloc, &lens));
-    assert!(rt; is_new_of(alloc, lens.as_slice(), &lens));
-    assert!(rt; converts(alloc, (3, 4), [3, 4], new_ix2(3, 4)));
+    assert!(rt;
+        stands_for(alloc, lens.as_slice(), &lens)
+            && comes_of_vector(alloc, &lens)
+            && comes_of_list(alloc, &lens)
+            && gives(new_dim(alloc, lens.as_slice()), &lens)
+            && converts(alloc, (3, 4), [3, 4], new_ix2(3, 4))
+    );
 }
 
 /// A vector that is handed over makes a dimension equal to that of the same lengths.
@@ -123,8 +121,11 @@ fn is_one_with_vector(alloc: Global, lens: &[usize]) -> bool {
 #[test]
 fn r2_rows_of_equality(rt: HostRuntime) {
     let alloc = rt.alloc();
-    assert!(rt; is_one_with_vector(alloc, &[]) && is_one_with_vector(alloc, &[3, 4, 5]));
-    assert!(rt; is_one_with_vector(alloc, &[1, 2, 3, 4, 5]));
+    assert!(rt;
+        is_one_with_vector(alloc, &[])
+            && is_one_with_vector(alloc, &[3, 4, 5])
+            && is_one_with_vector(alloc, &[1, 2, 3, 4, 5])
+    );
 }
 
 /// A value stands for this shape of this type, and tells an order or none.
@@ -143,8 +144,10 @@ fn shapes<T: ShapeArg<Dim = D>, D: Lengths>(
 #[test]
 fn r2_rows_of_shapes(rt: HostRuntime) {
     let alloc = rt.alloc();
-    assert!(rt; shapes::<_, Ix2>(alloc, (2, 3), &[2, 3], None));
-    assert!(rt; shapes::<_, Ix2>(alloc, ((2, 3), Order::C), &[2, 3], Some(Order::C)));
-    assert!(rt; shapes::<_, Ix3>(alloc, ([2, 3, 4], Order::F), &[2, 3, 4], Some(Order::F)));
-    assert!(rt; shapes::<_, IxDyn>(alloc, [2, 3].as_slice(), &[2, 3], None));
+    assert!(rt;
+        shapes::<_, Ix2>(alloc, (2, 3), &[2, 3], None)
+            && shapes::<_, Ix2>(alloc, ((2, 3), Order::C), &[2, 3], Some(Order::C))
+            && shapes::<_, Ix3>(alloc, ([2, 3, 4], Order::F), &[2, 3, 4], Some(Order::F))
+            && shapes::<_, IxDyn>(alloc, [2, 3].as_slice(), &[2, 3], None)
+    );
 }

@@ -3,39 +3,51 @@
 //!
 //! A call that needs no memory goes well whatever is refused. A call that needs memory is made
 //! twice, before one small request. To make a list of more than four lengths is a request itself.
-use crate::dim::checks::{becomes, is_one, own_strides, strides_of_list};
+use crate::dim::checks::{By, becomes, handed_on, is_one, strides};
 use crate::dim::told::{Told, Types, table};
 use nd_dim::{
     Axis, Dimension, FixedCount, IntoDimension, IxDyn, IxDynImpl, Lengths, Order, RemoveAxis,
     ShapeArg, new_dim, new_ixdyn,
 };
-use nd_testing::{asked, made};
+use nd_testing::{asked, grants, made};
 use std::alloc::{AllocError, Global};
 use std::process::Abort;
 
-/// How calls go about memory.
+/// A call of a dimension that makes something.
 #[derive(Clone, Copy)]
 pub(crate) enum Call {
-    /// None is needed at a type of a fixed count of axes, nor with up to four axes at another.
-    NeedsNone,
+    Strides(Order, By),
+    StrideOrder,
+    Default,
+    Zeros,
+    Duplicate,
+    /// A value of the same type.
+    FromSame,
+    /// A value of any number of axes, in either way.
+    IntoAny,
+    AnyFrom,
+    /// One axis more.
+    InsertAxis,
+    /// One axis less, in either way.
+    TryRemoveAxis,
+    RemoveAxis,
+}
+
+/// How calls go about memory.
+#[derive(Clone, Copy)]
+pub(crate) enum Memory {
+    /// None is needed at a type of a fixed count of axes, nor with up to four axes at another. The axis is the
+    /// first one, and where one is inserted also the end.
+    NeedsNone(Call),
     /// None is needed for an axis less than five, nor for the default.
     NeedsNoneOfFive,
-    /// None is needed to make a value of a list of five of any number of axes.
+    /// None is needed to make a value of a list of five of any number of axes, if there was memory for that list.
     MakesOfFive,
     /// None is needed for a list of five itself, nor to hand it on.
     KeepsFive,
-    /// None is needed to make a value of any number of axes.
-    MakesAny,
-    /// To make a value of any number of axes asks for some, in either way.
-    IntoAny,
-    FromFixed,
-    Strides(Order),
-    Duplicate,
-    StrideOrder,
-    /// At the axis of the row, and at the end.
-    InsertAxis,
-    /// The first and the last one.
-    RemoveAxis,
+    /// Two calls ask for some. The axes are that of the row and the end; of those that are removed, the first
+    /// and the last.
+    Asks(Call, Call),
 }
 
 /// A call gave what it makes.
@@ -43,53 +55,34 @@ fn is_given<T: Drop>(made: Result<T, AllocError>) -> bool {
     made.is_ok()
 }
 
-/// What a call of a shape gives needs no memory.
-fn serves_shape<D: Dimension>(alloc: Global, dim: &D) -> bool {
-    is_given(own_strides(alloc, dim, Order::C))
-        && is_given(own_strides(alloc, dim, Order::F))
-        && is_given(dim._fastest_varying_stride_order(alloc))
-}
-
-/// Values of the same type need no memory.
-fn serves_type<D: Dimension>(alloc: Global, dim: &D) -> bool {
-    is_given(D::default_in(alloc))
-        && is_given(D::zeros(alloc, dim.ndim()))
-        && is_given(dim.duplicate(alloc))
-        && is_given(D::from_dimension(alloc, dim))
-}
-
-/// An axis more needs no memory, at the front and at the end.
-fn is_wider<D: Dimension>(alloc: Global, dim: &D) -> bool {
-    is_given(dim.insert_axis(alloc, Axis(0))) && is_given(dim.insert_axis(alloc, Axis(dim.ndim())))
-}
-
-/// An axis less needs no memory.
-fn is_narrower<D: RemoveAxis>(alloc: Global, dim: &D, axis: usize) -> bool {
-    axis < dim.ndim()
-        && is_given(dim.try_remove_axis(alloc, Axis(axis)))
-        && is_given(dim.remove_axis(alloc, Axis(axis)))
-}
-
-/// A list of this type, as a value of any number of axes.
-fn handed_on<D: Dimension>(alloc: Global, lens: &[usize]) -> Result<IxDyn, AllocError> {
-    match made::<D>(alloc, lens) {
-        Some(dim) => dim.into_dyn(alloc),
-        None => Err(AllocError),
+/// Whether a call of a dimension gives what it makes, at an axis where it wants one.
+fn is_made<D: Dimension>(alloc: Global, call: Call, dim: &D, axis: usize) -> bool {
+    match call {
+        Call::Strides(order, by) => is_given(strides(alloc, dim, order, by)),
+        Call::StrideOrder => is_given(dim._fastest_varying_stride_order(alloc)),
+        Call::Default => is_given(D::default_in(alloc)),
+        Call::Zeros => is_given(D::zeros(alloc, dim.ndim())),
+        Call::Duplicate => is_given(dim.duplicate(alloc)),
+        Call::FromSame => is_given(D::from_dimension(alloc, dim)),
+        Call::IntoAny => is_given(handed_on::<D>(alloc, dim.slice())),
+        Call::AnyFrom => is_given(IxDyn::from_dimension(alloc, dim)),
+        Call::InsertAxis => axis <= dim.ndim() && is_given(dim.insert_axis(alloc, Axis(axis))),
+        Call::TryRemoveAxis => {
+            (axis < dim.ndim() || dim.ndim() == 0)
+                && is_given(dim.try_remove_axis(alloc, Axis(axis)))
+        },
+        Call::RemoveAxis => false,
     }
 }
 
-/// The same list of any number of axes needs no memory.
-fn is_handed_on<D: Dimension>(alloc: Global, dim: &D) -> bool {
-    is_given(handed_on::<D>(alloc, dim.slice()))
+/// Whether the call that removes an axis, if there is that axis, gives what it makes.
+fn is_removed<D: RemoveAxis>(alloc: Global, dim: &D, axis: usize) -> bool {
+    axis < dim.ndim() && is_given(dim.remove_axis(alloc, Axis(axis)))
 }
 
-/// What needs no memory at a type of a fixed count of axes, nor with up to four axes at another.
-fn needs_none<D: Dimension>(alloc: Global, dim: &D) -> bool {
-    serves_shape(alloc, dim)
-        && serves_type(alloc, dim)
-        && (D::Larger::NDIM.is_none() && dim.ndim() > 3 || is_wider(alloc, dim))
-        && (dim.ndim() > 0 || is_given(dim.try_remove_axis(alloc, Axis(0))))
-        && (dim.ndim() > 4 || is_handed_on(alloc, dim))
+/// Whether two calls, which gave what they make or didn't, asked for memory.
+fn have_asked(alloc: Global, first: bool, second: bool) -> bool {
+    grants(alloc) && (first || second)
 }
 
 /// A list of five of any number of axes needs no memory to be one, if there was memory for it: neither by
@@ -104,106 +97,99 @@ fn keeps_five<D: Dimension + IntoDimension<Dim = D>>(alloc: Global) -> bool {
     }
 }
 
-/// A value of a list of five of any number of axes needs no memory, if there was memory for that list.
-fn makes_of_five<D: Dimension>(alloc: Global) -> bool {
-    match new_ixdyn(alloc, &[1, 2, 3, 4, 5]) {
-        Ok(five) => becomes::<D>(alloc, &five, D::NDIM.unwrap_or(5) == 5),
-        Err(_) => true,
-    }
-}
+const FIVE: [usize; 5] = [1, 2, 3, 4, 5];
 
-/// A value of any number of axes asks for memory.
-fn asks_into_any<D: Dimension>(alloc: Global, dim: &D) -> bool {
-    let first = handed_on::<D>(alloc, dim.slice());
-    asked(alloc, first, handed_on::<D>(alloc, dim.slice()))
-}
-
-/// Made of the value of another type it asks for memory, or needs none.
-fn any_of<D: Lengths>(alloc: Global, dim: &D) -> Result<Option<IxDyn>, AllocError> {
-    IxDyn::from_dimension(alloc, dim)
-}
-
-/// Strides ask for memory, by the dimension and by its list.
-fn asks_for_strides<D: Dimension>(alloc: Global, dim: &D, order: Order) -> bool {
-    asked(
-        alloc,
-        own_strides(alloc, dim, order),
-        strides_of_list(alloc, dim, order),
-    )
-}
-
-/// An axis more asks for memory.
-fn asks_for_axis<D: Dimension>(alloc: Global, dim: &D, axis: usize) -> bool {
-    let end = dim.ndim();
-    axis <= end
-        && asked(
+/// Whether calls go so about memory.
+pub(crate) fn serves<D: Dimension>(alloc: Global, memory: Memory, dim: &D, axis: usize) -> bool {
+    match memory {
+        Memory::NeedsNone(Call::InsertAxis) => {
+            D::Larger::NDIM.is_none() && dim.ndim() > 3
+                || is_made(alloc, Call::InsertAxis, dim, 0)
+                    && is_made(alloc, Call::InsertAxis, dim, dim.ndim())
+        },
+        Memory::NeedsNone(Call::IntoAny) => {
+            dim.ndim() > 4 || is_made(alloc, Call::IntoAny, dim, 0)
+        },
+        Memory::NeedsNone(Call::RemoveAxis) => dim.ndim() == 0,
+        Memory::NeedsNone(call) => is_made(alloc, call, dim, 0),
+        Memory::MakesOfFive => becomes::<D>(
             alloc,
-            dim.insert_axis(alloc, Axis(axis)),
-            dim.insert_axis(alloc, Axis(end)),
-        )
-}
-
-/// An axis less asks for memory.
-fn asks_without_axis<D: RemoveAxis>(alloc: Global, dim: &D) -> bool {
-    if dim.ndim() == 0 {
-        return false;
-    }
-    let last = Axis(dim.ndim() - 1);
-    asked(
-        alloc,
-        dim.remove_axis(alloc, Axis(0)),
-        dim.try_remove_axis(alloc, last),
-    )
-}
-
-/// Whether a call goes so about memory.
-pub(crate) fn serves<D: Dimension>(alloc: Global, call: Call, dim: &D, axis: usize) -> bool {
-    match call {
-        Call::NeedsNone => needs_none(alloc, dim),
-        Call::MakesOfFive => makes_of_five::<D>(alloc),
-        Call::MakesAny => is_given(any_of(alloc, dim)) && is_handed_on(alloc, dim),
-        Call::IntoAny => asks_into_any(alloc, dim),
-        Call::FromFixed => asked(alloc, any_of(alloc, dim), any_of(alloc, dim)),
-        Call::Strides(order) => asks_for_strides(alloc, dim, order),
-        Call::Duplicate => asked(alloc, dim.duplicate(alloc), dim.duplicate(alloc)),
-        Call::StrideOrder => asked(
-            alloc,
-            dim._fastest_varying_stride_order(alloc),
-            dim._fastest_varying_stride_order(alloc),
+            new_ixdyn(alloc, &FIVE),
+            &FIVE,
+            D::NDIM.unwrap_or(5) == 5,
+            true,
         ),
-        Call::InsertAxis => asks_for_axis(alloc, dim, axis),
-        Call::NeedsNoneOfFive | Call::KeepsFive | Call::RemoveAxis => false,
+        Memory::Asks(first, second) => have_asked(
+            alloc,
+            is_made(alloc, first, dim, axis),
+            is_made(alloc, second, dim, dim.ndim()),
+        ),
+        Memory::NeedsNoneOfFive | Memory::KeepsFive => false,
     }
 }
 
 /// The same at a type that can have an axis to remove.
 pub(crate) fn asks<D: RemoveAxis + IntoDimension<Dim = D>>(
     alloc: Global,
-    call: Call,
+    memory: Memory,
     dim: &D,
     axis: usize,
 ) -> bool {
-    match call {
-        Call::NeedsNone => is_narrower(alloc, dim, 0) && needs_none(alloc, dim),
-        Call::NeedsNoneOfFive => {
-            is_narrower(alloc, dim, 2)
-                && is_narrower(alloc, dim, 4)
-                && is_given(D::default_in(alloc))
+    match memory {
+        Memory::NeedsNone(Call::RemoveAxis) => is_removed(alloc, dim, 0),
+        Memory::NeedsNoneOfFive => {
+            is_made(alloc, Call::TryRemoveAxis, dim, 2)
+                && is_removed(alloc, dim, 2)
+                && is_made(alloc, Call::TryRemoveAxis, dim, 4)
+                && is_removed(alloc, dim, 4)
+                && is_made(alloc, Call::Default, dim, 0)
         },
-        Call::KeepsFive => keeps_five::<D>(alloc),
-        Call::RemoveAxis => asks_without_axis(alloc, dim),
-        _ => serves(alloc, call, dim, axis),
+        Memory::KeepsFive => keeps_five::<D>(alloc),
+        Memory::Asks(Call::RemoveAxis, second) => have_asked(
+            alloc,
+            is_removed(alloc, dim, 0),
+            is_made(alloc, second, dim, dim.ndim().saturating_sub(1)),
+        ),
+        _ => serves(alloc, memory, dim, axis),
     }
 }
 
-/// The rows of a table, which tell how a call goes about memory at the type of any number of axes.
-fn table_at_any_count(rt: &impl Abort, alloc: Global, call: Call, rows: &str) {
-    table(rt, alloc, Told::Memory(call), Types::AnyCount, rows);
+/// The rows of a table, which tell how calls go about memory at the type of any number of axes.
+fn table_at_any_count(rt: &impl Abort, alloc: Global, memory: Memory, rows: &str) {
+    table(rt, alloc, Told::Memory(memory), Types::AnyCount, rows);
 }
 
 /// The same at the types of fixed counts of axes.
-fn table_at_fixed(rt: &impl Abort, alloc: Global, call: Call, rows: &str) {
-    table(rt, alloc, Told::Memory(call), Types::Fixed, rows);
+fn table_at_fixed(rt: &impl Abort, alloc: Global, memory: Memory, rows: &str) {
+    table(rt, alloc, Told::Memory(memory), Types::Fixed, rows);
+}
+
+/// What needs no memory at a type of a fixed count of axes, nor with up to four axes at another.
+const NEEDS_NONE: [Call; 11] = [
+    Call::Strides(Order::RowMajor, By::Shape),
+    Call::Strides(Order::ColumnMajor, By::Shape),
+    Call::StrideOrder,
+    Call::Default,
+    Call::Zeros,
+    Call::Duplicate,
+    Call::FromSame,
+    Call::InsertAxis,
+    Call::TryRemoveAxis,
+    Call::RemoveAxis,
+    Call::IntoAny,
+];
+
+/// The rows of a table, at each of which nothing of this needs memory.
+fn table_of_needs(rt: &impl Abort, alloc: Global, types: Types, rows: &str) {
+    for call in NEEDS_NONE {
+        table(
+            rt,
+            alloc,
+            Told::Memory(Memory::NeedsNone(call)),
+            types,
+            rows,
+        );
+    }
 }
 
 const AT_FIXED_TYPES: &str = "\
@@ -217,7 +203,7 @@ const AT_FIXED_TYPES: &str = "\
 
 #[test]
 fn r9_rows_at_fixed_types(rt: HostRuntime) {
-    table_at_fixed(&rt, rt.alloc(), Call::NeedsNone, AT_FIXED_TYPES);
+    table_of_needs(&rt, rt.alloc(), Types::Fixed, AT_FIXED_TYPES);
 }
 
 const AT_ANY_COUNT: &str = "\
@@ -234,14 +220,15 @@ fn four_need_none(alloc: Global, four: &[usize]) -> bool {
 #[test]
 fn r9_rows(rt: HostRuntime) {
     let alloc = rt.alloc();
-    table_at_any_count(&rt, alloc, Call::NeedsNone, AT_ANY_COUNT);
-    table_at_fixed(&rt, alloc, Call::MakesAny, "1,2,3,4");
+    table_of_needs(&rt, alloc, Types::AnyCount, AT_ANY_COUNT);
+    table_at_fixed(&rt, alloc, Memory::NeedsNone(Call::AnyFrom), "1,2,3,4");
+    table_at_fixed(&rt, alloc, Memory::NeedsNone(Call::IntoAny), "1,2,3,4");
     assert!(rt; four_need_none(alloc, &[1, 2, 3, 4]));
 }
 
 #[test]
 fn r9_rows_insert_axis_into_three(rt: HostRuntime) {
-    table_at_any_count(&rt, rt.alloc(), Call::NeedsNone, "1,2,3");
+    table_of_needs(&rt, rt.alloc(), Types::AnyCount, "1,2,3");
 }
 
 /// What is left of a list is one that was made so, and has its hash; if there was memory for it.
@@ -260,22 +247,22 @@ fn r9_rows_of_equality(rt: HostRuntime) {
 
 #[test]
 fn r9_rows_remove_axis_from_five(rt: HostRuntime) {
-    table_at_any_count(&rt, rt.alloc(), Call::NeedsNoneOfFive, "1,2,3,4,5");
+    table_at_any_count(&rt, rt.alloc(), Memory::NeedsNoneOfFive, "1,2,3,4,5");
 }
 
 #[test]
 fn r9_rows_five_into_dyn(rt: HostRuntime) {
-    table_at_any_count(&rt, rt.alloc(), Call::KeepsFive, "1");
+    table_at_any_count(&rt, rt.alloc(), Memory::KeepsFive, "1");
 }
 
 #[test]
 fn r9_rows_five_into_five(rt: HostRuntime) {
-    table_at_fixed(&rt, rt.alloc(), Call::MakesOfFive, "1,2,3,4,5");
+    table_at_fixed(&rt, rt.alloc(), Memory::MakesOfFive, "1,2,3,4,5");
 }
 
 #[test]
 fn r9_rows_five_into_three(rt: HostRuntime) {
-    table_at_fixed(&rt, rt.alloc(), Call::MakesOfFive, "1,2,3");
+    table_at_fixed(&rt, rt.alloc(), Memory::MakesOfFive, "1,2,3");
 }
 
 #[test]
@@ -296,32 +283,68 @@ fn r9_rows_list_of_five(rt: HostRuntime) {
 
 #[test]
 fn r9_rows_default_strides_of_five(rt: HostRuntime) {
-    table_at_any_count(&rt, rt.alloc(), Call::Strides(Order::C), "1,2,3,4,5");
+    table_at_any_count(
+        &rt,
+        rt.alloc(),
+        Memory::Asks(
+            Call::Strides(Order::C, By::Shape),
+            Call::Strides(Order::C, By::List),
+        ),
+        "1,2,3,4,5",
+    );
 }
 
 #[test]
 fn r9_rows_fortran_strides_of_five(rt: HostRuntime) {
-    table_at_any_count(&rt, rt.alloc(), Call::Strides(Order::F), "1,2,3,4,5");
+    table_at_any_count(
+        &rt,
+        rt.alloc(),
+        Memory::Asks(
+            Call::Strides(Order::F, By::Shape),
+            Call::Strides(Order::F, By::List),
+        ),
+        "1,2,3,4,5",
+    );
 }
 
 #[test]
 fn r9_rows_duplicate_of_five(rt: HostRuntime) {
-    table_at_any_count(&rt, rt.alloc(), Call::Duplicate, "1,2,3,4,5");
+    table_at_any_count(
+        &rt,
+        rt.alloc(),
+        Memory::Asks(Call::Duplicate, Call::Duplicate),
+        "1,2,3,4,5",
+    );
 }
 
 #[test]
 fn r9_rows_stride_order_of_five(rt: HostRuntime) {
-    table_at_any_count(&rt, rt.alloc(), Call::StrideOrder, "1,2,3,4,5");
+    table_at_any_count(
+        &rt,
+        rt.alloc(),
+        Memory::Asks(Call::StrideOrder, Call::StrideOrder),
+        "1,2,3,4,5",
+    );
 }
 
 #[test]
 fn r9_rows_insert_axis_into_four(rt: HostRuntime) {
-    table_at_any_count(&rt, rt.alloc(), Call::InsertAxis, "1,2,3,4 1");
+    table_at_any_count(
+        &rt,
+        rt.alloc(),
+        Memory::Asks(Call::InsertAxis, Call::InsertAxis),
+        "1,2,3,4 1",
+    );
 }
 
 #[test]
 fn r9_rows_remove_axis_from_six(rt: HostRuntime) {
-    table_at_any_count(&rt, rt.alloc(), Call::RemoveAxis, "1,2,3,4,5,6");
+    table_at_any_count(
+        &rt,
+        rt.alloc(),
+        Memory::Asks(Call::RemoveAxis, Call::TryRemoveAxis),
+        "1,2,3,4,5,6",
+    );
 }
 
 // These ask for memory at once.
@@ -347,17 +370,32 @@ fn r9_rows_shape_of_five(rt: HostRuntime) {
 
 #[test]
 fn r9_rows_insert_axis_into_six(rt: HostRuntime) {
-    table_at_fixed(&rt, rt.alloc(), Call::InsertAxis, "1,2,3,4,5,6 0");
+    table_at_fixed(
+        &rt,
+        rt.alloc(),
+        Memory::Asks(Call::InsertAxis, Call::InsertAxis),
+        "1,2,3,4,5,6 0",
+    );
 }
 
 #[test]
 fn r9_rows_into_dyn_of_five(rt: HostRuntime) {
-    table_at_fixed(&rt, rt.alloc(), Call::IntoAny, "1,2,3,4,5");
+    table_at_fixed(
+        &rt,
+        rt.alloc(),
+        Memory::Asks(Call::IntoAny, Call::IntoAny),
+        "1,2,3,4,5",
+    );
 }
 
 #[test]
 fn r9_rows_from_dimension_of_five(rt: HostRuntime) {
-    table_at_fixed(&rt, rt.alloc(), Call::FromFixed, "1,2,3,4,5");
+    table_at_fixed(
+        &rt,
+        rt.alloc(),
+        Memory::Asks(Call::AnyFrom, Call::AnyFrom),
+        "1,2,3,4,5",
+    );
 }
 
 #[test]

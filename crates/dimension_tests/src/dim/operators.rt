@@ -52,29 +52,19 @@ fn fits_scaled(lens: &[usize], factor: usize) -> bool
     }
 }
 
-/// What an operator makes.
-fn result<D: Arithmetic>(operator: Operator, dim: D, index: D) -> D
+/// What an operator makes, or leaves in place.
+fn result<D: Arithmetic>(operator: Operator, in_place: bool, mut dim: D, index: D) -> D
     requires sums { SumsFit (D.list dim) (D.list index) }
     requires differences { DifferencesFit (D.list dim) (D.list index) }
     requires products { ProductsFit (D.list dim) (D.list index) }
 {
-    match operator {
-        Operator::Add => dim + index,
-        Operator::Sub => dim - index,
-        Operator::Mul => dim * index,
-    }
-}
-
-/// What an operator leaves.
-fn result_in_place<D: Arithmetic>(operator: Operator, mut dim: D, index: D) -> D
-    requires sums { SumsFit (D.list dim) (D.list index) }
-    requires differences { DifferencesFit (D.list dim) (D.list index) }
-    requires products { ProductsFit (D.list dim) (D.list index) }
-{
-    match operator {
-        Operator::Add => dim += index,
-        Operator::Sub => dim -= index,
-        Operator::Mul => dim *= index,
+    match (operator, in_place) {
+        (Operator::Add, false) => return dim + index,
+        (Operator::Sub, false) => return dim - index,
+        (Operator::Mul, false) => return dim * index,
+        (Operator::Add, true) => dim += index,
+        (Operator::Sub, true) => dim -= index,
+        (Operator::Mul, true) => dim *= index,
     }
     dim
 }
@@ -95,11 +85,21 @@ pub(crate) fn calculates<D: Arithmetic>(
 ) -> bool {
     fit(lens, index)
         && is::<D>(
-            result(operator, dim_of(rt, alloc, lens), dim_of(rt, alloc, index)),
+            result(
+                operator,
+                false,
+                dim_of(rt, alloc, lens),
+                dim_of(rt, alloc, index),
+            ),
             wanted,
         )
         && is::<D>(
-            result_in_place(operator, dim_of(rt, alloc, lens), dim_of(rt, alloc, index)),
+            result(
+                operator,
+                true,
+                dim_of(rt, alloc, lens),
+                dim_of(rt, alloc, index),
+            ),
             wanted,
         )
 }

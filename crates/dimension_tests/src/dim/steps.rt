@@ -5,16 +5,8 @@ ghost use Rattle.std.specs.Prelude.{◌≡◌, true, IsTrue};
 ghost use Rattle.nd_base.specs.Indices.{is_index};
 
 use crate::dim::told::{Told, Types, table};
-use nd_dim::Dimension;
+use nd_dim::{Dimension, Order};
 use std::alloc::Global;
-
-/// The first index of a shape, if there is one.
-fn first<D: Dimension>(alloc: Global, dim: &D) -> Option<D> {
-    match dim.first_index(alloc) {
-        Ok(first) => first,
-        Err(_) => None,
-    }
-}
 
 /// Whether these are the entries of an index of a shape.
 fn is_inside(lens: &[usize], entries: &[usize]) -> bool
@@ -27,23 +19,35 @@ fn is_inside(lens: &[usize], entries: &[usize]) -> bool
     }
 }
 
-/// The index behind one, by rows.
-fn behind<D: Dimension>(dim: &D, index: D) -> Option<D> {
-    if is_inside(dim.slice(), index.slice()) {
-        dim.next_for(index)
-    } else {
-        None
+/// The index behind one in an order, if there is one. By columns it is written over the one before it, and
+/// behind the last index that is the first one, with which the entries begin: else it is told as one more.
+fn behind<D: Dimension>(order: Order, dim: &D, mut index: D, entries: &[usize]) -> Option<D> {
+    if !is_inside(dim.slice(), index.slice()) {
+        return Some(index);
+    }
+    match order {
+        Order::RowMajor => dim.next_for(index),
+        Order::ColumnMajor => {
+            if dim.next_for_f(&mut index) || !entries.starts_with(index.slice()) {
+                Some(index)
+            } else {
+                None
+            }
+        },
     }
 }
 
-/// Whether these are the indices by rows.
-pub(crate) fn has_rows<D: Dimension>(
+/// Whether these are the indices in an order, so many, and no more.
+pub(crate) fn has_indices<D: Dimension>(
     alloc: Global,
+    order: Order,
     dim: &D,
     count: usize,
     entries: &[usize],
 ) -> bool {
-    let mut next = first(alloc, dim);
+    let Ok(mut next) = dim.first_index(alloc) else {
+        return false;
+    };
     let mut rest = entries;
     for _ in 0..count {
         let Some(index) = next else {
@@ -53,42 +57,9 @@ pub(crate) fn has_rows<D: Dimension>(
             return false;
         };
         rest = others;
-        next = behind(dim, index);
+        next = behind(order, dim, index, entries);
     }
     next.is_none() && rest.is_empty()
-}
-
-/// Goes on by columns, and says whether there are more, as is wanted.
-fn goes_on<D: Dimension>(dim: &D, index: &mut D, more: bool) -> bool {
-    is_inside(dim.slice(), index.slice()) && dim.next_for_f(index) == more
-}
-
-/// Whether these are so many indices by columns from the first one on, and it follows the last of them.
-fn goes_round<D: Dimension>(dim: &D, index: &mut D, count: usize, entries: &[usize]) -> bool {
-    let mut rest = entries;
-    for place in 1..=count {
-        let Some(others) = rest.strip_prefix(index.slice()) else {
-            return false;
-        };
-        if !goes_on(dim, index, place < count) {
-            return false;
-        }
-        rest = others;
-    }
-    rest.is_empty() && entries.starts_with(index.slice())
-}
-
-/// Whether these are the indices by columns.
-pub(crate) fn has_columns<D: Dimension>(
-    alloc: Global,
-    dim: &D,
-    count: usize,
-    entries: &[usize],
-) -> bool {
-    match first(alloc, dim) {
-        Some(mut index) => goes_round(dim, &mut index, count, entries),
-        None => count == 0 && entries.is_empty(),
-    }
 }
 
 const BY_ROWS: &str = "\
@@ -105,6 +76,18 @@ const BY_COLUMNS: &str = "\
 
 #[test]
 fn indices_by_steps(rt: HostRuntime) {
-    table(&rt, rt.alloc(), Told::Rows, Types::Both, BY_ROWS);
-    table(&rt, rt.alloc(), Told::Columns, Types::Both, BY_COLUMNS);
+    table(
+        &rt,
+        rt.alloc(),
+        Told::Indices(Order::C),
+        Types::Both,
+        BY_ROWS,
+    );
+    table(
+        &rt,
+        rt.alloc(),
+        Told::Indices(Order::F),
+        Types::Both,
+        BY_COLUMNS,
+    );
 }

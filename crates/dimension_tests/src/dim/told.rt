@@ -2,15 +2,16 @@
 //!
 //! Each type is named in one place, since the check takes seconds for each function that names one.
 use crate::dim::checks::{
-    changes_type, gives, has_list, has_size, has_stride_axes, has_strides, is_equivalent,
-    is_incompatible, list_becomes, narrows, stays, tries_to_narrow, widens, writes, writes_last,
+    becomes, gives, handed_on, has_list, has_size, has_stride_axes, has_strides, is_equivalent,
+    is_incompatible, narrows, stays, tries_to_narrow, widens, writes, writes_last,
 };
 use crate::dim::lists::dim_of;
-use crate::dim::memory::{Call, asks, serves};
+use crate::dim::memory::{Memory, asks, serves};
 use crate::dim::operators::{Operator, calculates, scales};
-use crate::dim::steps::{has_columns, has_rows};
+use crate::dim::steps::has_indices;
 use nd_dim::{
-    Dimension, IntoDimension, Ix0, Ix1, Ix2, Ix3, Ix4, Ix5, Ix6, IxDyn, Lengths, RemoveAxis,
+    Dimension, IntoDimension, Ix1, Ix2, Ix3, Ix4, Ix5, Ix6, IxDyn, Order, RemoveAxis, new_ix0,
+    new_ixdyn,
 };
 use nd_testing::{Lists, made, rows};
 use std::alloc::Global;
@@ -39,10 +40,8 @@ pub(crate) enum Told {
     Calculated(Operator),
     /// Lengths, a factor, and their products.
     Scaled,
-    /// Lengths, how many indices there are, and these by rows.
-    Rows,
-    /// The same by columns.
-    Columns,
+    /// Lengths, how many indices there are, and these in an order.
+    Indices(Order),
     /// Lengths, an axis, and the lengths with one more axis there.
     Inserted,
     /// Lengths, an axis, and the lengths without it.
@@ -58,7 +57,7 @@ pub(crate) enum Told {
     /// Lengths, an axis and its new length, and the lengths with it.
     Written,
     /// Lengths, and an axis: how a call goes about memory.
-    Memory(Call),
+    Memory(Memory),
 }
 
 /// The types at which a row is asked.
@@ -80,55 +79,47 @@ fn keeps<D: Dimension + IntoDimension<Dim = D>>(
     dim: &D,
     lens: &[usize],
 ) -> bool {
+    let ones = [1; 4];
     has_list(alloc, dim, lens)
         && stays::<D>(rt, alloc, lens)
-        && changes_type::<D>(rt, alloc, lens)
-        && list_becomes::<D>(rt, alloc, &[1; 4], D::NDIM.unwrap_or(4) == 4)
+        && becomes::<D>(alloc, handed_on::<D>(alloc, lens), lens, true, false)
+        && becomes::<D>(
+            alloc,
+            new_ixdyn(alloc, &ones),
+            &ones,
+            D::NDIM.unwrap_or(4) == 4,
+            false,
+        )
 }
 
-/// Whether this is the default of a type.
-fn has_default<D: Dimension>(alloc: Global, lens: &[usize]) -> bool {
-    D::NDIM.unwrap_or(1) == lens.len() && gives(D::default_in(alloc), lens)
-}
-
-/// Whether a length is written in either way.
-fn rewrites<D: Lengths>(rt: &impl Abort, alloc: Global, row: &Lists<'_>) -> bool {
-    let dim: D = dim_of(rt, alloc, row.first.as_slice());
-    writes(
-        dim,
-        row.second.at(0),
-        row.second.at(1),
-        row.third.as_slice(),
-    )
-}
-
-/// Whether a row tells what the calls of a dimension answer, whatever its type.
+/// Whether a row tells what the calls of a dimension answer, whatever its type. Where the second list is one
+/// number, that is the number.
 fn tells_of_dimension<D: Dimension>(
     rt: &impl Abort,
     told: Told,
     alloc: Global,
     dim: &D,
-    row: &Lists<'_>,
+    number: usize,
+    second: &[usize],
+    third: &[usize],
 ) -> bool {
-    let (first, second, third) = (
-        row.first.as_slice(),
-        row.second.as_slice(),
-        row.third.as_slice(),
-    );
     match told {
-        Told::Made(answer) => list_becomes::<D>(rt, alloc, second, answer),
+        Told::Made(answer) => {
+            becomes::<D>(alloc, new_ixdyn(alloc, second), second, answer, false)
+        },
         Told::Incompatible => is_incompatible(rt, alloc, dim, second),
-        Told::Inserted => widens(alloc, dim, row.second.at(0), third),
-        Told::Removed => tries_to_narrow(alloc, dim, row.second.at(0), third),
-        Told::Last => [dim.last_elem()].as_slice() == second,
-        Told::LastWritten => writes_last(dim_of::<D>(rt, alloc, first), row.second.at(0), third),
+        Told::Inserted => widens(alloc, dim, number, third),
+        Told::Removed => tries_to_narrow(alloc, dim, number, third),
+        Told::Last => dim.last_elem() == number,
+        Told::LastWritten => writes_last(dim_of::<D>(rt, alloc, dim.slice()), number, third),
         Told::Size => has_size(dim, second),
         Told::Strides => has_strides(alloc, dim, second, third),
         Told::Equivalent(answer) => is_equivalent(rt, alloc, dim, second, third) == answer,
-        Told::Calculated(operator) => calculates::<D>(rt, alloc, operator, first, second, third),
-        Told::Scaled => scales::<D>(rt, alloc, first, row.second.at(0), third),
-        Told::Rows => has_rows(alloc, dim, row.second.at(0), third),
-        Told::Columns => has_columns(alloc, dim, row.second.at(0), third),
+        Told::Calculated(operator) => {
+            calculates::<D>(rt, alloc, operator, dim.slice(), second, third)
+        },
+        Told::Scaled => scales::<D>(rt, alloc, dim.slice(), number, third),
+        Told::Indices(order) => has_indices(alloc, order, dim, number, third),
         Told::StrideAxes => has_stride_axes(rt, alloc, dim, second, third),
         Told::Order => gives(dim._fastest_varying_stride_order(alloc), second),
         _ => false,
@@ -143,62 +134,42 @@ fn tells<D: Dimension + IntoDimension<Dim = D>>(
     dim: &D,
     row: &Lists<'_>,
 ) -> bool {
+    let number = row.second.at(0);
+    let second = row.second.as_slice();
+    let third = row.third.as_slice();
     match told {
         Told::Values => keeps(rt, alloc, dim, row.first.as_slice()),
-        Told::Zeros => gives(D::zeros(alloc, dim.ndim()), row.second.as_slice()),
-        Told::Default => has_default::<D>(alloc, row.second.as_slice()),
-        Told::Written => rewrites::<D>(rt, alloc, row),
-        Told::Memory(call) => serves(alloc, call, dim, row.second.at(0)),
-        _ => tells_of_dimension(rt, told, alloc, dim, row),
+        Told::Zeros => gives(D::zeros(alloc, dim.ndim()), second),
+        Told::Default => {
+            D::NDIM.unwrap_or(1) == second.len() && gives(D::default_in(alloc), second)
+        },
+        Told::Written => writes(
+            dim_of::<D>(rt, alloc, row.first.as_slice()),
+            number,
+            row.second.at(1),
+            third,
+        ),
+        Told::Memory(memory) => serves(alloc, memory, dim, number),
+        _ => tells_of_dimension(rt, told, alloc, dim, number, second, third),
     }
 }
 
-/// Whether a value can't be made for want of memory, which a row may tell.
-fn may_want_memory<D: Lengths>(told: Told, row: &Lists<'_>) -> bool {
+/// Whether a row tells what the calls answer at a type that can have an axis to remove. A value may not be made
+/// for want of memory where a row tells of that.
+fn holds<D: RemoveAxis + IntoDimension<Dim = D>>(
+    rt: &impl Abort,
+    told: Told,
+    alloc: Global,
+    row: &Lists<'_>,
+) -> bool {
+    let lens = row.first.as_slice();
+    let Some(dim) = made::<D>(alloc, lens) else {
+        return matches!(told, Told::Memory(_)) && D::NDIM.is_none() && lens.len() > 4;
+    };
     match told {
-        Told::Memory(_) => D::NDIM.is_none() && row.first.as_slice().len() > 4,
-        _ => false,
-    }
-}
-
-/// The same where a value of the type has as many axes.
-fn holds<D: Dimension + IntoDimension<Dim = D>>(
-    rt: &impl Abort,
-    told: Told,
-    alloc: Global,
-    row: &Lists<'_>,
-) -> bool {
-    match made::<D>(alloc, row.first.as_slice()) {
-        Some(dim) => tells::<D>(rt, told, alloc, &dim, row),
-        None => false,
-    }
-}
-
-/// Whether a row tells what the calls answer at a type that can have an axis to remove.
-fn tells_with_axes<D: RemoveAxis + IntoDimension<Dim = D>>(
-    rt: &impl Abort,
-    told: Told,
-    alloc: Global,
-    dim: &D,
-    row: &Lists<'_>,
-) -> bool {
-    match told {
-        Told::Removed => narrows(alloc, dim, row.second.at(0), row.third.as_slice()),
-        Told::Memory(call) => asks(alloc, call, dim, row.second.at(0)),
-        _ => tells(rt, told, alloc, dim, row),
-    }
-}
-
-/// The same where a value of such a type has as many axes.
-fn holds_with_axes<D: RemoveAxis + IntoDimension<Dim = D>>(
-    rt: &impl Abort,
-    told: Told,
-    alloc: Global,
-    row: &Lists<'_>,
-) -> bool {
-    match made::<D>(alloc, row.first.as_slice()) {
-        Some(dim) => tells_with_axes::<D>(rt, told, alloc, &dim, row),
-        None => may_want_memory::<D>(told, row),
+        Told::Removed => narrows(alloc, &dim, row.second.at(0), row.third.as_slice()),
+        Told::Memory(memory) => asks(alloc, memory, &dim, row.second.at(0)),
+        _ => tells(rt, told, alloc, &dim, row),
     }
 }
 
@@ -211,14 +182,14 @@ pub(crate) fn holds_at(
     row: &Lists<'_>,
 ) -> bool {
     match ndim {
-        Some(0) => holds::<Ix0>(rt, told, alloc, row),
-        Some(1) => holds_with_axes::<Ix1>(rt, told, alloc, row),
-        Some(2) => holds_with_axes::<Ix2>(rt, told, alloc, row),
-        Some(3) => holds_with_axes::<Ix3>(rt, told, alloc, row),
-        Some(4) => holds_with_axes::<Ix4>(rt, told, alloc, row),
-        Some(5) => holds_with_axes::<Ix5>(rt, told, alloc, row),
-        Some(6) => holds_with_axes::<Ix6>(rt, told, alloc, row),
-        _ => holds_with_axes::<IxDyn>(rt, told, alloc, row),
+        Some(0) => tells(rt, told, alloc, &new_ix0(), row),
+        Some(1) => holds::<Ix1>(rt, told, alloc, row),
+        Some(2) => holds::<Ix2>(rt, told, alloc, row),
+        Some(3) => holds::<Ix3>(rt, told, alloc, row),
+        Some(4) => holds::<Ix4>(rt, told, alloc, row),
+        Some(5) => holds::<Ix5>(rt, told, alloc, row),
+        Some(6) => holds::<Ix6>(rt, told, alloc, row),
+        _ => holds::<IxDyn>(rt, told, alloc, row),
     }
 }
 
