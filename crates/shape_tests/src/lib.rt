@@ -1,5 +1,4 @@
-//! Tests of `nd_base` (`base`), `nd_dim` (`dim`), and of `nd_rules` and `nd_shape` (the others), by their public calls. They
-//! stand in one crate, since a crate of tests costs the check half a minute before its first test.
+//! Tests of `nd_shape`, by its public calls.
 #![tactic(auto)]
 
 #[cfg(test)]
@@ -7,11 +6,7 @@ mod acceptance;
 #[cfg(test)]
 mod axes;
 #[cfg(test)]
-mod base;
-#[cfg(test)]
 mod broadcast;
-#[cfg(test)]
-mod dim;
 #[cfg(test)]
 mod indexes;
 #[cfg(test)]

@@ -1,5 +1,5 @@
 use Rattle.std.proofs.Common.{length}
-use Rattle.shape_tests.proofs.dim.steps.+is_inside.Given as goal
+use Rattle.dimension_tests.proofs.dim.steps.+is_inside.Given as goal
 
 abbrev pub decreases-is_inside : goal.decreases-is_inside
 decreases-is_inside l = length l.lens.now
