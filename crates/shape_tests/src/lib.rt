@@ -1,4 +1,5 @@
-//! Tests of `nd_shape`, by its public calls.
+//! Tests of `nd_shape`, and by its public calls of the rules below it, `nd_rules`; and of what `nd_dim` tells of a
+//! layout that these accept (`offsets`).
 #![tactic(auto)]
 
 #[cfg(test)]
