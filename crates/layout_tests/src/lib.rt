@@ -1,5 +1,5 @@
-//! Tests of `nd_slice` and `ndarray_layout`, by their public calls. They stand in one crate, since a crate
-//! of tests costs the check a minute before its first test.
+//! Tests of slices, of views and of runs of steps, by the public calls of `nd_slice` and `ndarray_layout`. They stand in
+//! one crate, since a crate of tests costs the check some 20 seconds before its first test.
 #![tactic(auto)]
 
 #[cfg(test)]

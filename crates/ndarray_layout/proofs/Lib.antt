@@ -1,16 +1,2 @@
-pub mod Broadcasts
-pub mod Collapses
-pub mod Merged
-pub mod OneAxis
-pub mod Offsets
-pub mod Picked
-pub mod PickedSize
-pub mod PicksFit
-pub mod Replaced
-pub mod Reversed
 pub mod Runs
-pub mod SliceSteps
-pub mod Slices
-pub mod Views
-pub mod Walks
 pub mod laws

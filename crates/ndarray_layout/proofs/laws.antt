@@ -1,9 +1,2 @@
-pub mod BroadcastView
-pub mod CollapsedView
-pub mod DistinctPlaces
-pub mod KeepsPlaces
-pub mod MergedView
 pub mod Run
-pub mod SlicedView
 pub mod Step
-pub mod View

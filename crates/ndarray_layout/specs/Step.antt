@@ -11,11 +11,11 @@ use Rattle.nd_slice.specs.Selected.{selected}
 use Rattle.nd_slice.specs.ArgumentFault.{out_count}
 use Rattle.ndarray_layout.specs.declared.steps.Step.{Step}
 use Rattle.ndarray_layout.specs.declared.steps.Step.TheVariants as step
-use Rattle.ndarray_layout.specs.BroadcastView.{broadcast_fault, broadcast_of, broadcast_source}
-use Rattle.ndarray_layout.specs.CollapsedView.{collapse_fault, collapse_of, collapse_source}
-use Rattle.ndarray_layout.specs.MergedView.{merge_fault, merge_of, merge_source}
-use Rattle.ndarray_layout.specs.SlicedView.{slice_of, slice_refusal}
-use Rattle.ndarray_layout.specs.View.{View}
+use Rattle.nd_views.specs.BroadcastView.{broadcast_fault, broadcast_of, broadcast_source}
+use Rattle.nd_views.specs.CollapsedView.{collapse_fault, collapse_of, collapse_source}
+use Rattle.nd_views.specs.MergedView.{merge_fault, merge_of, merge_source}
+use Rattle.nd_views.specs.SlicedView.{slice_of, slice_refusal}
+use Rattle.nd_views.specs.View.{View}
 
 -- a step, without where it lies in memory
 pub data StepValue : Type 0 where

@@ -1,14 +1,7 @@
-//! Views: shapes with strides and a start, as functions from indices to places.
+//! The layout layer: all that it has for those above, and steps from one view to the next, and runs of them.
 #![tactic(auto)]
 
-mod broadcasting;
-mod collapsing;
-mod merging;
-mod places;
-mod sizes;
-mod slicing;
 mod steps;
-mod strided;
 
 pub use nd_dim::{
     Arithmetic, Axis, Convert, Dim, Dimension, ErrorKind, FixedCount, IntoDimension, Ix0, Ix1, Ix2,
@@ -30,5 +23,5 @@ pub use nd_slice::{
     check_slice, do_collapse_axis, do_slice, entry_of, in_ndim_of, out_ndim_of, slice_min_max,
     to_abs_slice,
 };
+pub use nd_strided::Strided;
 pub use steps::{Step, Stopped, run};
-pub use strided::Strided;

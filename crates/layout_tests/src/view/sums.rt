@@ -2,7 +2,7 @@
 ghost use Rattle.std.specs.Prelude.{◌≡◌, ◌<◌, ◌^◌, true, map, nat_abs, sum, IfOk};
 ghost use Rattle.nd_base.specs.declared.order.Order.TheVariants.{RowMajor};
 ghost use Rattle.nd_base.specs.Indices.{is_index};
-ghost use Rattle.ndarray_layout.specs.View.{place_at, view_places};
+ghost use Rattle.nd_views.specs.View.{place_at, view_places};
 
 use CanIndexCheckMode::OwnedMutable;
 use nd_dim::{Dimension, IntoDimension, new_ix2};

@@ -6,7 +6,7 @@ use Rattle.std.proofs.lemmas.List.Sums.{sum_by-cons}
 use Rattle.nd_base.specs.declared.order.Order.TheVariants.{RowMajor}
 use Rattle.nd_base.specs.Indices.{indices_in, is_index}
 use Rattle.nd_base.proofs.laws.Indices.{All-indices_in}
-use Rattle.ndarray_layout.specs.View.{View, place_at, view_places}
+use Rattle.nd_views.specs.View.{View, place_at, view_places}
 use Rattle.layout_tests.proofs.view.sums.sum_of_places.Goals as goal
 
 -- the places of these indices together

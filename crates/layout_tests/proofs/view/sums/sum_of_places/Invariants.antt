@@ -3,7 +3,7 @@ use Rattle.std.proofs.Common.{◌≡◌, ◌+◌, true, map, nat_abs, sum}
 use Rattle.std.specs.List.{All}
 use Rattle.nd_base.specs.declared.order.Order.TheVariants.{RowMajor}
 use Rattle.nd_base.specs.Indices.{is_index}
-use Rattle.ndarray_layout.specs.View.{place_at, view_places}
+use Rattle.nd_views.specs.View.{place_at, view_places}
 use Rattle.layout_tests.proofs.view.sums.sum_of_places.Given as goal
 
 abbrev pub invariant-loop-item : goal.invariant-loop-item

@@ -1,0 +1,13 @@
+pub mod Broadcasts
+pub mod Collapses
+pub mod Merged
+pub mod Offsets
+pub mod OneAxis
+pub mod Picked
+pub mod PickedSize
+pub mod PicksFit
+pub mod Replaced
+pub mod SliceSteps
+pub mod Slices
+pub mod Walks
+pub mod laws
