@@ -1,6 +1,6 @@
 //! What a script says, of inputs whose answers don't tell it.
 use nd_shape::CanIndexCheckMode;
-use ndl_answer::{Script, read_script};
+use ndl_answer::{ReadError, Script, read_script};
 use std::alloc::{AllocError, Global};
 use std::test::Fail;
 
@@ -23,6 +23,35 @@ data 4 owned 4 1|clamp ..|slice 1|clamp -| => 4 owned [4] [1] ; [Slice([Slice { 
 data 004 owned 04 01| => 4 owned [4] [1] ; []
 data 4 owned 4 -0| => 4 owned [4] [0] ; []
 data 6 owned 2,3 1| => 6 owned [2, 3] [1] ; []
+data 8 owned 2,2,2 4,2,1| => 8 owned [2, 2, 2] [4, 2, 1] ; []
+data 4 owned 4 1|slice 1| => 4 owned [4] [1] ; [Slice([Index(1)], Strict)]
+data 4 owned 4 1|slice ..|slice ..| => 4 owned [4] [1] ; [Slice([Slice { start: 0, end: None, step: 1 }], Strict), Slice([Slice { start: 0, end: None, step: 1 }], Strict)]
+";
+
+/// Inputs, each with the number of its first unreadable line.
+const UNREADABLE: &str = "\
+data 4 owned 4 => 1
+ => 1
+|  | => 1
+data 4 owned 4 1|slice 1..;| => 2
+data 4 owned 4 1|slice +1..| => 2
+data 4 owned 4 1|slice 1,,2| => 2
+data 4 owned 4 1|merge 0| => 2
+data 4 owned 4 1|reshape C 4| => 2
+data 4 owned 4 1|data 4 owned 4 1| => 2
+data 4 owned 4 1|slice 1...2| => 2
+slice ..|data 4 owned 4 1| => 1
+data 4 owned 4 9223372036854775808| => 1
+data 18446744073709551616 read 1 1| => 1
+data 1 owned 1 1\r => 1
+|data 4 owned 4 1|slise ..| => 3
+data 6 owned 2,3 3,1|slice ..,..|slise ..| => 3
+data\t4 owned 4 1| => 1
+data +4 owned 4 1| => 1
+data 4 owned +4 1| => 1
+data 4 owned 4 +1| => 1
+d\u{e4}ta 4 owned 4 1| => 1
+data 4 Owned 4 1| => 1
 ";
 
 /// A layout and steps, in the words of a row.
@@ -49,6 +78,32 @@ fn says(alloc: Global, row: &str) -> Result<bool, Fail> {
         Some((input, due)) => input_says(alloc, input, due),
         None => Ok(false),
     }
+}
+
+/// Whether a line of an input is its first unreadable one.
+fn ends_at(alloc: Global, input: &[u8], line: usize) -> bool {
+    matches!(read_script(alloc, input), Err(ReadError::Unreadable(number)) if number == line)
+}
+
+/// A row: an input, and the number of its first unreadable line.
+fn ends(alloc: Global, row: &str) -> Result<bool, Fail> {
+    let row = row.replace(alloc, "|", "\n")?;
+    match row.as_str().split_once(" => ") {
+        Some((input, line)) => match line.parse() {
+            Ok(line) => Ok(ends_at(alloc, input.as_bytes(), line)),
+            Err(_) => Ok(false),
+        },
+        None => Ok(false),
+    }
+}
+
+#[test]
+fn r1_grammar_of_unreadable(rt: HostRuntime) -> Result<(), Fail> {
+    for row in UNREADABLE.lines() {
+        assert!(rt; ends(rt.alloc(), row)?, "{row}");
+    }
+    assert!(rt; ends_at(rt.alloc(), b"data \xff owned 4 1\n", 1));
+    Ok(())
 }
 
 #[test]

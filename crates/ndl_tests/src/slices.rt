@@ -2,6 +2,8 @@
 use crate::session::hold;
 
 const DONE: &str = "\
+data 8 owned 2,2,2 4,2,1| => shape 2,2,2|strides 4,2,1|places 0 1 2 3 4 5 6 7|
+data 4 owned 4 1|slice 1| => shape -|strides -|places 1|
 data 24 owned 2,3,4 12,4,1|slice ..,1..;-1,0..4;2| => shape 2,2,2|strides 12,-4,2|places 8 10 4 6 20 22 16 18|
 data 6 owned 2,3 3,1|slice ..;-1,..|slice 0,1..| => shape 2|strides 1|places 4 5|
 data 1 owned - -| => shape -|strides -|places 0|

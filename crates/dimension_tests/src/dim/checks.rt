@@ -7,7 +7,6 @@ use nd_dim::{
 };
 use nd_testing::{hash_of, made};
 use std::alloc::{AllocError, Global};
-use std::hash::Hash;
 use std::process::Abort;
 
 /// A call made this value.
@@ -26,23 +25,19 @@ pub(crate) fn gives<D: Lengths>(made: Result<D, AllocError>, lens: &[usize]) -> 
     }
 }
 
-/// What a call made is equal to a value of these lengths, and has its hash.
-pub(crate) fn is_one<D: Lengths + Hash>(
-    alloc: Global,
-    lens: &[usize],
-    made: Result<D, AllocError>,
-) -> bool {
+/// What a call made is equal to a value that was made of these lengths, and has its hash.
+pub(crate) fn is_one(alloc: Global, lens: &[usize], made: Result<IxDyn, AllocError>) -> bool {
     match made {
         Ok(other) => is_one_with(alloc, lens, &other),
         Err(_) => false,
     }
 }
 
-/// A value is equal to one of these lengths, and has its hash.
-fn is_one_with<D: Lengths + Hash>(alloc: Global, lens: &[usize], other: &D) -> bool {
-    match made::<D>(alloc, lens) {
-        Some(dim) => dim == *other && hash_of(&dim) == hash_of(other),
-        None => false,
+/// A value is equal to one that was made of these lengths, and has its hash.
+fn is_one_with(alloc: Global, lens: &[usize], other: &IxDyn) -> bool {
+    match new_ixdyn(alloc, lens) {
+        Ok(dim) => dim == *other && hash_of(&dim) == hash_of(other),
+        Err(_) => false,
     }
 }
 

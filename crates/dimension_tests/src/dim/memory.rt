@@ -212,6 +212,19 @@ const AT_ANY_COUNT: &str = "\
 2,3,4
 1,2,3,4";
 
+/// A list of up to four needs no memory as a dimension of any number of axes.
+fn list_needs_none(alloc: Global, lens: &[usize]) -> bool {
+    is_given(new_ixdyn(alloc, lens))
+}
+
+/// Lists of one to four lengths, each without memory.
+fn lists_need_none(alloc: Global) -> bool {
+    list_needs_none(alloc, &[2])
+        && list_needs_none(alloc, &[2, 3])
+        && list_needs_none(alloc, &[2, 3, 4])
+        && list_needs_none(alloc, &[1, 2, 3, 4])
+}
+
 /// A list of four needs no memory as a dimension, nor as a shape.
 fn four_need_none(alloc: Global, four: &[usize]) -> bool {
     is_given(new_dim(alloc, four)) && is_given(four.into_shape_and_order(alloc))
@@ -223,7 +236,7 @@ fn r9_rows(rt: HostRuntime) {
     table_of_needs(&rt, alloc, Types::AnyCount, AT_ANY_COUNT);
     table_at_fixed(&rt, alloc, Memory::NeedsNone(Call::AnyFrom), "1,2,3,4");
     table_at_fixed(&rt, alloc, Memory::NeedsNone(Call::IntoAny), "1,2,3,4");
-    assert!(rt; four_need_none(alloc, &[1, 2, 3, 4]));
+    assert!(rt; four_need_none(alloc, &[1, 2, 3, 4]) && lists_need_none(alloc));
 }
 
 #[test]
@@ -233,9 +246,9 @@ fn r9_rows_insert_axis_into_three(rt: HostRuntime) {
 
 /// What is left of a list is one that was made so, and has its hash; if there was memory for it.
 fn leaves(alloc: Global, lens: &[usize], axis: usize, left: &[usize]) -> bool {
-    match made::<IxDyn>(alloc, lens) {
-        Some(dim) => axis < dim.ndim() && is_one(alloc, left, dim.remove_axis(alloc, Axis(axis))),
-        None => lens.len() > 4,
+    match new_ixdyn(alloc, lens) {
+        Ok(dim) => axis < dim.ndim() && is_one(alloc, left, dim.remove_axis(alloc, Axis(axis))),
+        Err(_) => lens.len() > 4,
     }
 }
 
@@ -281,50 +294,39 @@ fn r9_rows_list_of_five(rt: HostRuntime) {
     }
 }
 
+/// A call of five lengths of any number of axes asks for memory each time.
+fn asks_of_five(rt: &impl Abort, alloc: Global, call: Call) {
+    table_at_any_count(rt, alloc, Memory::Asks(call, call), "1,2,3,4,5");
+}
+
 #[test]
 fn r9_rows_default_strides_of_five(rt: HostRuntime) {
-    table_at_any_count(
-        &rt,
-        rt.alloc(),
-        Memory::Asks(
-            Call::Strides(Order::C, By::Shape),
-            Call::Strides(Order::C, By::List),
-        ),
-        "1,2,3,4,5",
-    );
+    asks_of_five(&rt, rt.alloc(), Call::Strides(Order::C, By::Shape));
 }
 
 #[test]
 fn r9_rows_fortran_strides_of_five(rt: HostRuntime) {
-    table_at_any_count(
-        &rt,
-        rt.alloc(),
-        Memory::Asks(
-            Call::Strides(Order::F, By::Shape),
-            Call::Strides(Order::F, By::List),
-        ),
-        "1,2,3,4,5",
-    );
+    asks_of_five(&rt, rt.alloc(), Call::Strides(Order::F, By::Shape));
+}
+
+#[test]
+fn r9_rows_default_strides_by_a_list_of_five(rt: HostRuntime) {
+    asks_of_five(&rt, rt.alloc(), Call::Strides(Order::C, By::List));
+}
+
+#[test]
+fn r9_rows_fortran_strides_by_a_list_of_five(rt: HostRuntime) {
+    asks_of_five(&rt, rt.alloc(), Call::Strides(Order::F, By::List));
 }
 
 #[test]
 fn r9_rows_duplicate_of_five(rt: HostRuntime) {
-    table_at_any_count(
-        &rt,
-        rt.alloc(),
-        Memory::Asks(Call::Duplicate, Call::Duplicate),
-        "1,2,3,4,5",
-    );
+    asks_of_five(&rt, rt.alloc(), Call::Duplicate);
 }
 
 #[test]
 fn r9_rows_stride_order_of_five(rt: HostRuntime) {
-    table_at_any_count(
-        &rt,
-        rt.alloc(),
-        Memory::Asks(Call::StrideOrder, Call::StrideOrder),
-        "1,2,3,4,5",
-    );
+    asks_of_five(&rt, rt.alloc(), Call::StrideOrder);
 }
 
 #[test]

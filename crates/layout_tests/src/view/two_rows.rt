@@ -31,6 +31,14 @@ const fn from(start: isize) -> SliceInfoElem {
     }
 }
 
+/// Whether a value is equal to that of its type which is made of these lengths.
+fn is_made_of<D: Lengths>(alloc: Global, dim: &D, lens: &[usize]) -> bool {
+    match made::<D>(alloc, lens) {
+        Some(due) => *dim == due,
+        None => false,
+    }
+}
+
 /// A slice of two rows of three elements, by its elements, and what it has.
 #[derive(Clone, Copy)]
 struct SliceOfRows<'a> {
@@ -42,7 +50,8 @@ impl AtType for SliceOfRows<'_> {
     fn at<D: Lengths>(self, rt: &impl Abort, alloc: Global) -> bool {
         let view = two_rows::<D>(rt, alloc);
         let slice: Result<Strided<D>, LayoutError> = view.slice(alloc, &self.elems, Strict);
-        is_left(&slice.expect(rt, "refused"), self.left)
+        let slice = slice.expect(rt, "refused");
+        is_left(&slice, self.left) && is_made_of(alloc, slice.dim(), self.left.1)
     }
 }
 
