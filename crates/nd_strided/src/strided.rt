@@ -25,8 +25,7 @@ ghost use Rattle.nd_views.specs.DistinctPlaces.{HasDistinctPlaces};
 ghost use Rattle.nd_views.specs.KeepsPlaces.{KeepsPlaces};
 ghost use Rattle.nd_views.specs.MergedView.{HasMergedStride, axes_fault, merge_of, merge_source};
 ghost use Rattle.nd_views.specs.SlicedView.{IsSliceOf, slice_refusal};
-ghost use Rattle.nd_views.specs.View.{IsView, LiesWithin};
-ghost use Rattle.nd_views.specs.View.{view_of, checked_place, place_at, view_places};
+ghost use Rattle.nd_views.specs.View.{IsView, LiesWithin, view_of, checked_place, place_at, view_places};
 
 use nd_dim::{Axis, ErrorKind, LayoutError, Lengths, Order, ShapeError, from_kind, product};
 use nd_shape::{

@@ -1,4 +1,4 @@
-//! The layout layer: all that it has for those above, and steps from one view to the next, and runs of them.
+//! The layout layer as a whole: what the crates below hand on, steps from one view to the next, and runs of them.
 #![tactic(auto)]
 
 mod steps;

@@ -1,4 +1,4 @@
-//! What a script says, of inputs whose answers don't tell it.
+//! What `read_script` answers: what a script says, or the first line that can't be read.
 use nd_shape::CanIndexCheckMode;
 use ndl_answer::{ReadError, Script, read_script};
 use std::alloc::{AllocError, Global};

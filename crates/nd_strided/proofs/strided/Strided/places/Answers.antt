@@ -4,9 +4,8 @@ use Rattle.nd_base.specs.Signed.{all_signed}
 use Rattle.nd_base.specs.Size.{size}
 use Rattle.nd_views.specs.View.{View}
 use Rattle.nd_views.specs.Walk.{nested}
-use Rattle.nd_views.proofs.laws.View.{item_at_rank, items_lie_within}
+use Rattle.nd_views.proofs.laws.View.{item_at_rank, items_lie_within, size_fits, no_places}
 use Rattle.nd_views.proofs.laws.Walk.{places_nested, size_nested, view_nested}
-use Rattle.nd_views.proofs.laws.View.{size_fits, no_places}
 use Rattle.nd_strided.proofs.strided.Strided.places.Goals as goal
 use Rattle.nd_strided.proofs.strided.Strided.places.Goals.{then-size-gt0, else-size-gt0}
 
