@@ -1,7 +1,9 @@
 pub mod Indices
+pub mod Inside
 pub mod IsIndex
 pub mod NonzeroSize
 pub mod Offset
+pub mod Place
 pub mod Rank
 pub mod Reach
 pub mod Size

@@ -1,10 +1,7 @@
-pub mod Acceptance
+pub mod AcceptanceByStrides
 pub mod Axes
 pub mod DefaultStrides
-pub mod DistinctOffsets
 pub mod IndicesLeft
-pub mod Inside
 pub mod LayoutOrder
-pub mod Place
 pub mod ShapeBuilder
 pub mod StandardStrides

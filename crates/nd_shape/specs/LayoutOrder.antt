@@ -4,7 +4,7 @@ use Rattle.nd_base.specs.declared.order.Order.{Order}
 use Rattle.nd_base.specs.declared.order.Order.TheVariants.{RowMajor, ColumnMajor}
 use Rattle.nd_base.specs.Indices.{below}
 use Rattle.nd_base.specs.Size.{size, is_empty}
-use Rattle.nd_shape.specs.Place.{places}
+use Rattle.nd_base.specs.Place.{places}
 use Rattle.nd_shape.specs.ShapeBuilder.{standard_strides}
 
 -- wherever the first index lies, the places of all indices in the order are start, start + 1 and so on

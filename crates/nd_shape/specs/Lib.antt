@@ -1,10 +1,7 @@
 pub mod AcceptanceByStrides
 pub mod Axes
-pub mod DistinctOffsets
 pub mod IndicesLeft
-pub mod Inside
 pub mod Layout
 pub mod LayoutOrder
 pub mod MinStride
-pub mod Place
 pub mod ShapeBuilder

@@ -2,10 +2,10 @@
 ghost use Rattle.std.specs.Prelude.{◌≡◌, ◌≤◌, max, length, Some, None, IsOk, IfOk};
 ghost use Rattle.nd_base.specs.Lengths.{IsCount, NeedsNoMemory};
 ghost use Rattle.nd_base.specs.ShapeFault.{shape_fault};
-ghost use Rattle.nd_rules.specs.CommonShape.{common_shape, common_shape_fault};
+ghost use Rattle.nd_shape_rules.specs.CommonShape.{common_shape, common_shape_fault};
 
 use nd_dim::{ErrorKind, LayoutError, Lengths, from_kind};
-use nd_rules::{fill_common_shape, have_common_shape};
+use nd_shape_rules::{fill_common_shape, have_common_shape};
 use std::alloc::Global;
 
 /// The common shape of a list of lengths and one that is no longer.

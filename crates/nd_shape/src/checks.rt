@@ -9,15 +9,15 @@ ghost use Rattle.nd_base.specs.Span.{span, low_span};
 ghost use Rattle.nd_base.specs.ValidLayout.{IsValidLayout};
 ghost use Rattle.nd_base.specs.declared.error.ErrorKind.TheVariants.{Overflow};
 ghost use Rattle.nd_base.specs.declared.order.Order.{Order};
-ghost use Rattle.nd_rules.specs.Acceptance.{size_fault, acceptance};
+ghost use Rattle.nd_shape_rules.specs.Acceptance.{size_fault, acceptance};
 ghost use Rattle.nd_shape.specs.AcceptanceByStrides.{acceptance_of_standard, acceptance_by_strides, sign_fault};
-ghost use Rattle.nd_shape.specs.DistinctOffsets.{HasDistinctOffsets};
-ghost use Rattle.nd_shape.specs.Inside.{LiesInside};
+ghost use Rattle.nd_base.specs.DistinctOffsets.{HasDistinctOffsets};
+ghost use Rattle.nd_base.specs.Inside.{LiesInside};
 ghost use Rattle.nd_shape.specs.ShapeBuilder.{standard_strides, strides_list};
 
 use crate::shape_builder::Strides;
 use nd_dim::{ErrorKind, Lengths, ShapeError, from_kind, signed};
-use nd_rules::{CanIndexCheckMode, accept, size_of_lengths, span_of_lengths};
+use nd_shape_rules::{CanIndexCheckMode, accept, size_of_lengths, span_of_lengths};
 
 /// The number of indices of a shape: the product of its lengths, which is 0 with a zero axis.
 ///

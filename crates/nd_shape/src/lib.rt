@@ -27,7 +27,7 @@ pub use layout::Layout;
 pub use layout_order::{is_layout_c, is_layout_f};
 pub use merge::merge_axes;
 pub use min_stride::move_min_stride_axis_to_last;
-pub use nd_rules::CanIndexCheckMode;
+pub use nd_shape_rules::CanIndexCheckMode;
 pub use ndindex::NdIndex;
 pub use offsets::offset_from_low_addr_ptr_to_logical_ptr;
 pub use overlap::dim_stride_overlap;

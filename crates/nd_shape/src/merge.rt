@@ -3,10 +3,10 @@ ghost use Rattle.std.specs.Bool.{OnTrue};
 ghost use Rattle.std.specs.Prelude.{◌≡◌, ◌≢◌, ◌<◌, ◌↔◌, if◌then◌else◌, IsTrue, length, slice_index};
 ghost use Rattle.nd_base.specs.Signed.{signed as signed_reading, all_signed};
 ghost use Rattle.nd_base.specs.ValidLayout.{IsValidLayout};
-ghost use Rattle.nd_rules.specs.Merge.{IsMergedStride, MergeFits, merged_shape, merged_strides};
+ghost use Rattle.nd_shape_rules.specs.Merge.{IsMergedStride, MergeFits, merged_shape, merged_strides};
 
 use nd_dim::{Axis, Lengths};
-use nd_rules::merge_fitting;
+use nd_shape_rules::merge_fitting;
 
 /// Merges the axis `take` into the axis `into` where one stride serves for the entries of both:
 /// then the axis `into` has them all, that of `take` moving slowest among them, and `take` keeps one

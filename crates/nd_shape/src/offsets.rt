@@ -5,7 +5,7 @@ ghost use Rattle.nd_base.specs.Span.{low_span as low_span_of_layout};
 ghost use Rattle.nd_base.specs.ValidLayout.{IsValidLayout};
 
 use nd_dim::Lengths;
-use nd_rules::low_span;
+use nd_shape_rules::low_span;
 
 /// How many elements lie between the lowest element of a layout and that of its first index: the
 /// place of the first index in data that begins at the lowest element.

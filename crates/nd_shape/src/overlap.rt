@@ -3,10 +3,10 @@ ghost use Rattle.std.specs.Prelude.{◌≡◌, ◌↔◌, ◌⊎◌, IsTrue, IsF
 ghost use Rattle.nd_base.specs.Signed.{all_signed};
 ghost use Rattle.nd_base.specs.Size.{is_empty};
 ghost use Rattle.nd_base.specs.ValidLayout.{IsValidLayout};
-ghost use Rattle.nd_rules.specs.OwnedRule.{MeetsOwnedRule, meets_owned_rule};
+ghost use Rattle.nd_shape_rules.specs.OwnedRule.{MeetsOwnedRule, meets_owned_rule};
 
 use nd_dim::Lengths;
-use nd_rules::has_overlap;
+use nd_shape_rules::has_overlap;
 
 /// Whether two indices of a layout may share an element: it has an index, and some axis of more
 /// than one entry has a stride no longer than the summed spans of the other axes of no greater

@@ -1,3 +1,2 @@
 pub mod ArgumentFault
-pub mod Picked
 pub mod Selected

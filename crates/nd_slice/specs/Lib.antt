@@ -1,7 +1,6 @@
 pub mod ArgumentFault
 pub mod Counts
 pub mod Kinds
-pub mod Picked
 pub mod Selected
 pub mod Sliced
 pub mod Text

@@ -1,11 +1,11 @@
 -- Which index of the old shape an index of the slice stands for.
 use Rattle.std.specs.Prelude.{◌≡◌, ℕ, pos, negsuc, Some, None, List, [], ◌∷◌, slice_index, refl}
 use Rattle.nd_base.specs.Signed.{magnitude}
-use Rattle.nd_axis_slice.specs.declared.fit.Fit.{Fit}
-use Rattle.nd_axis_slice.specs.declared.fit.Fit.TheVariants.{Strict, Clamp}
+use Rattle.nd_slice_axis.specs.declared.fit.Fit.{Fit}
+use Rattle.nd_slice_axis.specs.declared.fit.Fit.TheVariants.{Strict, Clamp}
 use Rattle.nd_slice.specs.declared.elem.SliceInfoElem.{SliceInfoElem}
 use Rattle.nd_slice.specs.declared.elem.SliceInfoElem.TheVariants as elem
-use Rattle.nd_axis_slice.specs.Picks.{slice_with, meaning, picks}
+use Rattle.nd_slice_axis.specs.Picks.{slice_with, meaning, picks}
 
 -- of an argument without fault, read along its elements: the entry for a slice is the position among its picks, that for
 -- a new axis says nothing, and an index has no entry, since it names the one of its old axis

@@ -10,7 +10,7 @@ use Rattle.nd_base.specs.declared.error.LayoutError.{LayoutError}
 use Rattle.nd_base.specs.declared.error.LayoutError.TheVariants.{Shape, Memory}
 use Rattle.nd_base.specs.ShapeFault.{shape_fault}
 use Rattle.ndarray_layout.specs.Run.{IsEndedBy, Outcome, stayed, stepped, unless_fault, run_of_step, joined, in_turn, run_of}
-use Rattle.nd_views.specs.View.{View}
+use Rattle.ndarray_layout_views.specs.View.{View}
 
 -- a run after no steps
 after_none : (second : Outcome) (view : View) → second ≡ joined None (stayed None view) second

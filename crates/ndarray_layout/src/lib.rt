@@ -23,5 +23,5 @@ pub use nd_slice::{
     check_slice, do_collapse_axis, do_slice, entry_of, in_ndim_of, out_ndim_of, slice_min_max,
     to_abs_slice,
 };
-pub use nd_strided::Strided;
+pub use ndarray_layout_strided::Strided;
 pub use steps::{Step, Stopped, run};

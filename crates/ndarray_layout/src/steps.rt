@@ -2,16 +2,16 @@
 ghost use Rattle.std.specs.Prelude.{◌≡◌, ℕ, ◌<◌, length, None, Some, map, IfOk, IfErr, IsOk, OnErr, OnOk, false};
 ghost use Rattle.std.specs.Result.{result_err};
 ghost use Rattle.nd_base.specs.ShapeFault.{shape_fault};
-ghost use Rattle.nd_views.specs.MergedView.{merge_fault, merge_of};
-ghost use Rattle.nd_views.specs.DistinctPlaces.{HasDistinctPlaces};
-ghost use Rattle.nd_views.specs.KeepsPlaces.{KeepsPlaces};
+ghost use Rattle.ndarray_layout_views.specs.MergedView.{merge_fault, merge_of};
+ghost use Rattle.ndarray_layout_views.specs.DistinctPlaces.{HasDistinctPlaces};
+ghost use Rattle.ndarray_layout_views.specs.KeepsPlaces.{KeepsPlaces};
 ghost use Rattle.ndarray_layout.specs.Run.{run_of, StopsAt, IsEndedBy, HasNoBroadcast};
 ghost use Rattle.ndarray_layout.specs.Step.{may_want_memory, step_fault, step_value, view_after};
-ghost use Rattle.nd_views.specs.View.{IsView, LiesWithin};
+ghost use Rattle.ndarray_layout_views.specs.View.{IsView, LiesWithin};
 
 use nd_dim::{Axis, ErrorKind, IxDyn, LayoutError, ShapeError, from_kind};
 use nd_slice::{Fit, SliceInfoElem};
-use nd_strided::Strided;
+use ndarray_layout_strided::Strided;
 use std::alloc::Global;
 
 /// A step from one view to the next. The project's own.

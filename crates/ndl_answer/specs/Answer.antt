@@ -6,10 +6,10 @@ use Rattle.nd_base.specs.declared.order.Order.TheVariants.{RowMajor}
 use Rattle.nd_base.specs.ErrorText.{shape_error_text}
 use Rattle.nd_base.specs.Signed.{unsigned}
 use Rattle.nd_base.specs.Span.{low_span}
-use Rattle.nd_rules.specs.Acceptance.{acceptance}
+use Rattle.nd_shape_rules.specs.Acceptance.{acceptance}
 use Rattle.ndarray_layout.specs.Run.{Outcome, run_of}
 use Rattle.ndarray_layout.specs.Step.{StepValue}
-use Rattle.nd_views.specs.View.{View, view_of, view_places}
+use Rattle.ndarray_layout_views.specs.View.{View, view_of, view_places}
 use Rattle.ndl_answer.specs.declared.answer.Answer.{Answer}
 use Rattle.ndl_answer.specs.DataLine.{LayoutValue}
 use Rattle.ndl_answer.specs.Script.{ScriptValue, script_of}

@@ -7,7 +7,7 @@ ghost use Rattle.ndl_answer.specs.Answer.{answer_of, listing, refused as refusal
 ghost use Rattle.ndl_answer.specs.Answer.{reply_to_script, reply_to_steps, unreadable as unreadable_reply};
 ghost use Rattle.ndl_answer.specs.Script.{script_value};
 ghost use Rattle.ndarray_layout.specs.Step.{step_value};
-ghost use Rattle.nd_views.specs.View.{view_places};
+ghost use Rattle.ndarray_layout_views.specs.View.{view_places};
 ghost use Rattle.ndl_text.specs.Text.{line, listed};
 
 use crate::script::{ReadError, Script, read_script};

@@ -5,14 +5,16 @@ use Rattle.std.proofs.lemmas.Bool.{and_parts, cases_Bool, cond-true, cond-false,
 use Rattle.std.proofs.lemmas.Int.{ints}
 use Rattle.std.proofs.lemmas.List.{drop_at, ext_get_or, get_or-replicate, get_or-reverse, length-drop, length-map, length-replicate, length-reverse, map-append, reverse-append, reverse-reverse, take-append-drop}
 use Rattle.std.proofs.lemmas.List.FromFn.{length-map-range_with_len, get_or-map-range_with_len}
-use Rattle.nd_base.specs.declared.order.Order.TheVariants.{ColumnMajor}
+use Rattle.nd_base.specs.declared.order.Order.TheVariants.{RowMajor, ColumnMajor}
 use Rattle.nd_base.specs.Indices.{below, is_index}
 use Rattle.nd_base.specs.Offset.{offset_of}
+use Rattle.nd_base.specs.Place.{places}
 use Rattle.nd_base.specs.Rank.{rank, rank_in}
 use Rattle.nd_base.specs.Size.{size, nonzero_size, is_empty, limit}
 use Rattle.nd_base.proofs.laws.IsIndex.{is_index-reverse, length_of_index, nonempty_from_index}
 use Rattle.nd_base.proofs.laws.NonzeroSize.{size_le_nonzero_size}
 use Rattle.nd_base.proofs.laws.Offset.{offset_of-reverse}
+use Rattle.nd_base.proofs.laws.Place.{places_at_ranks}
 use Rattle.nd_base.proofs.laws.Size.{is_empty-reverse, size-reverse, size_drop_le}
 use Rattle.nd_dim.specs.Strides.{size_after, size_until, default_strides, fortran_strides}
 
@@ -121,3 +123,11 @@ offset_of-fortran_strides shape index h =
     ∙ ap (offset_of (reverse back)) (sym (reverse-reverse index))
     ∙ offset_of-reverse back (reverse index) long
     ∙ offset_of-default_strides (reverse shape) (reverse index) (is_index-reverse shape index ∙ h)
+
+-- by the default strides the places by rows follow one another
+pub places-default_strides : (start : ℕ) (shape : List ℕ) → places RowMajor start shape (map pos (default_strides shape)) ≡ map (λ r. pos (start + r)) (below (size shape))
+places-default_strides start shape = places_at_ranks RowMajor start shape (map pos (default_strides shape)) (offset_of-default_strides shape)
+
+-- by the strides by columns the places by columns follow one another
+pub places-fortran_strides : (start : ℕ) (shape : List ℕ) → places ColumnMajor start shape (map pos (fortran_strides shape)) ≡ map (λ r. pos (start + r)) (below (size shape))
+places-fortran_strides start shape = places_at_ranks ColumnMajor start shape (map pos (fortran_strides shape)) (offset_of-fortran_strides shape)

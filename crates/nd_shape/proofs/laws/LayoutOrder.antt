@@ -17,9 +17,9 @@ use Rattle.nd_base.proofs.laws.Rank.{rank_in-lt-size, index_of_rank_in-rank_in}
 use Rattle.nd_base.proofs.laws.Size.{size_of_empty}
 use Rattle.nd_dim.proofs.laws.Strides.{offset_of-default_strides, offset_of-fortran_strides}
 use Rattle.nd_shape.specs.LayoutOrder.{LiesInOrder, MeetsOrderRule}
-use Rattle.nd_shape.specs.Place.{place, places}
+use Rattle.nd_base.specs.Place.{place, places}
 use Rattle.nd_shape.specs.ShapeBuilder.{standard_strides}
-use Rattle.nd_shape.proofs.laws.Place.{places_at_ranks}
+use Rattle.nd_base.proofs.laws.Place.{places_at_ranks}
 use Rattle.nd_shape.proofs.laws.StandardStrides.{standard_count}
 
 -- by the strides that a shape has by itself each index lies at its rank

@@ -17,8 +17,8 @@ use Rattle.nd_base.proofs.laws.Rank.{rank_in-lt-size}
 use Rattle.nd_base.proofs.laws.Size.{size_take_le}
 use Rattle.nd_dim.specs.Strides.{size_after, size_until}
 use Rattle.nd_dim.proofs.laws.Strides.{default_count, default_small, fortran_at, fortran_count, offset_of-default_strides, offset_of-fortran_strides}
-use Rattle.nd_shape.specs.DistinctOffsets.{HasDistinctOffsets}
-use Rattle.nd_shape.specs.Inside.{LiesInside}
+use Rattle.nd_base.specs.DistinctOffsets.{HasDistinctOffsets}
+use Rattle.nd_base.specs.Inside.{LiesInside}
 use Rattle.nd_shape.specs.ShapeBuilder.{standard_strides}
 use Rattle.nd_shape.proofs.laws.DefaultStrides.{default_strides_distinct, default_strides_span, fortran_strides_distinct, fortran_strides_span}
 

@@ -3,7 +3,7 @@ ghost use Rattle.std.specs.Prelude.{Some};
 ghost use Rattle.nd_slice.specs.Text.{elem_text};
 
 use super::SliceInfoElem;
-use nd_axis_slice::Slice;
+use nd_slice_axis::Slice;
 use std::fmt;
 
 /// A range as its `Slice`, an index as its number, and a new axis as its name.

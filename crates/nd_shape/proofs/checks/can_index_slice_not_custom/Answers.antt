@@ -1,7 +1,7 @@
 use Rattle.std.proofs.Common.{◌≡◌, None, arith}
 use Rattle.std.proofs.lemmas.Grind.{common_steps}
 use Rattle.nd_shape.specs.AcceptanceByStrides.{acceptance_of_standard}
-use Rattle.nd_shape.proofs.laws.Acceptance.{standard_accepted_inside}
+use Rattle.nd_shape.proofs.laws.AcceptanceByStrides.{standard_accepted_inside}
 use Rattle.nd_shape.proofs.checks.can_index_slice_not_custom.Goals as goal
 
 pub returns-clause-inside : goal.returns-clause-inside

@@ -2,7 +2,7 @@ use Rattle.std.proofs.Common.{◌≡◌, rules, sym, ◌∙◌}
 use Rattle.std.specs.Result.{result_err}
 use Rattle.nd_shape.specs.AcceptanceByStrides.{acceptance_by_strides}
 use Rattle.nd_shape.proofs.Answered.{on_ok_from}
-use Rattle.nd_shape.proofs.laws.Acceptance.{by_strides_valid, by_strides_inside, by_strides_distinct}
+use Rattle.nd_shape.proofs.laws.AcceptanceByStrides.{by_strides_valid, by_strides_inside, by_strides_distinct}
 use Rattle.nd_shape.proofs.checks.can_index_slice_with_strides.Goals as goal
 
 pub returns-in-C-clause-valid : goal.returns-in-C-clause-valid

@@ -1,4 +1,0 @@
-pub mod Picks
-pub mod Ranges
-pub mod SliceFault
-pub mod Text

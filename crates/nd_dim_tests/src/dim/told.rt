@@ -1,0 +1,216 @@
+//! What the rows of a table tell, at the type of any number of axes and at that of as many as the row has.
+//!
+//! Each type is named in one place, since the check takes seconds for each function that names one.
+use crate::dim::checks::{
+    becomes, gives, handed_on, has_list, has_size, has_stride_axes, has_strides, is_equivalent,
+    is_incompatible, narrows, stays, tries_to_narrow, widens, writes, writes_last,
+};
+use crate::dim::lists::dim_of;
+use crate::dim::memory::{Memory, asks, serves};
+use crate::dim::operators::{Operator, calculates, scales};
+use crate::dim::steps::has_indices;
+use nd_dim::{
+    Dimension, IntoDimension, Ix1, Ix2, Ix3, Ix4, Ix5, Ix6, IxDyn, Order, RemoveAxis, new_ix0,
+    new_ixdyn,
+};
+use std::alloc::Global;
+use std::process::Abort;
+use test_tables::{Lists, made, rows};
+
+/// What the rows of a table tell of their lists.
+#[derive(Clone, Copy)]
+pub(crate) enum Told {
+    /// Lengths, which are kept by what a value of them is made into.
+    Values,
+    /// Lengths, and as many zeros.
+    Zeros,
+    /// Lengths, and the default of their type.
+    Default,
+    /// Lengths, and others that make a value of the same type, or don't.
+    Made(bool),
+    /// Lengths, and others, which are incompatible.
+    Incompatible,
+    /// Lengths, and their product where it fits.
+    Size,
+    /// Lengths, default strides and Fortran strides.
+    Strides,
+    /// Lengths, and two lists of strides that are equivalent, or are not.
+    Equivalent(bool),
+    /// Lengths, an index, and what an operator makes of them.
+    Calculated(Operator),
+    /// Lengths, a factor, and their products.
+    Scaled,
+    /// Lengths, how many indices there are, and these in an order.
+    Indices(Order),
+    /// Lengths, an axis, and the lengths with one more axis there.
+    Inserted,
+    /// Lengths, an axis, and the lengths without it.
+    Removed,
+    /// Lengths, strides, and the axes of the least and of the greatest stride.
+    StrideAxes,
+    /// Strides, and the axes from the least stride to the greatest.
+    Order,
+    /// Lengths, and the last one or 0.
+    Last,
+    /// Lengths, another last one, and the lengths with it.
+    LastWritten,
+    /// Lengths, an axis and its new length, and the lengths with it.
+    Written,
+    /// Lengths, and an axis: how a call goes about memory.
+    Memory(Memory),
+}
+
+/// The types at which a row is asked.
+#[derive(Clone, Copy)]
+pub(crate) enum Types {
+    /// That of as many axes as the first list of the row has.
+    Fixed,
+    /// That of any number of axes.
+    AnyCount,
+    /// Both.
+    Both,
+}
+
+/// Whether a value keeps its list in what is made of it. Four axes make a value where no other count is
+/// fixed.
+fn keeps<D: Dimension + IntoDimension<Dim = D>>(
+    rt: &impl Abort,
+    alloc: Global,
+    dim: &D,
+    lens: &[usize],
+) -> bool {
+    let ones = [1; 4];
+    has_list(alloc, dim, lens)
+        && stays::<D>(rt, alloc, lens)
+        && becomes::<D>(alloc, handed_on::<D>(alloc, lens), lens, true, false)
+        && becomes::<D>(
+            alloc,
+            new_ixdyn(alloc, &ones),
+            &ones,
+            D::NDIM.unwrap_or(4) == 4,
+            false,
+        )
+}
+
+/// Whether a row tells what the calls of a dimension answer, whatever its type. Where the second list is one
+/// number, that is the number.
+fn tells_of_dimension<D: Dimension>(
+    rt: &impl Abort,
+    told: Told,
+    alloc: Global,
+    dim: &D,
+    number: usize,
+    second: &[usize],
+    third: &[usize],
+) -> bool {
+    match told {
+        Told::Made(answer) => {
+            becomes::<D>(alloc, new_ixdyn(alloc, second), second, answer, false)
+        },
+        Told::Incompatible => is_incompatible(rt, alloc, dim, second),
+        Told::Inserted => widens(alloc, dim, number, third),
+        Told::Removed => tries_to_narrow(alloc, dim, number, third),
+        Told::Last => dim.last_elem() == number,
+        Told::LastWritten => writes_last(dim_of::<D>(rt, alloc, dim.slice()), number, third),
+        Told::Size => has_size(dim, second),
+        Told::Strides => has_strides(alloc, dim, second, third),
+        Told::Equivalent(answer) => is_equivalent(rt, alloc, dim, second, third) == answer,
+        Told::Calculated(operator) => {
+            calculates::<D>(rt, alloc, operator, dim.slice(), second, third)
+        },
+        Told::Scaled => scales::<D>(rt, alloc, dim.slice(), number, third),
+        Told::Indices(order) => has_indices(alloc, order, dim, number, third),
+        Told::StrideAxes => has_stride_axes(rt, alloc, dim, second, third),
+        Told::Order => gives(dim._fastest_varying_stride_order(alloc), second),
+        _ => false,
+    }
+}
+
+/// Whether a row tells what the calls answer at a type.
+fn tells<D: Dimension + IntoDimension<Dim = D>>(
+    rt: &impl Abort,
+    told: Told,
+    alloc: Global,
+    dim: &D,
+    row: &Lists<'_>,
+) -> bool {
+    let number = row.second.at(0);
+    let second = row.second.as_slice();
+    let third = row.third.as_slice();
+    match told {
+        Told::Values => keeps(rt, alloc, dim, row.first.as_slice()),
+        Told::Zeros => gives(D::zeros(alloc, dim.ndim()), second),
+        Told::Default => {
+            D::NDIM.unwrap_or(1) == second.len() && gives(D::default_in(alloc), second)
+        },
+        Told::Written => writes(
+            dim_of::<D>(rt, alloc, row.first.as_slice()),
+            number,
+            row.second.at(1),
+            third,
+        ),
+        Told::Memory(memory) => serves(alloc, memory, dim, number),
+        _ => tells_of_dimension(rt, told, alloc, dim, number, second, third),
+    }
+}
+
+/// Whether a row tells what the calls answer at a type that can have an axis to remove. A value may not be made
+/// for want of memory where a row tells of that.
+fn holds<D: RemoveAxis + IntoDimension<Dim = D>>(
+    rt: &impl Abort,
+    told: Told,
+    alloc: Global,
+    row: &Lists<'_>,
+) -> bool {
+    let lens = row.first.as_slice();
+    let Some(dim) = made::<D>(alloc, lens) else {
+        return matches!(told, Told::Memory(_)) && D::NDIM.is_none() && lens.len() > 4;
+    };
+    match told {
+        Told::Removed => narrows(alloc, &dim, row.second.at(0), row.third.as_slice()),
+        Told::Memory(memory) => asks(alloc, memory, &dim, row.second.at(0)),
+        _ => tells(rt, told, alloc, &dim, row),
+    }
+}
+
+/// The same at the type of so many axes, or at that of any number.
+pub(crate) fn holds_at(
+    rt: &impl Abort,
+    told: Told,
+    alloc: Global,
+    ndim: Option<usize>,
+    row: &Lists<'_>,
+) -> bool {
+    match ndim {
+        Some(0) => tells(rt, told, alloc, &new_ix0(), row),
+        Some(1) => holds::<Ix1>(rt, told, alloc, row),
+        Some(2) => holds::<Ix2>(rt, told, alloc, row),
+        Some(3) => holds::<Ix3>(rt, told, alloc, row),
+        Some(4) => holds::<Ix4>(rt, told, alloc, row),
+        Some(5) => holds::<Ix5>(rt, told, alloc, row),
+        Some(6) => holds::<Ix6>(rt, told, alloc, row),
+        _ => holds::<IxDyn>(rt, told, alloc, row),
+    }
+}
+
+/// Whether a row of a table tells what the calls answer at these types.
+fn row_holds(rt: &impl Abort, alloc: Global, told: Told, types: Types, line: &str) -> bool {
+    let Some(row) = Lists::read(line) else {
+        return false;
+    };
+    let count = row.first.as_slice().len();
+    let at_fixed = matches!(types, Types::AnyCount) || holds_at(rt, told, alloc, Some(count), &row);
+    at_fixed && (matches!(types, Types::Fixed) || holds_at(rt, told, alloc, None, &row))
+}
+
+/// Fails, and tells the row, where it doesn't hold.
+pub(crate) fn demand(rt: &impl Abort, holds: bool, line: &str) {
+    assert!(rt; holds, "{line}");
+}
+
+/// The rows of a table, one by one, at these types.
+pub(crate) fn table(rt: &impl Abort, alloc: Global, told: Told, types: Types, table: &str) {
+    for line in rows(table) {
+        demand(rt, row_holds(rt, alloc, told, types, line), line);
+    }
+}

@@ -1,0 +1,86 @@
+-- Laws of two axes as one: where one stride has the entries of both, and which stride does.
+use Rattle.std.proofs.Common.{◌≡◌, ◌⊎◌, ℕ, ◌≤◌, ◌<◌, ℤ, pos, ◌*ℤ◌, Bool, true, cond, inl, inr, leb, ltb, refl}
+use Rattle.std.specs.Bool.{Decides}
+use Rattle.std.specs.Ordering.{int_eq}
+use Rattle.std.specs.Prelude.{◌||◌, ◌&&◌}
+use Rattle.std.proofs.lemmas.Bool.{and_from, and_left, and_right, cases_lt, cond-false, cond-true, le-leb, le-ltb, lt-leb, lt-ltb}
+use Rattle.std.proofs.lemmas.Bool.Decides.{Decides-int_eq}
+use Rattle.nd_shape_rules.specs.Merge.{IsMergedStride, MergeFits}
+use Rattle.nd_shape_rules.proofs.MergedStride.{short_taken, into_short, steps_on, steps_on_from_fit}
+
+-- an axis has at most one entry, or the axis to take goes on where the other one ends
+abbrev pub goes_on : ℕ → ℤ → ℕ → ℤ → Bool
+goes_on take_len take_stride into_len into_stride = leb take_len 1 || leb into_len 1 || int_eq take_stride (pos into_len *ℤ into_stride)
+
+-- the stride of the axis merged into, or of the other where only that one has more than one entry
+abbrev pub lasting_stride : ℕ → ℤ → ℕ → ℤ → ℤ
+lasting_stride take_len take_stride into_len into_stride = cond (ltb 1 take_len && leb into_len 1) take_stride into_stride
+
+-- which of the three it is
+pub record FewTaken (take_len : ℕ) (take_stride : ℤ) (into_len : ℕ) (into_stride : ℤ) : Type 0 where
+  pub few : take_len ≤ 1
+  pub stride : lasting_stride take_len take_stride into_len into_stride ≡ into_stride
+
+pub record IntoFew (take_len : ℕ) (take_stride : ℤ) (into_len : ℕ) (into_stride : ℤ) : Type 0 where
+  pub more : 1 < take_len
+  pub few : into_len ≤ 1
+  pub stride : lasting_stride take_len take_stride into_len into_stride ≡ take_stride
+
+pub record StepsOn (take_len : ℕ) (take_stride : ℤ) (into_len : ℕ) (into_stride : ℤ) : Type 0 where
+  pub taken : 1 < take_len
+  pub into : 1 < into_len
+  pub on : take_stride ≡ pos into_len *ℤ into_stride
+  pub stride : lasting_stride take_len take_stride into_len into_stride ≡ into_stride
+
+abbrev pub HowItGoesOn : ℕ → ℤ → ℕ → ℤ → Type 0
+HowItGoesOn take_len take_stride into_len into_stride = FewTaken take_len take_stride into_len into_stride ⊎ (IntoFew take_len take_stride into_len into_stride ⊎ StepsOn take_len take_stride into_len into_stride)
+
+pub how_it_goes_on : (take_len : ℕ) (take_stride : ℤ) (into_len : ℕ) (into_stride : ℤ) → goes_on take_len take_stride into_len into_stride ≡ true → HowItGoesOn take_len take_stride into_len into_stride
+how_it_goes_on take_len take_stride into_len into_stride h =
+    let here = ltb 1 take_len && leb into_len 1 in
+    elim (cases_lt 1 take_len) [
+      | inr few ↦ inl (record {
+        few = few;
+        stride = cond-false here take_stride into_stride (and_left (ltb 1 take_len) (leb into_len 1) (le-ltb 1 take_len few));
+      })
+      | inl more ↦ elim (cases_lt 1 into_len) [
+        | inr few ↦ inr (inl (record {
+          more = more;
+          few = few;
+          stride = cond-true here take_stride into_stride (and_from (ltb 1 take_len) (leb into_len 1) (lt-ltb 1 take_len more) (le-leb into_len 1 few));
+        }))
+        | inl into ↦
+            let on : int_eq take_stride (pos into_len *ℤ into_stride) ≡ true = rw (lt-leb take_len 1 more, lt-leb into_len 1 into) at h in
+            inr (inr (record {
+              taken = more;
+              into = into;
+              on = (Decides-int_eq take_stride (pos into_len *ℤ into_stride)).0 on;
+              stride = cond-false here take_stride into_stride (and_right (ltb 1 take_len) (leb into_len 1) (lt-leb into_len 1 into));
+            }))
+      ]
+    ]
+
+-- then that stride has every entry of both
+pub lasting_stride_serves : (take_len : ℕ) (take_stride : ℤ) (into_len : ℕ) (into_stride : ℤ) → goes_on take_len take_stride into_len into_stride ≡ true → IsMergedStride take_len take_stride into_len into_stride (lasting_stride take_len take_stride into_len into_stride)
+lasting_stride_serves take_len take_stride into_len into_stride h =
+    elim (how_it_goes_on take_len take_stride into_len into_stride h) [
+      | inl k ↦ rw k.stride (short_taken take_len take_stride into_len into_stride k.few)
+      | inr k ↦ elim k [
+        | inl k ↦ rw k.stride (into_short take_len take_stride into_len into_stride k.few)
+        | inr k ↦ rw k.stride (steps_on take_len take_stride into_len into_stride k.on)
+      ]
+    ]
+
+-- and else none does
+pub goes_on-Decides : (take_len : ℕ) (take_stride : ℤ) (into_len : ℕ) (into_stride : ℤ) → Decides (goes_on take_len take_stride into_len into_stride) (MergeFits take_len take_stride into_len into_stride)
+goes_on-Decides take_len take_stride into_len into_stride = (
+  λ h. (lasting_stride take_len take_stride into_len into_stride, lasting_stride_serves take_len take_stride into_len into_stride h),
+  λ fits.
+      elim (cases_lt 1 take_len) [
+        | inr few ↦ rw (le-leb take_len 1 few) refl
+        | inl more ↦ elim (cases_lt 1 into_len) [
+          | inr short ↦ rw (lt-leb take_len 1 more, le-leb into_len 1 short) refl
+          | inl long ↦ rw (lt-leb take_len 1 more, lt-leb into_len 1 long) ((Decides-int_eq take_stride (pos into_len *ℤ into_stride)).1 (steps_on_from_fit take_len take_stride into_len into_stride more long fits))
+        ]
+      ],
+)

@@ -1,0 +1,141 @@
+//! Whether two indices of a layout may share an element.
+ghost use Rattle.std.specs.Option.{IfSome};
+ghost use Rattle.std.specs.Prelude.{◌≡◌, ◌<◌, ◌≤◌, ◌-◌, not, ◌&&◌, if◌then◌else◌, [], ◌∷◌, length};
+ghost use Rattle.nd_base.specs.Signed.{signed as signed_reading, all_signed};
+ghost use Rattle.nd_base.specs.Size.{is_empty, limit};
+ghost use Rattle.nd_base.specs.Span.{reach as reach_of_axis, span};
+ghost use Rattle.nd_shape_rules.specs.OwnedRule.{meets_owned_rule, steps_over_others, span_up_to as span_up_to_magnitude};
+
+use crate::limits::reach;
+use nd_dim::signed;
+
+/// How many elements lie between the first and the last entry of an axis, or 0 where its stride is
+/// of a magnitude past `magnitude`.
+#[inline(always)]
+fn reach_up_to(len: usize, stride: usize, magnitude: usize) -> usize
+    requires { reach_of_axis len (signed_reading stride) ≤ limit }
+    ensures { result ≡ span_up_to_magnitude magnitude (len ∷ []) (signed_reading stride ∷ []) }
+{
+    let stride = signed(stride);
+    let far = reach(len, stride);
+    if stride.unsigned_abs() <= magnitude {
+        far
+    } else {
+        0
+    }
+}
+
+/// The summed spans of the axes whose strides are of magnitude at most `magnitude`.
+#[inline(always)]
+fn span_up_to(shape: &[usize], strides: &[usize], magnitude: usize) -> usize
+    requires { span shape.now (all_signed strides.now) ≤ limit }
+    ensures { result ≡ span_up_to_magnitude magnitude shape.now (all_signed strides.now) }
+{
+    let mut total = 0usize;
+    for (len, stride) in shape.iter().zip(strides) {
+        total += reach_up_to(*len, *stride, magnitude);
+    }
+    total
+}
+
+/// Whether the stride of an axis of more than one entry steps over no more than the axes of no
+/// greater stride span together.
+#[inline(always)]
+fn overlaps_others(shape: &[usize], strides: &[usize], axis: usize) -> bool
+    requires axis { axis < length shape.now }
+    requires same_count { length shape.now ≡ length strides.now }
+    requires span_fits { span shape.now (all_signed strides.now) ≤ limit }
+    ensures { result ≡ not (steps_over_others shape.now (all_signed strides.now) axis) }
+{
+    let len = shape[axis];
+    let stride = signed(strides[axis]);
+    let magnitude = stride.unsigned_abs();
+    len > 1 && magnitude <= span_up_to(shape, strides, magnitude) - reach(len, stride)
+}
+
+/// Whether some axis of more than one entry has a stride that steps over no more than the axes of
+/// no greater stride span together.
+#[inline(always)]
+fn some_overlaps_others(shape: &[usize], strides: &[usize]) -> bool
+    requires same_count { length shape.now ≡ length strides.now }
+    requires span_fits { span shape.now (all_signed strides.now) ≤ limit }
+    ensures { result ≡ not (meets_owned_rule shape.now (all_signed strides.now)) }
+{
+    for axis in 0..shape.len() {
+        if overlaps_others(shape, strides, axis) {
+            return true;
+        }
+    }
+    false
+}
+
+/// The axis that a walk over `count` axes comes to behind `place` others.
+#[inline(always)]
+fn axis_on_walk(count: usize, place: usize, from_last: bool) -> usize
+    requires { place < count }
+    ensures { result ≡ (if from_last then count - 1 - place else place) }
+{
+    if from_last { count - 1 - place } else { place }
+}
+
+/// Whether a walk along the axes, from the last or from the first one on, comes to one of more than
+/// one entry whose stride is no longer than those before it span together. `None` where it comes to
+/// a stride that is shorter than one before it, since such a walk can't tell.
+#[inline(always)]
+fn overlap_on_walk(shape: &[usize], strides: &[usize], from_last: bool) -> Option<bool>
+    requires same_count { length shape.now ≡ length strides.now }
+    requires span_fits { span shape.now (all_signed strides.now) ≤ limit }
+    ensures { IfSome result
+        (λ overlaps. overlaps ≡ not (meets_owned_rule shape.now (all_signed strides.now))) }
+{
+    let mut reached = 0usize;
+    let mut longest = 0usize;
+    for place in 0..shape.len() {
+        let axis = axis_on_walk(shape.len(), place, from_last);
+        let (len, stride) = (shape[axis], signed(strides[axis]));
+        let magnitude = stride.unsigned_abs();
+        if len > 1 {
+            if magnitude <= reached {
+                return (magnitude >= longest).then_some(true);
+            }
+            longest = magnitude;
+            reached += reach(len, stride);
+        }
+    }
+    Some(false)
+}
+
+/// Whether an axis of more than one entry has a stride that steps over no more than the axes of no
+/// greater stride span together.
+///
+/// One walk along axes that stand in order of their strides tells; others are compared one by one,
+/// and two axes at once.
+#[inline(always)]
+fn breaks_owned_rule(shape: &[usize], strides: &[usize]) -> bool
+    requires same_count { length shape.now ≡ length strides.now }
+    requires span_fits { span shape.now (all_signed strides.now) ≤ limit }
+    ensures { result ≡ not (meets_owned_rule shape.now (all_signed strides.now)) }
+{
+    if shape.len() > 2 {
+        if let Some(overlaps) = overlap_on_walk(shape, strides, true) {
+            return overlaps;
+        }
+        if let Some(overlaps) = overlap_on_walk(shape, strides, false) {
+            return overlaps;
+        }
+    }
+    some_overlaps_others(shape, strides)
+}
+
+/// Whether two indices of a layout may share an element: it has an index, and breaks the rule for
+/// owned data. There is a stride for each length, and the span fits. The lists under upstream's
+/// `dim_stride_overlap`.
+#[inline(always)]
+pub fn has_overlap(shape: &[usize], strides: &[usize]) -> bool
+    requires same_count { length shape.now ≡ length strides.now }
+    requires span_fits { span shape.now (all_signed strides.now) ≤ limit }
+    ensures { result ≡
+        (not (is_empty shape.now) && not (meets_owned_rule shape.now (all_signed strides.now))) }
+{
+    breaks_owned_rule(shape, strides) && !shape.contains(&0)
+}

@@ -1,0 +1,127 @@
+//! The shape that two shapes have in common.
+//!
+//! A row is two shapes, and what they have in common, in either order; or, behind an arrow, the fault.
+use crate::questions::Question;
+use crate::told::{Told, row_holds, table};
+use nd_dim::{Ix2, Ix3, IxDyn, Lengths, new_ix2, new_ix3};
+use nd_shape::co_broadcast;
+use std::alloc::Global;
+use test_tables::{Lists, grants, layout_fault_name};
+
+/// Whether two shapes have these lengths in common, or this fault. (The call is made here alone, since what is
+/// ensured of it is dear.)
+fn is_common<D1: Lengths, D2: Lengths, Output: Lengths>(
+    alloc: Global,
+    shape1: &D1,
+    shape2: &D2,
+    lens: &[usize],
+    fault: &str,
+) -> bool {
+    let count1 = shape1.ndim();
+    let count2 = shape2.ndim();
+    let count = if count1 < count2 { count2 } else { count1 };
+    if Output::NDIM.unwrap_or(count) != count {
+        return false;
+    }
+    match co_broadcast::<D1, D2, Output>(alloc, shape1, shape2) {
+        Ok(common) => common.slice() == lens && fault.is_empty(),
+        Err(error) => layout_fault_name(&error) == fault,
+    }
+}
+
+/// What is asked of the shape that two have in common.
+#[derive(Clone, Copy)]
+pub(crate) enum Sharing {
+    /// That it is as told, in either order.
+    IsTold,
+    /// That to make it asks for memory: of two such calls one may fail.
+    Asks,
+}
+
+/// Whether a row tells this of what two shapes have in common.
+pub(crate) fn shares<D: Lengths>(
+    alloc: Global,
+    shape: &D,
+    other: &D,
+    sharing: Sharing,
+    row: &Lists<'_>,
+) -> bool {
+    let lens = row.third.as_slice();
+    let first = is_common::<D, D, D>(alloc, shape, other, lens, row.answer);
+    let second = is_common::<D, D, D>(alloc, other, shape, lens, row.answer);
+    match sharing {
+        Sharing::IsTold => first && second,
+        Sharing::Asks => grants(alloc) && (first || second),
+    }
+}
+
+const COMMON: &str = "\
+2,3 4,1,3 4,2,3
+3,4,5 - 3,4,5
+- - -
+1,1,3,1,5,1,7 2,1,4,1,6,1 1,2,3,4,5,6,7
+2,1,2 0 - => IncompatibleShape
+0 0,0,0 0,0,0
+1 1,0,0 1,0,0
+2,1,1 0,0,1,3,4 0,0,2,3,4
+1,2,2 1,3,4 - => IncompatibleShape
+1,2,1,3 1,2,1,3 1,2,1,3
+1,3,0,1,1 1,2,3,1 - => IncompatibleShape
+3,1 2,3,4 2,3,4
+2,3 3 2,3
+18446744073709551615,1 18446744073709551615 18446744073709551615,18446744073709551615
+2,3 2 - => IncompatibleShape
+0,3 2,3 - => IncompatibleShape
+5 1,1 1,5";
+
+#[test]
+fn r5_rows(rt: HostRuntime) {
+    table(
+        &rt,
+        rt.alloc(),
+        Told::Asked(Question::Common(Sharing::IsTold)),
+        COMMON,
+    );
+}
+
+/// Whether shapes of two types have these lengths in common, in the type of the other one and in a third.
+fn types_share<D1: Lengths, D2: Lengths, D3: Lengths>(
+    alloc: Global,
+    shape: &D1,
+    other: &D2,
+    lens: &[usize],
+) -> bool {
+    is_common::<D1, D2, D2>(alloc, shape, other, lens, "")
+        && is_common::<D1, D2, D3>(alloc, shape, other, lens, "")
+}
+
+#[test]
+fn r5_rows_of_fixed_types(rt: HostRuntime) {
+    let shape = new_ix2(2, 3);
+    let other = new_ix3(4, 1, 3);
+    assert!(rt; types_share::<Ix2, Ix3, IxDyn>(rt.alloc(), &shape, &other, &[4, 2, 3]));
+}
+
+// More than four axes ask for memory. To make the two shapes takes the first two requests.
+#[test]
+fn late_memory_of_broadcast(rt: HostRuntime) {
+    let told = Told::Asked(Question::Common(Sharing::Asks));
+    let row = "2,1,3,1,2 2,1,3,1,2 2,1,3,1,2";
+    assert!(rt; row_holds(told, rt.alloc(), row));
+}
+
+// Shapes that have none in common are refused for that.
+#[test]
+fn late_memory_after_the_shapes(rt: HostRuntime) {
+    let told = Told::Asked(Question::Common(Sharing::IsTold));
+    let row = "2,1,3,1,2 2,1,3,1,4 - => IncompatibleShape";
+    assert!(rt; row_holds(told, rt.alloc(), row));
+}
+
+// Up to four axes lie in the value itself.
+#[test]
+fn r9_rows_of_broadcast(rt: HostRuntime) {
+    let told = Told::Asked(Question::Common(Sharing::IsTold));
+    let row = "1,3 2,4,1 2,4,3";
+    assert!(rt; row_holds(told, rt.alloc(), row));
+}

@@ -1,0 +1,437 @@
+//! Walks over all indices of a shape, in either order.
+//!
+//! A row is a shape and how many indices it has, and then, behind an arrow, these; or what a walk makes of them.
+ghost use Rattle.std.specs.Iterator.{IsFinite};
+ghost use Rattle.std.specs.Prelude.{◌<◌, ◌^◌, IfOk};
+ghost use Rattle.nd_base.specs.Dim.{lengths};
+ghost use Rattle.nd_base.specs.Size.{size};
+
+use crate::told::{Told, row_holds, table};
+use nd_dim::{Dimension, IntoDimension, IxDyn, Lengths, Order, new_ixdyn};
+use nd_shape::{IndexCursor, IndexCursorF, all_indices, indices_iter_f};
+use std::alloc::{AllocError, Global};
+use test_tables::{List, Lists, Row, asked, made};
+
+// ---- what walks give
+
+/// Whether the next word of a row is these entries.
+fn tells(alloc: Global, row: &mut Row<'_>, entries: &[usize]) -> bool {
+    match row.lengths(alloc) {
+        Ok(wanted) => wanted.as_slice() == entries,
+        Err(_) => false,
+    }
+}
+
+/// Whether an item stands for the next word of a row.
+fn is_told<T: IntoDimension>(alloc: Global, row: &mut Row<'_>, item: T) -> bool {
+    match item.into_dimension(alloc) {
+        Ok(index) => tells(alloc, row, index.slice()),
+        Err(_) => false,
+    }
+}
+
+/// Whether there is no item.
+fn is_end<T: IntoDimension>(alloc: Global, item: Option<T>) -> bool {
+    match item {
+        Some(item) => {
+            let _let_go = item.into_dimension(alloc);
+            false
+        }
+        None => true,
+    }
+}
+
+/// Whether a walk has so many indices and the first ones are those of a row, while the length falls by ones;
+/// and none follow where these are all.
+fn yields<T: IntoDimension, W: ExactSizeIterator<Item = T> + Drop>(
+    alloc: Global,
+    mut walk: W,
+    row: &Lists<'_>,
+    first: usize,
+) -> bool
+    requires can { (state : W) → W.can_next state }
+    requires ends { IsFinite (W.remaining walk) }
+{
+    let count = row.second.at(0);
+    let mut indices = Row::new(row.answer);
+    let rest = count.saturating_sub(first);
+    for left in (rest..count).rev() {
+        let told = walk.len().wrapping_sub(1) == left
+            && match walk.next() {
+                Some(item) => is_told(alloc, &mut indices, item),
+                None => false,
+            };
+        if !told {
+            return false;
+        }
+    }
+    walk.len() == rest
+        && (rest > 0
+            || is_end(alloc, walk.next())
+                && is_end(alloc, walk.next())
+                && walk.size_hint() == (0, Some(0)))
+}
+
+/// What lends the indices of a shape, in either order.
+trait LendingWalk {
+    fn lend(&mut self) -> Option<&[usize]>;
+
+    fn left(&self) -> usize;
+}
+
+impl LendingWalk for IndexCursor {
+    fn lend(&mut self) -> Option<&[usize]> {
+        self.next()
+    }
+
+    fn left(&self) -> usize {
+        self.len()
+    }
+}
+
+impl LendingWalk for IndexCursorF {
+    fn lend(&mut self) -> Option<&[usize]> {
+        self.next()
+    }
+
+    fn left(&self) -> usize {
+        self.len()
+    }
+}
+
+/// A shape, where its size fits.
+fn sized(dim: IxDyn) -> Result<IxDyn, AllocError>
+    ensures { IfOk result (λ dim. size (lengths dim) < 2 ^ 64) }
+{
+    match dim.size_checked() {
+        Some(_) => Ok(dim),
+        None => Err(AllocError),
+    }
+}
+
+/// The cursor over a shape by rows. (It is made here alone, since what is ensured of it is dear.)
+fn row_cursor(alloc: Global, dim: IxDyn) -> Result<IndexCursor, AllocError> {
+    IndexCursor::new(alloc, sized(dim)?)
+}
+
+/// The cursor over a shape by columns.
+fn column_cursor(alloc: Global, dim: IxDyn) -> Result<IndexCursorF, AllocError> {
+    IndexCursorF::new(alloc, sized(dim)?)
+}
+
+/// Whether the indices that a cursor lends are those of a row, and none follow.
+fn lends_all<C: LendingWalk + Drop>(
+    alloc: Global,
+    cursor: Result<C, AllocError>,
+    row: &Lists<'_>,
+) -> bool {
+    let Ok(mut cursor) = cursor else {
+        return false;
+    };
+    let mut indices = Row::new(row.answer);
+    for left in (0..row.second.at(0)).rev() {
+        let is_told = match cursor.lend() {
+            Some(index) => tells(alloc, &mut indices, index),
+            None => false,
+        };
+        if !is_told || cursor.left() != left {
+            return false;
+        }
+    }
+    cursor.lend().is_none() && cursor.lend().is_none() && cursor.left() == 0
+}
+
+/// What a row tells of the walks over a shape.
+#[derive(Clone, Copy)]
+pub(crate) enum Walk {
+    /// How many indices it has, and these in an order.
+    All(Order),
+    /// How many indices it has, and the first one.
+    Starts,
+    /// That a loop over a copy of a walk meets what is left, once so many indices are gone.
+    Folds(usize),
+    /// A factor, how many indices are gone, and what a fold makes of the others.
+    Folded,
+}
+
+/// Whether a row tells this of a walk by rows.
+fn tells_of<T: IntoDimension, W: ExactSizeIterator<Item = T> + Clone + Drop>(
+    alloc: Global,
+    told: Walk,
+    walk: W,
+    row: &Lists<'_>,
+) -> bool
+    requires can { (state : W) → W.can_next state }
+    requires ends { (state : W) → IsFinite (W.remaining state) }
+{
+    match told {
+        Walk::All(_) => yields(alloc, walk, row, usize::MAX),
+        Walk::Starts => yields(alloc, walk, row, 1),
+        Walk::Folds(gone) => folds(alloc, walk, gone, row.first),
+        Walk::Folded => is_folded(alloc, walk, row),
+    }
+}
+
+/// Whether a row tells this of the walk over a shape at a type.
+pub(crate) fn is_walked<D: Dimension + Copy>(alloc: Global, told: Walk, row: &Lists<'_>) -> bool {
+    let Some(dim) = made::<D>(alloc, row.first.as_slice()) else {
+        return false;
+    };
+    if dim.size_checked().is_none() {
+        return false;
+    }
+    let pattern = dim.into_pattern();
+    match told {
+        Walk::All(Order::ColumnMajor) => match indices_iter_f(alloc, pattern) {
+            Ok(walk) => yields(alloc, walk, row, usize::MAX),
+            Err(_) => false,
+        },
+        _ => match all_indices(alloc, pattern) {
+            Ok(indices) => tells_of(alloc, told, indices.into_iter(), row),
+            Err(_) => false,
+        },
+    }
+}
+
+/// Whether a row tells the indices of a shape in an order, as they are lent by its cursor.
+pub(crate) fn lends(alloc: Global, order: Order, row: &Lists<'_>) -> bool {
+    let Ok(dim) = new_ixdyn(alloc, row.first.as_slice()) else {
+        return false;
+    };
+    match order {
+        Order::RowMajor => lends_all(alloc, row_cursor(alloc, dim), row),
+        Order::ColumnMajor => lends_all(alloc, column_cursor(alloc, dim), row),
+    }
+}
+
+const TWO_AXES_BY_ROWS: &str = "\
+2,2 4 => 0,0 0,1 1,0 1,1
+3,4 12 => 0,0 0,1 0,2 0,3 1,0 1,1 1,2 1,3 2,0 2,1 2,2 2,3
+0,18446744073709551615 0";
+
+const TWO_AXES_BY_COLUMNS: &str = "\
+2,2 4 => 0,0 1,0 0,1 1,1
+3,4 12 => 0,0 1,0 2,0 0,1 1,1 2,1 0,2 1,2 2,2 0,3 1,3 2,3
+0,18446744073709551615 0";
+
+const THREE_AXES_BY_ROWS: &str = "\
+2,1,2 4 => 0,0,0 0,0,1 1,0,0 1,0,1
+2,0,3 0
+1099511627776,1099511627776,0 0
+0,1099511627776,1099511627776 0";
+
+const THREE_AXES_BY_COLUMNS: &str = "\
+2,1,2 4 => 0,0,0 1,0,0 0,0,1 1,0,1
+2,0,3 0
+1099511627776,1099511627776,0 0
+0,1099511627776,1099511627776 0";
+
+#[test]
+fn r7_rows(rt: HostRuntime) {
+    let alloc = rt.alloc();
+    let told = Told::Walked(Walk::All(Order::RowMajor));
+    table(&rt, alloc, told, "- 1 => -");
+    table(&rt, alloc, told, TWO_AXES_BY_ROWS);
+    table(&rt, alloc, told, THREE_AXES_BY_ROWS);
+}
+
+#[test]
+fn r7_rows_by_columns(rt: HostRuntime) {
+    let alloc = rt.alloc();
+    let told = Told::Walked(Walk::All(Order::ColumnMajor));
+    table(&rt, alloc, told, "- 1 => -");
+    table(&rt, alloc, told, TWO_AXES_BY_COLUMNS);
+    table(&rt, alloc, told, THREE_AXES_BY_COLUMNS);
+}
+
+#[test]
+fn r7_rows_of_the_longest_shape(rt: HostRuntime) {
+    let row = "18446744073709551615 18446744073709551615 => 0";
+    assert!(rt; row_holds(Told::Walked(Walk::Starts), rt.alloc(), row));
+}
+
+// ---- folds
+
+/// The rank of an index in a shape.
+fn rank_of<T: IntoDimension>(alloc: Global, lens: List, item: T) -> usize {
+    let mut rank = 0_usize;
+    if let Ok(index) = item.into_dimension(alloc) {
+        for (axis, entry) in index.slice().iter().enumerate() {
+            rank = rank.wrapping_mul(lens.at(axis)).wrapping_add(*entry);
+        }
+    }
+    rank
+}
+
+/// How many items a walk has, and a number that tells their ranks in a shape from others.
+fn met<T: IntoDimension, W: Iterator<Item = T> + Drop>(
+    alloc: Global,
+    walk: W,
+    lens: List,
+) -> (usize, usize)
+    requires can { (state : W) → W.can_next state }
+    requires ends { IsFinite (W.remaining walk) }
+{
+    let mut count = 0_usize;
+    let mut told = 0_usize;
+    for item in walk {
+        count = count.wrapping_add(1);
+        told = told
+            .wrapping_mul(31)
+            .wrapping_add(rank_of(alloc, lens, item));
+    }
+    (count, told)
+}
+
+/// A walk, once so many of its items are gone.
+fn left_of<T: IntoDimension, W: Iterator<Item = T> + Drop>(
+    alloc: Global,
+    mut walk: W,
+    gone: usize,
+) -> W
+    requires can { (state : W) → W.can_next state }
+    requires ends { (state : W) → IsFinite (W.remaining state) }
+{
+    for _ in 0..gone {
+        is_end(alloc, walk.next());
+    }
+    walk
+}
+
+/// Whether a loop over a copy of a walk over a shape meets the items that are still to come, as many as it
+/// tells.
+fn folds<T: IntoDimension, W: ExactSizeIterator<Item = T> + Clone + Drop>(
+    alloc: Global,
+    walk: W,
+    gone: usize,
+    lens: List,
+) -> bool
+    requires can { (state : W) → W.can_next state }
+    requires ends { (state : W) → IsFinite (W.remaining state) }
+{
+    let walk = left_of(alloc, walk, gone);
+    let len = walk.len();
+    match walk.clone() {
+        Ok(copy) => {
+            let told = met(alloc, copy, lens);
+            told.0 == len && met(alloc, walk, lens) == told
+        },
+        Err(_) => false,
+    }
+}
+
+const FOLDED: &str = "\
+-
+2
+2,3
+2,0,3
+2,3,4
+2,3,4,2";
+
+#[test]
+fn r7_rows_of_folds(rt: HostRuntime) {
+    for gone in 0..3 {
+        table(&rt, rt.alloc(), Told::Walked(Walk::Folds(gone)), FOLDED);
+    }
+}
+
+/// What a fold makes of the ranks of items in a shape.
+#[derive(Clone, Copy)]
+struct Folding {
+    alloc: Global,
+    lens: List,
+    factor: usize,
+    told: usize,
+}
+
+/// The same with one item more.
+fn folded<T: IntoDimension>(folding: Folding, item: T) -> Folding {
+    let rank = rank_of(folding.alloc, folding.lens, item);
+    Folding {
+        told: folding.told.wrapping_mul(folding.factor).wrapping_add(rank),
+        ..folding
+    }
+}
+
+/// Whether a fold over the items that are left makes of their ranks in a shape what a row tells.
+fn is_folded<T: IntoDimension, W: Iterator<Item = T> + Drop>(
+    alloc: Global,
+    walk: W,
+    row: &Lists<'_>,
+) -> bool
+    requires can { (state : W) → W.can_next state }
+    requires ends { (state : W) → IsFinite (W.remaining state) }
+{
+    let first = Folding {
+        alloc,
+        lens: row.first,
+        factor: row.second.at(0),
+        told: 1,
+    };
+    let last = left_of(alloc, walk, row.third.at(0)).fold(first, folded);
+    last.told == row.fourth.at(0)
+}
+
+const RANKS_FOLDED: &str = "\
+2,3 10 0 1012345
+2,3 10 1 112345
+2,3 10 2 12345
+2,3,4 31 0 9080093417489650957
+2,3,4 31 1 6872714081735186155
+2,3,4 31 2 14177832400027191308";
+
+#[test]
+fn r7_rows_of_folded_ranks(rt: HostRuntime) {
+    table(&rt, rt.alloc(), Told::Walked(Walk::Folded), RANKS_FOLDED);
+}
+
+// ---- memory
+
+/// How many indices a cursor is to lend, if there was memory for it.
+fn len_of<C: LendingWalk + Drop>(cursor: Result<C, AllocError>) -> Result<usize, AllocError> {
+    Ok(cursor?.left())
+}
+
+/// What is asked of the cursors over a shape.
+#[derive(Clone, Copy)]
+enum Making {
+    /// That both are made.
+    IsDone,
+    /// That to make them asks for memory, once there is some for the shape itself, twice.
+    Asks,
+}
+
+/// Whether this holds of the cursors over a shape.
+fn holds_of_making(alloc: Global, making: Making, lens: &[usize]) -> bool {
+    let Ok(dim) = new_ixdyn(alloc, lens) else {
+        return false;
+    };
+    let Ok(other) = new_ixdyn(alloc, lens) else {
+        return false;
+    };
+    let rows = len_of(row_cursor(alloc, dim));
+    let columns = len_of(column_cursor(alloc, other));
+    match making {
+        Making::IsDone => rows.is_ok() && columns.is_ok(),
+        Making::Asks => asked(alloc, rows, columns),
+    }
+}
+
+#[test]
+fn ample_memory_for_cursors(rt: HostRuntime) {
+    let alloc = rt.alloc();
+    assert!(rt; holds_of_making(alloc, Making::IsDone, &[1, 2, 1, 2, 1]));
+    let long = [1_usize; 1100];
+    assert!(rt; holds_of_making(alloc, Making::IsDone, &long));
+}
+
+#[test]
+fn memory_of_cursors_of_four_axes(rt: HostRuntime) {
+    assert!(rt; holds_of_making(rt.alloc(), Making::IsDone, &[1, 2, 3, 4]));
+}
+
+// To make the two shapes takes the first two requests.
+#[test]
+fn late_memory_of_cursors(rt: HostRuntime) {
+    assert!(rt; holds_of_making(rt.alloc(), Making::Asks, &[1, 2, 3, 2, 1]));
+}

@@ -1,0 +1,28 @@
+//! Tests of `nd_shape`, and by its public calls of the rules below it, `nd_shape_rules`; and of what `nd_dim` tells of a
+//! layout that these accept (`offsets`).
+#![tactic(auto)]
+
+#[cfg(test)]
+mod acceptance;
+#[cfg(test)]
+mod axes;
+#[cfg(test)]
+mod broadcast;
+#[cfg(test)]
+mod indexes;
+#[cfg(test)]
+mod indexing;
+#[cfg(test)]
+mod layout;
+#[cfg(test)]
+mod layouts;
+#[cfg(test)]
+mod merge;
+#[cfg(test)]
+mod offsets;
+#[cfg(test)]
+mod questions;
+#[cfg(test)]
+mod shapes;
+#[cfg(test)]
+mod told;

@@ -1,0 +1,73 @@
+//! What is asked of a layout at a dimension type, by rows of tables.
+use crate::acceptance::{has_fault, has_order_faults, is_accepted_along_its_own, is_fault};
+use crate::axes::{AskedOfAxes, are_told};
+use crate::broadcast::{Sharing, shares};
+use crate::layout::orders;
+use crate::layouts::is_laid_out;
+use crate::merge::{merges, moves};
+use nd_dim::Lengths;
+use nd_shape::{CanIndexCheckMode, strides_non_negative};
+use std::alloc::Global;
+use test_tables::{Lists, made};
+
+/// What is asked of a layout. A row tells its shape and its strides.
+#[derive(Clone, Copy)]
+pub(crate) enum Question {
+    /// All that is told of it.
+    Layout,
+    /// The fault of the shape by the strides of either order, in either mode.
+    Orders,
+    /// The fault by its strides, which are given, over data in a mode.
+    Given(CanIndexCheckMode),
+    /// That the shape is accepted along its own strides as by them.
+    OwnStrides,
+    /// The fault of the strides, as one leads back.
+    Signs,
+    /// Its axes one by one.
+    Axes(AskedOfAxes),
+    /// In which order its indices lie one behind another.
+    Lies,
+    /// Two axes as one.
+    Merged,
+    /// The axis of the least stride as the last one.
+    Moved,
+    /// The shape, and in place of strides another one: what they have in common; or that to make it asks for
+    /// memory.
+    Common(Sharing),
+}
+
+/// Whether a row tells what is answered of its layout.
+fn is_told<D: Lengths>(
+    alloc: Global,
+    question: Question,
+    dim: &mut D,
+    strides: &mut D,
+    row: &Lists<'_>,
+) -> bool {
+    match question {
+        Question::Layout => is_laid_out(alloc, dim, strides, row),
+        Question::Orders => has_order_faults(row.fourth.at(1), dim, row.answer),
+        Question::Given(mode) => has_fault(alloc, dim, mode, row),
+        Question::OwnStrides => is_accepted_along_its_own(alloc, dim),
+        Question::Signs => is_fault(strides_non_negative(strides), row.answer),
+        Question::Axes(asked) => are_told(asked, dim, strides, row),
+        Question::Lies => orders(dim, strides) == row.answer,
+        Question::Merged => merges(dim, strides, row),
+        Question::Moved => moves(dim, strides, row),
+        Question::Common(asks) => shares(alloc, dim, strides, asks, row),
+    }
+}
+
+/// Whether a row tells what is answered. Strides of another count are none of a type that fixes its
+/// count.
+pub(crate) fn is_answered<D: Lengths>(
+    alloc: Global,
+    question: Question,
+    dim: &mut D,
+    row: &Lists<'_>,
+) -> bool {
+    match made::<D>(alloc, row.second.as_slice()) {
+        Some(mut strides) => is_told(alloc, question, dim, &mut strides, row),
+        None => D::NDIM.is_some(),
+    }
+}

@@ -1,0 +1,4 @@
+pub mod Between
+pub mod Picked
+pub mod Picks
+pub mod SliceFault

@@ -1,0 +1,5 @@
+pub mod Picked
+pub mod Picks
+pub mod Ranges
+pub mod SliceFault
+pub mod Text

@@ -1,0 +1,103 @@
+//! Slices from numbers that a range can't be made of without a condition.
+ghost use Rattle.std.specs.Prelude.{◌≡◌, ◌+◌, ◌<◌, ◌≤◌, pos, ◌<ℤ◌, Some, None};
+ghost use Rattle.nd_base.specs.Size.{limit};
+ghost use Rattle.nd_slice_axis.specs.Picks.{slice_with};
+ghost use Rattle.nd_slice_axis.specs.Ranges.{end_after};
+
+use super::Slice;
+
+/// The number that a range stops before, if `last` is its last entry; none where that is -1, the last
+/// entry of the axis.
+#[inline]
+fn end_after(last: isize) -> Option<isize>
+    requires { last <ℤ pos limit }
+    ensures { result ≡ end_after last }
+{
+    if last == -1 { None } else { Some(last + 1) }
+}
+
+impl Slice {
+    /// Every entry from `first` to `last`, which it still picks; either counts from the end where it
+    /// is negative. `last` is below `isize::MAX`. For upstream's `From` of `a..=b`.
+    #[inline]
+    pub fn inclusive(first: isize, last: isize) -> Slice
+        requires { last <ℤ pos limit }
+        ensures { result ≡ slice_with first (end_after last) (pos 1) }
+    {
+        Slice {
+            start: first,
+            end: end_after(last),
+            step: 1,
+        }
+    }
+
+    /// Every entry up to `last`, which it still picks, counted from the end where it is negative.
+    /// `last` is below `isize::MAX`. For upstream's `From` of `..=b`.
+    #[inline]
+    pub fn to_inclusive(last: isize) -> Slice
+        requires { last <ℤ pos limit }
+        ensures { result ≡ slice_with (pos 0) (end_after last) (pos 1) }
+    {
+        Slice::inclusive(0, last)
+    }
+
+    /// Every entry from `start` up to, not including, `end`, both counted from the front and at most
+    /// `isize::MAX`. For upstream's `From` of `a..b` over `usize`.
+    #[inline]
+    pub fn of_usize(start: usize, end: usize) -> Slice
+        requires start_fits { start ≤ limit }
+        requires end_fits { end ≤ limit }
+        ensures { result ≡ slice_with (pos start) (Some (pos end)) (pos 1) }
+    {
+        Slice {
+            start: start as isize,
+            end: Some(end as isize),
+            step: 1,
+        }
+    }
+
+    /// Every entry from `start` on, counted from the front and at most `isize::MAX`. For upstream's
+    /// `From` of `a..` over `usize`.
+    #[inline]
+    pub fn from_usize(start: usize) -> Slice
+        requires { start ≤ limit }
+        ensures { result ≡ slice_with (pos start) None (pos 1) }
+    {
+        Slice {
+            start: start as isize,
+            end: None,
+            step: 1,
+        }
+    }
+
+    /// Every entry up to, not including, `end`, counted from the front and at most `isize::MAX`. For
+    /// upstream's `From` of `..b` over `usize`.
+    #[inline]
+    pub fn to_usize(end: usize) -> Slice
+        requires { end ≤ limit }
+        ensures { result ≡ slice_with (pos 0) (Some (pos end)) (pos 1) }
+    {
+        Slice::of_usize(0, end)
+    }
+
+    /// Every entry from `first` to `last`, which it still picks, both counted from the front; `first`
+    /// is at most `isize::MAX` and `last` below. For upstream's `From` of `a..=b` over `usize`.
+    #[inline]
+    pub fn inclusive_usize(first: usize, last: usize) -> Slice
+        requires first_fits { first ≤ limit }
+        requires last_fits { last < limit }
+        ensures { result ≡ slice_with (pos first) (Some (pos (last + 1))) (pos 1) }
+    {
+        Slice::of_usize(first, last + 1)
+    }
+
+    /// Every entry up to `last`, which it still picks, counted from the front and below `isize::MAX`.
+    /// For upstream's `From` of `..=b` over `usize`.
+    #[inline]
+    pub fn to_inclusive_usize(last: usize) -> Slice
+        requires { last < limit }
+        ensures { result ≡ slice_with (pos 0) (Some (pos (last + 1))) (pos 1) }
+    {
+        Slice::inclusive_usize(0, last)
+    }
+}

@@ -1,0 +1,93 @@
+//! The least and the greatest entry that a slice picks.
+//!
+//! A row is a length, a slice, and both entries.
+use crate::tables::{Told, hold};
+use crate::view::elems::elem;
+use crate::view::question::number;
+use crate::view::words::{says, word};
+use Fit::{Clamp, Strict};
+use nd_slice::{Fit, Slice, SliceInfoElem, slice_min_max, to_abs_slice};
+use std::process::Abort;
+use test_tables::Row;
+
+/// Both entries, or nothing where there are none; the outer one where the slice does not fit.
+fn ends(len: usize, slice: Slice, fit: Fit) -> Option<Option<(usize, usize)>> {
+    match to_abs_slice(len, slice, fit) {
+        Ok(_bounds) => Some(slice_min_max(len, slice, fit)),
+        Err(_fault) => None,
+    }
+}
+
+/// The slice that the next word of a row spells.
+pub fn slice(rt: &impl Abort, row: &mut Row<'_>) -> Option<Slice> {
+    match elem(rt, word(rt, row)) {
+        SliceInfoElem::Slice { start, end, step } => Some(Slice { start, end, step }),
+        _ => None,
+    }
+}
+
+/// A row holds.
+pub fn ends_hold(rt: &impl Abort, row: &mut Row<'_>, fit: Fit) -> bool {
+    let len = number(rt, row);
+    let slice = slice(rt, row).expect(rt, "a slice");
+    match ends(len, slice, fit) {
+        Some(Some((least, greatest))) => number(rt, row) == least && number(rt, row) == greatest,
+        Some(None) => says(rt, row, "none"),
+        None => false,
+    }
+}
+
+/// Slices that fit.
+const STRICT: &str = "\
+0 ..;3 none
+10 -1..-1;-3 none
+10 1..8;3 1 7
+11 1..;3 1 10
+10 1..8;-3 1 7
+10 2..8;-3 4 7
+9 2..;-3 2 8
+9 3..;-3 5 8
+10 1..1;3 none
+10 -1..-1;3 none
+10 1..1;-3 none
+10 1..9;3 1 7
+10 -9..8;3 1 7
+10 -9..9;3 1 7
+10 1..-2;3 1 7
+10 1..-1;3 1 7
+10 -9..-2;3 1 7
+10 -9..-1;3 1 7
+10 1..;3 1 7
+10 -9..;3 1 7
+10 -9..8;-3 1 7
+10 1..-2;-3 1 7
+10 -9..-2;-3 1 7
+10 -8..8;-3 4 7
+10 2..-2;-3 4 7
+10 -8..-2;-3 4 7
+11 -10..;3 1 10
+9 -7..;-3 2 8
+9 -6..;-3 5 8
+9223372036854775807 ..;-9223372036854775808 9223372036854775806 9223372036854775806
+9223372036854775807 ..;9223372036854775806 0 9223372036854775806";
+
+#[test]
+fn r4_rows(rt: HostRuntime) {
+    hold(&rt, rt.alloc(), Told::Ends(Strict), STRICT);
+}
+
+/// Slices whose bounds are moved to the ends of the axis.
+const CLAMPED: &str = "\
+10 -20..8;3 0 6
+10 -20..8;-3 1 7
+10 4..99;5 4 9
+10 99..;1 none
+10 5..2;1 none
+10 -99..-50;2 none
+0 -9223372036854775808..9223372036854775807;3 none
+18446744073709551615 -9223372036854775808..;9223372036854775807 9223372036854775807 18446744073709551614";
+
+#[test]
+fn r14_rows(rt: HostRuntime) {
+    hold(&rt, rt.alloc(), Told::Ends(Clamp), CLAMPED);
+}

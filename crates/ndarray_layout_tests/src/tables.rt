@@ -1,0 +1,39 @@
+//! Tables as text: a row is a line.
+use crate::slice::arguments::argument_holds;
+use crate::slice::axis_slice::slice_holds;
+use crate::slice::min_max::ends_hold;
+use crate::view::answer::view_holds;
+use nd_slice::Fit;
+use std::alloc::Global;
+use std::process::Abort;
+use test_tables::{Row, rows};
+
+/// What the rows of a table tell, and what becomes there of bounds that lie outside their axis.
+#[derive(Clone, Copy)]
+pub enum Told {
+    /// A layout over data at a dimension type, a question and its answer.
+    Views,
+    /// A shape at a dimension type, an argument, and its fault or `fits`.
+    Arguments(Fit),
+    /// The length and the stride of an axis, a slice of it, and what it gives.
+    Slices(Fit),
+    /// A length, a slice, and the least and the greatest entry that it picks.
+    Ends(Fit),
+}
+
+/// A row holds.
+fn holds(rt: &impl Abort, alloc: Global, told: Told, row: &mut Row<'_>) -> bool {
+    match told {
+        Told::Views => view_holds(rt, alloc, row),
+        Told::Arguments(fit) => argument_holds(rt, alloc, row, fit),
+        Told::Slices(fit) => slice_holds(rt, row, fit),
+        Told::Ends(fit) => ends_hold(rt, row, fit),
+    }
+}
+
+/// All rows of a table hold.
+pub fn hold(rt: &impl Abort, alloc: Global, told: Told, table: &str) {
+    for line in rows(table) {
+        assert!(rt; holds(rt, alloc, told, &mut Row::new(line)), "{line}");
+    }
+}
