@@ -1,15 +1,15 @@
 -- What the program writes, and its exit status, for each input.
 use Rattle.std.specs.Prelude.{◌≡◌, ℕ, ◌+◌, Option, Some, None, Result, Ok, Err, List, ◌++◌, map, codes, decimal, string_bytes, refl}
 use Rattle.std.specs.Fmt.{signed_decimal, digits}
-use Rattle.nd_base.specs.declared.error.ErrorKind.{ErrorKind}
-use Rattle.nd_base.specs.declared.order.Order.TheVariants.{RowMajor}
-use Rattle.nd_base.specs.ErrorText.{shape_error_text}
-use Rattle.nd_base.specs.Signed.{unsigned}
-use Rattle.nd_base.specs.Span.{low_span}
-use Rattle.nd_shape_rules.specs.Acceptance.{acceptance}
+use Rattle.ndarray_layout.specs.declared.ErrorKind.{ErrorKind}
+use Rattle.ndarray_layout.specs.declared.Order.TheVariants.{RowMajor}
+use Rattle.ndarray_layout.specs.ErrorText.{shape_error_text}
+use Rattle.ndarray_layout.specs.Signed.{unsigned}
+use Rattle.ndarray_layout.specs.Span.{low_span}
+use Rattle.ndarray_layout.specs.Acceptance.{acceptance}
 use Rattle.ndarray_layout.specs.Run.{Outcome, run_of}
 use Rattle.ndarray_layout.specs.Step.{StepValue}
-use Rattle.ndarray_layout_views.specs.View.{View, view_of, view_places}
+use Rattle.ndarray_layout.specs.View.{View, view_of, view_places}
 use Rattle.ndl_answer.specs.declared.answer.Answer.{Answer}
 use Rattle.ndl_answer.specs.DataLine.{LayoutValue}
 use Rattle.ndl_answer.specs.Script.{ScriptValue, script_of}

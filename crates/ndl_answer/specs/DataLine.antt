@@ -1,8 +1,8 @@
 -- The words of a line that makes a layout.
 use Rattle.std.specs.Prelude.{◌≡◌, ℕ, ℤ, pos, negsuc, Option, Some, None, if◌then◌else◌, List, [], ◌∷◌, codes, refl}
 use Rattle.std.specs.Str.{bytes_eq}
-use Rattle.nd_shape_rules.specs.declared.checks.CanIndexCheckMode.{CanIndexCheckMode}
-use Rattle.nd_shape_rules.specs.declared.checks.CanIndexCheckMode.TheVariants.{OwnedMutable, ReadOnly}
+use Rattle.ndarray_layout.specs.declared.CanIndexCheckMode.{CanIndexCheckMode}
+use Rattle.ndarray_layout.specs.declared.CanIndexCheckMode.TheVariants.{OwnedMutable, ReadOnly}
 use Rattle.ndl_answer.specs.declared.data_line.Layout.{Layout}
 use Rattle.ndl_answer.specs.Reading.{◌>>=◌}
 use Rattle.ndl_text.specs.Lines.{words_of}

@@ -1,9 +1,9 @@
 -- The script that an input spells, or the number of its first unreadable line.
 use Rattle.std.specs.Prelude.{◌≡◌, ℕ, pos, negsuc, Option, None, Result, Ok, Err, List, [], ◌∷◌, ◌++◌, map, codes, refl}
 use Rattle.std.specs.Option.{ok_or}
-use Rattle.nd_shape_rules.specs.declared.checks.CanIndexCheckMode.TheVariants.{OwnedMutable}
-use Rattle.nd_slice_axis.specs.declared.fit.Fit.TheVariants.{Strict, Clamp}
-use Rattle.nd_slice.specs.declared.elem.SliceInfoElem.TheVariants as elem
+use Rattle.ndarray_layout.specs.declared.CanIndexCheckMode.TheVariants.{OwnedMutable}
+use Rattle.ndarray_layout.specs.declared.Fit.TheVariants.{Strict, Clamp}
+use Rattle.ndarray_layout.specs.declared.SliceInfoElem.TheVariants as elem
 use Rattle.ndarray_layout.specs.Step.{StepValue, SliceBy, step_value}
 use Rattle.ndl_answer.specs.declared.script.Script.{Script}
 use Rattle.ndl_answer.specs.declared.script.ReadError.{ReadError}

@@ -1,13 +1,13 @@
 //! The answer to a whole input: its text and its status.
 ghost use Rattle.std.specs.Prelude.{◌≡◌, ◌≤◌, ◌++◌, codes, map, string_bytes, IfOk, OnOk};
 ghost use Rattle.std.specs.Fmt.{signed_decimal};
-ghost use Rattle.nd_base.specs.Signed.{all_signed};
-ghost use Rattle.nd_base.specs.declared.order.Order.TheVariants.{RowMajor};
+ghost use Rattle.ndarray_layout.specs.Signed.{all_signed};
+ghost use Rattle.ndarray_layout.specs.declared.Order.TheVariants.{RowMajor};
 ghost use Rattle.ndl_answer.specs.Answer.{answer_of, listing, refused as refusal, IsReply};
 ghost use Rattle.ndl_answer.specs.Answer.{reply_to_script, reply_to_steps, unreadable as unreadable_reply};
 ghost use Rattle.ndl_answer.specs.Script.{script_value};
 ghost use Rattle.ndarray_layout.specs.Step.{step_value};
-ghost use Rattle.ndarray_layout_views.specs.View.{view_places};
+ghost use Rattle.ndarray_layout.specs.View.{view_places};
 ghost use Rattle.ndl_text.specs.Text.{line, listed};
 
 use crate::script::{ReadError, Script, read_script};

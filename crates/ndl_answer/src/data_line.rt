@@ -4,7 +4,7 @@ ghost use Rattle.std.specs.Option.{option_map};
 ghost use Rattle.ndl_answer.specs.DataLine.{layout_value, layout_of, mode_of};
 
 use crate::lists::list;
-use nd_shape::CanIndexCheckMode;
+use ndarray_layout::CanIndexCheckMode;
 use ndl_text::number;
 use std::alloc::{AllocError, Global};
 

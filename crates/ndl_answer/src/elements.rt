@@ -5,7 +5,7 @@ ghost use Rattle.ndl_text.specs.Lines.{parts};
 ghost use Rattle.ndl_answer.specs.Elements.{element_of, end_of, range_of, slice_of_bounds, start_of};
 
 use crate::lists::Entry;
-use nd_slice::SliceInfoElem;
+use ndarray_layout::SliceInfoElem;
 use ndl_text::{signed_number, split_once};
 
 /// The start of a range: the first entry where it is missing.

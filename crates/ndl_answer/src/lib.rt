@@ -11,5 +11,5 @@ mod strides;
 
 pub use answer::{Answer, answer_to};
 pub use data_line::Layout;
-pub use ndarray_layout::Step;
+pub use ndarray_layout::{CanIndexCheckMode, Step};
 pub use script::{ReadError, Script, read_script};

@@ -5,8 +5,7 @@ ghost use Rattle.ndarray_layout.specs.Step.{step_value};
 ghost use Rattle.ndl_answer.specs.StepLine.{fit_of, step_of, step_of_list, step_of_numbers};
 
 use crate::lists::list;
-use nd_slice::Fit;
-use ndarray_layout::{Axis, Step, new_ixdyn};
+use ndarray_layout::{Axis, Fit, Step, new_ixdyn};
 use ndl_text::number;
 use std::alloc::{AllocError, Global};
 

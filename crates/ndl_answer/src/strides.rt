@@ -1,7 +1,7 @@
 //! The strides of a layout, as a view keeps them.
 ghost use Rattle.std.specs.Prelude.{◌≡◌, ◌≤◌, map, length, IfOk, IsOk};
-ghost use Rattle.nd_base.specs.Dim.{lengths};
-ghost use Rattle.nd_base.specs.Signed.{all_signed, unsigned as unsigned_bits};
+ghost use Rattle.ndarray_layout.specs.Dim.{lengths};
+ghost use Rattle.ndarray_layout.specs.Signed.{all_signed, unsigned as unsigned_bits};
 
 use ndarray_layout::{IxDyn, Lengths, unsigned};
 use std::alloc::{AllocError, Global};

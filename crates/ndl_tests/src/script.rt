@@ -1,6 +1,5 @@
 //! What `read_script` answers: what a script says, or the first line that can't be read.
-use nd_shape::CanIndexCheckMode;
-use ndl_answer::{ReadError, Script, read_script};
+use ndl_answer::{CanIndexCheckMode, ReadError, Script, read_script};
 use std::alloc::{AllocError, Global};
 use std::test::Fail;
 

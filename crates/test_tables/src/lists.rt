@@ -1,5 +1,5 @@
 //! The lists of a row of a table, and the values that stand for lists.
-ghost use Rattle.std.specs.Prelude.{◌≡◌, IfSome};
+ghost use Rattle.std.specs.Prelude.{◌≡◌, ◌≤◌, IfSome};
 
 use crate::table::{Row, entry};
 use nd_base::Lengths;
@@ -10,15 +10,12 @@ use std::alloc::Global;
 pub struct List {
     entries: [usize; 16],
     count: usize,
+    ghost in_room: { count ≤ 16 },
 }
 
 impl List {
     pub fn as_slice(&self) -> &[usize] {
-        if self.count <= 16 {
-            &self.entries[..self.count]
-        } else {
-            &[]
-        }
+        &self.entries[..self.count]
     }
 
     /// The list of these numbers.
