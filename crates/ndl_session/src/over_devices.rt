@@ -1,4 +1,7 @@
 //! A session over a reader and a writer.
+//!
+//! `Read` and `Write` are not in scope here: devices are read and written by `read_whole` and
+//! `write_whole` alone, which require that no call before them failed.
 ghost use Rattle.std.specs.Prelude.{◌≡◌, ◌≢◌, ◌≤◌, ◌↔◌, ◌⊎◌, true, false, Err, IfOk, IfSome, IsTrue, OnOk};
 ghost use Rattle.std.specs.Io.KnownBytes.{Appends, IsAtEnd};
 ghost use Rattle.ndl_answer.specs.Answer.{answer_of, IsReply};
@@ -9,7 +12,7 @@ ghost use Rattle.ndl_text.specs.Watched.{device, has_failed};
 use ndl_answer::{Answer, answer_to};
 use ndl_text::{InputError, Watched, read_whole, write_whole};
 use std::alloc::Global;
-use std::io::{Read, Write};
+use std::io;
 
 /// The whole text where a read failed.
 const INPUT_FAILED_TEXT: &[u8] = b"input failed\n";
@@ -30,7 +33,7 @@ const DEVICE_FAILED: u8 = 4;
 /// failed and memory was refused, in reading or in making the answer, the whole text is `out of
 /// memory` and a line feed, with status 3. Where a write fails or takes no byte, a beginning of the
 /// text due went out, nothing more is written, and the status is 4.
-pub fn session<R: Read, W: Write>(
+pub fn session<R: io::Read, W: io::Write>(
     alloc: Global,
     reader: &mut Watched<R>,
     writer: &mut Watched<W>,
@@ -85,7 +88,7 @@ pub fn session<R: Read, W: Write>(
 }
 
 // The answer to all the bytes that are left to read.
-fn answer_input<R: Read>(alloc: Global, reader: &mut Watched<R>) -> Result<Answer, InputError>
+fn answer_input<R: io::Read>(alloc: Global, reader: &mut Watched<R>) -> Result<Answer, InputError>
     requires { has_failed reader.old ≡ false }
     ensures answer { IfOk result (λ answer. IfSome (R.remaining (device reader.old)) (λ input.
         IsReply answer (answer_of input))) }
