@@ -7,7 +7,7 @@ ghost use Rattle.nd_base.specs.Dim.{lengths, with_lengths, rewritten, lengths_re
 
 use crate::dim::{Dim, IxDyn};
 use crate::dynindeximpl::IxDynImpl;
-use crate::lengths::{FixedCount, Lengths};
+use crate::lengths::{FixedCount, INLINE_AXES, Lengths};
 use std::alloc::{AllocError, Global};
 use std::ops::{Index, IndexMut};
 
@@ -16,7 +16,7 @@ use std::ops::{Index, IndexMut};
 /// Errors: want of memory, and none where there are at most four entries.
 pub fn new_ixdyn(alloc: Global, lens: &[usize]) -> Result<IxDyn, AllocError>
     ensures list { IfOk result (λ dim. lengths dim ≡ lens.now) }
-    ensures memory { length lens.now ≤ 4 → IsOk result }
+    ensures memory { length lens.now ≤ INLINE_AXES → IsOk result }
 {
     Ok(IxDyn::new(IxDynImpl::copy_from(alloc, lens)?))
 }
@@ -35,7 +35,7 @@ impl Dim<IxDynImpl> {
     /// Errors: want of memory, and none where there are at most four axes.
     pub fn zeros(alloc: Global, n: usize) -> Result<Self, AllocError>
         ensures list { IfOk result (λ dim. lengths dim ≡ replicate n 0) }
-        ensures memory { n ≤ 4 → IsOk result }
+        ensures memory { n ≤ INLINE_AXES → IsOk result }
     {
         Ok(IxDyn::new(IxDynImpl::zeros(alloc, n)?))
     }

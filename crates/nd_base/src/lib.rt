@@ -27,7 +27,7 @@ pub use dim::{
 pub use dynindeximpl::IxDynImpl;
 pub use error::{ErrorKind, LayoutError, ShapeError, from_kind};
 pub use ixdyn::new_ixdyn;
-pub use lengths::{FixedCount, Lengths};
+pub use lengths::{FixedCount, INLINE_AXES, Lengths};
 pub use offsets::{index_offset, stride_offset_checked};
 pub use order::Order;
 pub use strides::{signed, stride_offset, unsigned};
