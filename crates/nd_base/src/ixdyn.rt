@@ -1,9 +1,11 @@
 //! The dimension of any number of axes.
-ghost use Rattle.std.specs.Prelude.{◌≡◌, ◌<◌, ◌≤◌, length, replicate, Some, None, IsOk, IfOk, slice_get, slice_set, refl};
+ghost use Rattle.std.specs.Prelude.{◌≡◌, ◌<◌, ◌≤◌, ◌++◌, take, drop, length, replicate, Some, None, IsOk, IfOk, slice_get, slice_set, refl};
 ghost use Rattle.std.specs.Borrow.{Lends, sem, u64 as word};
 ghost use Rattle.std.specs.Cmp.{unsigned_Decides};
+ghost use Rattle.std.proofs.Common.{ap, sym, ◌∙◌};
+ghost use Rattle.std.proofs.Math.Seq.{take-append_seam};
 ghost use Rattle.std.proofs.lemmas.Slice.Eq.{slice_eq-Decides};
-ghost use Rattle.nd_base.specs.Dim.{lengths, with_lengths, rewritten, lengths_rewritten};
+ghost use Rattle.nd_base.specs.Dim.{lengths, with_lengths, rewritten};
 
 use crate::dim::{Dim, IxDyn};
 use crate::dynindeximpl::IxDynImpl;
@@ -104,7 +106,9 @@ impl Lengths for Dim<IxDynImpl> {
 
     ghost eq_of_lists = { λ d e. slice_eq-Decides unsigned_Decides (lengths d) (lengths e) _ refl };
 
-    ghost list_of_with_list = { lengths_rewritten };
+    ghost list_of_with_list = { λ d xs h.
+        ap (λ n. take n (xs ++ drop (length xs) (lengths d))) (sym h)
+        ∙ take-append_seam xs (drop (length xs) (lengths d)) };
 
     ghost can_index_below = { λ d i h. h };
 
