@@ -173,20 +173,22 @@ fn tells_of<T: IntoDimension, W: ExactSizeIterator<Item = T> + Clone + Drop>(
 }
 
 /// Whether a row tells this of the walk over a shape at a type.
-pub(crate) fn is_walked<D: Dimension + Copy>(alloc: Global, told: Walk, row: &Lists<'_>) -> bool {
+pub(crate) fn is_walked<D>(alloc: Global, told: Walk, row: &Lists<'_>) -> bool
+where
+    D: Dimension + IntoDimension<Dim = D> + Copy,
+{
     let Some(dim) = made::<D>(alloc, row.first.as_slice()) else {
         return false;
     };
     if dim.size_checked().is_none() {
         return false;
     }
-    let pattern = dim.into_pattern();
     match told {
-        Walk::All(Order::ColumnMajor) => match indices_iter_f(alloc, pattern) {
+        Walk::All(Order::ColumnMajor) => match indices_iter_f(alloc, dim) {
             Ok(walk) => yields(alloc, walk, row, usize::MAX),
             Err(_) => false,
         },
-        _ => match all_indices(alloc, pattern) {
+        _ => match all_indices(alloc, dim) {
             Ok(indices) => tells_of(alloc, told, indices.into_iter(), row),
             Err(_) => false,
         },
