@@ -27,5 +27,5 @@ pub use nd_base::{
 pub use remove_axis::RemoveAxis;
 pub use shape_arg::ShapeArg;
 pub use sizes::product;
-pub use steps::step_by_rows;
+pub use steps::{step_by_columns, step_by_rows};
 pub use strides::{default_strides, fortran_strides};

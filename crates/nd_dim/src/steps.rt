@@ -32,7 +32,7 @@ pub fn step_by_rows(shape: &[usize], index: &mut [usize]) -> bool
 /// fastest, and says that there is one; the last index becomes the first, with `false`. The step
 /// of upstream's `next_for_f`.
 #[inline(always)]
-pub(crate) fn step_by_columns(shape: &[usize], index: &mut [usize]) -> bool
+pub fn step_by_columns(shape: &[usize], index: &mut [usize]) -> bool
     requires { is_index shape.now index.old ≡ true }
     ensures more { IsTrue result
         ↔ (rank_in ColumnMajor shape.now index.old + 1 < size shape.now) }

@@ -6,8 +6,9 @@ mod steps;
 pub use nd_dim::{
     Arithmetic, Axis, Convert, Dim, Dimension, ErrorKind, FixedCount, IntoDimension, Ix0, Ix1, Ix2,
     Ix3, Ix4, Ix5, Ix6, IxDyn, IxDynImpl, LayoutError, Lengths, Order, RemoveAxis, Scale, ShapeArg,
-    ShapeError, axis_of, from_kind, incompatible_shapes, index_offset, new_dim, new_ix0, new_ix1,
-    new_ix2, new_ix3, new_ix4, new_ix5, new_ix6, new_ixdyn, set_axis_of, signed, stride_offset,
+    ShapeError, axis_of, default_strides, fortran_strides, from_kind, incompatible_shapes,
+    index_offset, new_dim, new_ix0, new_ix1, new_ix2, new_ix3, new_ix4, new_ix5, new_ix6,
+    new_ixdyn, product, set_axis_of, signed, step_by_columns, step_by_rows, stride_offset,
     stride_offset_checked, unsigned,
 };
 pub use nd_shape::{
