@@ -53,7 +53,7 @@ bounds_at step start end (part ∷ other ∷ more) None h one lone = sym (no_end
 pub two_dots : (step : ℤ) (start end : List ℕ) → slice_of_bounds step (start ∷ [] ∷ parts dot end) ≡ slice_from step (start_of start) (end_of end)
 two_dots step start end = bounds_at step start end (parts dot end) (end_of end) refl (end_part end) (lone_part dot end)
 
--- one dot, and no other right behind it
+-- one dot, and no other right after it
 not_next : (step : ℤ) (start : List ℕ) (b : ℕ) (cut : List (List ℕ)) → slice_of_bounds step (start ∷ onto_first b cut) ≡ None
 not_next step start b [] = refl
 not_next step start b (part ∷ more) = refl

@@ -26,13 +26,15 @@ const OUT_OF_MEMORY: u8 = 3;
 /// The status where a read or a write failed.
 const DEVICE_FAILED: u8 = 4;
 
-/// Reads the whole input, writes the whole text of the answer to it, and gives the answer's status,
-/// which is 0, 1 or 2.
+/// Reads the whole input, writes the whole text of the answer to it, and answers its status, which is
+/// 0, 1 or 2.
 ///
-/// A failed read makes the whole text `input failed` and a line feed, with status 4. Where no read
-/// failed and memory was refused, in reading or in making the answer, the whole text is `out of
-/// memory` and a line feed, with status 3. Where a write fails or takes no byte, a beginning of the
-/// text due went out, nothing more is written, and the status is 4.
+/// The caller ensures that no read or write of either device has failed before.
+///
+/// Where a read fails, the whole text is `input failed` and a line feed, and the status is 4. Where no
+/// read fails and memory is refused, for the input or for the answer, the whole text is `out of
+/// memory` and a line feed, and the status is 3. Where a write fails or takes no byte, a beginning of
+/// that text has gone out, nothing more is written, and the status is 4.
 pub fn session<R: io::Read, W: io::Write>(
     alloc: Global,
     reader: &mut Watched<R>,

@@ -1,5 +1,5 @@
 -- What went out of a text where not all of it did.
-use Rattle.std.specs.Prelude.{ℕ, zero, suc, ◌<◌, List, [], length, take, Option, Some, None, codes, refl}
+use Rattle.std.specs.Prelude.{ℕ, zero, suc, ◌<◌, List, [], length, take, Option, Some, codes, refl}
 use Rattle.std.specs.Io.KnownBytes.{Appends}
 use Rattle.std.proofs.Common.{ap, lit<, suc-ne-zero, not-suc-le-zero, le_of_suc-le-suc}
 

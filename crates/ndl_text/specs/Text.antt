@@ -1,5 +1,5 @@
 -- How the lists of an answer are written.
-use Rattle.std.specs.Prelude.{◌≡◌, ℕ, List, [], ◌∷◌, ◌++◌, codes, map, unwrap_or, Option, Some, None, refl}
+use Rattle.std.specs.Prelude.{◌≡◌, ℕ, List, [], ◌∷◌, ◌++◌, codes, map, unwrap_or, Option, Some, refl}
 use Rattle.std.specs.List.{flat_map}
 
 -- texts as one: the first, and each further one after a separator; a minus sign where there is no text

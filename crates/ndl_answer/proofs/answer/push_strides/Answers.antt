@@ -1,4 +1,4 @@
--- The strides as they are kept read as those of the view.
+-- The numbers of the bits that are kept are the strides of the view.
 use Rattle.std.proofs.Common.{◌≡◌, ◌++◌, map, codes, string_bytes, subst, ap, ◌∙◌}
 use Rattle.std.specs.Fmt.{signed_decimal}
 use Rattle.std.specs.Result.{OnOk}
