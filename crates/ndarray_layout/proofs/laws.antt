@@ -1,5 +1,6 @@
 pub mod Run
 pub mod Step
+pub use Rattle.nd_base.proofs.laws.Dim
 pub use Rattle.nd_base.proofs.laws.Indices
 pub use Rattle.nd_base.proofs.laws.Inside
 pub use Rattle.nd_base.proofs.laws.IsIndex
