@@ -1,3 +1,4 @@
+pub mod Dim
 pub mod Indices
 pub mod Inside
 pub mod IsIndex

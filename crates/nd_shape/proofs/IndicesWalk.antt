@@ -5,7 +5,8 @@ use Rattle.std.specs.Prelude.{nat_lt, IsTrue}
 use Rattle.std.proofs.lemmas.Bool.{eqb-false, ltb-true, ltb-false}
 use Rattle.nd_base.specs.declared.order.Order.{Order}
 use Rattle.nd_base.specs.declared.order.Order.TheVariants.{RowMajor}
-use Rattle.nd_base.specs.Dim.{lengths, rewritten, lengths_rewritten}
+use Rattle.nd_base.specs.Dim.{lengths, rewritten}
+use Rattle.nd_base.proofs.laws.Dim.{lengths_rewritten}
 use Rattle.nd_base.specs.declared.dim.Dim.{Dim}
 use Rattle.nd_base.specs.Indices.{is_index}
 use Rattle.nd_base.specs.Rank.{rank, rank_in, index_of_rank, index_of_rank_in}
