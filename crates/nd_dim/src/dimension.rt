@@ -36,7 +36,7 @@ use std::alloc::{AllocError, Global};
 pub trait Dimension: Lengths + Arithmetic + Scale {
     /// A number, a tuple or the dimension itself: the form that a pattern takes apart. Upstream's
     /// `Pattern`.
-    type Pattern: IntoDimension<Dim = Self>;
+    type Pattern: IntoDimension;
 
     /// The type of one axis less, where there is one. Upstream's `Smaller`.
     type Smaller: Lengths;

@@ -45,6 +45,8 @@ pub fn max_abs_offset_check_overflow<D: Lengths>(
         size_fault elem_size (D.list dim.now) (all_signed (D.list strides.now)) }
     ensures span { IfOk result
         (λ n. n ≡ span (D.list dim.now) (all_signed (D.list strides.now))) }
+    ensures valid { OnOk result
+        (IsValidLayout (D.list dim.now) (all_signed (D.list strides.now))) }
 {
     span_of_lengths(elem_size, dim.slice(), strides.slice())
 }
@@ -86,8 +88,12 @@ pub fn can_index_slice<D: Lengths>(
 /// than elements. Upstream's `can_index_slice_not_custom`.
 pub fn can_index_slice_not_custom<D: Lengths>(len: usize, dim: &D) -> Result<(), ShapeError>
     ensures fault { result_err result ≡ acceptance_of_standard len (D.list dim.now) }
+    ensures valid { OnOk result ((order : Order) →
+        IsValidLayout (D.list dim.now) (all_signed (standard_strides order (D.list dim.now)))) }
     ensures inside { OnOk result ((order : Order) →
         LiesInside len 0 (D.list dim.now) (all_signed (standard_strides order (D.list dim.now)))) }
+    ensures distinct { OnOk result ((order : Order) →
+        HasDistinctOffsets (D.list dim.now) (all_signed (standard_strides order (D.list dim.now)))) }
 {
     if len < size_of_shape_checked(dim)? {
         return Err(from_kind(ErrorKind::OutOfBounds));

@@ -1,10 +1,12 @@
 //! Whether two indices of a layout may share an element.
 ghost use Rattle.std.specs.Option.{IfSome};
-ghost use Rattle.std.specs.Prelude.{◌≡◌, ◌<◌, ◌≤◌, ◌-◌, not, ◌&&◌, if◌then◌else◌, [], ◌∷◌, length};
+ghost use Rattle.std.specs.Prelude.{◌≡◌, ℕ, List, ◌<◌, ◌≤◌, ◌-◌, not, ◌&&◌, if◌then◌else◌, [], ◌∷◌, length};
 ghost use Rattle.nd_base.specs.Signed.{signed as signed_reading, all_signed};
 ghost use Rattle.nd_base.specs.Size.{is_empty, limit};
 ghost use Rattle.nd_base.specs.Span.{reach as reach_of_axis, span};
+ghost use Rattle.nd_dim.specs.AxisOrder.{IsStrideOrder};
 ghost use Rattle.nd_shape_rules.specs.OwnedRule.{meets_owned_rule, steps_over_others, span_up_to as span_up_to_magnitude};
+ghost use Rattle.nd_shape_rules.specs.OwnedWalk.{meets_owned_walk};
 
 use crate::limits::reach;
 use nd_dim::signed;
@@ -128,14 +130,19 @@ fn breaks_owned_rule(shape: &[usize], strides: &[usize]) -> bool
 }
 
 /// Whether two indices of a layout may share an element: it has an index, and breaks the rule for
-/// owned data. There is a stride for each length, and the span fits. The lists under upstream's
-/// `dim_stride_overlap`.
+/// owned data. One walk along the axes in the order of their strides would answer the same.
+///
+/// The caller ensures that there is a stride for each length, and that the span is at most the
+/// greatest `isize`. The lists under ndarray's `dim_stride_overlap`.
 #[inline(always)]
 pub fn has_overlap(shape: &[usize], strides: &[usize]) -> bool
     requires same_count { length shape.now ≡ length strides.now }
     requires span_fits { span shape.now (all_signed strides.now) ≤ limit }
-    ensures { result ≡
+    ensures rule { result ≡
         (not (is_empty shape.now) && not (meets_owned_rule shape.now (all_signed strides.now))) }
+    ensures walk { (order : List ℕ) → IsStrideOrder (all_signed strides.now) order →
+        result ≡ (not (is_empty shape.now)
+        && not (meets_owned_walk shape.now (all_signed strides.now) order)) }
 {
     breaks_owned_rule(shape, strides) && !shape.contains(&0)
 }

@@ -58,6 +58,30 @@ pub(crate) fn has_fault<D: Lengths>(
         )
 }
 
+/// Whether a row says the size of a shape, or its fault.
+pub(crate) fn has_size<D: Lengths>(dim: &D, row: &Lists<'_>) -> bool {
+    match size_of_shape_checked(dim) {
+        Ok(size) => size == row.fourth.at(1) && row.answer == "none",
+        Err(fault) => is_fault(Err(fault), row.answer),
+    }
+}
+
+/// The last number is the size.
+const SIZES: &str = "\
+- - - 1,1 => none
+2,3 2,3 - 1,6 => none
+2,0,3 2,0,3 - 1,0 => none
+9223372036854775807 9223372036854775807 - 1,9223372036854775807 => none
+9223372036854775808 9223372036854775808 - 1,0 => Overflow
+4294967296,2147483648 4294967296,2147483648 - 1,0 => Overflow
+1099511627776,1099511627776,0 1099511627776,1099511627776,0 - 1,0 => Overflow
+0,1099511627776,1099511627776 0,1099511627776,1099511627776 - 1,0 => Overflow";
+
+#[test]
+fn r7_rows_of_sizes(rt: HostRuntime) {
+    table(&rt, rt.alloc(), Told::Asked(Question::Size), SIZES);
+}
+
 const ORDERS_OF_TWO: &str = "\
 2,3 2,3 - 1,6 => none
 2,3 2,3 - 1,5 => OutOfBounds

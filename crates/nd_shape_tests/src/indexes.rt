@@ -8,7 +8,7 @@ ghost use Rattle.nd_base.specs.Size.{size};
 
 use crate::told::{Told, row_holds, table};
 use nd_dim::{Dimension, IntoDimension, IxDyn, Lengths, Order, new_ixdyn};
-use nd_shape::{IndexCursor, IndexCursorF, all_indices, indices_iter_f};
+use nd_shape::{IndexCursor, IndexCursorF, Indices, all_indices, indices_iter_f};
 use std::alloc::{AllocError, Global};
 use test_tables::{List, Lists, Row, asked, made};
 
@@ -150,11 +150,12 @@ pub(crate) enum Walk {
     Starts,
     /// That a loop over a copy of a walk meets what is left, once so many indices are gone.
     Folds(usize),
-    /// A factor, how many indices are gone, and what a fold makes of the others.
-    Folded,
+    /// A factor, how many indices are gone, and what a fold over a copy of a walk in an order makes of the
+    /// others.
+    Folded(Order),
 }
 
-/// Whether a row tells this of a walk by rows.
+/// Whether a row says this of a walk.
 fn tells_of<T: IntoDimension, W: ExactSizeIterator<Item = T> + Clone + Drop>(
     alloc: Global,
     told: Walk,
@@ -168,12 +169,16 @@ fn tells_of<T: IntoDimension, W: ExactSizeIterator<Item = T> + Clone + Drop>(
         Walk::All(_) => yields(alloc, walk, row, usize::MAX),
         Walk::Starts => yields(alloc, walk, row, 1),
         Walk::Folds(gone) => folds(alloc, walk, gone, row.first),
-        Walk::Folded => is_folded(alloc, walk, row),
+        Walk::Folded(_) => is_folded(alloc, walk, row),
     }
 }
 
 /// Whether a row tells this of the walk over a shape at a type.
-pub(crate) fn is_walked<D: Dimension + Copy>(alloc: Global, told: Walk, row: &Lists<'_>) -> bool {
+pub(crate) fn is_walked<D>(alloc: Global, told: Walk, row: &Lists<'_>) -> bool
+where
+    D: Dimension + Copy,
+    D::Pattern: IntoDimension<Dim = D>,
+{
     let Some(dim) = made::<D>(alloc, row.first.as_slice()) else {
         return false;
     };
@@ -182,15 +187,33 @@ pub(crate) fn is_walked<D: Dimension + Copy>(alloc: Global, told: Walk, row: &Li
     }
     let pattern = dim.into_pattern();
     match told {
-        Walk::All(Order::ColumnMajor) => match indices_iter_f(alloc, pattern) {
-            Ok(walk) => yields(alloc, walk, row, usize::MAX),
-            Err(_) => false,
+        Walk::All(Order::ColumnMajor) | Walk::Folded(Order::ColumnMajor) => {
+            match indices_iter_f(alloc, pattern) {
+                Ok(walk) => tells_of(alloc, told, walk, row),
+                Err(_) => false,
+            }
         },
         _ => match all_indices(alloc, pattern) {
-            Ok(indices) => tells_of(alloc, told, indices.into_iter(), row),
+            Ok(indices) => copies_are_walked(alloc, told, indices, row),
             Err(_) => false,
         },
     }
+}
+
+/// Whether a row says this of the walks over the indices of a shape by rows, over a copy and over a clone.
+fn copies_are_walked<D: Dimension + Copy>(
+    alloc: Global,
+    told: Walk,
+    indices: Indices<D>,
+    row: &Lists<'_>,
+) -> bool {
+    let Ok(clone) = indices.clone() else {
+        return false;
+    };
+    let copy = indices;
+    tells_of(alloc, told, indices.into_iter(), row)
+        && tells_of(alloc, told, copy.into_iter(), row)
+        && tells_of(alloc, told, clone.into_iter(), row)
 }
 
 /// Whether a row tells the indices of a shape in an order, as they are lent by its cursor.
@@ -353,8 +376,8 @@ fn folded<T: IntoDimension>(folding: Folding, item: T) -> Folding {
     }
 }
 
-/// Whether a fold over the items that are left makes of their ranks in a shape what a row tells.
-fn is_folded<T: IntoDimension, W: Iterator<Item = T> + Drop>(
+/// Whether a fold over a copy of a walk makes of the ranks in a shape of the items that are left what a row says.
+fn is_folded<T: IntoDimension, W: Iterator<Item = T> + Clone + Drop>(
     alloc: Global,
     walk: W,
     row: &Lists<'_>,
@@ -368,11 +391,13 @@ fn is_folded<T: IntoDimension, W: Iterator<Item = T> + Drop>(
         factor: row.second.at(0),
         told: 1,
     };
-    let last = left_of(alloc, walk, row.third.at(0)).fold(first, folded);
-    last.told == row.fourth.at(0)
+    match left_of(alloc, walk, row.third.at(0)).clone() {
+        Ok(copy) => copy.fold(first, folded).told == row.fourth.at(0),
+        Err(_) => false,
+    }
 }
 
-const RANKS_FOLDED: &str = "\
+const RANKS_FOLDED_BY_ROWS: &str = "\
 2,3 10 0 1012345
 2,3 10 1 112345
 2,3 10 2 12345
@@ -380,9 +405,22 @@ const RANKS_FOLDED: &str = "\
 2,3,4 31 1 6872714081735186155
 2,3,4 31 2 14177832400027191308";
 
+/// Ranks by rows, as they come by columns.
+const RANKS_FOLDED_BY_COLUMNS: &str = "\
+2,3 10 0 1031425
+2,3 10 1 131425
+2,3 10 2 11425
+2,3,4 31 0 10207590601544237009
+2,3,4 31 1 8000211265789772207
+2,3,4 31 2 10161736956436225285";
+
 #[test]
 fn r7_rows_of_folded_ranks(rt: HostRuntime) {
-    table(&rt, rt.alloc(), Told::Walked(Walk::Folded), RANKS_FOLDED);
+    let alloc = rt.alloc();
+    let by_rows = Told::Walked(Walk::Folded(Order::RowMajor));
+    table(&rt, alloc, by_rows, RANKS_FOLDED_BY_ROWS);
+    let by_columns = Told::Walked(Walk::Folded(Order::ColumnMajor));
+    table(&rt, alloc, by_columns, RANKS_FOLDED_BY_COLUMNS);
 }
 
 // ---- memory

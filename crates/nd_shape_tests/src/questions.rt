@@ -1,5 +1,7 @@
 //! What is asked of a layout at a dimension type, by rows of tables.
-use crate::acceptance::{has_fault, has_order_faults, is_accepted_along_its_own, is_fault};
+use crate::acceptance::{
+    has_fault, has_order_faults, has_size, is_accepted_along_its_own, is_fault,
+};
 use crate::axes::{AskedOfAxes, are_told};
 use crate::broadcast::{Sharing, shares};
 use crate::layout::orders;
@@ -15,6 +17,8 @@ use test_tables::{Lists, made};
 pub(crate) enum Question {
     /// All that is told of it.
     Layout,
+    /// The size of the shape, or its fault.
+    Size,
     /// The fault of the shape by the strides of either order, in either mode.
     Orders,
     /// The fault by its strides, which are given, over data in a mode.
@@ -46,6 +50,7 @@ fn is_told<D: Lengths>(
 ) -> bool {
     match question {
         Question::Layout => is_laid_out(alloc, dim, strides, row),
+        Question::Size => has_size(dim, row),
         Question::Orders => has_order_faults(row.fourth.at(1), dim, row.answer),
         Question::Given(mode) => has_fault(alloc, dim, mode, row),
         Question::OwnStrides => is_accepted_along_its_own(alloc, dim),

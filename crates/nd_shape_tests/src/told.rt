@@ -52,6 +52,7 @@ fn tells_of_dimension<D: Dimension>(told: Told, alloc: Global, row: &Lists<'_>) 
 fn tells_of_copies<D>(told: Told, alloc: Global, row: &Lists<'_>) -> bool
 where
     D: Dimension + IntoDimension<Dim = D> + Copy,
+    D::Pattern: IntoDimension<Dim = D>,
 {
     match told {
         Told::Built | Told::Asked(_) => tells::<D>(told, alloc, row),
