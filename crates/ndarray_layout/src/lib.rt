@@ -28,8 +28,8 @@ pub use nd_shape::{
 // Slices, and arguments of slices.
 pub use nd_slice::{
     Fit, NewAxis, Slice, SliceArg, SliceElems, SliceInfo, SliceInfoElem, abs_index, check_elems,
-    check_slice, do_collapse_axis, do_slice, entry_of, in_ndim_of, out_ndim_of, slice_min_max,
-    to_abs_slice,
+    check_slice, count_of_picks, do_collapse_axis, do_slice, entry_of, first_pick, in_ndim_of,
+    out_ndim_of, pick_count, slice_min_max, to_abs_slice,
 };
 
 // Views, and steps from one to the next.
