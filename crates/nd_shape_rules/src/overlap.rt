@@ -71,7 +71,7 @@ fn some_overlaps_others(shape: &[usize], strides: &[usize]) -> bool
     false
 }
 
-/// The axis that a walk over `count` axes comes to behind `place` others.
+/// The axis that a walk over `count` axes comes to after `place` others.
 #[inline(always)]
 fn axis_on_walk(count: usize, place: usize, from_last: bool) -> usize
     requires { place < count }
@@ -82,7 +82,7 @@ fn axis_on_walk(count: usize, place: usize, from_last: bool) -> usize
 
 /// Whether a walk along the axes, from the last or from the first one on, comes to one of more than
 /// one entry whose stride is no longer than those before it span together. `None` where it comes to
-/// a stride that is shorter than one before it, since such a walk can't tell.
+/// a stride that is shorter than one before it, since such a walk doesn't decide it.
 #[inline(always)]
 fn overlap_on_walk(shape: &[usize], strides: &[usize], from_last: bool) -> Option<bool>
     requires same_count { length shape.now ≡ length strides.now }
@@ -110,7 +110,7 @@ fn overlap_on_walk(shape: &[usize], strides: &[usize], from_last: bool) -> Optio
 /// Whether an axis of more than one entry has a stride that steps over no more than the axes of no
 /// greater stride span together.
 ///
-/// One walk along axes that stand in order of their strides tells; others are compared one by one,
+/// One walk decides it along axes in the order of their strides; others are compared one by one,
 /// and two axes at once.
 #[inline(always)]
 fn breaks_owned_rule(shape: &[usize], strides: &[usize]) -> bool
@@ -133,7 +133,7 @@ fn breaks_owned_rule(shape: &[usize], strides: &[usize]) -> bool
 /// owned data. One walk along the axes in the order of their strides would answer the same.
 ///
 /// The caller ensures that there is a stride for each length, and that the span is at most the
-/// greatest `isize`. The lists under ndarray's `dim_stride_overlap`.
+/// greatest `isize`. The rule over lists of ndarray's `dim_stride_overlap`.
 #[inline(always)]
 pub fn has_overlap(shape: &[usize], strides: &[usize]) -> bool
     requires same_count { length shape.now ≡ length strides.now }
