@@ -1,10 +1,10 @@
 //! Which shapes with an order or with strides are accepted over data.
 //!
 //! A row is a shape, strides, an index that is not asked for, and the size of an element and a count of
-//! them; then, behind an arrow, the fault. Where the shape or the strides alone are asked for, they
+//! them; then, after an arrow, the fault. Where the shape or the strides alone are asked for, they
 //! stand twice.
+use crate::claim::{Claim, holds, table};
 use crate::questions::Question;
-use crate::told::{Told, holds, table};
 use CanIndexCheckMode::{OwnedMutable, ReadOnly};
 use nd_dim::{Axis, Lengths, RemoveAxis, ShapeError, default_strides, fortran_strides, new_ix3};
 use nd_shape::{
@@ -79,7 +79,7 @@ const SIZES: &str = "\
 
 #[test]
 fn r7_rows_of_sizes(rt: HostRuntime) {
-    table(&rt, rt.alloc(), Told::Asked(Question::Size), SIZES);
+    table(&rt, rt.alloc(), Claim::Asked(Question::Size), SIZES);
 }
 
 const ORDERS_OF_TWO: &str = "\
@@ -111,16 +111,16 @@ const SIGNS: &str = "\
 #[test]
 fn r3_rows(rt: HostRuntime) {
     let alloc = rt.alloc();
-    table(&rt, alloc, Told::Asked(Question::Orders), ORDERS_OF_TWO);
-    table(&rt, alloc, Told::Asked(Question::Orders), ORDERS_OF_FIVE);
+    table(&rt, alloc, Claim::Asked(Question::Orders), ORDERS_OF_TWO);
+    table(&rt, alloc, Claim::Asked(Question::Orders), ORDERS_OF_FIVE);
     table(
         &rt,
         alloc,
-        Told::Asked(Question::Given(OwnedMutable)),
+        Claim::Asked(Question::Given(OwnedMutable)),
         OWNED,
     );
-    table(&rt, alloc, Told::Asked(Question::Given(ReadOnly)), READ);
-    table(&rt, alloc, Told::Asked(Question::Signs), SIGNS);
+    table(&rt, alloc, Claim::Asked(Question::Given(ReadOnly)), READ);
+    table(&rt, alloc, Claim::Asked(Question::Signs), SIGNS);
 }
 
 /// Whether a shape by its own strides is accepted over the same data as along these strides, where
@@ -157,7 +157,7 @@ fn are_accepted(alloc: Global, lens: &[usize]) -> bool {
         fourth: list,
         answer: "",
     };
-    holds(Told::Asked(Question::OwnStrides), alloc, &row)
+    holds(Claim::Asked(Question::OwnStrides), alloc, &row)
 }
 
 // The shapes of no axes, the first one, the first two and all three.

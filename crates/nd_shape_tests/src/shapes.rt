@@ -5,7 +5,7 @@ ghost use Rattle.nd_base.specs.Signed.{all_signed};
 ghost use Rattle.nd_base.specs.ValidLayout.{IsValidLayout};
 ghost use Rattle.nd_shape.specs.ShapeBuilder.{strides_list};
 
-use crate::told::{Told, table};
+use crate::claim::{Claim, table};
 use nd_dim::{IntoDimension, Ix2, IxDyn, Lengths, Order, new_ix2};
 use nd_shape::{
     CanIndexCheckMode, Shape, ShapeBuilder, StrideShape, Strides, can_index_slice_with_strides,
@@ -319,7 +319,7 @@ fn r3_rows_of_builders_of_any_number_of_axes(rt: HostRuntime) {
     let alloc = rt.alloc();
     let built = OfList::Builds(24, &[12, 4, 4, 2, 1]);
     assert!(rt; holds_of_list(alloc, &[2, 3, 1, 2, 2], built));
-    table(&rt, alloc, Told::Built, "2,3,1,2,2 1,2,6,6,12");
+    table(&rt, alloc, Claim::Built, "2,3,1,2,2 1,2,6,6,12");
 }
 
 #[test]
@@ -340,7 +340,7 @@ fn r9_rows_of_builders(rt: HostRuntime) {
     let alloc = rt.alloc();
     let built = OfList::Builds(12, &[6, 2, 2, 1]);
     assert!(rt; holds_of_list(alloc, &[2, 3, 1, 2], built));
-    table(&rt, alloc, Told::Built, "2,3,1,2 1,2,6,6");
+    table(&rt, alloc, Claim::Built, "2,3,1,2 1,2,6,6");
 }
 
 /// A call of a builder.
