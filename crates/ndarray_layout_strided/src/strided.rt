@@ -200,12 +200,9 @@ impl<D: Lengths> Strided<D> {
         ensures memory { size self.now.shape ≡ 0 → IsOk result }
     {
         let size = product(self.dim.slice());
-        let mut places = Vec::with_capacity(alloc, size)?;
-        if size > 0 {
-            let (shape, strides) = (self.dim.slice(), self.strides.slice());
-            places = push_places(places, order, shape, strides, self.start);
-        }
-        Ok(places)
+        let places = Vec::with_capacity(alloc, size)?;
+        let (shape, strides) = (self.dim.slice(), self.strides.slice());
+        Ok(push_places(places, order, shape, strides, self.start))
     }
 
     /// The view of the same data that a slice argument leaves. Refused with `IncompatibleShape`

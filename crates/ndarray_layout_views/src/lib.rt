@@ -4,6 +4,7 @@
 
 mod broadcasting;
 mod collapsing;
+mod longer;
 mod merging;
 mod places;
 mod sizes;
