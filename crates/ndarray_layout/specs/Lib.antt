@@ -48,6 +48,7 @@ pub use Rattle.ndarray_layout_views.specs.BroadcastView
 pub use Rattle.ndarray_layout_views.specs.CollapsedView
 pub use Rattle.ndarray_layout_views.specs.DistinctPlaces
 pub use Rattle.ndarray_layout_views.specs.KeepsPlaces
+pub use Rattle.ndarray_layout_views.specs.LongerAxes
 pub use Rattle.ndarray_layout_views.specs.MergedView
 pub use Rattle.ndarray_layout_views.specs.SlicedView
 pub use Rattle.ndarray_layout_views.specs.View
