@@ -18,8 +18,10 @@ fn is_multiple(stride: usize, count: usize, step: usize) -> bool
 }
 
 /// Merges the axis `take` into the axis `into` where one stride serves for the entries of both, and
-/// answers whether it did; else nothing changes. The layout is valid, and the axes are two
-/// different ones that it has. The lists under upstream's `merge_axes`.
+/// answers whether it did; else nothing changes. The rule over lists of ndarray's `merge_axes`.
+///
+/// The caller ensures that the layout is valid (`span_of_lengths`), and that the axes are two
+/// different ones that it has.
 #[inline(always)]
 pub fn merge_fitting(shape: &mut [usize], strides: &mut [usize], take: usize, into: usize) -> bool
     requires valid { IsValidLayout shape.old (all_signed strides.old) }
