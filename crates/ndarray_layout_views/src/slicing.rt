@@ -30,10 +30,10 @@ fn has_counts(fixed: Option<usize>, shape: &[usize], elems: &[SliceInfoElem]) ->
     in_ndim_of(elems) == shape.len() && !matches!(fixed, Some(ndim) if ndim != out_ndim_of(elems))
 }
 
-/// Whether a list of `ndim` lengths may ask for memory: one of more than four does, unless its type
+/// Whether a list of `ndim` lengths needs memory of its own: one of more than four does, unless its type
 /// fixes their count.
 #[inline(always)]
-fn may_want_memory(fixed: Option<usize>, ndim: usize) -> bool
+fn needs_memory(fixed: Option<usize>, ndim: usize) -> bool
     ensures { IsFalse result ↔ NeedsNoMemory fixed ndim }
 {
     fixed.is_none() && ndim > 4
@@ -131,7 +131,7 @@ fn check_before_memory(
     ensures passed { OnOk result
         (first_fault fit shape.now elems.now ≡ None ⊎ NeedsNoMemory fixed ndim) }
 {
-    if may_want_memory(fixed, ndim) {
+    if needs_memory(fixed, ndim) {
         check_elems(shape, elems, fit)?;
     }
     Ok(())
