@@ -1,3 +1,4 @@
+pub mod Entries
 pub mod Indices
 pub mod Inside
 pub mod IsIndex
@@ -8,3 +9,4 @@ pub mod Rank
 pub mod Reach
 pub mod Size
 pub mod Span
+pub mod Turned
