@@ -1,8 +1,8 @@
 -- Every axis is packed exactly where the layout lies at each distance below its size once.
-use Rattle.std.proofs.Common.{◌≡◌, ◌⊎◌, ℕ, zero, suc, ◌+◌, ◌*◌, ◌<◌, ◌≤◌, ℤ, pos, true, false, List, [], ◌∷◌, length, get_or, get_or-set_same, set, replicate, refl, sym, ap, ◌∙◌, arith, inl, inr, subst, mul-pos}
+use Rattle.std.proofs.Common.{◌≡◌, ◌⊎◌, ℕ, zero, suc, ◌+◌, ◌*◌, ◌<◌, ◌≤◌, ℤ, true, false, List, [], ◌∷◌, length, get_or, get_or-set_same, set, replicate, refl, sym, ap, ◌∙◌, arith, inl, inr, subst, mul-pos}
 use Rattle.std.proofs.Math.Nat.{mul-le-mul_left, mul-le-mul_right}
-use Rattle.std.proofs.lemmas.Bool.{cases_eq, cases_lt, cases_order}
-use Rattle.std.proofs.lemmas.List.{get_or-replicate, length-replicate, length-set, set-get_or}
+use Rattle.std.proofs.lemmas.Bool.{cases_lt, cases_order}
+use Rattle.std.proofs.lemmas.List.{get_or-replicate, length-replicate, set-get_or}
 use Rattle.nd_base.specs.Indices.{is_index}
 use Rattle.nd_base.specs.Reach.{farthest_offset}
 use Rattle.nd_base.specs.Size.{size, is_empty}

@@ -1,18 +1,11 @@
 -- The axes in the order of their strides, each by one number: its place in that order.
-use Rattle.std.proofs.Common.{◌≡◌, ◌≢◌, ◌⊎◌, ℕ, zero, suc, ◌+◌, ◌*◌, ◌%◌, ◌<◌, ◌≤◌, ℤ, Bool, true, false, ◌==◌, cond, eqb, ltb, List, [], ◌∷◌, length, get_or, set, map, replicate, refl, sym, ap, ◌∙◌, arith, inl, inr, subst}
-use Rattle.std.specs.List.{filter}
+use Rattle.std.proofs.Common.{◌≡◌, ◌≢◌, ◌⊎◌, ℕ, zero, suc, ◌+◌, ◌*◌, ◌%◌, ◌<◌, ◌≤◌, ℤ, ◌==◌, List, sym, ap, ◌∙◌, arith, inl, inr}
 use Rattle.std.specs.Prelude.{nat_lt, ◌&&◌, ◌||◌}
 use Rattle.std.proofs.Math.Nat.{mul-le-mul_right, suc-mul}
-use Rattle.std.proofs.lemmas.Bool.{cases_Bool, cases_eq, cases_order, cond-true, cond-false, le-ltb, lt-ltb, ltb-true, ltb-false}
+use Rattle.std.proofs.lemmas.Bool.{cases_eq, cases_order}
 use Rattle.std.proofs.lemmas.Bool.Decides.{nat_tests}
-use Rattle.std.proofs.lemmas.List.{ext_get_or, get_or-replicate, length-replicate, length-set}
-use Rattle.std.proofs.lemmas.List.FromFn.{fill_by_all, get_or-map-range_with_len, length-map-range_with_len}
 use Rattle.std.proofs.lemmas.Nat.{mod-mul-add}
-use Rattle.nd_base.specs.Indices.{below}
-use Rattle.nd_base.specs.Size.{size}
 use Rattle.nd_dim.specs.AxisOrder.{magnitude_at, comes_before}
-use Rattle.nd_dim.specs.Contiguous.{lens_before}
-use Rattle.nd_dim.proofs.Filled.{Fills, fills_next, fills_ones}
 
 -- ---- the place of an axis
 -- by the magnitude of its stride, and between equals by its number; n counts the axes
@@ -59,11 +52,13 @@ longer_at_later_place strides n axis other h l = elim (cases_order (magnitude_at
 pub past_all : (f : ℕ → ℕ) (n : ℕ) → (top : ℕ) × ((axis : ℕ) → axis < n → f axis < top)
 past_all f zero = (0, λ axis h. absurd (omega arith))
 past_all f (suc n) =
-    let rest = past_all f n in
-    (rest.0 + f n + 1, λ axis h. elim (cases_eq axis n) [
-      | inl same ↦ rw same (omega arith)
-      | inr other ↦ let less = rest.1 axis (omega arith) in omega arith
-    ])
+    let rest = past_all f n in (
+      rest.0 + f n + 1,
+      λ axis h. elim (cases_eq axis n) [
+        | inl same ↦ rw same (omega arith)
+        | inr other ↦ let less = rest.1 axis (omega arith) in omega arith
+      ],
+    )
 
 -- a number is the place of an axis, or of none
 pub axis_at_place : (f : ℕ → ℕ) (n place : ℕ) → ((axis : ℕ) × (axis < n) × (f axis ≡ place)) ⊎ ((axis : ℕ) → axis < n → f axis ≢ place)

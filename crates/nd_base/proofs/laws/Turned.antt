@@ -1,5 +1,5 @@
 -- Laws of indices that count from the far end of each axis whose stride is negative: so every step leads up.
-use Rattle.std.proofs.Common.{◌≡◌, ℕ, zero, suc, ◌+◌, ◌-◌, ◌*◌, ◌<◌, ℤ, pos, negsuc, neg_ℤ, ◌+ℤ◌, ◌*ℤ◌, true, false, eqb, List, [], ◌∷◌, length, map, replicate, refl, sym, ap, ◌∙◌, arith, pos_of_ne-zero}
+use Rattle.std.proofs.Common.{◌≡◌, ℕ, zero, suc, ◌+◌, ◌-◌, ◌*◌, ◌<◌, ℤ, pos, negsuc, neg_ℤ, ◌+ℤ◌, ◌*ℤ◌, true, false, eqb, List, [], ◌∷◌, length, map, replicate, refl, ap, ◌∙◌, arith, pos_of_ne-zero}
 use Rattle.std.specs.Prelude.{nat_lt}
 use Rattle.std.proofs.lemmas.Bool.{and_from, and_parts, eqb-false, lt-ltb, ltb-true, or_parts}
 use Rattle.std.proofs.lemmas.Int.{ints}

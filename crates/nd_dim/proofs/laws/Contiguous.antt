@@ -1,19 +1,23 @@
 -- Laws of contiguous layouts: the written rule says exactly that the indices fill one stretch of memory.
-use Rattle.std.proofs.Common.{◌≡◌, ◌⊎◌, ◌↔◌, ℕ, zero, suc, ◌+◌, ◌<◌, ◌≤◌, ℤ, pos, negsuc, neg_ℤ, ◌+ℤ◌, ◌≤ℤ◌, Bool, true, false, eqb, List, [], ◌∷◌, length, get_or, map, cond, refl, sym, ap, ◌∙◌, arith, inl, inr, subst}
+use Rattle.std.proofs.Common.{◌≡◌, ◌⊎◌, ◌↔◌, ℕ, zero, suc, ◌+◌, ◌-◌, ◌<◌, ◌≤◌, ℤ, pos, negsuc, ◌+ℤ◌, ◌≤ℤ◌, Bool, true, false, eqb, List, [], ◌∷◌, length, get_or, map, cond, refl, sym, ap, ◌∙◌, arith, inl, inr, subst}
 use Rattle.std.specs.Bool.{IsTrue}
+use Rattle.std.specs.List.Sorted.{IsPermutation}
 use Rattle.std.specs.Ordering.{int_eq}
 use Rattle.std.specs.List.{list_all}
 use Rattle.std.specs.Prelude.{if◌then◌else◌, nat_le, nat_lt, slice_index, ◌==◌, ◌&&◌, ◌||◌}
-use Rattle.std.proofs.lemmas.Bool.{cond-true, cond-false, eq-eqb, eqb-true, le-leb, leb-true, both_ways, cases_Bool, eqb-false, ne_eqb, or_cases, or_left, or_parts, or_right}
+use Rattle.std.proofs.lemmas.Bool.{cond-false, eq-eqb, eqb-true, le-leb, leb-true, both_ways, cases_Bool, eqb-false, ne_eqb, or_cases, or_left, or_parts, or_right}
 use Rattle.std.proofs.lemmas.Bool.Decides.{Decides-int_eq, nat_tests}
 use Rattle.std.proofs.lemmas.Int.{ints}
 use Rattle.std.specs.Cmp.Rules.{signed_items}
+use Rattle.nd_base.specs.declared.order.Order.{Order}
 use Rattle.nd_base.specs.declared.order.Order.TheVariants.{RowMajor}
-use Rattle.nd_base.specs.Indices.{below, is_index}
+use Rattle.nd_base.specs.Indices.{below}
 use Rattle.nd_base.specs.Offset.{offset_of}
+use Rattle.nd_base.specs.Place.{places}
 use Rattle.nd_base.specs.Rank.{rank, index_of_rank}
 use Rattle.nd_base.specs.Signed.{magnitude}
 use Rattle.nd_base.specs.Size.{size, is_empty}
+use Rattle.nd_base.specs.Span.{low_span}
 use Rattle.nd_base.proofs.laws.Rank.{is_index-index_of_rank, rank-index_of_rank, same_from_rank_in}
 use Rattle.nd_dim.specs.AxisOrder.{magnitude_at}
 use Rattle.nd_dim.specs.Contiguous.{has_default_strides, is_contiguous, is_lone_step_back, is_packed, is_packed_at, lens_before}
@@ -21,7 +25,7 @@ use Rattle.nd_dim.specs.OneStretch.{FillsStretch}
 use Rattle.nd_dim.specs.Strides.{default_strides}
 use Rattle.nd_dim.proofs.Packed.{all_below, not_all_below}
 use Rattle.nd_dim.proofs.PackedLayouts.{IsPackedAt, fills_from_packed, packed_from_reaches}
-use Rattle.nd_dim.proofs.laws.OneStretch.{reaches_from_stretch, stretch_from_reaches}
+use Rattle.nd_dim.proofs.laws.OneStretch.{places_in_stretch, reaches_from_stretch, stretch_from_reaches}
 use Rattle.nd_dim.proofs.laws.Strides.{offset_of-default_strides}
 
 -- ---- default strides
@@ -156,3 +160,21 @@ rule_from_stretch lens strides count some stretch = rule_from_packed lens stride
 -- of a shape without a zero axis, the rule takes exactly the layouts that fill one stretch
 pub contiguous_exactly : (lens : List ℕ) (strides : List ℤ) → length lens ≡ length strides → is_empty lens ≡ false → IsTrue (is_contiguous lens strides) ↔ FillsStretch lens strides
 contiguous_exactly lens strides count some = (stretch_from_rule lens strides count some, rule_from_stretch lens strides count some)
+
+-- ---- a walk along a contiguous layout
+-- the places of a layout that the rule takes are start less the low span, one more, and so on: each index is met once
+pub places_of_contiguous : (order : Order) (start : ℕ) (lens : List ℕ) (strides : List ℤ) → length lens ≡ length strides → is_empty lens ≡ false → low_span lens strides ≤ start → is_contiguous lens strides ≡ true → IsPermutation (map (λ k. pos (start - low_span lens strides + k)) (below (size lens))) (places order start lens strides)
+places_of_contiguous order start lens strides count some fits h = places_in_stretch order start lens strides count some fits (stretch_from_rule lens strides count some h)
+
+-- ---- examples
+both_reversed : FillsStretch (2 ∷ 3 ∷ []) (negsuc 2 ∷ negsuc 0 ∷ [])
+both_reversed = stretch_from_rule (2 ∷ 3 ∷ []) (negsuc 2 ∷ negsuc 0 ∷ []) refl refl refl
+
+by_columns : FillsStretch (2 ∷ 3 ∷ []) (pos 1 ∷ pos 2 ∷ [])
+by_columns = stretch_from_rule (2 ∷ 3 ∷ []) (pos 1 ∷ pos 2 ∷ []) refl refl refl
+
+with_a_gap : FillsStretch (2 ∷ 3 ∷ []) (pos 1 ∷ pos 3 ∷ []) → ⊥
+with_a_gap stretch = both_ways (is_contiguous (2 ∷ 3 ∷ []) (pos 1 ∷ pos 3 ∷ [])) refl (rule_from_stretch (2 ∷ 3 ∷ []) (pos 1 ∷ pos 3 ∷ []) refl refl stretch)
+
+distinct_with_a_gap : FillsStretch (3 ∷ 2 ∷ []) (pos 2 ∷ pos 3 ∷ []) → ⊥
+distinct_with_a_gap stretch = both_ways (is_contiguous (3 ∷ 2 ∷ []) (pos 2 ∷ pos 3 ∷ [])) refl (rule_from_stretch (3 ∷ 2 ∷ []) (pos 2 ∷ pos 3 ∷ []) refl refl stretch)
