@@ -1,4 +1,5 @@
 pub mod AxisOrder
 pub mod Contiguous
 pub mod LastLen
+pub mod OneStretch
 pub mod Strides

@@ -1,7 +1,7 @@
 //! What a shape and an index can do, whatever their type.
 ghost use Rattle.std.specs.List.{All};
 ghost use Rattle.std.specs.Option.{option_map};
-ghost use Rattle.std.specs.Prelude.{◌≡◌, ℕ, ◌+◌, ◌-◌, ◌<◌, ◌≤◌, ◌^◌, ◌↔◌, ◌⊎◌, if◌then◌else◌, true, nat_lt, length, insert, remove, replicate, slice_set, Some, None, SomeIff, IsTrue, IsOk, IfOk};
+ghost use Rattle.std.specs.Prelude.{◌≡◌, ℕ, ◌+◌, ◌-◌, ◌<◌, ◌≤◌, ◌^◌, ◌↔◌, ◌⊎◌, if◌then◌else◌, true, false, nat_lt, length, insert, remove, replicate, slice_set, Some, None, SomeIff, IsTrue, IsOk, IfOk};
 ghost use Rattle.nd_base.specs.declared.order.Order.TheVariants.{ColumnMajor};
 ghost use Rattle.nd_base.specs.Dim.{lengths};
 ghost use Rattle.nd_base.specs.Indices.{is_index};
@@ -15,6 +15,7 @@ ghost use Rattle.nd_base.specs.ValidLayout.{IsValidLayout};
 ghost use Rattle.nd_dim.specs.AxisOrder.{IsLeastStrideAxis, IsGreatestStrideAxis, IsStrideOrder};
 ghost use Rattle.nd_dim.specs.Contiguous.{is_contiguous as is_contiguous_layout};
 ghost use Rattle.nd_dim.specs.LastLen.{last_len as last_of_lengths};
+ghost use Rattle.nd_dim.specs.OneStretch.{FillsStretch};
 ghost use Rattle.nd_dim.specs.Strides.{default_strides as default_strides_of, fortran_strides as fortran_strides_of, AreEquivalent};
 
 use crate::axis_edits::{insert_axis_into, last_len, remove_axis_into, set_last_len};
@@ -253,15 +254,21 @@ pub trait Dimension: Lengths + Arithmetic + Scale {
     /// and strides. True where the strides are the default ones. Of a lone axis else: where it has
     /// at most one entry or the stride -1. Of other layouts else: where the magnitude of the stride
     /// of each axis of other than one entry is the product of the lengths of all axes before it, in
-    /// the order of those magnitudes. There is a stride for each axis, and the product of the
-    /// lengths, zeros aside, is at most the greatest `isize`.
+    /// the order of those magnitudes.
     ///
-    /// Takes no memory. Upstream's `is_contiguous`.
+    /// For a shape without a zero axis the answer is exact: true where no two indices share a place
+    /// and each number from the least place up, as many as the size, is a place; and nowhere else.
+    ///
+    /// The caller ensures that there is a stride for each axis and that the product of the lengths,
+    /// zeros aside, is at most the greatest `isize`. Takes no memory. ndarray's
+    /// `Dimension::is_contiguous`.
     final fn is_contiguous(dim: &Self, strides: &Self) -> bool
         requires same_count { length (Self.list dim.now) ≡ length (Self.list strides.now) }
         requires size_fits { nonzero_size (Self.list dim.now) ≤ limit }
-        ensures { result ≡
+        ensures rule { result ≡
             is_contiguous_layout (Self.list dim.now) (all_signed (Self.list strides.now)) }
+        ensures exact { is_empty (Self.list dim.now) ≡ false → (IsTrue result ↔
+            FillsStretch (Self.list dim.now) (all_signed (Self.list strides.now))) }
     {
         is_contiguous(dim.slice(), strides.slice())
     }
