@@ -256,8 +256,8 @@ pub trait Dimension: Lengths + Arithmetic + Scale {
     /// of each axis of other than one entry is the product of the lengths of all axes before it, in
     /// the order of those magnitudes.
     ///
-    /// For a shape without a zero axis the answer is exact: true where no two indices share a place
-    /// and each number from the least place up, as many as the size, is a place; and nowhere else.
+    /// For a shape without a zero axis the answer is exact: true where each index has a place of its
+    /// own and these places are consecutive numbers; and nowhere else.
     ///
     /// The caller ensures that there is a stride for each axis and that the product of the lengths,
     /// zeros aside, is at most the greatest `isize`. Takes no memory. ndarray's

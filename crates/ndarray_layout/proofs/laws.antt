@@ -1,6 +1,7 @@
 pub mod Run
 pub mod Step
 pub use Rattle.nd_base.proofs.laws.Dim
+pub use Rattle.nd_base.proofs.laws.Entries
 pub use Rattle.nd_base.proofs.laws.Indices
 pub use Rattle.nd_base.proofs.laws.Inside
 pub use Rattle.nd_base.proofs.laws.IsIndex
@@ -11,6 +12,9 @@ pub use Rattle.nd_base.proofs.laws.Rank
 pub use Rattle.nd_base.proofs.laws.Reach
 pub use Rattle.nd_base.proofs.laws.Size
 pub use Rattle.nd_base.proofs.laws.Span
+pub use Rattle.nd_base.proofs.laws.Turned
+pub use Rattle.nd_dim.proofs.laws.Contiguous
+pub use Rattle.nd_dim.proofs.laws.OneStretch
 pub use Rattle.nd_dim.proofs.laws.Strides
 pub use Rattle.nd_shape_rules.proofs.laws.Acceptance
 pub use Rattle.nd_shape_rules.proofs.laws.CommonShape

@@ -20,6 +20,7 @@ pub use Rattle.nd_base.specs.ValidLayout
 pub use Rattle.nd_dim.specs.AxisOrder
 pub use Rattle.nd_dim.specs.Contiguous
 pub use Rattle.nd_dim.specs.LastLen
+pub use Rattle.nd_dim.specs.OneStretch
 pub use Rattle.nd_dim.specs.Strides
 pub use Rattle.nd_shape_rules.specs.Acceptance
 pub use Rattle.nd_shape_rules.specs.CommonShape

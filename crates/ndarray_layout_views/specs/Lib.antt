@@ -7,3 +7,15 @@ pub mod MergedView
 pub mod SlicedView
 pub mod View
 pub mod Walk
+pub use Rattle.nd_base.specs.Lengths
+pub use Rattle.nd_base.specs.ShapeFault
+pub use Rattle.nd_base.specs.Signed
+pub use Rattle.nd_base.specs.Size
+pub use Rattle.nd_base.specs.Span
+pub use Rattle.nd_base.specs.ValidLayout
+pub use Rattle.nd_slice.specs.ArgumentFault
+pub use Rattle.nd_slice.specs.Counts
+pub use Rattle.nd_slice.specs.Sliced
+pub use Rattle.nd_slice_axis.specs.Picked
+pub use Rattle.nd_slice_axis.specs.Picks
+pub use Rattle.nd_slice_axis.specs.SliceFault
