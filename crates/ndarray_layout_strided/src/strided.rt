@@ -34,7 +34,7 @@ use nd_shape::{
 };
 use nd_slice::{Fit, SliceElems, check_elems, do_collapse_axis};
 use ndarray_layout_views::{
-    broadcast_axes, check_axes, sliced_axes, has_entry, offset_place, picked_size, push_places,
+    broadcast_axes, check_axes, has_entry, offset_place, picked_size, push_places, sliced_axes,
 };
 use std::alloc::{AllocError, Global};
 use std::marker::Model;
