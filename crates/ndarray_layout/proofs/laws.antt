@@ -1,5 +1,6 @@
 pub mod Run
 pub mod Step
+pub mod StepFits
 pub use Rattle.nd_base.proofs.laws.Dim
 pub use Rattle.nd_base.proofs.laws.Entries
 pub use Rattle.nd_base.proofs.laws.Indices

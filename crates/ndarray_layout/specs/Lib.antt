@@ -1,5 +1,6 @@
 pub mod Run
 pub mod Step
+pub mod StepFits
 pub use Rattle.nd_base.specs.Dim
 pub use Rattle.nd_base.specs.DistinctOffsets
 pub use Rattle.nd_base.specs.Entrywise
