@@ -1,4 +1,5 @@
-//! What all shapes and indices can do, by their lists of lengths, whatever their type.
+//! What all shapes and indices can do, by their lists of lengths, whatever their type. Where docs name an
+//! item of ndarray, it is that of ndarray 0.17.2.
 #![tactic(auto)]
 
 mod axis_edits;
