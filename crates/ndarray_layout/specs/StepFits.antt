@@ -1,5 +1,5 @@
 -- Which steps fit a view, and which may be refused for memory.
-use Rattle.std.specs.Prelude.{◌≡◌, ◌≢◌, ℕ, ◌<◌, ℤ, pos, negsuc, List, [], ◌∷◌, length, slice_index, refl}
+use Rattle.std.specs.Prelude.{◌≡◌, ◌≢◌, ℕ, ◌<◌, pos, negsuc, List, [], ◌∷◌, length, slice_index, refl}
 use Rattle.nd_slice_axis.specs.declared.fit.Fit.{Fit}
 use Rattle.nd_slice_axis.specs.declared.fit.Fit.TheVariants.{Strict}
 use Rattle.nd_slice_axis.specs.Picks.{slice_with}

@@ -1,6 +1,6 @@
 -- A step has no fault exactly where it fits.
-use Rattle.std.proofs.Common.{◌≡◌, ◌↔◌, ℕ, Bool, true, false, cond, None, Some, Option, List, [], ◌∷◌, length, get_or, nat_lt, refl, sym, arith}
-use Rattle.std.proofs.lemmas.Bool.{eq-eqb, lt-ltb, ltb-true, ne_eqb}
+use Rattle.std.proofs.Common.{◌≡◌, ◌↔◌, ℕ, None, Some, Option, List, [], ◌∷◌, length, get_or, refl}
+use Rattle.std.proofs.lemmas.Bool.{eq-eqb, lt-ltb, ne_eqb}
 use Rattle.std.specs.Option.{option_or}
 use Rattle.nd_base.specs.declared.error.ErrorKind.{ErrorKind}
 use Rattle.nd_slice_axis.specs.declared.fit.Fit.{Fit}
