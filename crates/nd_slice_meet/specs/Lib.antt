@@ -1,2 +1,3 @@
 pub mod Equation
+pub mod Picks
 pub mod Sequence

@@ -5,8 +5,10 @@
 mod equation;
 mod euclid;
 mod multiplier;
+mod picks;
 mod sequence;
 
 pub use equation::solve_linear_diophantine_eq;
 pub use euclid::extended_gcd;
+pub use picks::picks_intersect;
 pub use sequence::arith_seq_intersect;
