@@ -1,3 +1,5 @@
+pub mod Dim
+pub mod Entries
 pub mod Indices
 pub mod Inside
 pub mod IsIndex
@@ -8,3 +10,4 @@ pub mod Rank
 pub mod Reach
 pub mod Size
 pub mod Span
+pub mod Turned

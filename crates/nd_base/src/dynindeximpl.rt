@@ -9,6 +9,7 @@ ghost use Rattle.std.specs.Cmp.Rules.{comparing, hashing};
 ghost use Rattle.std.specs.Cmp.Lexicographic.{pointwise};
 ghost use Rattle.std.proofs.Common.{rules};
 
+use crate::lengths::INLINE_AXES;
 use smallvec::SmallVec;
 use std::alloc::{AllocError, Global};
 use std::hash::{Hash, Hasher};
@@ -16,12 +17,12 @@ use std::marker::Model;
 use std::ops::{Index, IndexMut};
 use std::{fmt, slice};
 
-/// The lengths of any number of axes, in order. Upstream's `IxDynImpl`.
+/// The lengths of any number of axes, in order. ndarray's `IxDynImpl`.
 ///
 /// Equality and hash are those of the list, however it is kept.
 #[derive(Drop)]
 pub struct IxDynImpl {
-    lens: SmallVec<usize, 4>,
+    lens: SmallVec<usize, INLINE_AXES>,
 }
 
 impl Model for IxDynImpl {
@@ -37,17 +38,17 @@ impl IxDynImpl {
 
     /// The lengths of a slice.
     ///
-    /// Errors: want of memory, and none where there are at most four lengths.
+    /// Errors: out of memory; none where there are at most four lengths.
     pub fn copy_from(alloc: Global, lens: &[usize]) -> Result<Self, AllocError>
         ensures list { IfOk result (λ dim. dim ≡ lens.now) }
-        ensures memory { length lens.now ≤ 4 → IsOk result }
+        ensures memory { length lens.now ≤ INLINE_AXES → IsOk result }
     {
         Ok(IxDynImpl {
             lens: SmallVec::from_slice(alloc, lens)?,
         })
     }
 
-    /// The lengths of a vector, whose memory is kept where it has room for more than four. Upstream's
+    /// The lengths of a vector, whose memory is kept where it has room for more than four. ndarray's
     /// `From<Vec<Ix>>`. It asks for no memory; `alloc` stands where every call of this kind has it.
     ///
     /// Errors: none.
@@ -63,23 +64,24 @@ impl IxDynImpl {
     /// `n` zeros. Up to four are made at once, where `from_elem` would push one by one.
     pub(crate) fn zeros(alloc: Global, n: usize) -> Result<Self, AllocError>
         ensures list { IfOk result (λ dim. dim ≡ replicate n 0) }
-        ensures memory { n ≤ 4 → IsOk result }
+        ensures memory { n ≤ INLINE_AXES → IsOk result }
     {
-        let lens = if n <= 4 {
-            SmallVec::from_buf_and_len(alloc, [0; 4], n)
+        let lens = if n <= INLINE_AXES {
+            SmallVec::from_buf_and_len(alloc, [0; INLINE_AXES], n)
         } else {
             SmallVec::from_elem(alloc, 0, n)?
         };
         Ok(IxDynImpl { lens })
     }
 
-    /// The lengths with a new axis of length 1 at place `i`. Upstream's `insert`.
+    /// The lengths with a new axis of length 1 at place `i`. The caller ensures that `i` is at most their
+    /// count. ndarray's `insert`.
     ///
-    /// Errors: want of memory, and none where the result has at most four lengths.
+    /// Errors: out of memory; none where the result has at most four lengths.
     pub fn insert(&self, alloc: Global, i: usize) -> Result<Self, AllocError>
         requires { i ≤ length self.now }
         ensures list { IfOk result (λ dim. dim ≡ insert self.now i 1) }
-        ensures memory { length self.now + 1 ≤ 4 → IsOk result }
+        ensures memory { length self.now + 1 ≤ INLINE_AXES → IsOk result }
     {
         let lens = self.as_slice();
         let mut wider = SmallVec::with_capacity(alloc, lens.len() + 1)?;
@@ -89,9 +91,10 @@ impl IxDynImpl {
         Ok(IxDynImpl { lens: wider })
     }
 
-    /// The lengths without the axis at place `i`, where no axes leave no axes. Upstream's `remove`.
+    /// The lengths without the axis at place `i`; no axes stay none. The caller ensures that there is that
+    /// axis, or none at all. ndarray's `remove`.
     ///
-    /// Errors: want of memory, and none where the result has at most four lengths.
+    /// Errors: out of memory; none where the result has at most four lengths.
     pub fn remove(&self, alloc: Global, i: usize) -> Result<Self, AllocError>
         requires { (i < length self.now) ⊎ (length self.now ≡ 0) }
         ensures list { IfOk result (λ dim. dim ≡ remove self.now i) }

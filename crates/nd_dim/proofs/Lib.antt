@@ -1,6 +1,11 @@
+pub mod Filled
+pub mod FirstAxes
 pub mod Packed
+pub mod PackedLayouts
 pub mod Products
+pub mod Rearranged
 pub mod Stepped
 pub mod StrideAxes
 pub mod StrideOrder
+pub mod StridePlaces
 pub mod laws

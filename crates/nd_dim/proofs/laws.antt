@@ -1,1 +1,3 @@
+pub mod Contiguous
+pub mod OneStretch
 pub mod Strides

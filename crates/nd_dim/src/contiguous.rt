@@ -69,7 +69,9 @@ fn is_packed(lens: &[usize], strides: &[usize]) -> bool
 /// of other than one entry is the product of the lengths of all axes before it, in the order of
 /// those magnitudes.
 ///
-/// Takes no memory. Upstream's `is_contiguous`.
+/// For a shape without a zero axis that is so exactly where the indices fill one stretch.
+///
+/// Takes no memory. ndarray's `Dimension::is_contiguous`.
 pub(crate) fn is_contiguous(lens: &[usize], strides: &[usize]) -> bool
     requires same_count { length lens.now ≡ length strides.now }
     requires size_fits { nonzero_size lens.now ≤ limit }

@@ -6,7 +6,8 @@ ghost use Rattle.nd_dim.specs.AxisOrder.{magnitude_at as magnitude_at_axis, IsLe
 use nd_base::signed;
 
 /// How many elements the stride of an axis steps over, in either direction; 0 past the last axis.
-pub(crate) fn magnitude_at(strides: &[usize], axis: usize) -> usize
+#[inline]
+pub fn magnitude_at(strides: &[usize], axis: usize) -> usize
     ensures { result ≡ magnitude_at_axis (all_signed strides.now) axis }
 {
     strides
@@ -15,7 +16,7 @@ pub(crate) fn magnitude_at(strides: &[usize], axis: usize) -> usize
 }
 
 /// The axis whose stride is of least magnitude among those of more than one entry, and the last
-/// of these where several are; the last axis where none has more than one entry. Upstream's
+/// of these where several are; the last axis where none has more than one entry. ndarray's
 /// `min_stride_axis`.
 pub(crate) fn min_stride_axis(lens: &[usize], strides: &[usize]) -> usize
     requires some_axis { 0 < length lens.now }
@@ -34,7 +35,7 @@ pub(crate) fn min_stride_axis(lens: &[usize], strides: &[usize]) -> usize
 }
 
 /// The axis whose stride is of greatest magnitude among those of more than one entry, and the
-/// last of these where several are; the first axis where none has more than one entry. Upstream's
+/// last of these where several are; the first axis where none has more than one entry. ndarray's
 /// `max_stride_axis`.
 pub(crate) fn max_stride_axis(lens: &[usize], strides: &[usize]) -> usize
     requires some_axis { 0 < length lens.now }
