@@ -1,5 +1,6 @@
 -- Equations in whole numbers.
-use Rattle.std.specs.Prelude.{◌≡◌, ℕ, ◌+◌, ◌*◌, ◌≤◌, ℤ, pos, negsuc, ◌+ℤ◌, ◌*ℤ◌, ◌≤ℤ◌, neg_ℤ, Bool, true, false, refl}
+use Rattle.std.specs.Prelude.{◌≡◌, ℕ, ◌+◌, ◌*◌, ◌≤◌, Bool, true, false, refl}
+use Rattle.std.specs.Prelude.{ℤ, pos, negsuc, ◌+ℤ◌, ◌*ℤ◌, ◌≤ℤ◌, neg_ℤ}
 use Rattle.std.specs.Int.{◌∣◌}
 
 -- the number of that magnitude, negative or not
@@ -33,3 +34,15 @@ five_below = refl
 
 six_and_nine : Solves (negsuc 5) (pos 9) (pos 3) (pos 1)
 six_and_nine = (pos 1, refl)
+
+five : with_sign_of 5 false ≡ pos 5
+five = refl
+
+two_solves_too : Solves (pos 4) (negsuc 5) (pos 2) (pos 2)
+two_solves_too = (pos 1, refl)
+
+added_for_a_negative : added_of (negsuc 5) (pos 3) ≡ pos 3
+added_for_a_negative = refl
+
+added_for_a_positive : added_of (pos 6) (pos 3) ≡ negsuc 2
+added_for_a_positive = refl
