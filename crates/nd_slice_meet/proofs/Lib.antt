@@ -3,4 +3,4 @@ pub mod Signs
 pub mod Multiples
 pub mod Sequences
 pub mod Equations
-pub mod PickSequences
+pub mod laws

@@ -6,7 +6,7 @@ use Rattle.nd_base.specs.Signed.{magnitude}
 use Rattle.nd_slice_axis.specs.Picks.{picks, start_meaning, end_meaning}
 use Rattle.nd_slice_axis.proofs.laws.SliceFault.{step_moves}
 use Rattle.nd_slice_meet.specs.Sequence.{SequencesMeet}
-use Rattle.nd_slice_meet.proofs.PickSequences.{AreSequence, sequence_of, picks_meet, contained_below}
+use Rattle.nd_slice_meet.proofs.laws.PickSequences.{AreSequence, sequence_of, picks_meet, contained_below}
 use Rattle.nd_slice_meet.proofs.picks.picks_intersect.Goals as goal
 use Rattle.nd_slice_meet.proofs.picks.picks_intersect.Goals.{In-Some-Some}
 
