@@ -1,2 +1,3 @@
 pub mod ArgumentFault
 pub mod Selected
+pub mod Meet

@@ -1,6 +1,7 @@
 pub mod ArgumentFault
 pub mod Counts
 pub mod Kinds
+pub mod Meet
 pub mod Selected
 pub mod Sliced
 pub mod Text

@@ -7,6 +7,7 @@ mod collapse;
 mod elem;
 mod elems;
 mod info;
+mod intersect;
 
 pub use arg::SliceArg;
 pub use checks::{check_elems, check_slice, in_ndim_of, out_ndim_of};
@@ -14,6 +15,7 @@ pub use collapse::do_collapse_axis;
 pub use elem::{NewAxis, SliceInfoElem};
 pub use elems::SliceElems;
 pub use info::SliceInfo;
+pub use intersect::slices_intersect;
 pub use nd_slice_axis::{
     Fit, Slice, abs_index, count_of_picks, do_slice, entry_of, first_pick, pick_count,
     slice_min_max, to_abs_slice,

@@ -1,0 +1,115 @@
+-- Two slice arguments meet exactly where they share an entry on every axis.
+use Rattle.std.proofs.Common.{refl, ap, sym, subst, arith, get_or}
+use Rattle.std.proofs.lemmas.Bool.{and_parts, and_from, lt-ltb}
+use Rattle.std.specs.Prelude.{◌≡◌, ℕ, zero, suc, ℤ, ◌<◌, ◌↔◌, IsTrue, nat_lt, Option, None, List, [], ◌∷◌, length}
+use Rattle.std.specs.List.{AllZip, Contains}
+use Rattle.nd_base.specs.Indices.{is_index}
+use Rattle.nd_base.specs.Signed.{magnitude}
+use Rattle.nd_slice_axis.specs.declared.fit.Fit.{Fit}
+use Rattle.nd_slice_axis.specs.Picks.{slice_with, meaning, picks}
+use Rattle.nd_slice_axis.specs.SliceFault.{SliceFits, IndexFits}
+use Rattle.nd_slice_meet.proofs.laws.PickSequences.{contained_below}
+use Rattle.nd_slice_axis.proofs.laws.SliceFault.{entry_below}
+use Rattle.nd_slice_meet.specs.Picks.{PicksMeet}
+use Rattle.nd_slice.specs.declared.elem.SliceInfoElem.{SliceInfoElem}
+use Rattle.nd_slice.specs.declared.elem.SliceInfoElem.TheVariants as elem
+use Rattle.nd_slice.specs.ArgumentFault.{in_count, first_fault, argument_fault}
+use Rattle.nd_slice.specs.Meet.{axis_picks, Meet}
+use Rattle.nd_slice.proofs.laws.ArgumentFault.{elements_of_no_fault, slice_of_no_fault, index_of_no_fault}
+
+-- what lists pick of each axis is inside a shape
+abbrev pub AreInside : List ℕ → List (List ℕ) → Type 0
+AreInside [] [] = Unit {0}
+AreInside [] (xs ∷ lists) = ⊥
+AreInside (len ∷ shape) [] = ⊥
+AreInside (len ∷ shape) (xs ∷ lists) = ((pick : ℕ) → Contains xs pick → pick < len) × AreInside shape lists
+
+slice_inside : (fit : Fit) (len : ℕ) (start : ℤ) (end : Option ℤ) (step : ℤ) → SliceFits fit len (slice_with start end step)
+    → (pick : ℕ) → Contains (picks fit len (slice_with start end step)) pick → pick < len
+slice_inside fit len start end step fits pick h = contained_below fit len (slice_with start end step) pick fits h
+
+index_inside : (len : ℕ) (index : ℤ) → IndexFits len index → (pick : ℕ) → Contains (magnitude (meaning len index) ∷ []) pick → pick < len
+index_inside len index fits pick (zero, below, at) = omega (arith, at, (entry_below len index fits).1)
+index_inside len index fits pick (suc k, below, at) = absurd (omega (arith, below))
+
+inside : (fit : Fit) (shape : List ℕ) (elems : List SliceInfoElem) → in_count elems ≡ length shape → first_fault fit shape elems ≡ None → AreInside shape (axis_picks fit shape elems)
+inside fit [] [] count none = tt
+inside fit (len ∷ shape) [] count none = absurd (omega arith)
+inside fit shape (elem.NewAxis ∷ elems) count none = inside fit shape elems count none
+inside fit [] (elem.Slice start end step ∷ elems) count none = absurd (omega arith)
+inside fit [] (elem.Index index ∷ elems) count none = absurd (omega arith)
+inside fit (len ∷ shape) (elem.Slice start end step ∷ elems) count none =
+    let fits = slice_of_no_fault fit len shape (slice_with start end step) elems none in
+    (slice_inside fit len start end step fits.0, inside fit shape elems (omega arith) fits.1)
+inside fit (len ∷ shape) (elem.Index index ∷ elems) count none =
+    let fits = index_of_no_fault fit len shape index elems none in
+    (index_inside len index fits.0, inside fit shape elems (omega arith) fits.1)
+
+-- some index is among the picks of both, with each entry below its length
+abbrev pub ShareIndex : List ℕ → List (List ℕ) → List (List ℕ) → Type 0
+ShareIndex shape one other = (index : List ℕ) × IsTrue (is_index shape index) × AllZip Contains one index × AllZip Contains other index
+
+to_axes : (shape : List ℕ) (one other : List (List ℕ)) → ShareIndex shape one other → AllZip PicksMeet one other
+to_axes shape [] [] share = tt
+to_axes shape [] (ys ∷ other) ([], is, p, q) = absurd q
+to_axes shape [] (ys ∷ other) (i ∷ index, is, p, q) = absurd p
+to_axes shape (xs ∷ one) [] ([], is, p, q) = absurd p
+to_axes shape (xs ∷ one) [] (i ∷ index, is, p, q) = absurd q
+to_axes shape (xs ∷ one) (ys ∷ other) ([], is, p, q) = absurd p
+to_axes [] (xs ∷ one) (ys ∷ other) (i ∷ index, is, p, q) = absurd (cc)
+to_axes (len ∷ shape) (xs ∷ one) (ys ∷ other) (i ∷ index, is, p, q) =
+    ((i, p.0, q.0), to_axes shape one other (index, (and_parts (nat_lt i len) (is_index shape index) is).1, p.1, q.1))
+
+from_axes : (shape : List ℕ) (one other : List (List ℕ)) → AreInside shape one → AllZip PicksMeet one other → ShareIndex shape one other
+from_axes [] [] [] within share = ([], refl, tt, tt)
+from_axes (len ∷ shape) [] other within share = absurd within
+from_axes [] (xs ∷ one) other within share = absurd within
+from_axes [] [] (ys ∷ other) within share = absurd share
+from_axes (len ∷ shape) (xs ∷ one) [] within share = absurd share
+from_axes (len ∷ shape) (xs ∷ one) (ys ∷ other) within share =
+    let rest = from_axes shape one other within.1 share.1 in
+    let i = (share.0).0 in (
+      i ∷ rest.0,
+      and_from (nat_lt i len) (is_index shape rest.0) (lt-ltb i len (within.0 i (share.0).1)) rest.1,
+      ((share.0).1, rest.2),
+      ((share.0).2, rest.3),
+    )
+
+-- an index may be chosen axis by axis
+pub meet_by_axis : (fit : Fit) (shape : List ℕ) (one other : List SliceInfoElem) → argument_fault fit shape one ≡ None
+    → Meet fit shape one other ↔ AllZip PicksMeet (axis_picks fit shape one) (axis_picks fit shape other)
+meet_by_axis fit shape one other none =
+    let parts = elements_of_no_fault fit shape one none in (
+      λ meet. to_axes shape (axis_picks fit shape one) (axis_picks fit shape other) meet,
+      λ share. from_axes shape (axis_picks fit shape one) (axis_picks fit shape other) (inside fit shape one parts.0 parts.1) share,
+    )
+
+-- the order of two arguments does not matter
+pub meet_symmetric : (fit : Fit) (shape : List ℕ) (one other : List SliceInfoElem) → Meet fit shape one other → Meet fit shape other one
+meet_symmetric fit shape one other meet = (meet.0, meet.1, meet.3, meet.2)
+
+-- with no axes two arguments meet
+axis_picks-no_axes : (fit : Fit) (elems : List SliceInfoElem) → axis_picks fit [] elems ≡ []
+axis_picks-no_axes fit [] = refl
+axis_picks-no_axes fit (elem.NewAxis ∷ elems) = axis_picks-no_axes fit elems
+axis_picks-no_axes fit (elem.Slice start end step ∷ elems) = refl
+axis_picks-no_axes fit (elem.Index index ∷ elems) = refl
+
+pub meet_no_axes : (fit : Fit) (one other : List SliceInfoElem) → Meet fit [] one other
+meet_no_axes fit one other = (
+  [],
+  refl,
+  subst (λ lists. AllZip Contains lists []) (sym (axis_picks-no_axes fit one)) tt,
+  subst (λ lists. AllZip Contains lists []) (sym (axis_picks-no_axes fit other)) tt,
+)
+
+-- where an argument picks nothing of an axis it meets none
+pub not_picked : (lists : List (List ℕ)) (index : List ℕ) (axis : ℕ) → axis < length lists → get_or lists axis [] ≡ [] → AllZip Contains lists index → ⊥
+not_picked [] index axis below nothing all = omega (arith, below)
+not_picked (xs ∷ lists) [] axis below nothing all = all
+not_picked (xs ∷ lists) (i ∷ index) zero below nothing all = omega (arith, (all.0).1, ap (λ ys. length ys) nothing)
+not_picked (xs ∷ lists) (i ∷ index) (suc axis) below nothing all = not_picked lists index axis (omega (arith, below)) nothing all.1
+
+pub meet_empty : (fit : Fit) (shape : List ℕ) (one other : List SliceInfoElem) (axis : ℕ) → axis < length (axis_picks fit shape one)
+    → get_or (axis_picks fit shape one) axis [] ≡ [] → Meet fit shape one other → ⊥
+meet_empty fit shape one other axis below nothing meet = not_picked (axis_picks fit shape one) meet.0 axis below nothing meet.2

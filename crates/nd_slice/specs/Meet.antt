@@ -1,0 +1,61 @@
+-- When two slice arguments on a shape share an index.
+use Rattle.std.specs.Prelude.{◌≡◌, ℕ, IsTrue, pos, negsuc, None, List, [], ◌∷◌, refl}
+use Rattle.std.specs.List.{AllZip, Contains}
+use Rattle.std.proofs.lemmas.Bool.{ltb-true}
+use Rattle.nd_base.specs.Indices.{is_index}
+use Rattle.nd_base.specs.Signed.{magnitude}
+use Rattle.nd_slice_axis.specs.declared.fit.Fit.{Fit}
+use Rattle.nd_slice_axis.specs.declared.fit.Fit.TheVariants.{Strict}
+use Rattle.nd_slice_axis.specs.Picks.{slice_with, meaning, picks}
+use Rattle.nd_slice_axis.specs.SliceFault.{SliceFits, IndexFits}
+use Rattle.nd_slice.specs.declared.elem.SliceInfoElem.{SliceInfoElem}
+use Rattle.nd_slice.specs.declared.elem.SliceInfoElem.TheVariants as elem
+
+-- what an element picks of an axis of length len: an index the one entry that it means, a new axis none
+abbrev pub elem_picks : Fit → ℕ → SliceInfoElem → List ℕ
+elem_picks fit len (elem.Slice start end step) = picks fit len (slice_with start end step)
+elem_picks fit len (elem.Index index) = magnitude (meaning len index) ∷ []
+elem_picks fit len elem.NewAxis = []
+
+-- what an argument picks of each axis of a shape: a new axis is for none of them
+abbrev pub axis_picks : Fit → List ℕ → List SliceInfoElem → List (List ℕ)
+axis_picks fit shape [] = []
+axis_picks fit shape (elem.NewAxis ∷ elems) = axis_picks fit shape elems
+axis_picks fit [] (elem.Slice start end step ∷ elems) = []
+axis_picks fit [] (elem.Index index ∷ elems) = []
+axis_picks fit (len ∷ shape) (elem.Slice start end step ∷ elems) = elem_picks fit len (elem.Slice start end step) ∷ axis_picks fit shape elems
+axis_picks fit (len ∷ shape) (elem.Index index ∷ elems) = elem_picks fit len (elem.Index index) ∷ axis_picks fit shape elems
+
+-- some index of the shape is, on every axis, among the picks of both arguments
+abbrev pub Meet : Fit → List ℕ → List SliceInfoElem → List SliceInfoElem → Type 0
+Meet fit shape one other =
+    (index : List ℕ) × IsTrue (is_index shape index) × AllZip Contains (axis_picks fit shape one) index × AllZip Contains (axis_picks fit shape other) index
+
+-- an element is without fault on an axis of length len
+abbrev pub ElemFits : Fit → ℕ → SliceInfoElem → Type 0
+ElemFits fit len (elem.Slice start end step) = SliceFits fit len (slice_with start end step)
+ElemFits fit len (elem.Index index) = IndexFits len index
+ElemFits fit len elem.NewAxis = Unit {0}
+
+-- an index is, where the element is one
+abbrev pub IndexFitsIn : ℕ → SliceInfoElem → Type 0
+IndexFitsIn len (elem.Slice start end step) = Unit {0}
+IndexFitsIn len (elem.Index index) = IndexFits len index
+IndexFitsIn len elem.NewAxis = Unit {0}
+
+-- the elements from the first that is for an axis on
+abbrev pub without_new_axes : List SliceInfoElem → List SliceInfoElem
+without_new_axes [] = []
+without_new_axes (elem.Slice start end step ∷ elems) = elem.Slice start end step ∷ elems
+without_new_axes (elem.Index index ∷ elems) = elem.Index index ∷ elems
+without_new_axes (elem.NewAxis ∷ elems) = without_new_axes elems
+
+-- examples
+back_and_last : axis_picks Strict (4 ∷ 3 ∷ []) (elem.Slice (pos 1) None (negsuc 1) ∷ elem.NewAxis ∷ elem.Index (negsuc 0) ∷ []) ≡ (3 ∷ 1 ∷ []) ∷ (2 ∷ []) ∷ []
+back_and_last = refl
+
+last_entry_in_both : Meet Strict (4 ∷ []) (elem.Slice (pos 1) None (negsuc 1) ∷ []) (elem.NewAxis ∷ elem.Index (negsuc 0) ∷ [])
+last_entry_in_both = (3 ∷ [], refl, ((0, ltb-true 0 2 refl, refl), tt), ((0, ltb-true 0 1 refl, refl), tt))
+
+no_axes : Meet Strict [] (elem.NewAxis ∷ []) []
+no_axes = ([], refl, tt, tt)

@@ -1,0 +1,3 @@
+pub mod Equation
+pub mod Picks
+pub mod Sequence

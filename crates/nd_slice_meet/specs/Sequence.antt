@@ -1,0 +1,32 @@
+-- Lists of numbers that lie a step apart.
+use Rattle.std.specs.Prelude.{ℕ, ◌+◌, ◌≤◌, ℤ, pos, negsuc, ◌-ℤ◌, ◌≤ℤ◌}
+use Rattle.std.specs.Int.{◌∣◌}
+use Rattle.std.proofs.lemmas.Nat.Gcd.{dvd_refl, dvd-zero}
+use Rattle.nd_base.specs.Signed.{magnitude}
+
+-- one of the numbers first, first + |step|, and so on, up to last
+pub record InSequence (first last step number : ℤ) : Type 0 where
+  pub not_before : first ≤ℤ number
+  pub not_after : number ≤ℤ last
+  pub stepped : magnitude step ∣ magnitude (number -ℤ first)
+
+-- some number is in both lists
+abbrev pub SequencesMeet : (ℤ × ℤ × ℤ) → (ℤ × ℤ × ℤ) → Type 0
+SequencesMeet one other = (number : ℤ) × InSequence one.0 one.1 one.2 number × InSequence other.0 other.1 other.2 number
+
+-- some number up to room is a multiple of second_step, and together with ahead a multiple of first_step
+abbrev pub MeetsWithin : ℕ → ℕ → ℕ → ℕ → Type 0
+MeetsWithin ahead first_step second_step room = (number : ℕ) × (number ≤ room) × (second_step ∣ number) × (first_step ∣ number + ahead)
+
+-- examples
+three_then_nine : InSequence (pos 3) (pos 9) (negsuc 5) (pos 9)
+three_then_nine = record { not_before = record { le = tt }; not_after = record { le = tt }; stepped = dvd_refl 6 }
+
+nine_in_both : SequencesMeet (pos 0, pos 9, pos 9) (pos 3, pos 9, negsuc 5)
+nine_in_both = (pos 9, record { not_before = record { le = tt }; not_after = record { le = tt }; stepped = dvd_refl 9 }, three_then_nine)
+
+past_the_last : InSequence (pos 3) (pos 3) (pos 6) (pos 9) → ⊥
+past_the_last within = within.not_after.le
+
+first_of_its_own : InSequence (pos 0) (pos 0) (pos 9) (pos 0)
+first_of_its_own = record { not_before = record { le = tt }; not_after = record { le = tt }; stepped = dvd-zero 9 }
