@@ -1,11 +1,11 @@
 -- Runs of lists of steps from runs of their parts.
-use Rattle.std.proofs.Common.{◌≡◌, ℕ, ◌+◌, suc, Option, Some, None, Err, List, [], ◌∷◌, ◌++◌, length, take, drop, refl, sym, ap, subst, ◌∙◌, arith, false, nat_lt, IsOk}
+use Rattle.std.proofs.Common.{◌≡◌, ℕ, ◌+◌, ◌<◌, suc, Option, Some, None, Err, List, [], ◌∷◌, ◌++◌, length, take, drop, refl, sym, ap, subst, ◌∙◌, arith, false, nat_lt, IsOk}
 use Rattle.std.specs.List.{slice_get}
 use Rattle.std.proofs.Math.Seq.{take-suc, drop-cons}
 use Rattle.std.proofs.lemmas.List.{length-take-le, take-append-drop}
 use Rattle.std.proofs.lemmas.Option.{get_or_from_slice_get, slice_get_within}
 use Rattle.nd_base.specs.declared.error.ErrorKind.{ErrorKind}
-use Rattle.std.proofs.lemmas.Bool.{ltb-true, true_from_ne_false}
+use Rattle.std.proofs.lemmas.Bool.{both_ways, lt-ltb, ltb-true, true_from_ne_false}
 use Rattle.nd_slice.specs.ArgumentFault.{out_count}
 use Rattle.ndarray_layout.specs.Step.{StepValue, SliceBy, CollapseTo, MergeInto, BroadcastTo, may_want_memory, step_fault, view_after}
 use Rattle.ndarray_layout.specs.StepFits.{MayRefuseMemory}
@@ -83,13 +83,13 @@ pub taken_so_far : (steps : List StepValue) (at : ℕ) (step : StepValue) (start
 taken_so_far steps at step start left there before same fits = rw (run_of_next steps at step start there, before, same, fits) (refl, refl)
 
 -- one that is refused by a fault ends the run of them all
-pub ended_by : (X : Type 0) (steps : List StepValue) (at : ℕ) (step : StepValue) (start left : View) (fault : LayoutError) → slice_get steps at ≡ Some step → (run_of (take at steps) start).fault ≡ None → (run_of (take at steps) start).view ≡ left → shape_fault {X = X} (Err fault) ≡ step_fault left step
+pub ended_by : (steps : List StepValue) (at : ℕ) (step : StepValue) (start left : View) (fault : LayoutError) → slice_get steps at ≡ Some step → (run_of (take at steps) start).fault ≡ None → (run_of (take at steps) start).view ≡ left → IsRefusedBy left fault step
     → IsEndedBy (run_of steps start) at fault left
-ended_by X steps at step start left (Memory e) there before same refused = tt
-ended_by X steps at step start left (Shape kind) there before same refused =
+ended_by steps at step start left (Memory e) there before same refused = tt
+ended_by steps at step start left (Shape kind) there before same refused =
     let within = slice_get_within steps at step there in
     let count = taken_of_no_fault (take at steps) start before ∙ length-take-le at steps (omega (arith, within)) in
-    rw (run_of_ended steps at step start left kind there before same (sym refused)) (refl, omega (arith, count), refl)
+    rw (run_of_ended steps at step start left kind there before same refused.0) (refl, omega (arith, count), refl)
 
 -- what is known of a step that is not taken
 pub refused_of : (X : Type 0) (view : View) (step : StepValue) (fault : LayoutError) → shape_fault {X = X} (Err fault) ≡ step_fault view step → (step_fault view step ≡ None → may_want_memory step ≡ false → IsOk {T = X} {E = LayoutError} (Err fault)) → IsRefusedBy view fault step
@@ -110,18 +110,28 @@ refused_of X view step (Memory e) refused memory = wanted view step (sym refused
     wanted view (MergeInto take into) none wants = wants refl
     wanted view (BroadcastTo shape) none wants = (fits_of_no_fault_of_step view (BroadcastTo shape) none, ltb-true 4 (length shape) (true_from_ne_false (nat_lt 4 (length shape)) wants))
 
+-- a count above four is not at most four
+above_four : (n : ℕ) → 4 < n → nat_lt 4 n ≡ false → ⊥
+above_four n above few = both_ways (nat_lt 4 n) few (lt-ltb 4 n above)
+
+-- memory is not refused to a step that wants none
+not_refused : (view : View) (step : StepValue) → MayRefuseMemory view step → may_want_memory step ≡ false → ⊥
+not_refused view (SliceBy elems fit) refused few = above_four (out_count elems) refused.1 few
+not_refused view (CollapseTo axis index) refused few = refused
+not_refused view (MergeInto take into) refused few = refused
+not_refused view (BroadcastTo shape) refused few = above_four (length shape) refused.1 few
+
 -- a run without fault whose steps want no memory is not stopped
-pub not_stopped : (X : Type 0) (steps : List StepValue) (at : ℕ) (step : StepValue) (start left : View) (fault : LayoutError) → slice_get steps at ≡ Some step → (run_of (take at steps) start).fault ≡ None → (run_of (take at steps) start).view ≡ left → shape_fault {X = X} (Err fault) ≡ step_fault left step
-    → (step_fault left step ≡ None → may_want_memory step ≡ false → IsOk {T = X} {E = LayoutError} (Err fault)) → (run_of steps start).fault ≡ None → NeedNoMemory steps → ⊥
-not_stopped X steps at step start left (Shape kind) there before same refused memory none few =
-    let ended = run_of_ended steps at step start left kind there before same (sym refused) in
+pub not_stopped : (steps : List StepValue) (at : ℕ) (step : StepValue) (start left : View) (fault : LayoutError) → slice_get steps at ≡ Some step → (run_of (take at steps) start).fault ≡ None → (run_of (take at steps) start).view ≡ left → IsRefusedBy left fault step
+    → (run_of steps start).fault ≡ None → NeedNoMemory steps → ⊥
+not_stopped steps at step start left (Shape kind) there before same refused none few =
+    let ended = run_of_ended steps at step start left kind there before same refused.0 in
     let e : Some kind ≡ None = rw ended at none in
     cc
-not_stopped X steps at step start left (Memory e) there before same refused memory none few =
+not_stopped steps at step start left (Memory e) there before same refused none few =
     let within = slice_get_within steps at step there in
     let here : may_want_memory step ≡ false = subst (λ one. may_want_memory one ≡ false) (get_or_from_slice_get steps at step step there) (few at step within) in
-    let ok = memory (sym refused) here in
-    cc
+    not_refused left step refused here
 
 -- where a run has no fault, each step fits
 pub all_fit : (steps : List StepValue) (view : View) → (run_of steps view).fault ≡ None → AllFit steps view

@@ -1,11 +1,10 @@
 //! Steps from one view to the next, and runs of them.
 ghost use Rattle.std.specs.Prelude.{◌≡◌, ℕ, ◌<◌, length, None, Some, map, IfOk, IfErr, IsOk, OnErr, OnOk, false, take};
 ghost use Rattle.std.specs.Result.{result_err};
-ghost use Rattle.nd_base.specs.ShapeFault.{shape_fault};
 ghost use Rattle.ndarray_layout_views.specs.MergedView.{merge_fault, merge_of};
 ghost use Rattle.ndarray_layout_views.specs.DistinctPlaces.{HasDistinctPlaces};
 ghost use Rattle.ndarray_layout_views.specs.KeepsPlaces.{KeepsPlaces};
-ghost use Rattle.ndarray_layout.specs.Run.{run_of, AllFit, StopsAt, IsEndedBy, HasNoBroadcast, NeedNoMemory};
+ghost use Rattle.ndarray_layout.specs.Run.{run_of, AllFit, StopsAt, IsEndedBy, IsRefusedBy, HasNoBroadcast, NeedNoMemory};
 ghost use Rattle.ndarray_layout.specs.Step.{may_want_memory, step_fault, step_value, view_after};
 ghost use Rattle.ndarray_layout_views.specs.View.{IsView, LiesWithin};
 
@@ -62,9 +61,10 @@ fn step_to(view: &mut Strided<IxDyn>, next: Strided<IxDyn>)
 
 /// Takes one step. A refusal leaves the view.
 ///
-/// Errors: the fault of the step, then that memory is refused, but not where it leaves at most four axes.
+/// Errors: why the step is refused; memory is not where it leaves at most four axes.
 fn take_step(alloc: Global, view: &mut Strided<IxDyn>, step: &Step) -> Result<(), LayoutError>
-    ensures fault { shape_fault result ≡ step_fault view.old (step_value step.now) }
+    ensures fits { OnOk result (step_fault view.old (step_value step.now) ≡ None) }
+    ensures refused { IfErr result (λ e. IsRefusedBy view.old e (step_value step.now)) }
     ensures refusal { OnErr result (view.new ≡ view.old) }
     ensures taken { OnOk result (view.new ≡ view_after view.old (step_value step.now)) }
     ensures memory { step_fault view.old (step_value step.now) ≡ None →

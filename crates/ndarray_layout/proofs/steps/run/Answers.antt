@@ -6,11 +6,11 @@ use Rattle.std.proofs.lemmas.List.{length-map, take_all}
 use Rattle.std.proofs.lemmas.Option.{slice_get-get_or, slice_get-map}
 use Rattle.ndarray_layout_views.specs.DistinctPlaces.{HasDistinctPlaces}
 use Rattle.ndarray_layout_views.specs.KeepsPlaces.{KeepsPlaces}
-use Rattle.ndarray_layout.specs.Run.{run_of}
+use Rattle.ndarray_layout.specs.Run.{IsRefusedBy, run_of}
 use Rattle.ndarray_layout.specs.declared.steps.Step.{Step}
 use Rattle.ndarray_layout.specs.Step.{step_value}
 use Rattle.ndarray_layout_views.specs.View.{IsView}
-use Rattle.ndarray_layout.proofs.Runs.{all_fit, ended_by, not_stopped, refused_of, taken_so_far}
+use Rattle.ndarray_layout.proofs.Runs.{all_fit, ended_by, not_stopped, taken_so_far}
 use Rattle.ndarray_layout_views.proofs.laws.KeepsPlaces.{LiesWithin-kept}
 use Rattle.ndarray_layout.proofs.laws.Run.{run_sound}
 use Rattle.ndarray_layout.proofs.steps.run.Goals as goal
@@ -19,28 +19,30 @@ use Rattle.ndarray_layout.proofs.steps.run.Goals as goal
 next : (steps : List Step) (at : ℕ) (step : Step) → at < length steps → step ≡ get_or steps at step → slice_get (map step_value steps) at ≡ Some (step_value step)
 next steps at step within is = slice_get-map step_value steps at ∙ ap (option_map step_value) (slice_get-get_or steps at step within ∙ ap Some (sym is))
 
+-- the step that is taken next is refused
+refused : (c : goal.In-Err) → IsRefusedBy c.loop-at.view c.in-Err.fault (step_value c.index-steps-at.result)
+refused c = c.in-Err.ensures.refused
+
+-- and is the one that there is at this number
+there : (c : goal.In-Err) → slice_get (map step_value c.args.steps.now) c.loop-at.at ≡ Some (step_value c.index-steps-at.result)
+there c = next c.args.steps.now c.loop-at.at c.index-steps-at.result c.loop-at-test.true c.index-steps-at.is
+
 pub returns-in-Err-clause-ended : goal.returns-in-Err-clause-ended
 returns-in-Err-clause-ended c =
-    let refused = rw (c.in-Err.is) at c.take_step.ensures.fault in
     let stays = c.in-Err.ensures.refusal in
-    rw (stays) (ended_by (Unit {0}) (map step_value c.args.steps.now) c.loop-at.at (step_value c.index-steps-at.result) c.args.view c.loop-at.view c.in-Err.fault (next c.args.steps.now c.loop-at.at c.index-steps-at.result c.loop-at-test.true c.index-steps-at.is) c.loop-at.invariant.fits c.loop-at.invariant.left refused)
+    rw (stays) (ended_by (map step_value c.args.steps.now) c.loop-at.at (step_value c.index-steps-at.result) c.args.view c.loop-at.view c.in-Err.fault (there c) c.loop-at.invariant.fits c.loop-at.invariant.left (refused c))
 
 pub returns-in-Err-clause-stopped : goal.returns-in-Err-clause-stopped
 returns-in-Err-clause-stopped c =
-    let refused = rw (c.in-Err.is) at c.take_step.ensures.fault in
-    let memory = rw (c.in-Err.is) at c.take_step.ensures.memory in
     let stays = c.in-Err.ensures.refusal in
     rw (stays) (record {
       before = c.loop-at.invariant.fits;
       left = c.loop-at.invariant.left;
-      refused = rw (next c.args.steps.now c.loop-at.at c.index-steps-at.result c.loop-at-test.true c.index-steps-at.is) (refused_of (Unit {0}) c.loop-at.view (step_value c.index-steps-at.result) c.in-Err.fault refused memory);
+      refused = rw (there c) (refused c);
     })
 
 pub returns-in-Err-clause-memory : goal.returns-in-Err-clause-memory
-returns-in-Err-clause-memory c =
-    let refused = rw (c.in-Err.is) at c.take_step.ensures.fault in
-    let memory = rw (c.in-Err.is) at c.take_step.ensures.memory in
-    λ none few. absurd (not_stopped (Unit {0}) (map step_value c.args.steps.now) c.loop-at.at (step_value c.index-steps-at.result) c.args.view c.loop-at.view c.in-Err.fault (next c.args.steps.now c.loop-at.at c.index-steps-at.result c.loop-at-test.true c.index-steps-at.is) c.loop-at.invariant.fits c.loop-at.invariant.left refused memory none few)
+returns-in-Err-clause-memory c = λ none few. absurd (not_stopped (map step_value c.args.steps.now) c.loop-at.at (step_value c.index-steps-at.result) c.args.view c.loop-at.view c.in-Err.fault (there c) c.loop-at.invariant.fits c.loop-at.invariant.left (refused c) none few)
 
 -- the view that the steps before it leave is one, with its places where their sources are
 pub returns-in-Err-clause-stopped_view : goal.returns-in-Err-clause-stopped_view
@@ -56,9 +58,9 @@ returns-in-Err-clause-stopped_places c =
 
 pub loop-at-preserved : goal.loop-at-preserved
 loop-at-preserved c =
-    let fits = rw (c.in_default.is) at c.take_step.ensures.fault in
+    let fits = rw (c.in_default.is) at c.take_step.ensures.fits in
     let taken = rw (c.in_default.is) at c.take_step.ensures.taken in
-    let now = taken_so_far (map step_value c.args.steps.now) c.loop-at.at (step_value c.index-steps-at.result) c.args.view c.loop-at.view (next c.args.steps.now c.loop-at.at c.index-steps-at.result c.loop-at-test.true c.index-steps-at.is) c.loop-at.invariant.fits c.loop-at.invariant.left (sym fits) in
+    let now = taken_so_far (map step_value c.args.steps.now) c.loop-at.at (step_value c.index-steps-at.result) c.args.view c.loop-at.view (next c.args.steps.now c.loop-at.at c.index-steps-at.result c.loop-at-test.true c.index-steps-at.is) c.loop-at.invariant.fits c.loop-at.invariant.left fits in
     record { fits = now.0; left = now.1 ∙ sym taken }
 
 -- at the end every step was taken
