@@ -9,4 +9,6 @@ pub use Rattle.nd_base.specs.Lengths
 pub use Rattle.nd_base.specs.Signed
 pub use Rattle.nd_base.specs.Size
 pub use Rattle.nd_base.specs.ValidLayout
+pub use Rattle.nd_slice_axis.specs.Picks
 pub use Rattle.nd_slice_axis.specs.Ranges
+pub use Rattle.nd_slice_axis.specs.SliceFault

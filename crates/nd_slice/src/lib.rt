@@ -20,3 +20,4 @@ pub use nd_slice_axis::{
     Fit, Slice, abs_index, count_of_picks, do_slice, entry_of, first_pick, pick_count,
     slice_min_max, to_abs_slice,
 };
+pub use nd_slice_meet::{arith_seq_intersect, extended_gcd, solve_linear_diophantine_eq};

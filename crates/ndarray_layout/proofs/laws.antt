@@ -35,7 +35,9 @@ pub use Rattle.nd_slice_axis.proofs.laws.Between
 pub use Rattle.nd_slice_axis.proofs.laws.Picked
 pub use Rattle.nd_slice_axis.proofs.laws.Picks
 pub use Rattle.nd_slice_axis.proofs.laws.SliceFault
+pub use Rattle.nd_slice_meet.proofs.laws.PickSequences
 pub use Rattle.nd_slice.proofs.laws.ArgumentFault
+pub use Rattle.nd_slice.proofs.laws.Meet
 pub use Rattle.nd_slice.proofs.laws.Selected
 pub use Rattle.ndarray_layout_views.proofs.laws.BroadcastView
 pub use Rattle.ndarray_layout_views.proofs.laws.CollapsedView

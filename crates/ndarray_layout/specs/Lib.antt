@@ -40,9 +40,13 @@ pub use Rattle.nd_slice_axis.specs.Picks
 pub use Rattle.nd_slice_axis.specs.Ranges
 pub use Rattle.nd_slice_axis.specs.SliceFault
 pub use Rattle.nd_slice_axis.specs.Text
+pub use Rattle.nd_slice_meet.specs.Equation
+pub use Rattle.nd_slice_meet.specs.Picks as PicksMeet
+pub use Rattle.nd_slice_meet.specs.Sequence
 pub use Rattle.nd_slice.specs.ArgumentFault
 pub use Rattle.nd_slice.specs.Counts
 pub use Rattle.nd_slice.specs.Kinds
+pub use Rattle.nd_slice.specs.Meet
 pub use Rattle.nd_slice.specs.Selected
 pub use Rattle.nd_slice.specs.Sliced
 pub use Rattle.nd_slice.specs.Text as ElementText

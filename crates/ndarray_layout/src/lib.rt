@@ -27,9 +27,10 @@ pub use nd_shape::{
 
 // Slices, and arguments of slices.
 pub use nd_slice::{
-    Fit, NewAxis, Slice, SliceArg, SliceElems, SliceInfo, SliceInfoElem, abs_index, check_elems,
-    check_slice, count_of_picks, do_collapse_axis, do_slice, entry_of, first_pick, in_ndim_of,
-    out_ndim_of, pick_count, slice_min_max, to_abs_slice,
+    Fit, NewAxis, Slice, SliceArg, SliceElems, SliceInfo, SliceInfoElem, abs_index,
+    arith_seq_intersect, check_elems, check_slice, count_of_picks, do_collapse_axis, do_slice,
+    entry_of, extended_gcd, first_pick, in_ndim_of, out_ndim_of, pick_count, slice_min_max,
+    slices_intersect, solve_linear_diophantine_eq, to_abs_slice,
 };
 
 // Views, and steps from one to the next.
