@@ -29,7 +29,8 @@ axis_picks fit (len ∷ shape) (elem.Index index ∷ elems) = elem_picks fit len
 -- some index of the shape is, on every axis, among the picks of both arguments
 abbrev pub Meet : Fit → List ℕ → List SliceInfoElem → List SliceInfoElem → Type 0
 Meet fit shape one other =
-    (index : List ℕ) × IsTrue (is_index shape index) × AllZip Contains (axis_picks fit shape one) index × AllZip Contains (axis_picks fit shape other) index
+    (index : List ℕ) × IsTrue (is_index shape index)
+    × AllZip Contains (axis_picks fit shape one) index × AllZip Contains (axis_picks fit shape other) index
 
 -- an element is without fault on an axis of length len
 abbrev pub ElemFits : Fit → ℕ → SliceInfoElem → Type 0
@@ -51,11 +52,25 @@ without_new_axes (elem.Index index ∷ elems) = elem.Index index ∷ elems
 without_new_axes (elem.NewAxis ∷ elems) = without_new_axes elems
 
 -- examples
-back_and_last : axis_picks Strict (4 ∷ 3 ∷ []) (elem.Slice (pos 1) None (negsuc 1) ∷ elem.NewAxis ∷ elem.Index (negsuc 0) ∷ []) ≡ (3 ∷ 1 ∷ []) ∷ (2 ∷ []) ∷ []
+back_and_last :
+    axis_picks Strict (4 ∷ 3 ∷ []) (elem.Slice (pos 1) None (negsuc 1) ∷ elem.NewAxis ∷ elem.Index (negsuc 0) ∷ [])
+    ≡ (3 ∷ 1 ∷ []) ∷ (2 ∷ []) ∷ []
 back_and_last = refl
 
 last_entry_in_both : Meet Strict (4 ∷ []) (elem.Slice (pos 1) None (negsuc 1) ∷ []) (elem.NewAxis ∷ elem.Index (negsuc 0) ∷ [])
 last_entry_in_both = (3 ∷ [], refl, ((0, ltb-true 0 2 refl, refl), tt), ((0, ltb-true 0 1 refl, refl), tt))
+
+new_axis_not_passed_over : without_new_axes (elem.Index (pos 1) ∷ elem.NewAxis ∷ []) ≡ elem.Index (pos 1) ∷ elem.NewAxis ∷ []
+new_axis_not_passed_over = refl
+
+new_axis_passed_over : without_new_axes (elem.NewAxis ∷ elem.Index (pos 1) ∷ []) ≡ elem.Index (pos 1) ∷ []
+new_axis_passed_over = refl
+
+last_picked : elem_picks Strict 3 (elem.Index (negsuc 0)) ≡ 2 ∷ []
+last_picked = refl
+
+last_fits : ElemFits Strict 3 (elem.Index (negsuc 0))
+last_fits = refl
 
 no_axes : Meet Strict [] (elem.NewAxis ∷ []) []
 no_axes = ([], refl, tt, tt)
