@@ -1,3 +1,4 @@
+pub mod Dim
 pub mod Entries
 pub mod Indices
 pub mod Inside

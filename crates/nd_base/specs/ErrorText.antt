@@ -1,7 +1,8 @@
 -- What a refusal prints.
-use Rattle.std.specs.Prelude.{ℕ, List, ◌++◌, codes}
+use Rattle.std.specs.Prelude.{◌≡◌, ℕ, List, ◌++◌, codes, refl}
 use Rattle.nd_base.specs.declared.error.ErrorKind.{ErrorKind}
-use Rattle.nd_base.specs.declared.error.ErrorKind.TheVariants.{IncompatibleShape, IncompatibleLayout, RangeLimited, OutOfBounds, Unsupported, Overflow}
+use Rattle.nd_base.specs.declared.error.ErrorKind.TheVariants.{IncompatibleShape, IncompatibleLayout, RangeLimited, OutOfBounds}
+use Rattle.nd_base.specs.declared.error.ErrorKind.TheVariants.{Unsupported, Overflow}
 
 -- the name of a kind and its sentence
 abbrev pub kind_text : ErrorKind → List ℕ
@@ -15,3 +16,7 @@ kind_text Overflow = codes "Overflow: arithmetic overflow"
 -- the whole text of a refusal
 abbrev pub shape_error_text : ErrorKind → List ℕ
 shape_error_text kind = codes "ShapeError/" ++ kind_text kind
+
+-- example
+text_of_bounds : shape_error_text OutOfBounds ≡ codes "ShapeError/OutOfBounds: out of bounds indexing"
+text_of_bounds = refl

@@ -1,5 +1,5 @@
 //! An axis of an array.
-ghost use Rattle.std.specs.Prelude.{◌≡◌, ◌<◌, length, Some, slice_get, slice_set};
+ghost use Rattle.std.specs.Prelude.{◌≡◌, ◌<◌, ◌↔◌, IsTrue, length, Some, slice_get, slice_set};
 
 /// An axis, by its place from 0 on. Upstream's `Axis`.
 #[derive(Clone, Copy, PartialEq, Eq, Hash, PartialOrd, Ord, Debug)]
@@ -15,7 +15,16 @@ impl Axis {
     }
 }
 
-/// The length of an axis that there is. Upstream's `axis`.
+/// Whether a shape has this axis: its number is below the count of axes. The test of what `axis_of` and
+/// `set_axis_of` ask of their callers.
+#[inline]
+pub fn has_axis(lens: &[usize], axis: Axis) -> bool
+    ensures { IsTrue result ↔ (axis.0 < length lens.now) }
+{
+    axis.index() < lens.len()
+}
+
+/// The length of an axis. The caller ensures that the shape has that axis (`has_axis`). ndarray's `axis`.
 pub fn axis_of(lens: &[usize], axis: Axis) -> usize
     requires { axis.0 < length lens.now }
     ensures { slice_get lens.now axis.0 ≡ Some result }
@@ -23,7 +32,8 @@ pub fn axis_of(lens: &[usize], axis: Axis) -> usize
     lens[axis.index()]
 }
 
-/// Gives an axis that there is another length. Upstream's `set_axis`.
+/// Gives an axis another length. The caller ensures that the shape has that axis (`has_axis`). ndarray's
+/// `set_axis`.
 pub fn set_axis_of(lens: &mut [usize], axis: Axis, len: usize)
     requires { axis.0 < length lens.old }
     ensures { lens.new ≡ slice_set lens.old axis.0 len }

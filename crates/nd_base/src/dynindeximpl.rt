@@ -9,6 +9,7 @@ ghost use Rattle.std.specs.Cmp.Rules.{comparing, hashing};
 ghost use Rattle.std.specs.Cmp.Lexicographic.{pointwise};
 ghost use Rattle.std.proofs.Common.{rules};
 
+use crate::lengths::INLINE_AXES;
 use smallvec::SmallVec;
 use std::alloc::{AllocError, Global};
 use std::hash::{Hash, Hasher};
@@ -21,7 +22,7 @@ use std::{fmt, slice};
 /// Equality and hash are those of the list, however it is kept.
 #[derive(Drop)]
 pub struct IxDynImpl {
-    lens: SmallVec<usize, 4>,
+    lens: SmallVec<usize, INLINE_AXES>,
 }
 
 impl Model for IxDynImpl {
@@ -40,7 +41,7 @@ impl IxDynImpl {
     /// Errors: want of memory, and none where there are at most four lengths.
     pub fn copy_from(alloc: Global, lens: &[usize]) -> Result<Self, AllocError>
         ensures list { IfOk result (λ dim. dim ≡ lens.now) }
-        ensures memory { length lens.now ≤ 4 → IsOk result }
+        ensures memory { length lens.now ≤ INLINE_AXES → IsOk result }
     {
         Ok(IxDynImpl {
             lens: SmallVec::from_slice(alloc, lens)?,
@@ -63,10 +64,10 @@ impl IxDynImpl {
     /// `n` zeros. Up to four are made at once, where `from_elem` would push one by one.
     pub(crate) fn zeros(alloc: Global, n: usize) -> Result<Self, AllocError>
         ensures list { IfOk result (λ dim. dim ≡ replicate n 0) }
-        ensures memory { n ≤ 4 → IsOk result }
+        ensures memory { n ≤ INLINE_AXES → IsOk result }
     {
-        let lens = if n <= 4 {
-            SmallVec::from_buf_and_len(alloc, [0; 4], n)
+        let lens = if n <= INLINE_AXES {
+            SmallVec::from_buf_and_len(alloc, [0; INLINE_AXES], n)
         } else {
             SmallVec::from_elem(alloc, 0, n)?
         };
@@ -79,7 +80,7 @@ impl IxDynImpl {
     pub fn insert(&self, alloc: Global, i: usize) -> Result<Self, AllocError>
         requires { i ≤ length self.now }
         ensures list { IfOk result (λ dim. dim ≡ insert self.now i 1) }
-        ensures memory { length self.now + 1 ≤ 4 → IsOk result }
+        ensures memory { length self.now + 1 ≤ INLINE_AXES → IsOk result }
     {
         let lens = self.as_slice();
         let mut wider = SmallVec::with_capacity(alloc, lens.len() + 1)?;

@@ -1,13 +1,15 @@
 //! The dimension of any number of axes.
-ghost use Rattle.std.specs.Prelude.{◌≡◌, ◌<◌, ◌≤◌, length, replicate, Some, None, IsOk, IfOk, slice_get, slice_set, refl};
+ghost use Rattle.std.specs.Prelude.{◌≡◌, ◌<◌, ◌≤◌, ◌++◌, take, drop, length, replicate, Some, None, IsOk, IfOk, slice_get, slice_set, refl};
 ghost use Rattle.std.specs.Borrow.{Lends, sem, u64 as word};
 ghost use Rattle.std.specs.Cmp.{unsigned_Decides};
+ghost use Rattle.std.proofs.Common.{ap, sym, ◌∙◌};
+ghost use Rattle.std.proofs.Math.Seq.{take-append_seam};
 ghost use Rattle.std.proofs.lemmas.Slice.Eq.{slice_eq-Decides};
-ghost use Rattle.nd_base.specs.Dim.{lengths, with_lengths, rewritten, lengths_rewritten};
+ghost use Rattle.nd_base.specs.Dim.{lengths, with_lengths, rewritten};
 
 use crate::dim::{Dim, IxDyn};
 use crate::dynindeximpl::IxDynImpl;
-use crate::lengths::{FixedCount, Lengths};
+use crate::lengths::{FixedCount, INLINE_AXES, Lengths};
 use std::alloc::{AllocError, Global};
 use std::ops::{Index, IndexMut};
 
@@ -16,7 +18,7 @@ use std::ops::{Index, IndexMut};
 /// Errors: want of memory, and none where there are at most four entries.
 pub fn new_ixdyn(alloc: Global, lens: &[usize]) -> Result<IxDyn, AllocError>
     ensures list { IfOk result (λ dim. lengths dim ≡ lens.now) }
-    ensures memory { length lens.now ≤ 4 → IsOk result }
+    ensures memory { length lens.now ≤ INLINE_AXES → IsOk result }
 {
     Ok(IxDyn::new(IxDynImpl::copy_from(alloc, lens)?))
 }
@@ -35,7 +37,7 @@ impl Dim<IxDynImpl> {
     /// Errors: want of memory, and none where there are at most four axes.
     pub fn zeros(alloc: Global, n: usize) -> Result<Self, AllocError>
         ensures list { IfOk result (λ dim. lengths dim ≡ replicate n 0) }
-        ensures memory { n ≤ 4 → IsOk result }
+        ensures memory { n ≤ INLINE_AXES → IsOk result }
     {
         Ok(IxDyn::new(IxDynImpl::zeros(alloc, n)?))
     }
@@ -104,7 +106,9 @@ impl Lengths for Dim<IxDynImpl> {
 
     ghost eq_of_lists = { λ d e. slice_eq-Decides unsigned_Decides (lengths d) (lengths e) _ refl };
 
-    ghost list_of_with_list = { lengths_rewritten };
+    ghost list_of_with_list = { λ d xs h.
+        ap (λ n. take n (xs ++ drop (length xs) (lengths d))) (sym h)
+        ∙ take-append_seam xs (drop (length xs) (lengths d)) };
 
     ghost can_index_below = { λ d i h. h };
 

@@ -8,6 +8,9 @@ use std::alloc::{AllocError, Global};
 use std::fmt::Debug;
 use std::ops::IndexMut;
 
+/// How many lengths an `IxDyn` keeps in the value itself, without memory.
+pub const INLINE_AXES: usize = 4;
+
 /// How many axes every value of a type has, where the type fixes that.
 pub trait FixedCount {
     ghost NDIM: { Option ℕ };

@@ -9,6 +9,7 @@ mod dim;
 mod dynindeximpl;
 mod entries;
 mod error;
+mod indices;
 mod ixdyn;
 mod lengths;
 mod numbers;
@@ -18,7 +19,7 @@ mod order;
 mod strides;
 
 pub use arithmetic::{Arithmetic, Scale};
-pub use axis::{Axis, axis_of, set_axis_of};
+pub use axis::{Axis, axis_of, has_axis, set_axis_of};
 pub use conversion::Convert;
 pub use dim::{
     Dim, Ix0, Ix1, Ix2, Ix3, Ix4, Ix5, Ix6, IxDyn, new_ix0, new_ix1, new_ix2, new_ix3, new_ix4,
@@ -26,8 +27,9 @@ pub use dim::{
 };
 pub use dynindeximpl::IxDynImpl;
 pub use error::{ErrorKind, LayoutError, ShapeError, from_kind};
+pub use indices::is_index;
 pub use ixdyn::new_ixdyn;
-pub use lengths::{FixedCount, Lengths};
+pub use lengths::{FixedCount, INLINE_AXES, Lengths};
 pub use offsets::{index_offset, stride_offset_checked};
 pub use order::Order;
 pub use strides::{signed, stride_offset, unsigned};

@@ -1,8 +1,10 @@
 //! What dimensions keep: one number for each axis.
-ghost use Rattle.std.specs.Prelude.{◌≡◌, ℕ, List, length, refl};
+ghost use Rattle.std.specs.Prelude.{◌≡◌, ℕ, List, ◌++◌, take, drop, length, refl};
 ghost use Rattle.std.specs.Borrow.{Lends, sem, Array, u64 as word};
 ghost use Rattle.std.specs.List.{refill};
-ghost use Rattle.nd_base.specs.Dim.{kept, refilled};
+ghost use Rattle.std.proofs.Common.{ap, sym, ◌∙◌};
+ghost use Rattle.std.proofs.Math.Seq.{take-append_seam};
+ghost use Rattle.nd_base.specs.Dim.{kept};
 
 use crate::dim::Dim;
 use crate::dynindeximpl::IxDynImpl;
@@ -70,7 +72,9 @@ impl Numbers for IxDynImpl {
         self.as_mut_slice()
     }
 
-    ghost list_of_with_list = { refilled };
+    ghost list_of_with_list = { λ numbers xs h.
+        ap (λ n. take n (xs ++ drop (length xs) numbers)) (sym h)
+        ∙ take-append_seam xs (drop (length xs) numbers) };
 }
 
 impl<const N: usize> AreLengths for [usize; N] {

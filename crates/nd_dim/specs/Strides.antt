@@ -1,13 +1,17 @@
 -- The strides that a shape has by itself, and strides that place the same indices alike.
-use Rattle.std.specs.Prelude.{◌≡◌, ℕ, ◌+◌, ◌<◌, if◌then◌else◌, List, [], ◌∷◌, length, map, take, drop, replicate, slice_index, refl}
+use Rattle.std.specs.Prelude.{◌≡◌, ℕ, zero, suc, ◌+◌, ◌<◌, if◌then◌else◌, List, [], ◌∷◌, length, map, take, drop, replicate}
+use Rattle.std.specs.Prelude.{nat_eq, slice_index, refl}
+use Rattle.std.proofs.Common.{eq-eqb}
+use Rattle.std.proofs.Math.Dec.{lit<, lt→ltb}
+use Rattle.std.proofs.lemmas.Bool.{both_ways}
 use Rattle.nd_base.specs.Indices.{below}
 use Rattle.nd_base.specs.Size.{size, is_empty}
 
--- the product of the lengths of the later axes
+-- the product of the lengths of the axes after one
 abbrev pub size_after : List ℕ → ℕ → ℕ
 size_after lens axis = size (drop (axis + 1) lens)
 
--- the product of the lengths of the earlier axes
+-- the product of the lengths of the axes before one
 abbrev pub size_until : List ℕ → ℕ → ℕ
 size_until lens axis = size (take axis lens)
 
@@ -23,7 +27,8 @@ fortran_strides lens = (if is_empty lens then replicate (length lens) 0 else map
 pub record AreEquivalent (lens strides others : List ℕ) : Type 0 where
   pub strides_count : length strides ≡ length lens
   pub others_count : length others ≡ length lens
-  pub agree : (axis : ℕ) → axis < length lens → 1 < slice_index lens axis → slice_index strides axis ≡ slice_index others axis
+  pub agree : (axis : ℕ) → axis < length lens → 1 < slice_index lens axis
+      → slice_index strides axis ≡ slice_index others axis
 
 -- examples
 default_of_three : default_strides (3 ∷ 4 ∷ 5 ∷ []) ≡ 20 ∷ 5 ∷ 1 ∷ []
@@ -40,3 +45,15 @@ fortran_of_an_empty_shape = refl
 
 default_of_no_axes : default_strides [] ≡ []
 default_of_no_axes = refl
+
+agree_where_long : (axis : ℕ) → axis < 2 → 1 < slice_index (1 ∷ 3 ∷ []) axis
+    → slice_index (7 ∷ 1 ∷ []) axis ≡ slice_index (9 ∷ 1 ∷ []) axis
+agree_where_long zero within long = absurd (lt→ltb 1 1 long)
+agree_where_long (suc zero) within long = refl
+agree_where_long (suc (suc axis)) within long = refl
+
+differ_at_one_entry : AreEquivalent (1 ∷ 3 ∷ []) (7 ∷ 1 ∷ []) (9 ∷ 1 ∷ [])
+differ_at_one_entry = record { strides_count = refl; others_count = refl; agree = agree_where_long }
+
+differ_at_three_entries : AreEquivalent (1 ∷ 3 ∷ []) (7 ∷ 1 ∷ []) (7 ∷ 2 ∷ []) → ⊥
+differ_at_three_entries same = both_ways (nat_eq 1 2) refl (eq-eqb 1 2 (same.agree 1 (lit< tt) (lit< tt)))

@@ -50,7 +50,11 @@ impl IntoDimension for Dim<IxDynImpl> {
 
     ghost lens = { lengths };
 
-    fn into_dimension(self, _alloc: Global) -> Result<Self, AllocError> {
+    /// This value itself. Errors: none, whatever the count of axes.
+    fn into_dimension(self, _alloc: Global) -> Result<Self, AllocError>
+        ensures list { IfOk result (λ dim. lengths dim ≡ lengths self) }
+        ensures memory { IsOk result }
+    {
         Ok(self)
     }
 }
@@ -60,7 +64,11 @@ impl IntoDimension for IxDynImpl {
 
     ghost lens = { λ dim. dim };
 
-    fn into_dimension(self, _alloc: Global) -> Result<IxDyn, AllocError> {
+    /// The dimension that keeps this list. Errors: none, whatever the count of axes.
+    fn into_dimension(self, _alloc: Global) -> Result<IxDyn, AllocError>
+        ensures list { IfOk result (λ dim. lengths dim ≡ self) }
+        ensures memory { IsOk result }
+    {
         Ok(IxDyn::new(self))
     }
 }
@@ -80,7 +88,12 @@ impl IntoDimension for Vec<usize> {
 
     ghost lens = { λ lens. lens.items };
 
-    fn into_dimension(self, alloc: Global) -> Result<IxDyn, AllocError> {
+    /// The dimension of the vector's items, which keeps its memory where there is room for more than
+    /// four. Errors: none, whatever the count of axes.
+    fn into_dimension(self, alloc: Global) -> Result<IxDyn, AllocError>
+        ensures list { IfOk result (λ dim. lengths dim ≡ self.items) }
+        ensures memory { IsOk result }
+    {
         Ok(IxDyn::new(IxDynImpl::from_vec(alloc, self)?))
     }
 }

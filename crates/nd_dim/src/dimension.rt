@@ -27,7 +27,8 @@ use crate::stride_axes::{max_stride_axis, min_stride_axis};
 use crate::stride_order::fill_stride_order;
 use crate::strides::{are_equivalent, default_strides, fortran_strides};
 use nd_base::{
-    Arithmetic, Axis, IxDyn, Lengths, Scale, index_offset, new_ixdyn, stride_offset_checked,
+    Arithmetic, Axis, INLINE_AXES, IxDyn, Lengths, Scale, index_offset, new_ixdyn,
+    stride_offset_checked,
 };
 use std::alloc::{AllocError, Global};
 
@@ -36,7 +37,7 @@ use std::alloc::{AllocError, Global};
 pub trait Dimension: Lengths + Arithmetic + Scale {
     /// A number, a tuple or the dimension itself: the form that a pattern takes apart. Upstream's
     /// `Pattern`.
-    type Pattern: IntoDimension<Dim = Self>;
+    type Pattern: IntoDimension;
 
     /// The type of one axis less, where there is one. Upstream's `Smaller`.
     type Smaller: Lengths;
@@ -55,7 +56,7 @@ pub trait Dimension: Lengths + Arithmetic + Scale {
     where
         Self: Sized,
         ensures list { IfOk result (λ dim. lengths dim ≡ Self.list self) }
-        ensures memory { length (Self.list self) ≤ 4 → IsOk result }
+        ensures memory { length (Self.list self) ≤ INLINE_AXES → IsOk result }
     {
         new_ixdyn(alloc, self.slice())
     }

@@ -1,6 +1,7 @@
 //! The dimension types one by one: their patterns, and the types of one axis less and more.
-ghost use Rattle.std.specs.Prelude.{◌+◌, ◌-◌};
+ghost use Rattle.std.specs.Prelude.{◌≡◌, ◌+◌, ◌-◌, IsOk, IfOk};
 ghost use Rattle.std.proofs.Common.{ap};
+ghost use Rattle.nd_base.specs.Dim.{lengths};
 
 use crate::dimension::Dimension;
 use nd_base::{Dim, Ix0, Ix1, Ix2, Ix3, Ix4, Ix5, Ix6, IxDyn, IxDynImpl};
@@ -131,7 +132,11 @@ impl Dimension for Dim<IxDynImpl> {
         self
     }
 
-    fn into_dyn(self, _alloc: Global) -> Result<IxDyn, AllocError> {
+    /// This value itself. Errors: none, whatever the count of axes.
+    fn into_dyn(self, _alloc: Global) -> Result<IxDyn, AllocError>
+        ensures list { IfOk result (λ dim. lengths dim ≡ lengths self) }
+        ensures memory { IsOk result }
+    {
         Ok(self)
     }
 }

@@ -6,7 +6,8 @@ ghost use Rattle.nd_dim.specs.AxisOrder.{magnitude_at as magnitude_at_axis, IsLe
 use nd_base::signed;
 
 /// How many elements the stride of an axis steps over, in either direction; 0 past the last axis.
-pub(crate) fn magnitude_at(strides: &[usize], axis: usize) -> usize
+#[inline]
+pub fn magnitude_at(strides: &[usize], axis: usize) -> usize
     ensures { result ≡ magnitude_at_axis (all_signed strides.now) axis }
 {
     strides

@@ -5,7 +5,8 @@ use Rattle.std.specs.Prelude.{nat_lt, IsTrue}
 use Rattle.std.proofs.lemmas.Bool.{eqb-false, ltb-true, ltb-false}
 use Rattle.nd_base.specs.declared.order.Order.{Order}
 use Rattle.nd_base.specs.declared.order.Order.TheVariants.{RowMajor}
-use Rattle.nd_base.specs.Dim.{lengths, rewritten, lengths_rewritten}
+use Rattle.nd_base.specs.Dim.{lengths, rewritten}
+use Rattle.nd_base.proofs.laws.Dim.{lengths_rewritten}
 use Rattle.nd_base.specs.declared.dim.Dim.{Dim}
 use Rattle.nd_base.specs.Indices.{is_index}
 use Rattle.nd_base.specs.Rank.{rank, rank_in, index_of_rank, index_of_rank_in}
@@ -13,7 +14,7 @@ use Rattle.nd_base.specs.Size.{size, is_empty}
 use Rattle.nd_base.proofs.laws.IsIndex.{is_index-zeros, length_of_index}
 use Rattle.nd_base.proofs.laws.Rank.{index_of_rank_in-rank_in, is_index-index_of_rank_in, rank_in-index_of_rank_in, rank_in-zeros}
 use Rattle.nd_base.proofs.laws.Size.{size_of_empty}
-use Rattle.nd_shape.specs.IndicesLeft.{indices_left, StandsAt, StandsAtFirst, StandsBehind}
+use Rattle.nd_shape.specs.IndicesLeft.{indices_left, StandsAt, StandsAtFirst, StandsAfter}
 use Rattle.nd_shape.proofs.laws.IndicesLeft.{indices_left-more, indices_left-none}
 
 -- a shape with an index has no zero length
@@ -139,6 +140,6 @@ row_moved shape index kept next n more h e s is g =
     subst (λ xs. StandsAt RowMajor shape n xs) (sym (lengths_rewritten kept next count)) at
 
 -- no more are left than there are
-pub behind_within : (order : Order) (shape index : List ℕ) (is_lent : Bool) (n : ℕ) → StandsBehind order shape is_lent n index → n ≤ size shape
+pub behind_within : (order : Order) (shape index : List ℕ) (is_lent : Bool) (n : ℕ) → StandsAfter order shape is_lent n index → n ≤ size shape
 behind_within order shape index true n s = omega (arith, s.within)
 behind_within order shape index false n s = s.within

@@ -8,6 +8,7 @@ use Rattle.nd_base.specs.Signed.{all_signed}
 use Rattle.nd_base.specs.Size.{size, nonzero_size, limit}
 use Rattle.nd_shape_rules.specs.Acceptance.{acceptance}
 use Rattle.nd_shape_rules.specs.declared.checks.CanIndexCheckMode.{CanIndexCheckMode}
+use Rattle.nd_shape_rules.specs.declared.checks.CanIndexCheckMode.TheVariants.{OwnedMutable}
 use Rattle.nd_shape.specs.declared.shape_builder.Strides.{Strides}
 use Rattle.nd_shape.specs.declared.shape_builder.Strides.TheVariants.{C, F, Custom}
 
@@ -18,13 +19,15 @@ acceptance_of_standard len shape =
     else if nat_lt len (size shape) then Some OutOfBounds
     else None
 
--- the same of a shape by its own strides or by given ones, where these stand for a list
-abbrev pub acceptance_by_strides : {D : Type 0} → (D → List ℕ) → ℕ → ℕ → CanIndexCheckMode → List ℕ → Strides D → Option ErrorKind
+-- whether a shape by its own strides, or by given ones that stand for a list, is accepted, or else its fault
+abbrev pub acceptance_by_strides :
+    {D : Type 0} → (D → List ℕ) → ℕ → ℕ → CanIndexCheckMode → List ℕ → Strides D → Option ErrorKind
 acceptance_by_strides list elem_size len mode shape C = acceptance_of_standard len shape
 acceptance_by_strides list elem_size len mode shape F = acceptance_of_standard len shape
-acceptance_by_strides list elem_size len mode shape (Custom strides) = acceptance elem_size len mode shape (all_signed (list strides))
+acceptance_by_strides list elem_size len mode shape (Custom strides) =
+    acceptance elem_size len mode shape (all_signed (list strides))
 
--- the fault of strides of which some lead back
+-- the fault of strides of which some are negative
 abbrev pub sign_fault : List ℤ → Option ErrorKind
 sign_fault strides = (if list_any is_negative strides then Some Unsupported else None)
 
@@ -41,8 +44,14 @@ none_in_nothing = refl
 none_but_too_long : acceptance_of_standard 0 (0 ∷ 9223372036854775808 ∷ []) ≡ Some Overflow
 none_but_too_long = refl
 
-one_back : sign_fault (pos 3 ∷ negsuc 0 ∷ []) ≡ Some Unsupported
-one_back = refl
+one_negative : sign_fault (pos 3 ∷ negsuc 0 ∷ []) ≡ Some Unsupported
+one_negative = refl
 
-none_back : sign_fault (pos 3 ∷ pos 0 ∷ []) ≡ None
-none_back = refl
+none_negative : sign_fault (pos 3 ∷ pos 0 ∷ []) ≡ None
+none_negative = refl
+
+by_columns_in_six : acceptance_by_strides {D = List ℕ} (λ strides. strides) 1 6 OwnedMutable (2 ∷ 3 ∷ []) F ≡ None
+by_columns_in_six = refl
+
+as_given_in_six : acceptance_by_strides (λ strides. strides) 1 6 OwnedMutable (2 ∷ 3 ∷ []) (Custom (1 ∷ 1 ∷ [])) ≡ Some Unsupported
+as_given_in_six = refl

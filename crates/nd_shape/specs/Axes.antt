@@ -18,7 +18,7 @@ axes_from n (len ∷ shape) (stride ∷ strides) = description n len stride ∷ 
 abbrev pub axes : List ℕ → List ℤ → List AxisDescription
 axes shape strides = axes_from 0 shape strides
 
--- those that a walk has still to give
+-- the axes that a walk has still to give
 abbrev pub axes_left : Axes → List AxisDescription
 axes_left walk = axes_from walk.first walk.lens.now (all_signed walk.strides.now)
 

@@ -1,20 +1,20 @@
 -- Which axis changes places with the last one, so that the one of the least stride comes last.
-use Rattle.std.specs.Prelude.{◌≡◌, ◌≢◌, ℕ, ◌+◌, ◌<◌, ◌≤◌, ◌&&◌, ◌||◌, Bool, true, false, nat_le, nat_lt, ℤ, pos, negsuc, if◌then◌else◌, List, [], ◌∷◌, length, slice_index, refl}
-use Rattle.nd_dim.specs.AxisOrder.{magnitude_at, IsLong}
+use Rattle.std.specs.Prelude.{◌≡◌, ◌≢◌, ℕ, ◌-◌, ◌<◌, ◌≤◌, ◌&&◌, ◌||◌, Bool, true, false, nat_le, nat_lt, ℤ, pos, negsuc}
+use Rattle.std.specs.Prelude.{if◌then◌else◌, List, [], ◌∷◌, length, slice_index, refl}
+use Rattle.std.proofs.Math.Arith.{le→nltb}
+use Rattle.std.proofs.Math.Dec.{lit<, lt→ltb}
+use Rattle.nd_dim.specs.AxisOrder.{magnitude_at, IsLeadingAxis}
 
 -- of the axes of more than one entry the first among those of the least stride; without such an axis the last one
-pub record IsFirstLeastAxis (lens : List ℕ) (strides : List ℤ) (axis : ℕ) : Type 0 where
-  pub exists : axis < length lens
-  pub long : (other : ℕ) → IsLong lens other → IsLong lens axis
-  pub least : (other : ℕ) → IsLong lens other → magnitude_at strides axis ≤ magnitude_at strides other
-  pub first_of_equals : (other : ℕ) → other < axis → IsLong lens other → magnitude_at strides axis < magnitude_at strides other
-  pub without_long : ((other : ℕ) → IsLong lens other → ⊥) → axis + 1 ≡ length lens
+abbrev pub IsFirstLeastAxis : List ℕ → List ℤ → ℕ → Type 0
+IsFirstLeastAxis lens = IsLeadingAxis (λ m n. m ≤ n) (λ axis other. axis ≤ other) (length lens - 1) lens
 
 -- two axes are turned where the last has at most one entry, or the first has more and the lesser stride
 abbrev pub are_turned : List ℕ → List ℤ → Bool
-are_turned lens strides = nat_le (slice_index lens 1) 1 || (nat_lt 1 (slice_index lens 0) && nat_lt (magnitude_at strides 0) (magnitude_at strides 1))
+are_turned lens strides =
+    nat_le (slice_index lens 1) 1 || (nat_lt 1 (slice_index lens 0) && nat_lt (magnitude_at strides 0) (magnitude_at strides 1))
 
--- the axis that changes places with the last one
+-- the axis that changes places with the last one: of two axes by whether they are turned, of others the first of the least stride
 pub record IsAxisToMove (lens : List ℕ) (strides : List ℤ) (axis : ℕ) : Type 0 where
   pub of_two : length lens ≡ 2 → axis ≡ (if are_turned lens strides then 0 else 1)
   pub of_others : length lens ≢ 2 → IsFirstLeastAxis lens strides axis
@@ -28,3 +28,9 @@ equal_strides = refl
 
 lesser_in_front : are_turned (2 ∷ 2 ∷ []) (negsuc 0 ∷ pos 3 ∷ []) ≡ true
 lesser_in_front = refl
+
+first_of_equals : IsFirstLeastAxis (3 ∷ 3 ∷ 3 ∷ []) (negsuc 1 ∷ pos 2 ∷ pos 4 ∷ []) 1 → ⊥
+first_of_equals least = le→nltb 0 1 (least.of_equals 0 (lit< tt, lit< tt) refl)
+
+of_more_entries : IsFirstLeastAxis (1 ∷ 3 ∷ 3 ∷ []) (pos 0 ∷ pos 2 ∷ pos 4 ∷ []) 0 → ⊥
+of_more_entries least = lt→ltb 1 1 (least.long 1 (lit< tt, lit< tt)).1

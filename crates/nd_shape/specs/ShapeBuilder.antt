@@ -11,7 +11,7 @@ use Rattle.nd_shape.specs.declared.shape_builder.Strides.TheVariants.{C, F, Cust
 abbrev pub dim_of : {D : Type 0} → Shape D → D
 dim_of shape = shape.dim
 
--- and the order
+-- the order of a shape that has one
 abbrev pub order_of : {D : Type 0} → Shape D → Order
 order_of shape = shape.order
 
@@ -21,12 +21,12 @@ custom_strides C = None
 custom_strides F = None
 custom_strides (Custom strides) = Some strides
 
--- the strides along which the indices lie one behind the other in an order
+-- the strides along which the indices lie one after another in an order
 abbrev pub strides_in : {D : Type 0} → Order → Strides D
 strides_in RowMajor = C
 strides_in ColumnMajor = F
 
--- the strides that a shape has by itself
+-- the strides that a shape has by itself in an order
 abbrev pub standard_strides : Order → List ℕ → List ℕ
 standard_strides RowMajor shape = default_strides shape
 standard_strides ColumnMajor shape = fortran_strides shape

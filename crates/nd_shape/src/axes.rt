@@ -11,7 +11,9 @@ pub use iter::{Axes, AxisDescription};
 use nd_dim::Lengths;
 
 /// The axes of a layout with their lengths and strides, each once, from the first or from the last
-/// on. There is a stride for each axis. Upstream's `axes_of`.
+/// on. ndarray's `axes_of`.
+///
+/// The caller ensures that there are as many strides as axes.
 pub fn axes_of<'a, D: Lengths>(dim: &'a D, strides: &'a D) -> Axes<'a>
     requires { length (D.list dim.now) ≡ length (D.list strides.now) }
     ensures list { axes_left result ≡ axes (D.list dim.now) (all_signed (D.list strides.now)) }

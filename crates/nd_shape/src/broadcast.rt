@@ -36,12 +36,14 @@ fn common_of<Output: Lengths>(
 /// The rule is NumPy's: the shapes are set side by side at their last axes, and axes that only one
 /// of them has count as axes of length 1. On each axis equal lengths stay, and a length of 1 gives
 /// way to the other one, to 0 as well. So the order of the shapes doesn't matter, and of several
-/// shapes it doesn't matter which two are taken first. `Output` has as many axes as the shape of
-/// the greater count. The size of the common shape may pass any limit.
+/// shapes it doesn't matter which two are taken first. The size of the common shape may pass any
+/// limit.
 ///
-/// Refused with `IncompatibleShape` where two unequal lengths meet of which neither is 1, and then
-/// for want of memory, but not where `Output` fixes its count of axes or there are at most 4.
-/// Upstream's `co_broadcast`.
+/// The caller ensures that `Output` has as many axes as the shape of the greater count.
+///
+/// Errors: `IncompatibleShape` where two unequal lengths stand at one axis and neither is 1; then
+/// memory is refused, but never where `Output` fixes its count of axes or there are at most 4.
+/// ndarray's `co_broadcast`.
 #[inline]
 pub fn co_broadcast<D1: Lengths, D2: Lengths, Output: Lengths>(
     alloc: Global,

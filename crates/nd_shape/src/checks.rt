@@ -22,7 +22,7 @@ use nd_shape_rules::{CanIndexCheckMode, accept, size_of_lengths, span_of_lengths
 /// The number of indices of a shape: the product of its lengths, which is 0 with a zero axis.
 ///
 /// Refused with `Overflow` where the product of the lengths that are not 0 passes the greatest
-/// `isize`. Upstream's `size_of_shape_checked`.
+/// `isize`. ndarray's `size_of_shape_checked`.
 pub fn size_of_shape_checked<D: Lengths>(dim: &D) -> Result<usize, ShapeError>
     ensures ok { IfOk result (λ n. n ≡ size (D.list dim.now)) }
     ensures fault { result_err result ≡
@@ -35,7 +35,8 @@ pub fn size_of_shape_checked<D: Lengths>(dim: &D) -> Result<usize, ShapeError>
 ///
 /// Refused with `IncompatibleLayout` where there are not as many strides as lengths, and then with
 /// `Overflow` where the product of the lengths that are not 0, the span, or the span in bytes
-/// passes the greatest `isize`. Upstream's `max_abs_offset_check_overflow`.
+/// passes the greatest `isize`. Where it succeeds, the layout is valid. ndarray's
+/// `max_abs_offset_check_overflow`.
 pub fn max_abs_offset_check_overflow<D: Lengths>(
     elem_size: usize,
     dim: &D,
@@ -45,17 +46,19 @@ pub fn max_abs_offset_check_overflow<D: Lengths>(
         size_fault elem_size (D.list dim.now) (all_signed (D.list strides.now)) }
     ensures span { IfOk result
         (λ n. n ≡ span (D.list dim.now) (all_signed (D.list strides.now))) }
+    ensures valid { OnOk result
+        (IsValidLayout (D.list dim.now) (all_signed (D.list strides.now))) }
 {
     span_of_lengths(elem_size, dim.slice(), strides.slice())
 }
 
 /// Whether a layout may be used over data of `len` elements of `elem_size` bytes.
 ///
-/// Refused as `max_abs_offset_check_overflow` does; then with `OutOfBounds` where an index would
+/// Refused as `max_abs_offset_check_overflow` is; then with `OutOfBounds` where an index would
 /// leave the data, or where a layout without an index spans more than the data; then with
 /// `Unsupported` where elements are owned or written and two indices may share one, by the rule of
 /// `dim_stride_overlap`. So in owned mode no two indices of what is accepted share an element.
-/// Upstream's `can_index_slice`.
+/// ndarray's `can_index_slice`.
 #[inline(always)]
 pub fn can_index_slice<D: Lengths>(
     elem_size: usize,
@@ -82,12 +85,17 @@ pub fn can_index_slice<D: Lengths>(
 /// Whether a shape by its own strides, row-major or column-major, may be used over data of `len`
 /// elements.
 ///
-/// Refused as `size_of_shape_checked` does, and then with `OutOfBounds` where there are more indices
-/// than elements. Upstream's `can_index_slice_not_custom`.
+/// Refused as `size_of_shape_checked` is, and then with `OutOfBounds` where there are more indices
+/// than elements. No two indices of what is accepted share an element. ndarray's
+/// `can_index_slice_not_custom`.
 pub fn can_index_slice_not_custom<D: Lengths>(len: usize, dim: &D) -> Result<(), ShapeError>
     ensures fault { result_err result ≡ acceptance_of_standard len (D.list dim.now) }
+    ensures valid { OnOk result ((order : Order) →
+        IsValidLayout (D.list dim.now) (all_signed (standard_strides order (D.list dim.now)))) }
     ensures inside { OnOk result ((order : Order) →
         LiesInside len 0 (D.list dim.now) (all_signed (standard_strides order (D.list dim.now)))) }
+    ensures distinct { OnOk result ((order : Order) →
+        HasDistinctOffsets (D.list dim.now) (all_signed (standard_strides order (D.list dim.now)))) }
 {
     if len < size_of_shape_checked(dim)? {
         return Err(from_kind(ErrorKind::OutOfBounds));
@@ -98,9 +106,9 @@ pub fn can_index_slice_not_custom<D: Lengths>(len: usize, dim: &D) -> Result<(),
 /// Whether a shape by its own strides or by given ones may be used over data of `len` elements of
 /// `elem_size` bytes.
 ///
-/// Refused as `can_index_slice` does where strides are given, and else as
-/// `can_index_slice_not_custom` does, whatever the use. In owned mode no two indices of what is
-/// accepted share an element. Upstream's `can_index_slice_with_strides`.
+/// Refused as `can_index_slice` is where strides are given, and else as
+/// `can_index_slice_not_custom` is, whatever the use. In owned mode no two indices of what is
+/// accepted share an element. ndarray's `can_index_slice_with_strides`.
 pub fn can_index_slice_with_strides<D: Lengths>(
     elem_size: usize,
     len: usize,
@@ -130,29 +138,27 @@ pub fn can_index_slice_with_strides<D: Lengths>(
     }
 }
 
-/// Whether a stride leads back.
+/// Whether a stride is negative.
 #[inline(always)]
-fn leads_back(stride: usize) -> bool
+fn is_negative_stride(stride: usize) -> bool
     ensures { result ≡ is_negative (signed_reading stride) }
 {
     signed(stride) < 0
 }
 
-/// Whether some stride leads back.
+/// Whether some stride is negative.
 #[inline(always)]
-fn some_lead_back(strides: &[usize]) -> bool
+fn some_negative(strides: &[usize]) -> bool
     ensures { result ≡ list_any (λ stride. is_negative (signed_reading stride)) strides.now }
 {
-    strides.iter().any(|stride| leads_back(*stride))
+    strides.iter().any(|stride| is_negative_stride(*stride))
 }
 
-/// Whether each stride leads on, or nowhere, and none leads back.
-///
-/// Refused with `Unsupported`. Upstream's `strides_non_negative`.
+/// Checks that no stride is negative; `Unsupported` otherwise. ndarray's `strides_non_negative`.
 pub fn strides_non_negative<D: Lengths>(strides: &D) -> Result<(), ShapeError>
     ensures { result_err result ≡ sign_fault (all_signed (D.list strides.now)) }
 {
-    if some_lead_back(strides.slice()) {
+    if some_negative(strides.slice()) {
         return Err(from_kind(ErrorKind::Unsupported));
     }
     Ok(())

@@ -15,10 +15,12 @@ use nd_dim::{IntoDimension, Lengths};
 pub use rows::{Indices, IndicesIter};
 use std::alloc::{AllocError, Global};
 
-/// All indices of a shape, to be walked in row-major order, where the last axis moves fastest. The
-/// size of the shape fits. Upstream's `indices`.
+/// All indices of a shape, to be walked in row-major order, where the last axis moves fastest.
+/// ndarray's `indices`.
 ///
-/// Errors: want of memory, and none where the type fixes the count or there are at most 4 axes.
+/// The caller ensures that the product of the lengths is less than 2^64 (`size_checked`).
+///
+/// Errors: memory is refused; never where the type fixes the count of axes or there are at most 4.
 pub fn all_indices<D: Lengths, T: IntoDimension<Dim = D>>(
     alloc: Global,
     shape: T,
@@ -31,9 +33,11 @@ pub fn all_indices<D: Lengths, T: IntoDimension<Dim = D>>(
 }
 
 /// A walk over all indices of a shape in column-major order, where the first axis moves fastest.
-/// The size of the shape fits. Upstream's `indices_iter_f`.
+/// ndarray's `indices_iter_f`.
 ///
-/// Errors: want of memory, and none where the type fixes the count or there are at most 4 axes.
+/// The caller ensures that the product of the lengths is less than 2^64 (`size_checked`).
+///
+/// Errors: memory is refused; never where the type fixes the count of axes or there are at most 4.
 pub fn indices_iter_f<D: Lengths, T: IntoDimension<Dim = D>>(
     alloc: Global,
     shape: T,

@@ -6,8 +6,8 @@ use std::marker::Model;
 
 mod layoutfmt;
 
-/// In which orders the indices of a layout lie one behind another, and which one it likes better: a
-/// set of bits. Upstream's `Layout`.
+/// In which orders the indices of a layout lie one after another, and in which it is better walked: a
+/// set of bits. ndarray's `Layout`.
 #[derive(Clone, Copy)]
 pub struct Layout {
     bits: u32,
@@ -38,7 +38,7 @@ impl Layout {
     /// The bit of a layout that is walked better in column-major order.
     pub const FPREFER: u32 = 0b1000;
 
-    /// Whether some bit of `flag` is set. Upstream's `is`.
+    /// Whether some bit of `flag` is set. ndarray's `is`.
     #[inline(always)]
     pub fn is(self, flag: u32) -> bool
         ensures { IsTrue result ↔ (bit_and self flag ≢ 0) }
@@ -46,7 +46,7 @@ impl Layout {
         self.bits & flag != 0
     }
 
-    /// The bits that are set in both. Upstream's `intersect`.
+    /// The bits that are set in both. ndarray's `intersect`.
     #[inline(always)]
     pub fn intersect(self, other: Layout) -> Layout
         ensures { result ≡ bit_and self other }
@@ -56,7 +56,7 @@ impl Layout {
         }
     }
 
-    /// The bits that are set in either. Upstream's `also`.
+    /// The bits that are set in either. ndarray's `also`.
     #[inline(always)]
     pub fn also(self, other: Layout) -> Layout
         ensures { result ≡ bit_or self other }
@@ -66,7 +66,7 @@ impl Layout {
         }
     }
 
-    /// The layout of at most one axis of more than one entry: both orders, all bits. Upstream's
+    /// The layout of at most one axis of more than one entry: both orders, all bits. ndarray's
     /// `one_dimensional`.
     #[inline(always)]
     pub fn one_dimensional() -> Layout
@@ -75,7 +75,7 @@ impl Layout {
         Layout::c().also(Layout::f())
     }
 
-    /// The row-major layout. Upstream's `c`.
+    /// The row-major layout. ndarray's `c`.
     #[inline(always)]
     pub fn c() -> Layout
         ensures { result ≡ 5 }
@@ -85,7 +85,7 @@ impl Layout {
         }
     }
 
-    /// The column-major layout. Upstream's `f`.
+    /// The column-major layout. ndarray's `f`.
     #[inline(always)]
     pub fn f() -> Layout
         ensures { result ≡ 10 }
@@ -95,7 +95,7 @@ impl Layout {
         }
     }
 
-    /// In neither order, but better by rows. Upstream's `cpref`.
+    /// In neither order, but better by rows. ndarray's `cpref`.
     #[inline(always)]
     pub fn cpref() -> Layout
         ensures { result ≡ 4 }
@@ -105,7 +105,7 @@ impl Layout {
         }
     }
 
-    /// In neither order, but better by columns. Upstream's `fpref`.
+    /// In neither order, but better by columns. ndarray's `fpref`.
     #[inline(always)]
     pub fn fpref() -> Layout
         ensures { result ≡ 8 }
@@ -115,7 +115,7 @@ impl Layout {
         }
     }
 
-    /// In neither order, and neither is better. Upstream's `none`.
+    /// In neither order, and neither is better. ndarray's `none`.
     #[inline(always)]
     pub fn none() -> Layout
         ensures { result ≡ 0 }
@@ -124,7 +124,7 @@ impl Layout {
     }
 
     /// From -2 to 2: above 0 where row-major order is better, below 0 where column-major order is.
-    /// Upstream's `tendency`.
+    /// ndarray's `tendency`.
     #[inline]
     pub fn tendency(self) -> i32
         ensures { result ≡ tendency_of_bits self }

@@ -1,4 +1,4 @@
-//! Whether the indices of a layout lie one behind another.
+//! Whether the indices of a layout lie one after another.
 ghost use Rattle.std.specs.Prelude.{◌≡◌, ◌≤◌, ◌↔◌, IsTrue, length};
 ghost use Rattle.nd_base.specs.declared.order.Order.TheVariants.{RowMajor, ColumnMajor};
 ghost use Rattle.nd_base.specs.Signed.{all_signed};
@@ -53,8 +53,8 @@ fn has_strides_by_columns(lens: &[usize], strides: &[usize]) -> bool
 /// there is no index. That is so exactly where each axis of another length than 1 has the stride
 /// that the shape has by itself, by which the last axis moves fastest.
 ///
-/// There is a stride for each axis, and the product of the lengths, zeros aside, is at most the
-/// greatest `isize`. Upstream's `is_layout_c`.
+/// The caller ensures that there are as many strides as axes, and that the product of the lengths
+/// that are not 0 is at most the greatest `isize` (`size_of_shape_checked`). ndarray's `is_layout_c`.
 pub fn is_layout_c<D: Lengths>(dim: &D, strides: &D) -> bool
     requires same_count { length (D.list dim.now) ≡ length (D.list strides.now) }
     requires size_fits { nonzero_size (D.list dim.now) ≤ limit }
@@ -70,8 +70,8 @@ pub fn is_layout_c<D: Lengths>(dim: &D, strides: &D) -> bool
 /// there is no index. That is so exactly where each axis of another length than 1 has the stride by
 /// which the first axis moves fastest.
 ///
-/// There is a stride for each axis, and the product of the lengths, zeros aside, is at most the
-/// greatest `isize`. Upstream's `is_layout_f`.
+/// The caller ensures that there are as many strides as axes, and that the product of the lengths
+/// that are not 0 is at most the greatest `isize` (`size_of_shape_checked`). ndarray's `is_layout_f`.
 pub fn is_layout_f<D: Lengths>(dim: &D, strides: &D) -> bool
     requires same_count { length (D.list dim.now) ≡ length (D.list strides.now) }
     requires size_fits { nonzero_size (D.list dim.now) ≤ limit }

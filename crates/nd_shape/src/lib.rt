@@ -1,4 +1,5 @@
-//! Which layouts are accepted over a piece of data, and where their indices lie.
+//! Which layouts are accepted over data, where their indices lie, and walks over them: the calls of ndarray 0.17.2
+//! that look at a shape and strides alone.
 #![tactic(auto)]
 
 mod axes;

@@ -12,7 +12,8 @@ use nd_shape_rules::merge_fitting;
 /// then the axis `into` has them all, that of `take` moving slowest among them, and `take` keeps one
 /// entry, or none where there are none. Answers whether it did; else nothing changes.
 ///
-/// The layout is valid, and the axes are two different ones that it has. Upstream's `merge_axes`.
+/// The caller ensures that the layout is valid, as it is where `max_abs_offset_check_overflow`
+/// succeeds, and that the axes are two different ones that it has. ndarray's `merge_axes`.
 #[inline]
 pub fn merge_axes<D: Lengths>(dim: &mut D, strides: &mut D, take: Axis, into: Axis) -> bool
     requires valid { IsValidLayout (D.list dim.old) (all_signed (D.list strides.old)) }

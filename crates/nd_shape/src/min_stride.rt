@@ -2,19 +2,9 @@
 ghost use Rattle.std.specs.List.{swap};
 ghost use Rattle.std.specs.Prelude.{◌≡◌, ◌-◌, ◌<◌, ◌≤◌, length, ℕ};
 ghost use Rattle.nd_base.specs.Signed.{all_signed};
-ghost use Rattle.nd_dim.specs.AxisOrder.{magnitude_at as magnitude_at_axis};
 ghost use Rattle.nd_shape.specs.MinStride.{IsFirstLeastAxis, are_turned as are_turned_by_rule, IsAxisToMove};
 
-use nd_dim::{Lengths, signed};
-
-/// How many elements the stride of an axis steps over, in either direction.
-#[inline(always)]
-fn magnitude_at(strides: &[usize], axis: usize) -> usize
-    requires { axis < length strides.now }
-    ensures { result ≡ magnitude_at_axis (all_signed strides.now) axis }
-{
-    signed(strides[axis]).unsigned_abs()
-}
+use nd_dim::{Lengths, magnitude_at};
 
 /// The axis whose stride is of least magnitude among those of more than one entry, and the first of
 /// these where several are; the last axis where none has more than one entry.
@@ -65,7 +55,8 @@ fn axis_to_move(lens: &[usize], strides: &[usize]) -> usize
 /// entry; nothing changes where there is none. Two axes change places where the last has at most one
 /// entry, or where the first has more than one and a lesser stride than the last. Fewer axes stay.
 ///
-/// There is a stride for each axis. Upstream's `move_min_stride_axis_to_last`.
+/// The caller ensures that there are as many strides as axes. ndarray's
+/// `move_min_stride_axis_to_last`.
 pub fn move_min_stride_axis_to_last<D: Lengths>(dim: &mut D, strides: &mut D)
     requires { length (D.list dim.old) ≡ length (D.list strides.old) }
     ensures moved { (axis : ℕ)

@@ -13,12 +13,15 @@ use nd_dim::{
 };
 use std::fmt::Debug;
 
-/// An index of arrays of the dimension type `E`: one list of entries. Upstream's `NdIndex`.
+/// An index of arrays of the dimension type `E`: one list of entries. ndarray's `NdIndex`.
 pub trait NdIndex<E: Lengths>: Debug {
     ghost index_list: { Self → List ℕ };
 
     /// How many elements lie between the first index and this one, with its sign; `None` where
-    /// this is no index of the shape. Upstream's `index_checked`.
+    /// this is no index of the shape. ndarray's `index_checked`.
+    ///
+    /// The caller ensures that the layout is valid, as it is where `max_abs_offset_check_overflow`
+    /// succeeds.
     fn index_checked(&self, dim: &E, strides: &E) -> Option<isize>
         requires { IsValidLayout (E.list dim.now) (all_signed (E.list strides.now)) }
         ensures { result ≡ checked_offset
@@ -27,7 +30,11 @@ pub trait NdIndex<E: Lengths>: Debug {
             (index_list self.now) };
 
     /// How many elements lie between the first index and this one, with its sign, whatever the
-    /// shape. Upstream's `index_unchecked`.
+    /// shape. ndarray's `index_unchecked`.
+    ///
+    /// The caller ensures that there are as many entries as strides, that each entry is at most the
+    /// greatest `isize`, and so is the sum of each entry times the magnitude of its stride. That is
+    /// so wherever `index_checked` answers an offset.
     fn index_unchecked(&self, strides: &E) -> isize
         requires same_count { length (index_list self.now) ≡ length (E.list strides.now) }
         requires small { All (λ entry. entry ≤ limit) (index_list self.now) }

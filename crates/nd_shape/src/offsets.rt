@@ -9,7 +9,10 @@ use nd_shape_rules::low_span;
 
 /// How many elements lie between the lowest element of a layout and that of its first index: the
 /// place of the first index in data that begins at the lowest element.
-/// Upstream's `offset_from_low_addr_ptr_to_logical_ptr`.
+/// ndarray's `offset_from_low_addr_ptr_to_logical_ptr`.
+///
+/// The caller ensures that the layout is valid, as it is where `max_abs_offset_check_overflow`
+/// succeeds.
 pub fn offset_from_low_addr_ptr_to_logical_ptr<D: Lengths>(dim: &D, strides: &D) -> usize
     requires { IsValidLayout (D.list dim.now) (all_signed (D.list strides.now)) }
     ensures { result ≡ low_span_of_layout (D.list dim.now) (all_signed (D.list strides.now)) }

@@ -9,14 +9,14 @@ ghost use Rattle.nd_shape.specs.ShapeBuilder.{dim_of, order_of, custom_strides, 
 use nd_dim::{IntoDimension, Lengths, Order, default_strides, fortran_strides, product};
 use std::alloc::{AllocError, Global};
 
-/// A shape whose indices lie one behind the other, in one of the two orders. Upstream's `Shape`.
+/// A shape whose indices lie one after another, in one of the two orders. ndarray's `Shape`.
 #[derive(Clone, Copy, Debug, Drop)]
 pub struct Shape<D> {
     dim: D,
     order: Order,
 }
 
-/// A shape and its strides. Upstream's `StrideShape`.
+/// A shape and its strides. ndarray's `StrideShape`.
 #[derive(Clone, Copy, Debug, Drop)]
 pub struct StrideShape<D> {
     /// The axis lengths.
@@ -25,7 +25,7 @@ pub struct StrideShape<D> {
     pub strides: Strides<D>,
 }
 
-/// Which strides a shape has. Upstream's `Strides`.
+/// Which strides a shape has. ndarray's `Strides`.
 #[derive(Clone, Copy, Debug, Drop)]
 pub enum Strides<D> {
     /// Those of row-major order: the last axis moves fastest.
@@ -37,7 +37,10 @@ pub enum Strides<D> {
 }
 
 impl<D: Lengths> Shape<D> {
-    /// The number of indices, which fits. Upstream's `size`.
+    /// The number of indices. ndarray's `size`.
+    ///
+    /// The caller ensures that the product of the lengths is less than 2^64
+    /// (`size_of_shape_checked`).
     #[inline]
     pub fn size(&self) -> usize
         requires { size (D.list (dim_of self.now)) < 2 ^ 64 }
@@ -48,7 +51,7 @@ impl<D: Lengths> Shape<D> {
 }
 
 impl<D> Shape<D> {
-    /// The axis lengths. Upstream's `raw_dim`.
+    /// The axis lengths. ndarray's `raw_dim`.
     #[inline]
     pub fn raw_dim(&self) -> &D
         ensures { result.now ≡ dim_of self.now }
@@ -56,7 +59,7 @@ impl<D> Shape<D> {
         &self.dim
     }
 
-    /// Whether the last axis moves fastest. Upstream's `is_c`.
+    /// Whether the last axis moves fastest. ndarray's `is_c`.
     #[inline]
     pub fn is_c(&self) -> bool
         ensures { IsTrue result ↔ (order_of self.now ≡ Order.RowMajor) }
@@ -77,7 +80,7 @@ impl<D: Lengths> From<D> for Shape<D> {
 }
 
 impl<D> StrideShape<D> {
-    /// The axis lengths. Upstream's `raw_dim`.
+    /// The axis lengths. ndarray's `raw_dim`.
     #[inline]
     pub fn raw_dim(&self) -> &D
         ensures { result.now ≡ self.now.dim }
@@ -87,10 +90,10 @@ impl<D> StrideShape<D> {
 }
 
 impl<D: Lengths> StrideShape<D> {
-    /// The shape that is built, with the strides of its order. In place of upstream's
+    /// The shape that is built, with the strides of its order. In place of ndarray's
     /// `From<T> for StrideShape<D>`.
     ///
-    /// Errors: want of memory, and none where the type fixes the count or there are at most 4 axes.
+    /// Errors: memory is refused; never where the type fixes the count of axes or there are at most 4.
     pub fn from_builder<T: ShapeBuilder<Dim = D>>(
         alloc: Global,
         builder: T,
@@ -107,7 +110,10 @@ impl<D: Lengths> StrideShape<D> {
         })
     }
 
-    /// The number of indices, which fits. Upstream's `size`.
+    /// The number of indices. ndarray's `size`.
+    ///
+    /// The caller ensures that the product of the lengths is less than 2^64
+    /// (`size_of_shape_checked`).
     #[inline]
     pub fn size(&self) -> usize
         requires { size (D.list self.now.dim) < 2 ^ 64 }
@@ -118,11 +124,13 @@ impl<D: Lengths> StrideShape<D> {
 }
 
 impl<D> Strides<D> {
-    /// The strides of a shape of these lengths. Its size fits, and strides that are given are as
-    /// many as its axes. Upstream's `strides_for_dim`.
+    /// The strides of a shape of these lengths. ndarray's `strides_for_dim`.
     ///
-    /// Errors: want of memory, and none where the strides are given, where the type fixes the count
-    /// or where there are at most 4 axes.
+    /// The caller ensures that the product of the lengths is less than 2^64
+    /// (`size_of_shape_checked`), and that strides that are given are as many as the axes.
+    ///
+    /// Errors: memory is refused; never where the strides are given, the type fixes the count of axes
+    /// or there are at most 4.
     pub fn strides_for_dim(self, alloc: Global, dim: &D) -> Result<D, AllocError>
     where
         D: Lengths,
@@ -141,7 +149,7 @@ impl<D> Strides<D> {
         }
     }
 
-    /// Whether the strides are given. Upstream's `is_custom`.
+    /// Whether the strides are given. ndarray's `is_custom`.
     #[inline]
     pub fn is_custom(&self) -> bool
         ensures { IsTrue result ↔ IsSome (custom_strides self.now) }
@@ -150,7 +158,7 @@ impl<D> Strides<D> {
     }
 }
 
-/// What a shape with an order, or one with strides, can be built from. Upstream's `ShapeBuilder`.
+/// What a shape with an order, or one with strides, can be built from. ndarray's `ShapeBuilder`.
 pub trait ShapeBuilder {
     /// The dimension type of the shape.
     type Dim: Lengths;
@@ -167,9 +175,9 @@ pub trait ShapeBuilder {
     // and the list of strides.
     ghost given_strides: { Self.Strides → List ℕ };
 
-    /// The shape with its order. Upstream's `into_shape_with_order`.
+    /// The shape with its order. ndarray's `into_shape_with_order`.
     ///
-    /// Errors: want of memory, and none where the type fixes the count or there are at most 4 axes.
+    /// Errors: memory is refused; never where the type fixes the count of axes or there are at most 4.
     fn into_shape_with_order(self, alloc: Global) -> Result<Shape<Self::Dim>, AllocError>
     where
         Self: Sized,
@@ -177,9 +185,9 @@ pub trait ShapeBuilder {
         ensures order { IfOk result (λ shape. order_of shape ≡ built_order self) }
         ensures memory { NeedsNoMemory Self.Dim.NDIM (length (built_lens self)) → IsOk result };
 
-    /// The shape in column-major order. Upstream's `f`.
+    /// The shape in column-major order. ndarray's `f`.
     ///
-    /// Errors: want of memory, and none where the type fixes the count or there are at most 4 axes.
+    /// Errors: memory is refused; never where the type fixes the count of axes or there are at most 4.
     fn f(self, alloc: Global) -> Result<Shape<Self::Dim>, AllocError>
     where
         Self: Sized,
@@ -191,9 +199,9 @@ pub trait ShapeBuilder {
     }
 
     /// The shape in column-major order where the answer is yes, and else in row-major order.
-    /// Upstream's `set_f`.
+    /// ndarray's `set_f`.
     ///
-    /// Errors: want of memory, and none where the type fixes the count or there are at most 4 axes.
+    /// Errors: memory is refused; never where the type fixes the count of axes or there are at most 4.
     fn set_f(self, alloc: Global, is_f: bool) -> Result<Shape<Self::Dim>, AllocError>
     where
         Self: Sized,
@@ -207,9 +215,9 @@ pub trait ShapeBuilder {
         Ok(shape)
     }
 
-    /// The shape with these strides. Upstream's `strides`.
+    /// The shape with these strides. ndarray's `strides`.
     ///
-    /// Errors: want of memory, and none where the type fixes the count, or where there are at most
+    /// Errors: memory is refused; never where the type fixes the count of axes, or there are at most
     /// 4 axes and at most 4 strides.
     fn strides(
         self,

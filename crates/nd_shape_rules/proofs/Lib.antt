@@ -3,5 +3,4 @@ pub mod MergedStride
 pub mod OwnedRule
 pub mod SumLoop
 pub mod WalkOrder
-pub mod WrappedProduct
 pub mod laws

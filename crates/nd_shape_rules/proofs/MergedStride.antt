@@ -6,9 +6,7 @@ use Rattle.std.proofs.lemmas.Bool.{cases_eq}
 use Rattle.std.proofs.lemmas.Int.{ints}
 use Rattle.nd_base.specs.Size.{nonzero_size}
 use Rattle.nd_base.proofs.laws.NonzeroSize.{length_le_nonzero_size, nonzero_size_of_other, nonzero_size_of_zero}
-use Rattle.nd_base.specs.Span.{reach, span}
 use Rattle.nd_shape_rules.specs.Merge.{IsMergedStride, MergeFits}
-use Rattle.nd_shape_rules.proofs.OwnedRule.{own_le_span}
 
 -- an axis of at most one entry adds nothing to the other
 pub short_taken : (take_len : ℕ) (take_stride : ℤ) (into_len : ℕ) (into_stride : ℤ) → take_len ≤ 1 → IsMergedStride take_len take_stride into_len into_stride into_stride
@@ -88,13 +86,3 @@ two_lengths_le (len ∷ lens) (suc axis) (suc other) h g ne =
           let more : 1 * nonzero_size lens ≤ len * nonzero_size lens = omega (arith, mul-le-mul_left (nonzero_size lens) (pos_of_ne-zero e)) in
           rw (nonzero_size_of_other len lens e) (omega arith)
     ]
-
--- two axes reach no further than all do
-pub two_reaches_le : (shape : List ℕ) (strides : List ℤ) (axis other : ℕ) → axis < length shape → other < length shape → axis ≢ other → length shape ≡ length strides
-    → reach (get_or shape axis 0) (get_or strides axis (pos 0)) + reach (get_or shape other 0) (get_or strides other (pos 0)) ≤ span shape strides
-two_reaches_le [] strides axis other h g ne count = absurd (omega arith)
-two_reaches_le (len ∷ lens) [] axis other h g ne count = absurd (omega (arith, count))
-two_reaches_le (len ∷ lens) (stride ∷ strides) zero zero h g ne count = absurd (ne refl)
-two_reaches_le (len ∷ lens) (stride ∷ strides) zero (suc other) h g ne count = omega (arith, own_le_span lens strides other (omega arith) (omega (arith, count)))
-two_reaches_le (len ∷ lens) (stride ∷ strides) (suc axis) zero h g ne count = omega (arith, own_le_span lens strides axis (omega arith) (omega (arith, count)))
-two_reaches_le (len ∷ lens) (stride ∷ strides) (suc axis) (suc other) h g ne count = omega (arith, two_reaches_le lens strides axis other (omega arith) (omega arith) (λ e. ne (ap suc e)) (omega (arith, count)))

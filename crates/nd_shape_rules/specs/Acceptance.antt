@@ -1,5 +1,6 @@
 -- Which layouts are accepted over data, and with which fault any other is refused.
-use Rattle.std.specs.Prelude.{◌≡◌, ℕ, ◌*◌, ℤ, pos, Bool, true, false, not, ◌&&◌, ◌==◌, nat_le, nat_lt, Option, Some, None, if◌then◌else◌, List, [], ◌∷◌, length, refl}
+use Rattle.std.specs.Prelude.{◌≡◌, ℕ, ◌*◌, ℤ, pos, Bool, true, false, not, ◌&&◌, ◌==◌, nat_le, nat_lt, Option, Some, None}
+use Rattle.std.specs.Prelude.{if◌then◌else◌, List, [], ◌∷◌, length, refl}
 use Rattle.std.specs.Option.{option_or}
 use Rattle.nd_base.specs.declared.error.ErrorKind.{ErrorKind}
 use Rattle.nd_base.specs.declared.error.ErrorKind.TheVariants.{IncompatibleLayout, OutOfBounds, Unsupported, Overflow}
@@ -9,11 +10,12 @@ use Rattle.nd_shape_rules.specs.declared.checks.CanIndexCheckMode.{CanIndexCheck
 use Rattle.nd_shape_rules.specs.declared.checks.CanIndexCheckMode.TheVariants.{OwnedMutable, ReadOnly}
 use Rattle.nd_shape_rules.specs.OwnedRule.{meets_owned_rule}
 
+-- elements are owned or written, and not only read
 abbrev pub is_owned : CanIndexCheckMode → Bool
 is_owned OwnedMutable = true
 is_owned ReadOnly = false
 
--- the sizes or the reach of a layout pass a limit: the first that holds is the fault
+-- the fault of a layout apart from any data: no stride for each length, or a size or a span past the limit
 abbrev pub size_fault : ℕ → List ℕ → List ℤ → Option ErrorKind
 size_fault elem_size shape strides =
     if not (length shape == length strides) then Some IncompatibleLayout
@@ -22,11 +24,12 @@ size_fault elem_size shape strides =
     else if nat_lt limit (span shape strides * elem_size) then Some Overflow
     else None
 
--- the layout reaches past data of len elements; one without an index has only to stay within its ends
+-- the layout spans more than data of len elements holds; one without an index may span as many as there are
 abbrev pub leaves_data : ℕ → List ℕ → List ℤ → Bool
-leaves_data len shape strides = (if is_empty shape then nat_lt len (span shape strides) else nat_le len (span shape strides))
+leaves_data len shape strides =
+    (if is_empty shape then nat_lt len (span shape strides) else nat_le len (span shape strides))
 
--- the layout is to be written, and its indices may share an element
+-- elements are owned or written, and two indices of the layout may share one
 abbrev pub may_share : CanIndexCheckMode → List ℕ → List ℤ → Bool
 may_share mode shape strides = not (is_empty shape) && is_owned mode && not (meets_owned_rule shape strides)
 
@@ -57,8 +60,8 @@ no_index_at_the_end = refl
 no_index_past_the_end : acceptance 1 0 OwnedMutable (0 ∷ 2 ∷ []) (pos 2 ∷ pos 1 ∷ []) ≡ Some OutOfBounds
 no_index_past_the_end = refl
 
-counts_differ : acceptance 1 6 OwnedMutable (2 ∷ 3 ∷ []) (pos 1 ∷ []) ≡ Some IncompatibleLayout
-counts_differ = refl
+fewer_strides : acceptance 1 6 OwnedMutable (2 ∷ 3 ∷ []) (pos 1 ∷ []) ≡ Some IncompatibleLayout
+fewer_strides = refl
 
 bytes_overflow : acceptance 2 9223372036854775807 OwnedMutable (9223372036854775807 ∷ []) (pos 1 ∷ []) ≡ Some Overflow
 bytes_overflow = refl

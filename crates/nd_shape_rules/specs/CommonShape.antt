@@ -1,28 +1,39 @@
 -- The shape that two shapes have in common, by NumPy's rule: they are set side by side at their last axes.
-use Rattle.std.specs.Prelude.{◌≡◌, ℕ, ◌-◌, ◌==◌, max, if◌then◌else◌, Option, Some, None, is_some, List, [], ◌∷◌, ◌++◌, length, replicate, refl}
+use Rattle.std.specs.Prelude.{◌≡◌, ℕ, ◌-◌, ◌==◌, max, if◌then◌else◌, Option, Some, None, is_some, List, [], ◌∷◌, ◌++◌}
+use Rattle.std.specs.Prelude.{length, replicate, refl}
 use Rattle.std.specs.Option.{option_map, option_and_then}
 use Rattle.nd_base.specs.declared.error.ErrorKind.{ErrorKind}
 use Rattle.nd_base.specs.declared.error.ErrorKind.TheVariants.{IncompatibleShape}
 
--- equal lengths stay, and a length of 1 gives way to the other; there is none for two others
+-- the length that two axes have in common: equal lengths stay, a length of 1 gives way to the other; two others have none
 abbrev pub common_length : ℕ → ℕ → Option ℕ
-common_length len other = (if len == other then Some len else if len == 1 then Some other else if other == 1 then Some len else None)
+common_length len other =
+    (if len == other then Some len
+    else if len == 1 then Some other
+    else if other == 1 then Some len
+    else None)
 
--- the same of as many lengths on both sides, where every axis has one
+-- the lengths in common of two lists of one count, if every two axes have one
 abbrev pub common_lengths : List ℕ → List ℕ → Option (List ℕ)
 common_lengths [] others = Some []
 common_lengths (len ∷ lens) [] = Some []
-common_lengths (len ∷ lens) (other ∷ others) = option_and_then (λ common. option_map (λ rest. common ∷ rest) (common_lengths lens others)) (common_length len other)
+common_lengths (len ∷ lens) (other ∷ others) =
+    option_and_then
+    (λ common. option_map (λ rest. common ∷ rest) (common_lengths lens others))
+    (common_length len other)
 
--- lengths of 1 in front, up to a count
+-- a shape with lengths of 1 in front of it, up to a count
 abbrev pub padded : ℕ → List ℕ → List ℕ
 padded count shape = replicate (count - length shape) 1 ++ shape
 
--- the shape of the greater count that both have in common, if there is one
+-- the shape, of the greater count of axes, that two shapes have in common, if there is one
 abbrev pub common_shape : List ℕ → List ℕ → Option (List ℕ)
-common_shape shape other = common_lengths (padded (max (length shape) (length other)) shape) (padded (max (length shape) (length other)) other)
+common_shape shape other =
+    common_lengths
+    (padded (max (length shape) (length other)) shape)
+    (padded (max (length shape) (length other)) other)
 
--- the fault of shapes that have none in common
+-- the fault of two shapes: that they have none in common
 abbrev pub common_shape_fault : List ℕ → List ℕ → Option ErrorKind
 common_shape_fault shape other = (if is_some (common_shape shape other) then None else Some IncompatibleShape)
 

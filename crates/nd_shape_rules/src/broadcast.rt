@@ -11,7 +11,9 @@ fn go_together(len: usize, other: usize) -> bool
 }
 
 /// Whether two shapes have one in common: each axis of the shorter list goes together with the axis
-/// of the longer one that lies as far from the last. The test of upstream's `co_broadcast`.
+/// of the longer one that lies as far from the last. The test of ndarray's `co_broadcast`.
+///
+/// The caller ensures that the second list is no longer than the first.
 #[inline(always)]
 pub fn have_common_shape(longer: &[usize], shorter: &[usize]) -> bool
     requires { length shorter.now ≤ length longer.now }
@@ -35,8 +37,10 @@ fn stretched(len: usize, other: usize) -> usize
     if len == 1 { other } else { len }
 }
 
-/// Writes the common shape of two shapes that have one, over as many lengths as the longer list
-/// has. What upstream's `co_broadcast` makes.
+/// Writes the common shape of two shapes over `common`. What ndarray's `co_broadcast` makes.
+///
+/// The caller ensures that the shapes have one (`have_common_shape`), that the second list is no
+/// longer than the first, and that `common` has as many lengths as the first.
 #[inline(always)]
 pub fn fill_common_shape(longer: &[usize], shorter: &[usize], common: &mut [usize])
     requires shorter { length shorter.now ≤ length longer.now }

@@ -11,7 +11,7 @@ use crate::limits::{checked_nonzero_size, checked_span, multiply};
 use crate::overlap::has_overlap;
 use nd_dim::{ErrorKind, ShapeError, from_kind};
 
-/// How a layout is going to be used. Upstream's `CanIndexCheckMode`.
+/// How a layout is going to be used. ndarray's `CanIndexCheckMode`.
 #[derive(Clone, Copy, PartialEq)]
 pub enum CanIndexCheckMode {
     /// Elements are owned or written: no two indices may share one.
@@ -23,7 +23,7 @@ pub enum CanIndexCheckMode {
 /// The number of indices of a shape: the product of its lengths, which is 0 with a zero axis.
 ///
 /// Refused with `Overflow` where the product of the lengths that are not 0 passes the greatest
-/// `isize`. The list under upstream's `size_of_shape_checked`.
+/// `isize`. The rule over lists of ndarray's `size_of_shape_checked`.
 #[inline(always)]
 pub fn size_of_lengths(shape: &[usize]) -> Result<usize, ShapeError>
     ensures ok { IfOk result (λ n. n ≡ size shape.now) }
@@ -55,7 +55,8 @@ fn span_within_limits(elem_size: usize, shape: &[usize], strides: &[usize]) -> O
 ///
 /// Refused with `IncompatibleLayout` where there are not as many strides as lengths, and then with
 /// `Overflow` where the product of the lengths that are not 0, the span, or the span in bytes
-/// passes the greatest `isize`. The lists under upstream's `max_abs_offset_check_overflow`.
+/// passes the greatest `isize`. The rule over lists of ndarray's
+/// `max_abs_offset_check_overflow`.
 #[inline(always)]
 pub fn span_of_lengths(
     elem_size: usize,
@@ -75,8 +76,8 @@ pub fn span_of_lengths(
 ///
 /// Refused as `span_of_lengths` is; then with `OutOfBounds` where an index would leave the data, or
 /// where a layout without an index spans more than the data; then with `Unsupported` where elements
-/// are owned or written and two indices may share one (`has_overlap`). The lists under upstream's
-/// `can_index_slice`.
+/// are owned or written and two indices may share one (`has_overlap`). The rule over lists of
+/// ndarray's `can_index_slice`.
 #[inline(always)]
 pub fn accept(
     elem_size: usize,

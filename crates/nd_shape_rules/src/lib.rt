@@ -1,5 +1,5 @@
-//! The written rules for lists of lengths and strides: which are accepted over data, which shapes have one in common,
-//! and which axes can be merged.
+//! The written rules of ndarray 0.17.2 for lists of lengths and strides: which are accepted over data, which shapes have one
+//! in common, and which axes can be merged.
 #![tactic(auto)]
 
 mod broadcast;

@@ -16,7 +16,7 @@ fn within_limit(n: usize) -> Option<usize>
 
 /// The product, where it is at most the greatest `isize`.
 #[inline(always)]
-pub fn multiply(a: usize, b: usize) -> Option<usize>
+pub(crate) fn multiply(a: usize, b: usize) -> Option<usize>
     ensures { SomeIff result (a * b ≤ limit) (a * b) }
 {
     let product = a as u128 * b as u128;
@@ -29,7 +29,7 @@ pub fn multiply(a: usize, b: usize) -> Option<usize>
 
 /// The product of the lengths that are not 0, where it is at most the greatest `isize`.
 #[inline(always)]
-pub fn checked_nonzero_size(shape: &[usize]) -> Option<usize>
+pub(crate) fn checked_nonzero_size(shape: &[usize]) -> Option<usize>
     ensures { SomeIff result (nonzero_size shape.now ≤ limit) (nonzero_size shape.now) }
 {
     let mut size = 1usize;
@@ -55,7 +55,7 @@ fn checked_reach(len: usize, stride: usize) -> Option<usize>
 /// How many elements lie between the lowest and the highest index, where that is at most the
 /// greatest `isize`.
 #[inline(always)]
-pub fn checked_span(shape: &[usize], strides: &[usize]) -> Option<usize>
+pub(crate) fn checked_span(shape: &[usize], strides: &[usize]) -> Option<usize>
     ensures { SomeIff result
         (span shape.now (all_signed strides.now) ≤ limit)
         (span shape.now (all_signed strides.now)) }
@@ -69,7 +69,7 @@ pub fn checked_span(shape: &[usize], strides: &[usize]) -> Option<usize>
 
 /// How many elements lie between the first and the last entry of an axis.
 #[inline(always)]
-pub fn reach(len: usize, stride: isize) -> usize
+pub(crate) fn reach(len: usize, stride: isize) -> usize
     requires { reach_of_axis len stride ≤ limit }
     ensures { result ≡ reach_of_axis len stride }
 {

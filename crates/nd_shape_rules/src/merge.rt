@@ -1,27 +1,27 @@
 //! Two axes as one.
 ghost use Rattle.std.specs.Bool.{OnTrue};
-ghost use Rattle.std.specs.Prelude.{◌≡◌, ◌≢◌, ◌+◌, ◌<◌, ◌≤◌, ◌^◌, ◌↔◌, pos, ◌*ℤ◌, if◌then◌else◌, IsTrue, length, slice_index};
-ghost use Rattle.nd_base.specs.Signed.{signed as signed_reading, all_signed, magnitude};
-ghost use Rattle.nd_base.specs.Size.{limit};
-ghost use Rattle.nd_base.specs.Span.{reach};
+ghost use Rattle.std.specs.Prelude.{◌≡◌, ◌≢◌, ◌<◌, ◌^◌, ◌↔◌, pos, ◌*ℤ◌, if◌then◌else◌, IsTrue, length, slice_index};
+ghost use Rattle.nd_base.specs.Signed.{signed as signed_reading, all_signed};
 ghost use Rattle.nd_base.specs.ValidLayout.{IsValidLayout};
 ghost use Rattle.nd_shape_rules.specs.Merge.{IsMergedStride, MergeFits, merged_shape, merged_strides};
 
-/// Whether a stride is as long as that many steps of another, of two axes of a valid layout.
+use nd_dim::signed;
+
+/// Whether a stride is as long as that many steps of another.
 #[inline(always)]
 fn is_multiple(stride: usize, count: usize, step: usize) -> bool
-    requires count { count < 2 ^ 63 }
-    requires more { 1 < count }
-    requires near { reach count (signed_reading step) + magnitude (signed_reading stride) ≤ limit }
+    requires { count < 2 ^ 63 }
     ensures { IsTrue result ↔ (signed_reading stride ≡ pos count *ℤ signed_reading step) }
 {
-    // (where a layout is valid, 64 bits of the product tell as much as all)
-    stride == count.wrapping_mul(step)
+    // (128 bits hold the product of any two numbers of 64; two signed ones take one instruction)
+    signed(stride) as i128 == signed(count) as i128 * signed(step) as i128
 }
 
 /// Merges the axis `take` into the axis `into` where one stride serves for the entries of both, and
-/// answers whether it did; else nothing changes. The layout is valid, and the axes are two
-/// different ones that it has. The lists under upstream's `merge_axes`.
+/// answers whether it did; else nothing changes. The rule over lists of ndarray's `merge_axes`.
+///
+/// The caller ensures that the layout is valid (`span_of_lengths`), and that the axes are two
+/// different ones that it has.
 #[inline(always)]
 pub fn merge_fitting(shape: &mut [usize], strides: &mut [usize], take: usize, into: usize) -> bool
     requires valid { IsValidLayout shape.old (all_signed strides.old) }

@@ -17,8 +17,10 @@ fn reach_down(len: usize, stride: usize) -> usize
     if stride < 0 { reach(len, stride) } else { 0 }
 }
 
-/// How many elements lie between the lowest index and the first one, of a layout whose span fits.
-/// The lists under upstream's `offset_from_low_addr_ptr_to_logical_ptr`.
+/// How many elements lie between the lowest index and the first one. The rule over lists of
+/// ndarray's `offset_from_low_addr_ptr_to_logical_ptr`.
+///
+/// The caller ensures that the span is at most the greatest `isize` (`span_of_lengths`).
 #[inline(always)]
 pub fn low_span(shape: &[usize], strides: &[usize]) -> usize
     requires { span shape.now (all_signed strides.now) ≤ limit }

@@ -1,13 +1,16 @@
 //! Whether two indices of a layout may share an element.
 ghost use Rattle.std.specs.Option.{IfSome};
-ghost use Rattle.std.specs.Prelude.{◌≡◌, ◌<◌, ◌≤◌, ◌-◌, not, ◌&&◌, if◌then◌else◌, [], ◌∷◌, length};
+ghost use Rattle.std.specs.Prelude.{◌≡◌, ℕ, List, ◌<◌, ◌≤◌, ◌-◌, not, ◌&&◌, if◌then◌else◌, [], ◌∷◌, length};
+ghost use Rattle.nd_base.specs.declared.order.Order.TheVariants.{RowMajor, ColumnMajor};
 ghost use Rattle.nd_base.specs.Signed.{signed as signed_reading, all_signed};
 ghost use Rattle.nd_base.specs.Size.{is_empty, limit};
 ghost use Rattle.nd_base.specs.Span.{reach as reach_of_axis, span};
+ghost use Rattle.nd_dim.specs.AxisOrder.{IsStrideOrder};
 ghost use Rattle.nd_shape_rules.specs.OwnedRule.{meets_owned_rule, steps_over_others, span_up_to as span_up_to_magnitude};
+ghost use Rattle.nd_shape_rules.specs.OwnedWalk.{meets_owned_walk};
 
 use crate::limits::reach;
-use nd_dim::signed;
+use nd_dim::{Order, signed};
 
 /// How many elements lie between the first and the last entry of an axis, or 0 where its stride is
 /// of a magnitude past `magnitude`.
@@ -69,20 +72,24 @@ fn some_overlaps_others(shape: &[usize], strides: &[usize]) -> bool
     false
 }
 
-/// The axis that a walk over `count` axes comes to behind `place` others.
+/// The axis that a walk over `count` axes comes to after `place` others.
 #[inline(always)]
-fn axis_on_walk(count: usize, place: usize, from_last: bool) -> usize
+fn axis_on_walk(count: usize, place: usize, order: Order) -> usize
     requires { place < count }
-    ensures { result ≡ (if from_last then count - 1 - place else place) }
+    ensures by_rows { order ≡ RowMajor → result ≡ count - 1 - place }
+    ensures by_columns { order ≡ ColumnMajor → result ≡ place }
 {
-    if from_last { count - 1 - place } else { place }
+    match order {
+        Order::RowMajor => count - 1 - place,
+        Order::ColumnMajor => place,
+    }
 }
 
-/// Whether a walk along the axes, from the last or from the first one on, comes to one of more than
+/// Whether a walk along the axes, by rows from the last one on, by columns from the first, comes to one of more than
 /// one entry whose stride is no longer than those before it span together. `None` where it comes to
-/// a stride that is shorter than one before it, since such a walk can't tell.
+/// a stride that is shorter than one before it, since such a walk doesn't decide it.
 #[inline(always)]
-fn overlap_on_walk(shape: &[usize], strides: &[usize], from_last: bool) -> Option<bool>
+fn overlap_on_walk(shape: &[usize], strides: &[usize], order: Order) -> Option<bool>
     requires same_count { length shape.now ≡ length strides.now }
     requires span_fits { span shape.now (all_signed strides.now) ≤ limit }
     ensures { IfSome result
@@ -91,7 +98,7 @@ fn overlap_on_walk(shape: &[usize], strides: &[usize], from_last: bool) -> Optio
     let mut reached = 0usize;
     let mut longest = 0usize;
     for place in 0..shape.len() {
-        let axis = axis_on_walk(shape.len(), place, from_last);
+        let axis = axis_on_walk(shape.len(), place, order);
         let (len, stride) = (shape[axis], signed(strides[axis]));
         let magnitude = stride.unsigned_abs();
         if len > 1 {
@@ -108,7 +115,7 @@ fn overlap_on_walk(shape: &[usize], strides: &[usize], from_last: bool) -> Optio
 /// Whether an axis of more than one entry has a stride that steps over no more than the axes of no
 /// greater stride span together.
 ///
-/// One walk along axes that stand in order of their strides tells; others are compared one by one,
+/// One walk decides it along axes in the order of their strides; others are compared one by one,
 /// and two axes at once.
 #[inline(always)]
 fn breaks_owned_rule(shape: &[usize], strides: &[usize]) -> bool
@@ -117,10 +124,10 @@ fn breaks_owned_rule(shape: &[usize], strides: &[usize]) -> bool
     ensures { result ≡ not (meets_owned_rule shape.now (all_signed strides.now)) }
 {
     if shape.len() > 2 {
-        if let Some(overlaps) = overlap_on_walk(shape, strides, true) {
+        if let Some(overlaps) = overlap_on_walk(shape, strides, Order::RowMajor) {
             return overlaps;
         }
-        if let Some(overlaps) = overlap_on_walk(shape, strides, false) {
+        if let Some(overlaps) = overlap_on_walk(shape, strides, Order::ColumnMajor) {
             return overlaps;
         }
     }
@@ -128,14 +135,19 @@ fn breaks_owned_rule(shape: &[usize], strides: &[usize]) -> bool
 }
 
 /// Whether two indices of a layout may share an element: it has an index, and breaks the rule for
-/// owned data. There is a stride for each length, and the span fits. The lists under upstream's
-/// `dim_stride_overlap`.
+/// owned data. One walk along the axes in the order of their strides would answer the same.
+///
+/// The caller ensures that there is a stride for each length, and that the span is at most the
+/// greatest `isize`. The rule over lists of ndarray's `dim_stride_overlap`.
 #[inline(always)]
 pub fn has_overlap(shape: &[usize], strides: &[usize]) -> bool
     requires same_count { length shape.now ≡ length strides.now }
     requires span_fits { span shape.now (all_signed strides.now) ≤ limit }
-    ensures { result ≡
+    ensures rule { result ≡
         (not (is_empty shape.now) && not (meets_owned_rule shape.now (all_signed strides.now))) }
+    ensures walk { (order : List ℕ) → IsStrideOrder (all_signed strides.now) order →
+        result ≡ (not (is_empty shape.now)
+        && not (meets_owned_walk shape.now (all_signed strides.now) order)) }
 {
     breaks_owned_rule(shape, strides) && !shape.contains(&0)
 }

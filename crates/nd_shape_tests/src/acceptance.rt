@@ -1,10 +1,10 @@
 //! Which shapes with an order or with strides are accepted over data.
 //!
 //! A row is a shape, strides, an index that is not asked for, and the size of an element and a count of
-//! them; then, behind an arrow, the fault. Where the shape or the strides alone are asked for, they
+//! them; then, after an arrow, the fault. Where the shape or the strides alone are asked for, they
 //! stand twice.
+use crate::claim::{Claim, holds, table};
 use crate::questions::Question;
-use crate::told::{Told, holds, table};
 use CanIndexCheckMode::{OwnedMutable, ReadOnly};
 use nd_dim::{Axis, Lengths, RemoveAxis, ShapeError, default_strides, fortran_strides, new_ix3};
 use nd_shape::{
@@ -58,6 +58,30 @@ pub(crate) fn has_fault<D: Lengths>(
         )
 }
 
+/// Whether a row says the size of a shape, or its fault.
+pub(crate) fn has_size<D: Lengths>(dim: &D, row: &Lists<'_>) -> bool {
+    match size_of_shape_checked(dim) {
+        Ok(size) => size == row.fourth.at(1) && row.answer == "none",
+        Err(fault) => is_fault(Err(fault), row.answer),
+    }
+}
+
+/// The last number is the size.
+const SIZES: &str = "\
+- - - 1,1 => none
+2,3 2,3 - 1,6 => none
+2,0,3 2,0,3 - 1,0 => none
+9223372036854775807 9223372036854775807 - 1,9223372036854775807 => none
+9223372036854775808 9223372036854775808 - 1,0 => Overflow
+4294967296,2147483648 4294967296,2147483648 - 1,0 => Overflow
+1099511627776,1099511627776,0 1099511627776,1099511627776,0 - 1,0 => Overflow
+0,1099511627776,1099511627776 0,1099511627776,1099511627776 - 1,0 => Overflow";
+
+#[test]
+fn r7_rows_of_sizes(rt: HostRuntime) {
+    table(&rt, rt.alloc(), Claim::Asked(Question::Size), SIZES);
+}
+
 const ORDERS_OF_TWO: &str = "\
 2,3 2,3 - 1,6 => none
 2,3 2,3 - 1,5 => OutOfBounds
@@ -87,16 +111,16 @@ const SIGNS: &str = "\
 #[test]
 fn r3_rows(rt: HostRuntime) {
     let alloc = rt.alloc();
-    table(&rt, alloc, Told::Asked(Question::Orders), ORDERS_OF_TWO);
-    table(&rt, alloc, Told::Asked(Question::Orders), ORDERS_OF_FIVE);
+    table(&rt, alloc, Claim::Asked(Question::Orders), ORDERS_OF_TWO);
+    table(&rt, alloc, Claim::Asked(Question::Orders), ORDERS_OF_FIVE);
     table(
         &rt,
         alloc,
-        Told::Asked(Question::Given(OwnedMutable)),
+        Claim::Asked(Question::Given(OwnedMutable)),
         OWNED,
     );
-    table(&rt, alloc, Told::Asked(Question::Given(ReadOnly)), READ);
-    table(&rt, alloc, Told::Asked(Question::Signs), SIGNS);
+    table(&rt, alloc, Claim::Asked(Question::Given(ReadOnly)), READ);
+    table(&rt, alloc, Claim::Asked(Question::Signs), SIGNS);
 }
 
 /// Whether a shape by its own strides is accepted over the same data as along these strides, where
@@ -133,7 +157,7 @@ fn are_accepted(alloc: Global, lens: &[usize]) -> bool {
         fourth: list,
         answer: "",
     };
-    holds(Told::Asked(Question::OwnStrides), alloc, &row)
+    holds(Claim::Asked(Question::OwnStrides), alloc, &row)
 }
 
 // The shapes of no axes, the first one, the first two and all three.

@@ -3,8 +3,8 @@
 //! A row is a shape and strides, and the sum of the lengths where that is asked.
 ghost use Rattle.std.specs.Prelude.{◌≡◌, IfSome, length, sum};
 
+use crate::claim::{Claim, table};
 use crate::questions::Question;
-use crate::told::{Told, table};
 use nd_dim::Lengths;
 use nd_shape::{Axes, AxisDescription, axes_of};
 use test_tables::Lists;
@@ -17,7 +17,7 @@ fn is(axis: Option<AxisDescription>, number: usize, len: usize, stride: isize) -
     }
 }
 
-/// Whether three axes are told from the front and from the back in turn.
+/// Whether three axes are given from the front and from the back in turn.
 fn are_in_turn(mut axes: Axes<'_>) -> bool {
     is(axes.next(), 0, 2, 12)
         && is(axes.next_back(), 2, 4, 1)
@@ -25,7 +25,7 @@ fn are_in_turn(mut axes: Axes<'_>) -> bool {
         && axes.next().is_none()
 }
 
-/// Whether of three axes two are left behind the first one, and one before the last one, of which
+/// Whether of three axes two are left after the first one, and one before the last one, of which
 /// the walk that was copied knows nothing.
 fn have_lengths(mut axes: Axes<'_>) -> bool {
     axes.next();
@@ -58,8 +58,8 @@ pub(crate) enum AskedOfAxes {
     Sum,
 }
 
-/// Whether this is told of the axes of a layout.
-pub(crate) fn are_told<D: Lengths>(
+/// Whether this holds of the axes of a layout.
+pub(crate) fn axes_hold<D: Lengths>(
     asked: AskedOfAxes,
     dim: &D,
     strides: &D,
@@ -79,25 +79,25 @@ fn r3_rows(rt: HostRuntime) {
     table(
         &rt,
         alloc,
-        Told::Asked(Question::Axes(AskedOfAxes::InTurn)),
+        Claim::Asked(Question::Axes(AskedOfAxes::InTurn)),
         "2,3,4 12,-4,1",
     );
     table(
         &rt,
         alloc,
-        Told::Asked(Question::Axes(AskedOfAxes::Lengths)),
+        Claim::Asked(Question::Axes(AskedOfAxes::Lengths)),
         "2,3,4 2,3,4",
     );
     table(
         &rt,
         alloc,
-        Told::Asked(Question::Axes(AskedOfAxes::Sum)),
+        Claim::Asked(Question::Axes(AskedOfAxes::Sum)),
         "2,3,4 12,4,1 9",
     );
     table(
         &rt,
         alloc,
-        Told::Asked(Question::Axes(AskedOfAxes::Sum)),
+        Claim::Asked(Question::Axes(AskedOfAxes::Sum)),
         "2,3,1,4,2 2,3,1,4,2 12",
     );
 }

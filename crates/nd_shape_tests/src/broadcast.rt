@@ -1,8 +1,8 @@
 //! The shape that two shapes have in common.
 //!
-//! A row is two shapes, and what they have in common, in either order; or, behind an arrow, the fault.
+//! A row is two shapes, and what they have in common, in either order; or, after an arrow, the fault.
+use crate::claim::{Claim, row_holds, table};
 use crate::questions::Question;
-use crate::told::{Told, row_holds, table};
 use nd_dim::{Ix2, Ix3, IxDyn, Lengths, new_ix2, new_ix3};
 use nd_shape::co_broadcast;
 use std::alloc::Global;
@@ -32,13 +32,13 @@ fn is_common<D1: Lengths, D2: Lengths, Output: Lengths>(
 /// What is asked of the shape that two have in common.
 #[derive(Clone, Copy)]
 pub(crate) enum Sharing {
-    /// That it is as told, in either order.
+    /// That it is as the row says, in either order.
     IsTold,
     /// That to make it asks for memory: of two such calls one may fail.
     Asks,
 }
 
-/// Whether a row tells this of what two shapes have in common.
+/// Whether a row says this of what two shapes have in common.
 pub(crate) fn shares<D: Lengths>(
     alloc: Global,
     shape: &D,
@@ -79,7 +79,7 @@ fn r5_rows(rt: HostRuntime) {
     table(
         &rt,
         rt.alloc(),
-        Told::Asked(Question::Common(Sharing::IsTold)),
+        Claim::Asked(Question::Common(Sharing::IsTold)),
         COMMON,
     );
 }
@@ -105,23 +105,23 @@ fn r5_rows_of_fixed_types(rt: HostRuntime) {
 // More than four axes ask for memory. To make the two shapes takes the first two requests.
 #[test]
 fn late_memory_of_broadcast(rt: HostRuntime) {
-    let told = Told::Asked(Question::Common(Sharing::Asks));
+    let claim = Claim::Asked(Question::Common(Sharing::Asks));
     let row = "2,1,3,1,2 2,1,3,1,2 2,1,3,1,2";
-    assert!(rt; row_holds(told, rt.alloc(), row));
+    assert!(rt; row_holds(claim, rt.alloc(), row));
 }
 
 // Shapes that have none in common are refused for that.
 #[test]
 fn late_memory_after_the_shapes(rt: HostRuntime) {
-    let told = Told::Asked(Question::Common(Sharing::IsTold));
+    let claim = Claim::Asked(Question::Common(Sharing::IsTold));
     let row = "2,1,3,1,2 2,1,3,1,4 - => IncompatibleShape";
-    assert!(rt; row_holds(told, rt.alloc(), row));
+    assert!(rt; row_holds(claim, rt.alloc(), row));
 }
 
 // Up to four axes lie in the value itself.
 #[test]
 fn r9_rows_of_broadcast(rt: HostRuntime) {
-    let told = Told::Asked(Question::Common(Sharing::IsTold));
+    let claim = Claim::Asked(Question::Common(Sharing::IsTold));
     let row = "1,3 2,4,1 2,4,3";
-    assert!(rt; row_holds(told, rt.alloc(), row));
+    assert!(rt; row_holds(claim, rt.alloc(), row));
 }

@@ -1,21 +1,21 @@
 //! Walks over all indices of a shape, in either order.
 //!
-//! A row is a shape and how many indices it has, and then, behind an arrow, these; or what a walk makes of them.
+//! A row is a shape and how many indices it has, and then, after an arrow, these; or what a walk makes of them.
 ghost use Rattle.std.specs.Iterator.{IsFinite};
 ghost use Rattle.std.specs.Prelude.{◌<◌, ◌^◌, IfOk};
 ghost use Rattle.nd_base.specs.Dim.{lengths};
 ghost use Rattle.nd_base.specs.Size.{size};
 
-use crate::told::{Told, row_holds, table};
+use crate::claim::{Claim, row_holds, table};
 use nd_dim::{Dimension, IntoDimension, IxDyn, Lengths, Order, new_ixdyn};
-use nd_shape::{IndexCursor, IndexCursorF, all_indices, indices_iter_f};
+use nd_shape::{IndexCursor, IndexCursorF, Indices, all_indices, indices_iter_f};
 use std::alloc::{AllocError, Global};
 use test_tables::{List, Lists, Row, asked, made};
 
 // ---- what walks give
 
 /// Whether the next word of a row is these entries.
-fn tells(alloc: Global, row: &mut Row<'_>, entries: &[usize]) -> bool {
+fn next_is(alloc: Global, row: &mut Row<'_>, entries: &[usize]) -> bool {
     match row.lengths(alloc) {
         Ok(wanted) => wanted.as_slice() == entries,
         Err(_) => false,
@@ -23,9 +23,9 @@ fn tells(alloc: Global, row: &mut Row<'_>, entries: &[usize]) -> bool {
 }
 
 /// Whether an item stands for the next word of a row.
-fn is_told<T: IntoDimension>(alloc: Global, row: &mut Row<'_>, item: T) -> bool {
+fn item_is_next<T: IntoDimension>(alloc: Global, row: &mut Row<'_>, item: T) -> bool {
     match item.into_dimension(alloc) {
-        Ok(index) => tells(alloc, row, index.slice()),
+        Ok(index) => next_is(alloc, row, index.slice()),
         Err(_) => false,
     }
 }
@@ -56,12 +56,12 @@ fn yields<T: IntoDimension, W: ExactSizeIterator<Item = T> + Drop>(
     let mut indices = Row::new(row.answer);
     let rest = count.saturating_sub(first);
     for left in (rest..count).rev() {
-        let told = walk.len().wrapping_sub(1) == left
+        let is_next = walk.len().wrapping_sub(1) == left
             && match walk.next() {
-                Some(item) => is_told(alloc, &mut indices, item),
+                Some(item) => item_is_next(alloc, &mut indices, item),
                 None => false,
             };
-        if !told {
+        if !is_next {
             return false;
         }
     }
@@ -130,50 +130,55 @@ fn lends_all<C: LendingWalk + Drop>(
     };
     let mut indices = Row::new(row.answer);
     for left in (0..row.second.at(0)).rev() {
-        let is_told = match cursor.lend() {
-            Some(index) => tells(alloc, &mut indices, index),
+        let item_is_next = match cursor.lend() {
+            Some(index) => next_is(alloc, &mut indices, index),
             None => false,
         };
-        if !is_told || cursor.left() != left {
+        if !item_is_next || cursor.left() != left {
             return false;
         }
     }
     cursor.lend().is_none() && cursor.lend().is_none() && cursor.left() == 0
 }
 
-/// What a row tells of the walks over a shape.
+/// What a row says of the walks over a shape.
 #[derive(Clone, Copy)]
 pub(crate) enum Walk {
     /// How many indices it has, and these in an order.
     All(Order),
     /// How many indices it has, and the first one.
     Starts,
-    /// That a loop over a copy of a walk meets what is left, once so many indices are gone.
+    /// That a loop over a copy of a walk comes to what is left, once so many indices are gone.
     Folds(usize),
-    /// A factor, how many indices are gone, and what a fold makes of the others.
-    Folded,
+    /// A factor, how many indices are gone, and what a fold over a copy of a walk in an order makes of the
+    /// others.
+    Folded(Order),
 }
 
-/// Whether a row tells this of a walk by rows.
-fn tells_of<T: IntoDimension, W: ExactSizeIterator<Item = T> + Clone + Drop>(
+/// Whether a row says this of a walk.
+fn walk_holds<T: IntoDimension, W: ExactSizeIterator<Item = T> + Clone + Drop>(
     alloc: Global,
-    told: Walk,
+    claim: Walk,
     walk: W,
     row: &Lists<'_>,
 ) -> bool
     requires can { (state : W) → W.can_next state }
     requires ends { (state : W) → IsFinite (W.remaining state) }
 {
-    match told {
+    match claim {
         Walk::All(_) => yields(alloc, walk, row, usize::MAX),
         Walk::Starts => yields(alloc, walk, row, 1),
         Walk::Folds(gone) => folds(alloc, walk, gone, row.first),
-        Walk::Folded => is_folded(alloc, walk, row),
+        Walk::Folded(_) => is_folded(alloc, walk, row),
     }
 }
 
-/// Whether a row tells this of the walk over a shape at a type.
-pub(crate) fn is_walked<D: Dimension + Copy>(alloc: Global, told: Walk, row: &Lists<'_>) -> bool {
+/// Whether a row says this of the walk over a shape at a type.
+pub(crate) fn is_walked<D>(alloc: Global, claim: Walk, row: &Lists<'_>) -> bool
+where
+    D: Dimension + Copy,
+    D::Pattern: IntoDimension<Dim = D>,
+{
     let Some(dim) = made::<D>(alloc, row.first.as_slice()) else {
         return false;
     };
@@ -181,19 +186,37 @@ pub(crate) fn is_walked<D: Dimension + Copy>(alloc: Global, told: Walk, row: &Li
         return false;
     }
     let pattern = dim.into_pattern();
-    match told {
-        Walk::All(Order::ColumnMajor) => match indices_iter_f(alloc, pattern) {
-            Ok(walk) => yields(alloc, walk, row, usize::MAX),
-            Err(_) => false,
+    match claim {
+        Walk::All(Order::ColumnMajor) | Walk::Folded(Order::ColumnMajor) => {
+            match indices_iter_f(alloc, pattern) {
+                Ok(walk) => walk_holds(alloc, claim, walk, row),
+                Err(_) => false,
+            }
         },
         _ => match all_indices(alloc, pattern) {
-            Ok(indices) => tells_of(alloc, told, indices.into_iter(), row),
+            Ok(indices) => copies_are_walked(alloc, claim, indices, row),
             Err(_) => false,
         },
     }
 }
 
-/// Whether a row tells the indices of a shape in an order, as they are lent by its cursor.
+/// Whether a row says this of the walks over the indices of a shape by rows, over a copy and over a clone.
+fn copies_are_walked<D: Dimension + Copy>(
+    alloc: Global,
+    claim: Walk,
+    indices: Indices<D>,
+    row: &Lists<'_>,
+) -> bool {
+    let Ok(clone) = indices.clone() else {
+        return false;
+    };
+    let copy = indices;
+    walk_holds(alloc, claim, indices.into_iter(), row)
+        && walk_holds(alloc, claim, copy.into_iter(), row)
+        && walk_holds(alloc, claim, clone.into_iter(), row)
+}
+
+/// Whether a row says the indices of a shape in an order, as they are lent by its cursor.
 pub(crate) fn lends(alloc: Global, order: Order, row: &Lists<'_>) -> bool {
     let Ok(dim) = new_ixdyn(alloc, row.first.as_slice()) else {
         return false;
@@ -229,25 +252,25 @@ const THREE_AXES_BY_COLUMNS: &str = "\
 #[test]
 fn r7_rows(rt: HostRuntime) {
     let alloc = rt.alloc();
-    let told = Told::Walked(Walk::All(Order::RowMajor));
-    table(&rt, alloc, told, "- 1 => -");
-    table(&rt, alloc, told, TWO_AXES_BY_ROWS);
-    table(&rt, alloc, told, THREE_AXES_BY_ROWS);
+    let claim = Claim::Walked(Walk::All(Order::RowMajor));
+    table(&rt, alloc, claim, "- 1 => -");
+    table(&rt, alloc, claim, TWO_AXES_BY_ROWS);
+    table(&rt, alloc, claim, THREE_AXES_BY_ROWS);
 }
 
 #[test]
 fn r7_rows_by_columns(rt: HostRuntime) {
     let alloc = rt.alloc();
-    let told = Told::Walked(Walk::All(Order::ColumnMajor));
-    table(&rt, alloc, told, "- 1 => -");
-    table(&rt, alloc, told, TWO_AXES_BY_COLUMNS);
-    table(&rt, alloc, told, THREE_AXES_BY_COLUMNS);
+    let claim = Claim::Walked(Walk::All(Order::ColumnMajor));
+    table(&rt, alloc, claim, "- 1 => -");
+    table(&rt, alloc, claim, TWO_AXES_BY_COLUMNS);
+    table(&rt, alloc, claim, THREE_AXES_BY_COLUMNS);
 }
 
 #[test]
 fn r7_rows_of_the_longest_shape(rt: HostRuntime) {
     let row = "18446744073709551615 18446744073709551615 => 0";
-    assert!(rt; row_holds(Told::Walked(Walk::Starts), rt.alloc(), row));
+    assert!(rt; row_holds(Claim::Walked(Walk::Starts), rt.alloc(), row));
 }
 
 // ---- folds
@@ -263,7 +286,7 @@ fn rank_of<T: IntoDimension>(alloc: Global, lens: List, item: T) -> usize {
     rank
 }
 
-/// How many items a walk has, and a number that tells their ranks in a shape from others.
+/// How many items a walk has, and a number made of their ranks in a shape.
 fn met<T: IntoDimension, W: Iterator<Item = T> + Drop>(
     alloc: Global,
     walk: W,
@@ -273,14 +296,14 @@ fn met<T: IntoDimension, W: Iterator<Item = T> + Drop>(
     requires ends { IsFinite (W.remaining walk) }
 {
     let mut count = 0_usize;
-    let mut told = 0_usize;
+    let mut mark = 0_usize;
     for item in walk {
         count = count.wrapping_add(1);
-        told = told
+        mark = mark
             .wrapping_mul(31)
             .wrapping_add(rank_of(alloc, lens, item));
     }
-    (count, told)
+    (count, mark)
 }
 
 /// A walk, once so many of its items are gone.
@@ -298,8 +321,8 @@ fn left_of<T: IntoDimension, W: Iterator<Item = T> + Drop>(
     walk
 }
 
-/// Whether a loop over a copy of a walk over a shape meets the items that are still to come, as many as it
-/// tells.
+/// Whether a loop over a copy of a walk over a shape meets the items that are still to come, as many as its
+/// length says.
 fn folds<T: IntoDimension, W: ExactSizeIterator<Item = T> + Clone + Drop>(
     alloc: Global,
     walk: W,
@@ -313,8 +336,8 @@ fn folds<T: IntoDimension, W: ExactSizeIterator<Item = T> + Clone + Drop>(
     let len = walk.len();
     match walk.clone() {
         Ok(copy) => {
-            let told = met(alloc, copy, lens);
-            told.0 == len && met(alloc, walk, lens) == told
+            let all = met(alloc, copy, lens);
+            all.0 == len && met(alloc, walk, lens) == all
         },
         Err(_) => false,
     }
@@ -331,7 +354,7 @@ const FOLDED: &str = "\
 #[test]
 fn r7_rows_of_folds(rt: HostRuntime) {
     for gone in 0..3 {
-        table(&rt, rt.alloc(), Told::Walked(Walk::Folds(gone)), FOLDED);
+        table(&rt, rt.alloc(), Claim::Walked(Walk::Folds(gone)), FOLDED);
     }
 }
 
@@ -341,20 +364,20 @@ struct Folding {
     alloc: Global,
     lens: List,
     factor: usize,
-    told: usize,
+    mark: usize,
 }
 
 /// The same with one item more.
 fn folded<T: IntoDimension>(folding: Folding, item: T) -> Folding {
     let rank = rank_of(folding.alloc, folding.lens, item);
     Folding {
-        told: folding.told.wrapping_mul(folding.factor).wrapping_add(rank),
+        mark: folding.mark.wrapping_mul(folding.factor).wrapping_add(rank),
         ..folding
     }
 }
 
-/// Whether a fold over the items that are left makes of their ranks in a shape what a row tells.
-fn is_folded<T: IntoDimension, W: Iterator<Item = T> + Drop>(
+/// Whether a fold over a copy of a walk makes of the ranks in a shape of the items that are left what a row says.
+fn is_folded<T: IntoDimension, W: Iterator<Item = T> + Clone + Drop>(
     alloc: Global,
     walk: W,
     row: &Lists<'_>,
@@ -366,13 +389,15 @@ fn is_folded<T: IntoDimension, W: Iterator<Item = T> + Drop>(
         alloc,
         lens: row.first,
         factor: row.second.at(0),
-        told: 1,
+        mark: 1,
     };
-    let last = left_of(alloc, walk, row.third.at(0)).fold(first, folded);
-    last.told == row.fourth.at(0)
+    match left_of(alloc, walk, row.third.at(0)).clone() {
+        Ok(copy) => copy.fold(first, folded).mark == row.fourth.at(0),
+        Err(_) => false,
+    }
 }
 
-const RANKS_FOLDED: &str = "\
+const RANKS_FOLDED_BY_ROWS: &str = "\
 2,3 10 0 1012345
 2,3 10 1 112345
 2,3 10 2 12345
@@ -380,9 +405,22 @@ const RANKS_FOLDED: &str = "\
 2,3,4 31 1 6872714081735186155
 2,3,4 31 2 14177832400027191308";
 
+/// Ranks by rows, as they come by columns.
+const RANKS_FOLDED_BY_COLUMNS: &str = "\
+2,3 10 0 1031425
+2,3 10 1 131425
+2,3 10 2 11425
+2,3,4 31 0 10207590601544237009
+2,3,4 31 1 8000211265789772207
+2,3,4 31 2 10161736956436225285";
+
 #[test]
 fn r7_rows_of_folded_ranks(rt: HostRuntime) {
-    table(&rt, rt.alloc(), Told::Walked(Walk::Folded), RANKS_FOLDED);
+    let alloc = rt.alloc();
+    let by_rows = Claim::Walked(Walk::Folded(Order::RowMajor));
+    table(&rt, alloc, by_rows, RANKS_FOLDED_BY_ROWS);
+    let by_columns = Claim::Walked(Walk::Folded(Order::ColumnMajor));
+    table(&rt, alloc, by_columns, RANKS_FOLDED_BY_COLUMNS);
 }
 
 // ---- memory

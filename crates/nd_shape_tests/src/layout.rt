@@ -1,13 +1,13 @@
-//! Whether the indices of a layout lie one behind another, and the sets of bits that say so.
+//! Whether the indices of a layout lie one after another, and the sets of bits that say so.
 //!
-//! A row is a shape and strides; then, behind an arrow, in which order they lie so.
+//! A row is a shape and strides; then, after an arrow, in which order they lie so.
+use crate::claim::{Claim, table};
 use crate::questions::Question;
-use crate::told::{Told, table};
 use nd_dim::Lengths;
 use nd_shape::{CanIndexCheckMode, Layout, can_index_slice, is_layout_c, is_layout_f};
 use std::alloc::Global;
 
-/// How the indices of a layout lie one behind another, or that it isn't valid.
+/// How the indices of a layout lie one after another, or that it isn't valid.
 pub(crate) fn orders<D: Lengths>(dim: &D, strides: &D) -> &'static str {
     if dim.ndim() != strides.ndim()
         || can_index_slice(0, usize::MAX, dim, strides, CanIndexCheckMode::ReadOnly).is_err()
@@ -48,7 +48,7 @@ const LAYOUTS: &str = "\
 
 #[test]
 fn r5_rows(rt: HostRuntime) {
-    table(&rt, rt.alloc(), Told::Asked(Question::Lies), LAYOUTS);
+    table(&rt, rt.alloc(), Claim::Asked(Question::Lies), LAYOUTS);
 }
 
 /// Whether a set of bits prints this text and has this tendency.

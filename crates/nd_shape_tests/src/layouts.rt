@@ -1,11 +1,11 @@
-//! What the public calls tell of layouts and their indices, at each dimension type.
+//! What the public calls answer of layouts and their indices, at each dimension type.
 //!
-//! A row is a shape, strides, an index, and the size of an element and a count of them; then, behind an
-//! arrow, what is told: the size, the span, whether the data may be owned through the layout, and
+//! A row is a shape, strides, an index, and the size of an element and a count of them; then, after an
+//! arrow, what is known: the size, the span, whether the data may be owned through the layout, and
 //! whether it may be read and then, whether indices may share an element, how many elements lie
 //! below the first index, and where the index lies, checked and unchecked.
+use crate::claim::{Claim, table};
 use crate::questions::Question;
-use crate::told::{Told, table};
 use CanIndexCheckMode::{OwnedMutable, ReadOnly};
 use nd_dim::{ErrorKind, Lengths};
 use nd_shape::{
@@ -18,10 +18,10 @@ use test_tables::{Lists, made, or_fault};
 /// The size of an element, and how many there are.
 type Data = (usize, usize);
 
-/// What is told of a layout that data may be read through.
+/// What is known of a layout that data may be read through.
 type Extent = (bool, usize, Option<(isize, isize)>);
 
-/// What is told of a layout over data.
+/// What is known of a layout over data.
 type Answer = (
     Result<usize, ErrorKind>,
     Result<usize, ErrorKind>,
@@ -29,7 +29,7 @@ type Answer = (
     Result<Extent, ErrorKind>,
 );
 
-/// What is told of a layout, where data may be read through it.
+/// What is known of a layout, where data may be read through it.
 fn read<D: Lengths>(data: Data, dim: &D, strides: &D, index: &D) -> Result<Extent, ErrorKind> {
     match can_index_slice(data.0, data.1, dim, strides, ReadOnly) {
         Ok(()) => {
@@ -45,7 +45,7 @@ fn read<D: Lengths>(data: Data, dim: &D, strides: &D, index: &D) -> Result<Exten
     }
 }
 
-/// What is told of a layout over data.
+/// What is known of a layout over data.
 fn ask<D: Lengths>(data: Data, dim: &D, strides: &D, index: &D) -> Answer {
     let (elem_size, len) = data;
     (
@@ -56,15 +56,15 @@ fn ask<D: Lengths>(data: Data, dim: &D, strides: &D, index: &D) -> Answer {
     )
 }
 
-/// Whether this is told, as it is printed.
-fn is_told(alloc: Global, told: Answer, answer: &str) -> bool {
-    match format!(in alloc; "{told:?}") {
+/// Whether this is what a row says, as it is printed.
+fn is_printed(alloc: Global, claim: Answer, answer: &str) -> bool {
+    match format!(in alloc; "{claim:?}") {
         Ok(text) => text.as_str() == answer,
         Err(_) => false,
     }
 }
 
-/// Whether a row tells all this of a layout. A list of another count is no index of a type that fixes
+/// Whether a row says all this of a layout. A list of another count is no index of a type that fixes
 /// its count.
 pub(crate) fn is_laid_out<D: Lengths>(
     alloc: Global,
@@ -74,7 +74,7 @@ pub(crate) fn is_laid_out<D: Lengths>(
 ) -> bool {
     let data = (row.fourth.at(0), row.fourth.at(1));
     match made::<D>(alloc, row.third.as_slice()) {
-        Some(index) => is_told(alloc, ask(data, dim, strides, &index), row.answer),
+        Some(index) => is_printed(alloc, ask(data, dim, strides, &index), row.answer),
         None => D::NDIM.is_some(),
     }
 }
@@ -251,12 +251,12 @@ const LIMITS: &str = "\
 #[test]
 fn r3_rows(rt: HostRuntime) {
     let alloc = rt.alloc();
-    let told = Told::Asked(Question::Layout);
-    table(&rt, alloc, told, R1);
-    table(&rt, alloc, told, REACH);
-    table(&rt, alloc, told, SMALL);
-    table(&rt, alloc, told, APART);
-    table(&rt, alloc, told, SHARED_AND_EMPTY);
-    table(&rt, alloc, told, INDICES);
-    table(&rt, alloc, told, LIMITS);
+    let claim = Claim::Asked(Question::Layout);
+    table(&rt, alloc, claim, R1);
+    table(&rt, alloc, claim, REACH);
+    table(&rt, alloc, claim, SMALL);
+    table(&rt, alloc, claim, APART);
+    table(&rt, alloc, claim, SHARED_AND_EMPTY);
+    table(&rt, alloc, claim, INDICES);
+    table(&rt, alloc, claim, LIMITS);
 }

@@ -1,4 +1,4 @@
-//! Tests of `nd_shape`, and by its public calls of the rules below it, `nd_shape_rules`; and of what `nd_dim` tells of a
+//! Tests of `nd_shape`, and by its public calls of the rules below it, `nd_shape_rules`; and of what `nd_dim` answers of a
 //! layout that these accept (`offsets`).
 #![tactic(auto)]
 
@@ -8,6 +8,8 @@ mod acceptance;
 mod axes;
 #[cfg(test)]
 mod broadcast;
+#[cfg(test)]
+mod claim;
 #[cfg(test)]
 mod indexes;
 #[cfg(test)]
@@ -24,5 +26,3 @@ mod offsets;
 mod questions;
 #[cfg(test)]
 mod shapes;
-#[cfg(test)]
-mod told;

@@ -1,10 +1,10 @@
 //! Two axes as one, and the axis of the least stride as the last one.
 //!
 //! A row of merged axes is a shape, strides, the axes to take and to merge into, and the shape and then
-//! the strides afterwards; then, behind an arrow, whether they are merged. A row of a moved axis is a
+//! the strides afterwards; then, after an arrow, whether they are merged. A row of a moved axis is a
 //! shape and strides, and what they are afterwards.
+use crate::claim::{Claim, table};
 use crate::questions::Question;
-use crate::told::{Told, table};
 use nd_dim::{Axis, Lengths};
 use nd_shape::{CanIndexCheckMode, can_index_slice, merge_axes, move_min_stride_axis_to_last};
 use test_tables::Lists;
@@ -25,11 +25,11 @@ fn merged<D: Lengths>(dim: &mut D, strides: &mut D, take: usize, into: usize) ->
     }
 }
 
-/// Whether two axes of a layout are merged as a row tells, and the layout is this one afterwards.
+/// Whether two axes of a layout are merged as a row says, and the layout is this one afterwards.
 pub(crate) fn merges<D: Lengths>(dim: &mut D, strides: &mut D, row: &Lists<'_>) -> bool {
-    let told = merged(dim, strides, row.third.at(0), row.third.at(1));
+    let claim = merged(dim, strides, row.third.at(0), row.third.at(1));
     let after = row.fourth.as_slice();
-    told == row.answer
+    claim == row.answer
         && after.len() == dim.ndim().saturating_mul(2)
         && after.starts_with(dim.slice())
         && after.ends_with(strides.slice())
@@ -87,6 +87,6 @@ const MOVED: &str = "\
 
 #[test]
 fn r5_rows(rt: HostRuntime) {
-    table(&rt, rt.alloc(), Told::Asked(Question::Merged), MERGED);
-    table(&rt, rt.alloc(), Told::Asked(Question::Moved), MOVED);
+    table(&rt, rt.alloc(), Claim::Asked(Question::Merged), MERGED);
+    table(&rt, rt.alloc(), Claim::Asked(Question::Moved), MOVED);
 }

@@ -1,17 +1,17 @@
-//! What a dimension tells of a layout: whether it fills its stretch of memory without a gap, and where its
-//! indices lie. These are calls of `nd_dim`, asked here since a layout is told by its acceptance.
+//! What a dimension answers of a layout: whether it fills its stretch of memory without a gap, and where its
+//! indices lie. These are calls of `nd_dim`, asked here since a layout is tested by its acceptance.
 //!
 //! A row is a shape and strides, and for offsets an index and its offset as it is kept, or none.
-use crate::told::{Told, table};
+use crate::claim::{Claim, table};
 use nd_dim::{Dimension, unsigned};
 use nd_shape::{CanIndexCheckMode, can_index_slice};
 use std::alloc::Global;
 use test_tables::{Lists, made};
 
-/// Whether a row tells this of a layout: that it is contiguous or isn't; or the offset of its index, as it is
+/// Whether a row says this of a layout: that it is contiguous or isn't; or the offset of its index, as it is
 /// kept, with a test and without, or none. A list of another count is no index of a type that fixes its count.
-pub(crate) fn tells_of_layout<D: Dimension>(
-    told: Told,
+pub(crate) fn layout_holds<D: Dimension>(
+    claim: Claim,
     alloc: Global,
     dim: &D,
     strides: &D,
@@ -19,9 +19,9 @@ pub(crate) fn tells_of_layout<D: Dimension>(
 ) -> bool {
     let wanted = row.fourth.as_slice().first().copied();
     match can_index_slice(1, usize::MAX, dim, strides, CanIndexCheckMode::ReadOnly) {
-        Ok(()) => match told {
-            Told::Contiguous(answer) => D::is_contiguous(dim, strides) == answer,
-            Told::Offset => match made::<D>(alloc, row.third.as_slice()) {
+        Ok(()) => match claim {
+            Claim::Contiguous(answer) => D::is_contiguous(dim, strides) == answer,
+            Claim::Offset => match made::<D>(alloc, row.third.as_slice()) {
                 Some(index) => match dim.stride_offset_checked(strides, &index) {
                     Some(offset) => {
                         Some(unsigned(offset)) == wanted
@@ -133,9 +133,9 @@ const LAST_INDICES: &str = "\
 #[test]
 fn r2_rows(rt: HostRuntime) {
     let alloc = rt.alloc();
-    table(&rt, alloc, Told::Contiguous(true), CONTIGUOUS);
-    table(&rt, alloc, Told::Contiguous(false), NOT_CONTIGUOUS);
-    table(&rt, alloc, Told::Offset, OFFSETS);
-    table(&rt, alloc, Told::Offset, OFFSETS_AT_THE_ENDS);
-    table(&rt, alloc, Told::Offset, LAST_INDICES);
+    table(&rt, alloc, Claim::Contiguous(true), CONTIGUOUS);
+    table(&rt, alloc, Claim::Contiguous(false), NOT_CONTIGUOUS);
+    table(&rt, alloc, Claim::Offset, OFFSETS);
+    table(&rt, alloc, Claim::Offset, OFFSETS_AT_THE_ENDS);
+    table(&rt, alloc, Claim::Offset, LAST_INDICES);
 }

@@ -1,6 +1,8 @@
 //! What is asked of a layout at a dimension type, by rows of tables.
-use crate::acceptance::{has_fault, has_order_faults, is_accepted_along_its_own, is_fault};
-use crate::axes::{AskedOfAxes, are_told};
+use crate::acceptance::{
+    has_fault, has_order_faults, has_size, is_accepted_along_its_own, is_fault,
+};
+use crate::axes::{AskedOfAxes, axes_hold};
 use crate::broadcast::{Sharing, shares};
 use crate::layout::orders;
 use crate::layouts::is_laid_out;
@@ -10,22 +12,24 @@ use nd_shape::{CanIndexCheckMode, strides_non_negative};
 use std::alloc::Global;
 use test_tables::{Lists, made};
 
-/// What is asked of a layout. A row tells its shape and its strides.
+/// What is asked of a layout. A row says its shape and its strides.
 #[derive(Clone, Copy)]
 pub(crate) enum Question {
-    /// All that is told of it.
+    /// All that is known of it.
     Layout,
+    /// The size of the shape, or its fault.
+    Size,
     /// The fault of the shape by the strides of either order, in either mode.
     Orders,
     /// The fault by its strides, which are given, over data in a mode.
     Given(CanIndexCheckMode),
     /// That the shape is accepted along its own strides as by them.
     OwnStrides,
-    /// The fault of the strides, as one leads back.
+    /// The fault of the strides, where one is negative.
     Signs,
     /// Its axes one by one.
     Axes(AskedOfAxes),
-    /// In which order its indices lie one behind another.
+    /// In which order its indices lie one after another.
     Lies,
     /// Two axes as one.
     Merged,
@@ -36,8 +40,8 @@ pub(crate) enum Question {
     Common(Sharing),
 }
 
-/// Whether a row tells what is answered of its layout.
-fn is_told<D: Lengths>(
+/// Whether a row says what is answered of its layout.
+fn has_answer<D: Lengths>(
     alloc: Global,
     question: Question,
     dim: &mut D,
@@ -46,11 +50,12 @@ fn is_told<D: Lengths>(
 ) -> bool {
     match question {
         Question::Layout => is_laid_out(alloc, dim, strides, row),
+        Question::Size => has_size(dim, row),
         Question::Orders => has_order_faults(row.fourth.at(1), dim, row.answer),
         Question::Given(mode) => has_fault(alloc, dim, mode, row),
         Question::OwnStrides => is_accepted_along_its_own(alloc, dim),
         Question::Signs => is_fault(strides_non_negative(strides), row.answer),
-        Question::Axes(asked) => are_told(asked, dim, strides, row),
+        Question::Axes(asked) => axes_hold(asked, dim, strides, row),
         Question::Lies => orders(dim, strides) == row.answer,
         Question::Merged => merges(dim, strides, row),
         Question::Moved => moves(dim, strides, row),
@@ -58,7 +63,7 @@ fn is_told<D: Lengths>(
     }
 }
 
-/// Whether a row tells what is answered. Strides of another count are none of a type that fixes its
+/// Whether a row says what is answered. Strides of another count are none of a type that fixes its
 /// count.
 pub(crate) fn is_answered<D: Lengths>(
     alloc: Global,
@@ -67,7 +72,7 @@ pub(crate) fn is_answered<D: Lengths>(
     row: &Lists<'_>,
 ) -> bool {
     match made::<D>(alloc, row.second.as_slice()) {
-        Some(mut strides) => is_told(alloc, question, dim, &mut strides, row),
+        Some(mut strides) => has_answer(alloc, question, dim, &mut strides, row),
         None => D::NDIM.is_some(),
     }
 }

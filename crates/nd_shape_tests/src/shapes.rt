@@ -5,8 +5,8 @@ ghost use Rattle.nd_base.specs.Signed.{all_signed};
 ghost use Rattle.nd_base.specs.ValidLayout.{IsValidLayout};
 ghost use Rattle.nd_shape.specs.ShapeBuilder.{strides_list};
 
-use crate::told::{Told, table};
-use nd_dim::{IntoDimension, Ix2, IxDyn, Lengths, new_ix2};
+use crate::claim::{Claim, table};
+use nd_dim::{IntoDimension, Ix2, IxDyn, Lengths, Order, new_ix2};
 use nd_shape::{
     CanIndexCheckMode, Shape, ShapeBuilder, StrideShape, Strides, can_index_slice_with_strides,
     size_of_shape_checked,
@@ -237,6 +237,8 @@ enum OfList<'a> {
     Builds(usize, &'a [usize]),
     /// That a call of it asks for memory.
     Asks(Call),
+    /// How the strides of an order, which its shape has by itself, go about memory.
+    OwnStrides(Making),
 }
 
 /// Whether a list of lengths builds shapes of this size and with these strides.
@@ -275,6 +277,14 @@ fn list_holds<D: Lengths, T: ShapeBuilder<Dim = D, Strides = T> + Copy>(
             None => false,
         },
         OfList::Asks(call) => asks(alloc, call, builder),
+        OfList::OwnStrides(making) => {
+            own_strides_are(
+                alloc,
+                making,
+                made::<D>(alloc, lens),
+                made::<D>(alloc, lens),
+            )
+        },
     }
 }
 
@@ -309,7 +319,7 @@ fn r3_rows_of_builders_of_any_number_of_axes(rt: HostRuntime) {
     let alloc = rt.alloc();
     let built = OfList::Builds(24, &[12, 4, 4, 2, 1]);
     assert!(rt; holds_of_list(alloc, &[2, 3, 1, 2, 2], built));
-    table(&rt, alloc, Told::Built, "2,3,1,2,2 1,2,6,6,12");
+    table(&rt, alloc, Claim::Built, "2,3,1,2,2 1,2,6,6,12");
 }
 
 #[test]
@@ -330,7 +340,7 @@ fn r9_rows_of_builders(rt: HostRuntime) {
     let alloc = rt.alloc();
     let built = OfList::Builds(12, &[6, 2, 2, 1]);
     assert!(rt; holds_of_list(alloc, &[2, 3, 1, 2], built));
-    table(&rt, alloc, Told::Built, "2,3,1,2 1,2,6,6");
+    table(&rt, alloc, Claim::Built, "2,3,1,2 1,2,6,6");
 }
 
 /// A call of a builder.
@@ -385,4 +395,58 @@ fn memory_of_given_strides(rt: HostRuntime) {
 #[test]
 fn memory_of_shapes(rt: HostRuntime) {
     assert!(rt; five_ask(rt.alloc(), Call::OwnStrides));
+}
+
+/// How the strides of two shapes go about memory.
+#[derive(Clone, Copy)]
+enum Making {
+    /// They are made.
+    IsDone,
+    /// To make them asks for memory, twice.
+    Asks,
+}
+
+/// The strides that a shape has by itself in an order.
+fn own_strides<D: Lengths>(alloc: Global, order: Order, dim: &D) -> Result<D, AllocError> {
+    match size_of_shape_checked(dim) {
+        Ok(_) => match order {
+            Order::RowMajor => Strides::C.strides_for_dim(alloc, dim),
+            Order::ColumnMajor => Strides::F.strides_for_dim(alloc, dim),
+        },
+        Err(_) => Err(AllocError),
+    }
+}
+
+/// Whether this holds of the strides of one shape by rows and of another one by columns.
+fn own_strides_are<D: Lengths>(
+    alloc: Global,
+    making: Making,
+    dim: Option<D>,
+    other: Option<D>,
+) -> bool {
+    let Some(dim) = dim else {
+        return false;
+    };
+    let Some(other) = other else {
+        return false;
+    };
+    let rows = own_strides(alloc, Order::RowMajor, &dim);
+    let columns = own_strides(alloc, Order::ColumnMajor, &other);
+    match making {
+        Making::IsDone => rows.is_ok() && columns.is_ok(),
+        Making::Asks => asked(alloc, rows, columns),
+    }
+}
+
+#[test]
+fn memory_of_own_strides_of_four_axes(rt: HostRuntime) {
+    let made = OfList::OwnStrides(Making::IsDone);
+    assert!(rt; holds_of_list(rt.alloc(), &[2, 3, 1, 2], made));
+}
+
+// To make the two shapes takes the first two requests.
+#[test]
+fn late_memory_of_own_strides(rt: HostRuntime) {
+    let asks = OfList::OwnStrides(Making::Asks);
+    assert!(rt; holds_of_list(rt.alloc(), &[2, 3, 1, 2, 2], asks));
 }

@@ -10,8 +10,8 @@ use Rattle.nd_base.specs.Offset.{offset_of}
 use Rattle.nd_base.specs.Size.{nonzero_size}
 use Rattle.nd_base.specs.Span.{sum_over_axes, reach_down, reach_up, low_span, high_span}
 use Rattle.nd_base.proofs.laws.IsIndex.{entry_of_index, length_of_index}
-use Rattle.nd_shape_rules.specs.Merge.{IsMergedStride, merged_shape}
-use Rattle.nd_shape_rules.proofs.laws.Merge.{goes_on, lasting_stride, how_it_goes_on}
+use Rattle.nd_shape_rules.specs.Merge.{IsMergedStride, merge_fits, merged_shape, merged_stride}
+use Rattle.nd_shape_rules.proofs.laws.Merge.{how_it_fits}
 use Rattle.ndarray_layout_views.specs.MergedView.{merge_source}
 use Rattle.ndarray_layout_views.proofs.Replaced.{sum_replaced, factor, factor_of_zero, factor_of_other, factor_pos, size_replaced, offset_by_stride, offset_by_entry, index_restored, same_with_entry}
 
@@ -86,9 +86,9 @@ up : Reaches reach_up
 up = record { few = few_up; more = more_up; steps = steps_up }
 
 -- the merged axis, and what is left of the one taken, reach no further than both did
-reach_merged : (f : ℕ → ℤ → ℕ) → Reaches f → (take_len : ℕ) (take_stride : ℤ) (into_len : ℕ) (into_stride : ℤ) (left : ℕ) → left ≤ 1 → goes_on take_len take_stride into_len into_stride ≡ true → f (into_len * take_len) (lasting_stride take_len take_stride into_len into_stride) + f left take_stride ≤ f take_len take_stride + f into_len into_stride
+reach_merged : (f : ℕ → ℤ → ℕ) → Reaches f → (take_len : ℕ) (take_stride : ℤ) (into_len : ℕ) (into_stride : ℤ) (left : ℕ) → left ≤ 1 → merge_fits take_len take_stride into_len into_stride ≡ true → f (into_len * take_len) (merged_stride take_len take_stride into_len into_stride) + f left take_stride ≤ f take_len take_stride + f into_len into_stride
 reach_merged f reaches t ts n is left one h =
-    elim (how_it_goes_on t ts n is h) [
+    elim (how_it_fits t ts n is h) [
       | inl k ↦
           let less : n * t ≤ n * 1 = mul-le-mul_left n k.few in
           rw k.stride (omega (arith, reaches.few left ts one, reaches.more (n * t) n is (omega arith)))
@@ -133,7 +133,7 @@ pub record TwoAxes (shape : List ℕ) (strides : List ℤ) (taken into : ℕ) : 
 abbrev whole : List ℕ → ℕ → ℕ → ℕ
 whole shape taken into = get_or shape into 0 * get_or shape taken 0
 
-sum_merged : (f : ℕ → ℤ → ℕ) → Reaches f → (shape : List ℕ) (strides : List ℤ) (taken into : ℕ) (stride : ℤ) → TwoAxes shape strides taken into → goes_on (get_or shape taken 0) (get_or strides taken (pos 0)) (get_or shape into 0) (get_or strides into (pos 0)) ≡ true → stride ≡ lasting_stride (get_or shape taken 0) (get_or strides taken (pos 0)) (get_or shape into 0) (get_or strides into (pos 0)) → sum_over_axes f (merged_shape taken into shape) (set strides into stride) ≤ sum_over_axes f shape strides
+sum_merged : (f : ℕ → ℤ → ℕ) → Reaches f → (shape : List ℕ) (strides : List ℤ) (taken into : ℕ) (stride : ℤ) → TwoAxes shape strides taken into → merge_fits (get_or shape taken 0) (get_or strides taken (pos 0)) (get_or shape into 0) (get_or strides into (pos 0)) ≡ true → stride ≡ merged_stride (get_or shape taken 0) (get_or strides taken (pos 0)) (get_or shape into 0) (get_or strides into (pos 0)) → sum_over_axes f (merged_shape taken into shape) (set strides into stride) ≤ sum_over_axes f shape strides
 sum_merged f reaches shape strides taken into stride two on is =
     let m = whole shape taken into in
     let u = left_on m in
@@ -186,7 +186,7 @@ size_merged shape taken into there to apart =
               le_of_mul-le-mul_left both (pos_of_ne-zero e)
         ]
 
-pub merge_kept : (shape : List ℕ) (strides : List ℤ) (taken into : ℕ) (stride : ℤ) → TwoAxes shape strides taken into → goes_on (get_or shape taken 0) (get_or strides taken (pos 0)) (get_or shape into 0) (get_or strides into (pos 0)) ≡ true → stride ≡ lasting_stride (get_or shape taken 0) (get_or strides taken (pos 0)) (get_or shape into 0) (get_or strides into (pos 0)) → MergeKept shape strides taken into stride
+pub merge_kept : (shape : List ℕ) (strides : List ℤ) (taken into : ℕ) (stride : ℤ) → TwoAxes shape strides taken into → merge_fits (get_or shape taken 0) (get_or strides taken (pos 0)) (get_or shape into 0) (get_or strides into (pos 0)) ≡ true → stride ≡ merged_stride (get_or shape taken 0) (get_or strides taken (pos 0)) (get_or shape into 0) (get_or strides into (pos 0)) → MergeKept shape strides taken into stride
 merge_kept shape strides taken into stride two on is =
     let m = whole shape taken into in
     record {

@@ -1,10 +1,9 @@
 -- What merging an axis into another makes of a view, and where that is refused.
-use Rattle.std.specs.Prelude.{◌≡◌, ℕ, ◌/◌, ◌%◌, ◌==◌, pos, negsuc, ◌*ℤ◌, Bool, not, ◌&&◌, ◌||◌, nat_lt, nat_le, Option, Some, None, if◌then◌else◌, List, [], ◌∷◌, length, slice_index, slice_index_or, slice_set, refl}
+use Rattle.std.specs.Prelude.{◌≡◌, ℕ, ◌/◌, ◌%◌, ◌==◌, pos, negsuc, Bool, not, ◌&&◌, nat_lt, nat_le, Option, Some, None, if◌then◌else◌, List, [], ◌∷◌, length, slice_index, slice_index_or, slice_set, refl}
 use Rattle.std.specs.Option.{option_or}
-use Rattle.std.specs.Ordering.{int_eq}
 use Rattle.nd_base.specs.declared.error.ErrorKind.{ErrorKind}
 use Rattle.nd_base.specs.declared.error.ErrorKind.TheVariants.{IncompatibleLayout, OutOfBounds, Unsupported}
-use Rattle.nd_shape_rules.specs.Merge.{MergeFits, merged_shape}
+use Rattle.nd_shape_rules.specs.Merge.{MergeFits, merge_fits, merged_shape}
 use Rattle.ndarray_layout_views.specs.View.{View}
 
 -- the fault of the axes that are named: both are there, and they are two
@@ -15,9 +14,14 @@ axes_fault shape take into = if not (nat_lt take (length shape) && nat_lt into (
 abbrev pub HasMergedStride : ℕ → ℕ → View → Type 0
 HasMergedStride take into view = MergeFits (slice_index view.shape take) (slice_index_or view.strides take (pos 0)) (slice_index view.shape into) (slice_index_or view.strides into (pos 0))
 
--- the same as a test: one of the axes has at most one entry, or the axis to take goes on where the other one ends
+-- the test for it
 abbrev pub has_merged_stride : ℕ → ℕ → View → Bool
-has_merged_stride take into view = nat_le (slice_index view.shape take) 1 || nat_le (slice_index view.shape into) 1 || int_eq (slice_index_or view.strides take (pos 0)) (pos (slice_index view.shape into) *ℤ slice_index_or view.strides into (pos 0))
+has_merged_stride take into view =
+    merge_fits
+    (slice_index view.shape take)
+    (slice_index_or view.strides take (pos 0))
+    (slice_index view.shape into)
+    (slice_index_or view.strides into (pos 0))
 
 -- the fault where the axes have to be merged: that of the axes, and then that no stride has the entries of both
 abbrev pub merge_fault : ℕ → ℕ → View → Option ErrorKind

@@ -1,13 +1,21 @@
 -- Laws of how far an index lies from the first one.
-use Rattle.std.proofs.Common.{◌≡◌, ℕ, suc, ◌-◌, ◌*◌, ◌<◌, ◌≤◌, ℤ, pos, negsuc, neg_ℤ, ◌+ℤ◌, ◌*ℤ◌, ◌≤ℤ◌, true, List, [], ◌∷◌, ◌++◌, length, reverse, refl, ap, ◌∙◌, arith}
+use Rattle.std.proofs.Common.{◌≡◌, ℕ, suc, ◌-◌, ◌*◌, ◌<◌, ◌≤◌, ℤ, pos, negsuc, neg_ℤ, ◌+ℤ◌, ◌*ℤ◌, ◌≤ℤ◌, Bool, true, false, cond, Some, None, List, [], ◌∷◌, ◌++◌, length, reverse, refl, ap, ◌∙◌, arith}
 use Rattle.std.specs.Prelude.{nat_lt}
+use Rattle.std.specs.List.{All}
 use Rattle.std.proofs.Math.Nat.{mul-le-mul_right}
 use Rattle.std.proofs.lemmas.Bool.{and_parts, ltb-true}
 use Rattle.std.proofs.lemmas.Int.{ints}
-use Rattle.std.proofs.lemmas.List.{length-reverse, reverse-append}
+use Rattle.std.proofs.lemmas.List.{length-map, length-reverse, reverse-append}
 use Rattle.nd_base.specs.Indices.{is_index}
-use Rattle.nd_base.specs.Offset.{offset_of}
+use Rattle.nd_base.specs.Offset.{offset_of, checked_offset}
+use Rattle.nd_base.specs.Reach.{farthest_offset}
+use Rattle.nd_base.specs.Signed.{signed, all_signed}
+use Rattle.nd_base.specs.Size.{limit}
 use Rattle.nd_base.specs.Span.{reach_down, reach_up, low_span, high_span}
+use Rattle.nd_base.specs.ValidLayout.{IsValidLayout}
+use Rattle.nd_base.proofs.laws.IsIndex.{length_of_index}
+use Rattle.nd_base.proofs.laws.NonzeroSize.{entry_le_nonzero_size}
+use Rattle.nd_base.proofs.laws.Reach.{farthest_offset_le}
 
 -- one entry lies within the reach of its axis
 pub entry_bounds : (len : ℕ) (stride : ℤ) (i : ℕ) → i < len → (neg_ℤ (pos (reach_down len stride)) ≤ℤ (pos i *ℤ stride)) × ((pos i *ℤ stride) ≤ℤ pos (reach_up len stride))
@@ -48,3 +56,36 @@ offset_of-reverse (s ∷ strides) [] e = absurd (omega arith)
 offset_of-reverse (s ∷ strides) (j ∷ index) e =
     let counts : length (reverse strides) ≡ length (reverse index) = omega (arith, length-reverse strides, length-reverse index) in
     rw (reverse-append (s ∷ []) strides, reverse-append (j ∷ []) index) (offset_of-push (reverse strides) (reverse index) s j counts ∙ ap (λ z. (pos j *ℤ s) +ℤ z) (offset_of-reverse strides index (omega arith)))
+
+-- ---- offsets that are given
+-- a list whose offset is given is an index of the shape, and that is its offset
+pub given_offset : (shape : List ℕ) (strides : List ℤ) (index : List ℕ) (offset : ℤ)
+    → checked_offset shape strides index ≡ Some offset
+    → (is_index shape index ≡ true) × (offset ≡ offset_of strides index)
+given_offset shape strides index offset e = by (is_index shape index) refl e
+  where
+    by : (t : Bool) → is_index shape index ≡ t → cond t (Some (offset_of strides index)) None ≡ Some offset
+        → (is_index shape index ≡ true) × (offset ≡ offset_of strides index)
+    by true h g = (h, cc)
+    by false h g = absurd (cc)
+
+-- what a call asks that adds up an offset whatever the shape: a stride for each entry, and every part of the sum fits
+pub record CanAddUp (strides index : List ℕ) : Type 0 where
+  pub same_count : length index ≡ length strides
+  pub small : All (λ entry. entry ≤ limit) index
+  pub fits : farthest_offset (all_signed strides) index ≤ limit
+
+-- an index of a valid layout meets it
+pub index_can_add_up : (shape strides index : List ℕ) → IsValidLayout shape (all_signed strides)
+    → is_index shape index ≡ true → CanAddUp strides index
+index_can_add_up shape strides index valid here = record {
+  same_count = omega (arith, length_of_index shape index here, valid.same_count, length-map strides signed);
+  small = λ k d below. omega (arith, entry_le_nonzero_size shape index here k d below, valid.size_fits);
+  fits = omega (arith, farthest_offset_le shape (all_signed strides) index here, valid.span_fits);
+}
+
+-- and so does a list whose offset is given
+pub given_offset_can_add_up : (shape strides index : List ℕ) (offset : ℤ) → IsValidLayout shape (all_signed strides)
+    → checked_offset shape (all_signed strides) index ≡ Some offset → CanAddUp strides index
+given_offset_can_add_up shape strides index offset valid e =
+    index_can_add_up shape strides index valid (given_offset shape (all_signed strides) index offset e).0

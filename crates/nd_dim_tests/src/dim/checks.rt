@@ -190,8 +190,10 @@ pub(crate) fn stays<D: Dimension + IntoDimension<Dim = D>>(
     lens: &[usize],
 ) -> bool {
     let dim: D = dim_of(rt, alloc, lens);
+    let other: D = dim_of(rt, alloc, lens);
+    let makes_itself = gives(other.into_dimension(alloc), lens);
     match dim.into_pattern().into_dimension(alloc) {
-        Ok(same) => same.slice() == lens && gives(same.into_dimension(alloc), lens),
+        Ok(same) => makes_itself && same.slice() == lens,
         Err(_) => false,
     }
 }

@@ -30,6 +30,14 @@ standard_room len shape h = grind (arith, common_steps)
 pub standard_accepted_inside : (order : Order) (len : ℕ) (shape : List ℕ) → acceptance_of_standard len shape ≡ None → LiesInside len 0 shape (all_signed (standard_strides order shape))
 standard_accepted_inside order len shape h = standard_inside order len shape (standard_size len shape h) (standard_room len shape h)
 
+-- every sum on it fits
+pub standard_accepted_valid : (order : Order) (len : ℕ) (shape : List ℕ) → acceptance_of_standard len shape ≡ None → IsValidLayout shape (all_signed (standard_strides order shape))
+standard_accepted_valid order len shape h = standard_valid order shape (standard_size len shape h)
+
+-- and every two indices have offsets of their own
+pub standard_accepted_distinct : (order : Order) (len : ℕ) (shape : List ℕ) → acceptance_of_standard len shape ≡ None → HasDistinctOffsets shape (all_signed (standard_strides order shape))
+standard_accepted_distinct order len shape h = standard_distinct order shape (standard_size len shape h)
+
 -- ---- by their own strides or by given ones
 from_low_span : (order : Order) (len : ℕ) (shape : List ℕ) → acceptance_of_standard len shape ≡ None → LiesInside len (low_span shape (all_signed (standard_strides order shape))) shape (all_signed (standard_strides order shape))
 from_low_span order len shape h = rw (standard_low_span order shape (standard_size len shape h)) (standard_accepted_inside order len shape h)

@@ -6,7 +6,7 @@ ghost use Rattle.std.specs.Iterator.SizeHint.{IsWithinCount};
 use nd_dim::{Axis, signed};
 use std::iter::FusedIterator;
 
-/// An axis, its length, and its stride in elements. Upstream's `AxisDescription`.
+/// An axis, its length, and its stride in elements. ndarray's `AxisDescription`.
 #[derive(Clone, Copy, Debug)]
 pub struct AxisDescription {
     /// The axis.
@@ -17,7 +17,7 @@ pub struct AxisDescription {
     pub stride: isize,
 }
 
-/// The axes of a layout that are still to come, from either end. Upstream's `Axes`.
+/// The axes of a layout that are still to come, from either end. ndarray's `Axes`.
 #[derive(Clone, Copy, Debug)]
 pub struct Axes<'a> {
     // The number of the first axis that is left, and the lengths and strides from it on.

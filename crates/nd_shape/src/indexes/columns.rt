@@ -13,7 +13,7 @@ use std::iter::FusedIterator;
 use std::marker::Model;
 
 /// A walk over the indices of a shape in column-major order, where the first axis moves fastest. A contract sees
-/// the list of those that are still to come. Upstream's `IndicesIterF`.
+/// the list of those that are still to come. ndarray's `IndicesIterF`.
 #[derive(Drop)]
 pub struct IndicesIterF<D: Lengths> {
     dim: D,

@@ -14,7 +14,7 @@ use std::alloc::{AllocError, Global};
 use std::marker::Model;
 
 /// A walk over the indices of a shape in row-major order, where the last axis moves fastest. A
-/// contract sees the list of those that are still to come. In place of upstream's `IndicesIter`
+/// contract sees the list of those that are still to come. In place of ndarray's `IndicesIter`
 /// over `IxDyn`.
 #[derive(Drop)]
 pub struct IndexCursor {
@@ -29,22 +29,24 @@ impl Model for IndexCursor {
     ghost use Rattle.std.specs.Prelude.{ℕ, List};
     ghost use Rattle.nd_base.specs.declared.order.Order.TheVariants.{RowMajor};
     ghost use Rattle.nd_base.specs.Dim.{lengths};
-    ghost use Rattle.nd_shape.specs.IndicesLeft.{indices_left, StandsBehind};
+    ghost use Rattle.nd_shape.specs.IndicesLeft.{indices_left, StandsAfter};
 
     ghost Value = { List (List ℕ) };
 
     ghost view = { λ cursor. indices_left RowMajor (lengths cursor.dim) cursor.left };
 
-    ghost invariant = { λ cursor. StandsBehind RowMajor (lengths cursor.dim)
+    ghost invariant = { λ cursor. StandsAfter RowMajor (lengths cursor.dim)
         cursor.is_lent cursor.left (lengths cursor.index) };
 }
 
 impl IndexCursor {
     ghost use Rattle.nd_shape.specs.contracts.indexes.cursors.IndexCursor.{the_row};
 
-    /// The walk over all indices of a shape, whose size fits.
+    /// The walk over all indices of a shape.
     ///
-    /// Errors: want of memory, and none where there are at most 4 axes.
+    /// The caller ensures that the product of the lengths is less than 2^64 (`size_checked`).
+    ///
+    /// Errors: memory is refused; never where there are at most 4 axes.
     pub fn new(alloc: Global, dim: IxDyn) -> Result<Self, AllocError>
         requires { size (lengths dim) < 2 ^ 64 }
         ensures items { IfOk result (λ cursor. cursor ≡ indices_in RowMajor (lengths dim)) }
@@ -60,7 +62,7 @@ impl IndexCursor {
         })
     }
 
-    /// Lends the next index, or `None` behind the last one, there for ever. Takes no memory.
+    /// Lends the next index, or `None` after the last one, however often it is called. Takes no memory.
     #[inline]
     pub fn next(&mut self) -> Option<&[usize]>
         ensures* rest { sem 𝓛 (Rests the_row self.entry (λ left. left ≡ drop 1 self.old)) }
@@ -86,7 +88,7 @@ impl IndexCursor {
 }
 
 /// A walk over the indices of a shape in column-major order, where the first axis moves fastest. A
-/// contract sees the list of those that are still to come. In place of upstream's `IndicesIterF`
+/// contract sees the list of those that are still to come. In place of ndarray's `IndicesIterF`
 /// over `IxDyn`.
 #[derive(Drop)]
 pub struct IndexCursorF {
@@ -101,22 +103,24 @@ impl Model for IndexCursorF {
     ghost use Rattle.std.specs.Prelude.{ℕ, List};
     ghost use Rattle.nd_base.specs.declared.order.Order.TheVariants.{ColumnMajor};
     ghost use Rattle.nd_base.specs.Dim.{lengths};
-    ghost use Rattle.nd_shape.specs.IndicesLeft.{indices_left, StandsBehind};
+    ghost use Rattle.nd_shape.specs.IndicesLeft.{indices_left, StandsAfter};
 
     ghost Value = { List (List ℕ) };
 
     ghost view = { λ cursor. indices_left ColumnMajor (lengths cursor.dim) cursor.left };
 
-    ghost invariant = { λ cursor. StandsBehind ColumnMajor (lengths cursor.dim)
+    ghost invariant = { λ cursor. StandsAfter ColumnMajor (lengths cursor.dim)
         cursor.is_lent cursor.left (lengths cursor.index) };
 }
 
 impl IndexCursorF {
     ghost use Rattle.nd_shape.specs.contracts.indexes.cursors.IndexCursorF.{the_row};
 
-    /// The walk over all indices of a shape, whose size fits.
+    /// The walk over all indices of a shape.
     ///
-    /// Errors: want of memory, and none where there are at most 4 axes.
+    /// The caller ensures that the product of the lengths is less than 2^64 (`size_checked`).
+    ///
+    /// Errors: memory is refused; never where there are at most 4 axes.
     pub fn new(alloc: Global, dim: IxDyn) -> Result<Self, AllocError>
         requires { size (lengths dim) < 2 ^ 64 }
         ensures items { IfOk result (λ cursor. cursor ≡ indices_in ColumnMajor (lengths dim)) }
@@ -132,7 +136,7 @@ impl IndexCursorF {
         })
     }
 
-    /// Lends the next index, or `None` behind the last one, there for ever. Takes no memory.
+    /// Lends the next index, or `None` after the last one, however often it is called. Takes no memory.
     #[inline]
     pub fn next(&mut self) -> Option<&[usize]>
         ensures* rest { sem 𝓛 (Rests the_row self.entry (λ left. left ≡ drop 1 self.old)) }

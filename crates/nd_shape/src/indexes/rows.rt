@@ -12,7 +12,7 @@ use std::alloc::{AllocError, Global};
 use std::iter::FusedIterator;
 use std::marker::Model;
 
-/// All indices of a shape, which a `for` loop walks in row-major order. Upstream's `Indices`.
+/// All indices of a shape, which a `for` loop walks in row-major order. ndarray's `Indices`.
 #[derive(Debug, Drop)]
 pub struct Indices<D: Lengths> {
     start: D,
@@ -49,7 +49,7 @@ impl<D: Lengths + Copy> Clone for Indices<D> {
 impl<D: Lengths + Copy> Copy for Indices<D> {}
 
 /// A walk over the indices of a shape in row-major order, where the last axis moves fastest. A contract sees
-/// the list of those that are still to come. Upstream's `IndicesIter`.
+/// the list of those that are still to come. ndarray's `IndicesIter`.
 #[derive(Drop)]
 pub struct IndicesIter<D: Lengths> {
     dim: D,

@@ -7,16 +7,23 @@ use Rattle.nd_base.specs.Signed.{all_signed}
 use Rattle.nd_base.specs.Size.{size, nonzero_size, is_empty, limit}
 use Rattle.nd_base.specs.Span.{span, low_span}
 use Rattle.nd_base.specs.ValidLayout.{IsValidLayout}
-use Rattle.nd_shape_rules.specs.Acceptance.{acceptance, leaves_data}
+use Rattle.nd_shape_rules.specs.Acceptance.{size_fault, acceptance, leaves_data}
 use Rattle.nd_base.specs.DistinctOffsets.{HasDistinctOffsets}
 use Rattle.nd_base.specs.Inside.{LiesInside}
 use Rattle.nd_shape_rules.specs.OwnedRule.{meets_owned_rule}
 use Rattle.nd_shape_rules.specs.declared.checks.CanIndexCheckMode.{CanIndexCheckMode}
 use Rattle.nd_shape_rules.specs.declared.checks.CanIndexCheckMode.TheVariants.{OwnedMutable}
 use Rattle.nd_base.proofs.laws.IsIndex.{nonempty_from_index}
-use Rattle.nd_shape_rules.proofs.laws.DistinctOffsets.{distinct_from_rule}
+use Rattle.nd_shape_rules.proofs.laws.DistinctOffsets.{distinct_without_overlap}
 use Rattle.nd_base.proofs.laws.Inside.{lies_inside_from_span}
-use Rattle.nd_shape_rules.proofs.laws.OwnedRule.{no_overlap}
+
+-- where sizes and reach have no fault, every sum on the layout fits
+pub sized_valid : (elem_size : ℕ) (shape : List ℕ) (strides : List ℤ) → size_fault elem_size shape strides ≡ None → IsValidLayout shape strides
+sized_valid elem_size shape strides h = record {
+  same_count = grind (arith, common_steps);
+  size_fits = grind (arith, common_steps);
+  span_fits = grind (arith, common_steps);
+}
 
 -- an accepted layout does not leave the data
 pub accepted_stays : (elem_size len : ℕ) (mode : CanIndexCheckMode) (shape : List ℕ) (strides : List ℤ) → acceptance elem_size len mode shape strides ≡ None → leaves_data len shape strides ≡ false
@@ -48,9 +55,5 @@ accepted_apart elem_size len shape strides h = grind (arith, common_steps)
 
 -- of a layout accepted to be written, every two indices have offsets of their own
 pub accepted_distinct : (elem_size len : ℕ) (shape : List ℕ) (strides : List ℤ) → acceptance elem_size len OwnedMutable shape strides ≡ None → HasDistinctOffsets shape strides
-accepted_distinct elem_size len shape strides h index other here there same =
-    let some : is_empty shape ≡ false = nonempty_from_index shape index here in
-    elim ((no_overlap shape strides).0 (accepted_apart elem_size len shape strides h)) [
-      | inl none ↦ absurd (both_ways (is_empty shape) some none)
-      | inr rule ↦ distinct_from_rule shape strides (accepted_count elem_size len OwnedMutable shape strides h) rule index other here there same
-    ]
+accepted_distinct elem_size len shape strides h =
+    distinct_without_overlap shape strides (accepted_count elem_size len OwnedMutable shape strides h) (accepted_apart elem_size len shape strides h)

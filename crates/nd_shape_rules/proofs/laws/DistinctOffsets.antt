@@ -1,18 +1,19 @@
 -- Laws of layouts that place no two of their indices at one element.
-use Rattle.std.proofs.Common.{◌≡◌, ◌≢◌, ℕ, zero, suc, ◌-◌, ◌*◌, ◌<◌, ◌≤◌, ℤ, pos, negsuc, ◌+ℤ◌, ◌*ℤ◌, ◌≤ℤ◌, true, List, [], ◌∷◌, length, get_or, refl, sym, ◌∙◌, ◌⊎◌, inl, inr, arith}
-use Rattle.std.specs.Prelude.{nat_lt, nat_le, remove}
+use Rattle.std.proofs.Common.{◌≡◌, ◌≢◌, ℕ, zero, suc, ◌-◌, ◌*◌, ◌<◌, ◌≤◌, ℤ, pos, negsuc, ◌+ℤ◌, ◌*ℤ◌, ◌≤ℤ◌, true, false, List, [], ◌∷◌, length, get_or, refl, sym, ◌∙◌, ◌⊎◌, inl, inr, arith}
+use Rattle.std.specs.Prelude.{nat_lt, nat_le, remove, not, ◌&&◌}
 use Rattle.std.proofs.Math.Nat.{mul-le-mul_right, suc-mul}
-use Rattle.std.proofs.lemmas.Bool.{and_from, and_parts, cases_eq, cases_lt, cases_order, cond-true, le-leb, ltb-true}
+use Rattle.std.proofs.lemmas.Bool.{and_from, and_parts, both_ways, cases_eq, cases_lt, cases_order, cond-true, le-leb, ltb-true}
 use Rattle.std.proofs.lemmas.Int.{ints}
 use Rattle.nd_base.specs.Indices.{is_index}
 use Rattle.nd_base.specs.Offset.{offset_of}
 use Rattle.nd_base.specs.Signed.{magnitude}
+use Rattle.nd_base.specs.Size.{is_empty}
 use Rattle.nd_base.specs.Span.{reach}
 use Rattle.nd_base.specs.DistinctOffsets.{HasDistinctOffsets}
 use Rattle.nd_dim.specs.AxisOrder.{magnitude_at}
-use Rattle.nd_shape_rules.specs.OwnedRule.{span_up_to, span_of_others, MeetsOwnedRule}
-use Rattle.nd_base.proofs.laws.IsIndex.{length_of_index, entry_of_index}
-use Rattle.nd_shape_rules.proofs.laws.OwnedRule.{reach_up_to}
+use Rattle.nd_shape_rules.specs.OwnedRule.{span_up_to, span_of_others, meets_owned_rule, MeetsOwnedRule}
+use Rattle.nd_base.proofs.laws.IsIndex.{length_of_index, entry_of_index, nonempty_from_index}
+use Rattle.nd_shape_rules.proofs.laws.OwnedRule.{reach_up_to, no_overlap}
 
 -- where two lists of entries differ, the strides are of magnitude at most m
 abbrev DiffersUpTo : ℕ → List ℤ → List ℕ → List ℕ → Type 0
@@ -189,4 +190,13 @@ distinct_from_rule shape strides count rule index other h g same =
     elim (longest_difference strides index other entries others) [
       | inl equal ↦ equal
       | inr found ↦ absurd (told_apart shape strides index other found.0 count rule h g found.1 same)
+    ]
+
+-- where the test for a shared element fails, no two indices share one: a shape without an index has no two
+pub distinct_without_overlap : (shape : List ℕ) (strides : List ℤ) → length shape ≡ length strides → (not (is_empty shape) && not (meets_owned_rule shape strides)) ≡ false → HasDistinctOffsets shape strides
+distinct_without_overlap shape strides count apart index other h g same =
+    let some : is_empty shape ≡ false = nonempty_from_index shape index h in
+    elim ((no_overlap shape strides).0 apart) [
+      | inl none ↦ absurd (both_ways (is_empty shape) some none)
+      | inr rule ↦ distinct_from_rule shape strides count rule index other h g same
     ]

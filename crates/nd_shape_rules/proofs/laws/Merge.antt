@@ -5,38 +5,30 @@ use Rattle.std.specs.Ordering.{int_eq}
 use Rattle.std.specs.Prelude.{◌||◌, ◌&&◌}
 use Rattle.std.proofs.lemmas.Bool.{and_from, and_left, and_right, cases_lt, cond-false, cond-true, le-leb, le-ltb, lt-leb, lt-ltb}
 use Rattle.std.proofs.lemmas.Bool.Decides.{Decides-int_eq}
-use Rattle.nd_shape_rules.specs.Merge.{IsMergedStride, MergeFits}
+use Rattle.nd_shape_rules.specs.Merge.{IsMergedStride, MergeFits, merge_fits, merged_stride}
 use Rattle.nd_shape_rules.proofs.MergedStride.{short_taken, into_short, steps_on, steps_on_from_fit}
 
--- an axis has at most one entry, or the axis to take goes on where the other one ends
-abbrev pub goes_on : ℕ → ℤ → ℕ → ℤ → Bool
-goes_on take_len take_stride into_len into_stride = leb take_len 1 || leb into_len 1 || int_eq take_stride (pos into_len *ℤ into_stride)
-
--- the stride of the axis merged into, or of the other where only that one has more than one entry
-abbrev pub lasting_stride : ℕ → ℤ → ℕ → ℤ → ℤ
-lasting_stride take_len take_stride into_len into_stride = cond (ltb 1 take_len && leb into_len 1) take_stride into_stride
-
--- which of the three it is
+-- why a merge fits, and which stride the merged axis has
 pub record FewTaken (take_len : ℕ) (take_stride : ℤ) (into_len : ℕ) (into_stride : ℤ) : Type 0 where
   pub few : take_len ≤ 1
-  pub stride : lasting_stride take_len take_stride into_len into_stride ≡ into_stride
+  pub stride : merged_stride take_len take_stride into_len into_stride ≡ into_stride
 
 pub record IntoFew (take_len : ℕ) (take_stride : ℤ) (into_len : ℕ) (into_stride : ℤ) : Type 0 where
   pub more : 1 < take_len
   pub few : into_len ≤ 1
-  pub stride : lasting_stride take_len take_stride into_len into_stride ≡ take_stride
+  pub stride : merged_stride take_len take_stride into_len into_stride ≡ take_stride
 
 pub record StepsOn (take_len : ℕ) (take_stride : ℤ) (into_len : ℕ) (into_stride : ℤ) : Type 0 where
   pub taken : 1 < take_len
   pub into : 1 < into_len
   pub on : take_stride ≡ pos into_len *ℤ into_stride
-  pub stride : lasting_stride take_len take_stride into_len into_stride ≡ into_stride
+  pub stride : merged_stride take_len take_stride into_len into_stride ≡ into_stride
 
-abbrev pub HowItGoesOn : ℕ → ℤ → ℕ → ℤ → Type 0
-HowItGoesOn take_len take_stride into_len into_stride = FewTaken take_len take_stride into_len into_stride ⊎ (IntoFew take_len take_stride into_len into_stride ⊎ StepsOn take_len take_stride into_len into_stride)
+abbrev pub HowItFits : ℕ → ℤ → ℕ → ℤ → Type 0
+HowItFits take_len take_stride into_len into_stride = FewTaken take_len take_stride into_len into_stride ⊎ (IntoFew take_len take_stride into_len into_stride ⊎ StepsOn take_len take_stride into_len into_stride)
 
-pub how_it_goes_on : (take_len : ℕ) (take_stride : ℤ) (into_len : ℕ) (into_stride : ℤ) → goes_on take_len take_stride into_len into_stride ≡ true → HowItGoesOn take_len take_stride into_len into_stride
-how_it_goes_on take_len take_stride into_len into_stride h =
+pub how_it_fits : (take_len : ℕ) (take_stride : ℤ) (into_len : ℕ) (into_stride : ℤ) → merge_fits take_len take_stride into_len into_stride ≡ true → HowItFits take_len take_stride into_len into_stride
+how_it_fits take_len take_stride into_len into_stride h =
     let here = ltb 1 take_len && leb into_len 1 in
     elim (cases_lt 1 take_len) [
       | inr few ↦ inl (record {
@@ -60,10 +52,10 @@ how_it_goes_on take_len take_stride into_len into_stride h =
       ]
     ]
 
--- then that stride has every entry of both
-pub lasting_stride_serves : (take_len : ℕ) (take_stride : ℤ) (into_len : ℕ) (into_stride : ℤ) → goes_on take_len take_stride into_len into_stride ≡ true → IsMergedStride take_len take_stride into_len into_stride (lasting_stride take_len take_stride into_len into_stride)
-lasting_stride_serves take_len take_stride into_len into_stride h =
-    elim (how_it_goes_on take_len take_stride into_len into_stride h) [
+-- where it fits, the stride of the merged axis has every entry of both
+pub merged_stride_serves : (take_len : ℕ) (take_stride : ℤ) (into_len : ℕ) (into_stride : ℤ) → merge_fits take_len take_stride into_len into_stride ≡ true → IsMergedStride take_len take_stride into_len into_stride (merged_stride take_len take_stride into_len into_stride)
+merged_stride_serves take_len take_stride into_len into_stride h =
+    elim (how_it_fits take_len take_stride into_len into_stride h) [
       | inl k ↦ rw k.stride (short_taken take_len take_stride into_len into_stride k.few)
       | inr k ↦ elim k [
         | inl k ↦ rw k.stride (into_short take_len take_stride into_len into_stride k.few)
@@ -71,10 +63,10 @@ lasting_stride_serves take_len take_stride into_len into_stride h =
       ]
     ]
 
--- and else none does
-pub goes_on-Decides : (take_len : ℕ) (take_stride : ℤ) (into_len : ℕ) (into_stride : ℤ) → Decides (goes_on take_len take_stride into_len into_stride) (MergeFits take_len take_stride into_len into_stride)
-goes_on-Decides take_len take_stride into_len into_stride = (
-  λ h. (lasting_stride take_len take_stride into_len into_stride, lasting_stride_serves take_len take_stride into_len into_stride h),
+-- the test answers where some stride does
+pub merge_fits-Decides : (take_len : ℕ) (take_stride : ℤ) (into_len : ℕ) (into_stride : ℤ) → Decides (merge_fits take_len take_stride into_len into_stride) (MergeFits take_len take_stride into_len into_stride)
+merge_fits-Decides take_len take_stride into_len into_stride = (
+  λ h. (merged_stride take_len take_stride into_len into_stride, merged_stride_serves take_len take_stride into_len into_stride h),
   λ fits.
       elim (cases_lt 1 take_len) [
         | inr few ↦ rw (le-leb take_len 1 few) refl

@@ -16,6 +16,8 @@ fn indices_of<D: Dimension + Copy>(
     alloc: Global,
     view: &Strided<D>,
 ) -> Result<Indices<D>, AllocError>
+where
+    D::Pattern: IntoDimension<Dim = D>,
     ensures { IfOk result (λ indices. D.list indices.dim ≡ view.now.shape) }
 {
     let dim = *view.dim();
@@ -28,6 +30,8 @@ fn place_of<D: Dimension>(
     view: &Strided<D>,
     item: D::Pattern,
 ) -> Result<usize, AllocError>
+where
+    D::Pattern: IntoDimension<Dim = D>,
     requires { is_index view.now.shape (D.Pattern.lens item) ≡ true }
     ensures { IfOk result (λ place. place ≡ nat_abs (place_at view.now (D.Pattern.lens item))) }
 {
@@ -37,6 +41,8 @@ fn place_of<D: Dimension>(
 
 /// The places of all indices of a view together, by one walk over the indices.
 fn sum_of_places<D: Dimension + Copy>(alloc: Global, view: &Strided<D>) -> Result<usize, AllocError>
+where
+    D::Pattern: IntoDimension<Dim = D>,
     requires sum_fits { sum (map nat_abs (view_places RowMajor view.now)) < 2 ^ 64 }
     ensures { IfOk result (λ total. total ≡ sum (map nat_abs (view_places RowMajor view.now))) }
 {

@@ -9,8 +9,8 @@ use Rattle.std.specs.Prelude.{◌&&◌}
 use Rattle.nd_base.specs.declared.error.ErrorKind.{ErrorKind}
 use Rattle.nd_base.specs.declared.error.ErrorKind.TheVariants.{IncompatibleLayout, OutOfBounds, Unsupported}
 use Rattle.nd_base.proofs.laws.Span.{low_high_span}
-use Rattle.nd_shape_rules.specs.Merge.{IsMergedStride}
-use Rattle.nd_shape_rules.proofs.laws.Merge.{goes_on-Decides, lasting_stride, lasting_stride_serves}
+use Rattle.nd_shape_rules.specs.Merge.{IsMergedStride, merged_stride}
+use Rattle.nd_shape_rules.proofs.laws.Merge.{merge_fits-Decides, merged_stride_serves}
 use Rattle.ndarray_layout_views.specs.DistinctPlaces.{HasDistinctPlaces}
 use Rattle.ndarray_layout_views.specs.KeepsPlaces.{KeepsPlaces}
 use Rattle.ndarray_layout_views.specs.MergedView.{axes_fault, HasMergedStride, has_merged_stride, merge_fault, lasting_axis, merge_of, merge_source}
@@ -20,7 +20,7 @@ use Rattle.ndarray_layout_views.proofs.Merged.{TwoAxes, MergeKept, merge_kept, m
 
 -- the test says where some stride has the entries of both axes
 pub has_merged_stride-Decides : (take into : ℕ) (view : View) → Decides (has_merged_stride take into view) (HasMergedStride take into view)
-has_merged_stride-Decides take into view = goes_on-Decides (get_or view.shape take 0) (get_or view.strides take (pos 0)) (get_or view.shape into 0) (get_or view.strides into (pos 0))
+has_merged_stride-Decides take into view = merge_fits-Decides (get_or view.shape take 0) (get_or view.strides take (pos 0)) (get_or view.shape into 0) (get_or view.strides into (pos 0))
 
 -- axes without fault are two that there are
 pub record AreTwoAxes (shape : List ℕ) (take into : ℕ) : Type 0 where
@@ -77,7 +77,7 @@ stride_of : (strides : List ℤ) (take into : ℕ) (taken : Bool) → get_or str
 stride_of strides take into true = refl
 stride_of strides take into false = refl
 
-lasting : (take into : ℕ) (view : View) → get_or view.strides (lasting_axis take into view.shape) (pos 0) ≡ lasting_stride (get_or view.shape take 0) (get_or view.strides take (pos 0)) (get_or view.shape into 0) (get_or view.strides into (pos 0))
+lasting : (take into : ℕ) (view : View) → get_or view.strides (lasting_axis take into view.shape) (pos 0) ≡ merged_stride (get_or view.shape take 0) (get_or view.strides take (pos 0)) (get_or view.shape into 0) (get_or view.strides into (pos 0))
 lasting take into view = stride_of view.strides take into (ltb 1 (get_or view.shape take 0) && leb (get_or view.shape into 0) 1)
 
 kept : (take into : ℕ) (view : View) → IsView view → merge_fault take into view ≡ None → MergeKept view.shape view.strides take into (get_or view.strides (lasting_axis take into view.shape) (pos 0))
@@ -106,7 +106,7 @@ IsView-merge_of take into view v none =
 pub KeepsPlaces-merge_of : (take into : ℕ) (view : View) → IsView view → merge_fault take into view ≡ None → KeepsPlaces (merge_source take into view.shape) view (merge_of take into view)
 KeepsPlaces-merge_of take into view v none = λ entries here.
     let can = can_merge take into view none in
-    let serves = subst (IsMergedStride (get_or view.shape take 0) (get_or view.strides take (pos 0)) (get_or view.shape into 0) (get_or view.strides into (pos 0))) (sym (lasting take into view)) (lasting_stride_serves (get_or view.shape take 0) (get_or view.strides take (pos 0)) (get_or view.shape into 0) (get_or view.strides into (pos 0)) can.stride) in
+    let serves = subst (IsMergedStride (get_or view.shape take 0) (get_or view.strides take (pos 0)) (get_or view.shape into 0) (get_or view.strides into (pos 0))) (sym (lasting take into view)) (merged_stride_serves (get_or view.shape take 0) (get_or view.strides take (pos 0)) (get_or view.shape into 0) (get_or view.strides into (pos 0)) can.stride) in
     let stays = merge_source_kept view.shape view.strides take into (get_or view.strides (lasting_axis take into view.shape) (pos 0)) entries (two_axes take into view v can.axes) serves here in
     (stays.within, omega (arith, ints, stays.offset))
 

@@ -1,7 +1,8 @@
 -- The axis is the one sought among those so far.
+use Rattle.std.proofs.Common.{◌≤◌, ◌-◌, length}
 use Rattle.nd_base.specs.Signed.{all_signed}
-use Rattle.nd_dim.proofs.StrideAxes.{IsLeastBelow}
+use Rattle.nd_dim.proofs.StrideAxes.{LeadsBelow}
 use Rattle.nd_dim.proofs.stride_axes.min_stride_axis.Given as goal
 
 abbrev pub invariant-loop-axis : goal.invariant-loop-axis
-invariant-loop-axis l = IsLeastBelow l.lens (all_signed l.strides) l.axis l.least
+invariant-loop-axis l = LeadsBelow (λ m n. m ≤ n) (length l.lens - 1) l.lens (all_signed l.strides) l.axis l.least

@@ -1,28 +1,15 @@
-use Rattle.std.proofs.Common.{◌<◌, ◌≤◌, ◌*◌, ◌-◌, length, arith, sym, ap, pos, refl, ◌∙◌, get_or, mul-le-mul_left}
+use Rattle.std.proofs.Common.{◌<◌, length, arith, sym, ap, refl, ◌∙◌, get_or}
 use Rattle.std.proofs.lemmas.Bool.{both_ways}
-use Rattle.std.proofs.lemmas.List.{get_or-map, length-map, get_or-set_same}
-use Rattle.nd_base.specs.Signed.{signed, all_signed, magnitude}
+use Rattle.std.proofs.lemmas.List.{length-map, get_or-set_same}
+use Rattle.nd_base.specs.Signed.{signed}
 use Rattle.nd_base.proofs.laws.NonzeroSize.{length_le_nonzero_size}
-use Rattle.nd_shape_rules.proofs.MergedStride.{short_taken, into_short, steps_on, steps_on_from_fit, two_lengths_le, two_reaches_le}
+use Rattle.nd_shape_rules.proofs.MergedStride.{short_taken, into_short, steps_on, steps_on_from_fit, two_lengths_le}
 use Rattle.nd_shape_rules.proofs.merge.merge_fitting.Goals as goal
 use Rattle.nd_shape_rules.proofs.merge.merge_fitting.Goals.{then-min-le1, then-take_len-le1, else-take_len-le1, else-min-le1+else-not-is_multiple}
 
-pub is_multiple-requires-clause-count : goal.is_multiple-requires-clause-count
-is_multiple-requires-clause-count c =
-    omega (arith, c.requires.valid.size_fits, length_le_nonzero_size c.args.shape.now c.args.into c.requires.into)
-
-pub is_multiple-requires-clause-near : goal.is_multiple-requires-clause-near
-is_multiple-requires-clause-near c =
-    let shape = c.args.shape.now in
-    let strides = c.args.strides.now in
-    let count = c.requires.valid.same_count ∙ length-map strides signed in
-    let reaches = two_reaches_le shape (all_signed strides) c.args.into c.args.take c.requires.into c.requires.take (λ e. c.requires.apart (sym e)) c.requires.valid.same_count in
-    let known = rw (get_or-map signed strides c.args.into 0 (pos 0) (omega (arith, count, c.requires.into)), get_or-map signed strides c.args.take 0 (pos 0) (omega (arith, count, c.requires.take))) at reaches in
-    let take_len = get_or shape c.args.take 0 in
-    let step = magnitude (signed (get_or strides c.args.take 0)) in
-    let taken : 1 ≤ take_len - 1 = omega (arith, c.min.ensures, c.if-min-le1.false) in
-    let steps : step * 1 ≤ step * (take_len - 1) = mul-le-mul_left step taken in
-    omega (arith, known, steps, c.requires.valid.span_fits)
+pub is_multiple-requires : goal.is_multiple-requires
+is_multiple-requires c =
+    omega (arith, c.requires.valid.size_fits, length_le_nonzero_size c.args.shape.now c.args.into c.requires.into, length_le_nonzero_size c.args.shape.now c.args.take c.requires.take)
 
 pub returns-then-not-is_multiple-clause-fits : goal.returns-then-not-is_multiple-clause-fits
 returns-then-not-is_multiple-clause-fits c =
