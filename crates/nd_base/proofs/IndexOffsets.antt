@@ -98,7 +98,7 @@ module _
       let step = offset_from_step strides index (length xs) turn.0 turn.1 in
       rw (turn.2 0, turn.3 0) step
 
-  -- how far that entry lies, and how far those behind it can
+  -- how far that entry lies, and how far those after it can
   pub far_at_turn : (p : Bor ℕ × Bor ℕ) → r ≡ Some p → zips fronts fronts t r u
       → sum_from entry_offset index strides (length xs) ≡ entry_offset p.0.now (signed p.1.now) + sum_from entry_offset index strides (length xs + 1)
   far_at_turn p e h =

@@ -1,4 +1,4 @@
--- The fault of a shape that a call refused by, apart from want of memory.
+-- The fault of a shape for which a call refused it; a refusal of memory is none.
 use Rattle.std.specs.Prelude.{◌≡◌, Option, Some, None, Result, Ok, Err, refl}
 use Rattle.nd_base.specs.declared.error.ErrorKind.{ErrorKind}
 use Rattle.nd_base.specs.declared.error.ErrorKind.TheVariants.{OutOfBounds}

@@ -8,7 +8,7 @@ use crate::numbers::AreLengths;
 use std::ops::{Add, AddAssign, Mul, MulAssign, Sub, SubAssign};
 
 /// Lists of lengths that are added, subtracted and multiplied entry by entry. The operators that
-/// upstream's `Dimension` asks for.
+/// ndarray's `Dimension` asks for.
 pub trait Arithmetic: Lengths
     + Add<Output = Self>
     + Sub<Output = Self>
@@ -29,7 +29,7 @@ pub trait Arithmetic: Lengths
     ghost add_assign_gives_sums: { (d e r : Self) → Self.add_assign_gives d e r
         → Self.list r ≡ sums (Self.list d) (Self.list e) };
 
-    // Differences go likewise,
+    // Lists of one count are subtracted where no difference is below 0,
     ghost can_sub_fitting: { (d e : Self) → DifferencesFit (Self.list d) (Self.list e)
         → Self.can_sub d e };
 
@@ -42,7 +42,7 @@ pub trait Arithmetic: Lengths
     ghost sub_assign_gives_differences: { (d e r : Self) → Self.sub_assign_gives d e r
         → Self.list r ≡ differences (Self.list d) (Self.list e) };
 
-    // and products.
+    // Lists of one count are multiplied where the products fit,
     ghost can_mul_fitting: { (d e : Self) → ProductsFit (Self.list d) (Self.list e)
         → Self.can_mul d e };
 
@@ -56,7 +56,7 @@ pub trait Arithmetic: Lengths
         → Self.list r ≡ products (Self.list d) (Self.list e) };
 }
 
-/// Lists of lengths that one factor scales. The operators with a number that upstream's
+/// Lists of lengths that one factor scales. The operators with a number that ndarray's
 /// `Dimension` asks for.
 pub trait Scale: Lengths + Mul<usize, Output = Self> + MulAssign<usize> {
     ghost can_mul_scaling: { (d : Self) (factor : ℕ) → ScaledFit (Self.list d) factor

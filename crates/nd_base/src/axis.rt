@@ -1,7 +1,7 @@
 //! An axis of an array.
 ghost use Rattle.std.specs.Prelude.{◌≡◌, ◌<◌, ◌↔◌, IsTrue, length, Some, slice_get, slice_set};
 
-/// An axis, by its place from 0 on. Upstream's `Axis`.
+/// An axis, by its place from 0 on. ndarray's `Axis`.
 #[derive(Clone, Copy, PartialEq, Eq, Hash, PartialOrd, Ord, Debug)]
 pub struct Axis(pub usize);
 

@@ -1,7 +1,7 @@
 //! From the entries of an index to a tuple.
 ghost use Rattle.std.specs.Prelude.{◌≡◌, [], ◌∷◌};
 
-/// The entries of an index as a tuple of as many parts. Upstream's `Convert`.
+/// The entries of an index as a tuple of as many parts. ndarray's `Convert`.
 pub trait Convert {
     /// The type of the parts.
     type To;

@@ -39,28 +39,28 @@ pub type Ix6 = Dim<[usize; 6]>;
 /// Any number of axes.
 pub type IxDyn = Dim<IxDynImpl>;
 
-/// The shape or the index of no axes. Upstream's `Ix0()`.
+/// The shape or the index of no axes. ndarray's `Ix0()`.
 pub const fn new_ix0() -> Ix0
     ensures { lengths result ≡ [] }
 {
     Dim { index: [] }
 }
 
-/// A shape or an index of one axis. Upstream's `Ix1(..)`.
+/// A shape or an index of one axis. ndarray's `Ix1(..)`.
 pub const fn new_ix1(i0: usize) -> Ix1
     ensures { lengths result ≡ i0 ∷ [] }
 {
     Dim { index: [i0] }
 }
 
-/// A shape or an index of two axes. Upstream's `Ix2(..)`.
+/// A shape or an index of two axes. ndarray's `Ix2(..)`.
 pub const fn new_ix2(i0: usize, i1: usize) -> Ix2
     ensures { lengths result ≡ i0 ∷ i1 ∷ [] }
 {
     Dim { index: [i0, i1] }
 }
 
-/// A shape or an index of three axes. Upstream's `Ix3(..)`.
+/// A shape or an index of three axes. ndarray's `Ix3(..)`.
 pub const fn new_ix3(i0: usize, i1: usize, i2: usize) -> Ix3
     ensures { lengths result ≡ i0 ∷ i1 ∷ i2 ∷ [] }
 {
@@ -69,7 +69,7 @@ pub const fn new_ix3(i0: usize, i1: usize, i2: usize) -> Ix3
     }
 }
 
-/// A shape or an index of four axes. Upstream's `Ix4(..)`.
+/// A shape or an index of four axes. ndarray's `Ix4(..)`.
 pub const fn new_ix4(i0: usize, i1: usize, i2: usize, i3: usize) -> Ix4
     ensures { lengths result ≡ i0 ∷ i1 ∷ i2 ∷ i3 ∷ [] }
 {
@@ -78,7 +78,7 @@ pub const fn new_ix4(i0: usize, i1: usize, i2: usize, i3: usize) -> Ix4
     }
 }
 
-/// A shape or an index of five axes. Upstream's `Ix5(..)`.
+/// A shape or an index of five axes. ndarray's `Ix5(..)`.
 pub const fn new_ix5(i0: usize, i1: usize, i2: usize, i3: usize, i4: usize) -> Ix5
     ensures { lengths result ≡ i0 ∷ i1 ∷ i2 ∷ i3 ∷ i4 ∷ [] }
 {
@@ -87,7 +87,7 @@ pub const fn new_ix5(i0: usize, i1: usize, i2: usize, i3: usize, i4: usize) -> I
     }
 }
 
-/// A shape or an index of six axes. Upstream's `Ix6(..)`.
+/// A shape or an index of six axes. ndarray's `Ix6(..)`.
 pub const fn new_ix6(i0: usize, i1: usize, i2: usize, i3: usize, i4: usize, i5: usize) -> Ix6
     ensures { lengths result ≡ i0 ∷ i1 ∷ i2 ∷ i3 ∷ i4 ∷ i5 ∷ [] }
 {
@@ -97,7 +97,7 @@ pub const fn new_ix6(i0: usize, i1: usize, i2: usize, i3: usize, i4: usize, i5: 
 }
 
 impl<const N: usize> Dim<[usize; N]> {
-    /// The dimension of these lengths. Upstream's `Dim::new`.
+    /// The dimension of these lengths. ndarray's `Dim::new`.
     #[inline]
     pub const fn new(index: [usize; N]) -> Self
         ensures { lengths result ≡ index.entry }

@@ -17,7 +17,7 @@ use std::marker::Model;
 use std::ops::{Index, IndexMut};
 use std::{fmt, slice};
 
-/// The lengths of any number of axes, in order. Upstream's `IxDynImpl`.
+/// The lengths of any number of axes, in order. ndarray's `IxDynImpl`.
 ///
 /// Equality and hash are those of the list, however it is kept.
 #[derive(Drop)]
@@ -38,7 +38,7 @@ impl IxDynImpl {
 
     /// The lengths of a slice.
     ///
-    /// Errors: want of memory, and none where there are at most four lengths.
+    /// Errors: out of memory; none where there are at most four lengths.
     pub fn copy_from(alloc: Global, lens: &[usize]) -> Result<Self, AllocError>
         ensures list { IfOk result (λ dim. dim ≡ lens.now) }
         ensures memory { length lens.now ≤ INLINE_AXES → IsOk result }
@@ -48,7 +48,7 @@ impl IxDynImpl {
         })
     }
 
-    /// The lengths of a vector, whose memory is kept where it has room for more than four. Upstream's
+    /// The lengths of a vector, whose memory is kept where it has room for more than four. ndarray's
     /// `From<Vec<Ix>>`. It asks for no memory; `alloc` stands where every call of this kind has it.
     ///
     /// Errors: none.
@@ -74,9 +74,10 @@ impl IxDynImpl {
         Ok(IxDynImpl { lens })
     }
 
-    /// The lengths with a new axis of length 1 at place `i`. Upstream's `insert`.
+    /// The lengths with a new axis of length 1 at place `i`. The caller ensures that `i` is at most their
+    /// count. ndarray's `insert`.
     ///
-    /// Errors: want of memory, and none where the result has at most four lengths.
+    /// Errors: out of memory; none where the result has at most four lengths.
     pub fn insert(&self, alloc: Global, i: usize) -> Result<Self, AllocError>
         requires { i ≤ length self.now }
         ensures list { IfOk result (λ dim. dim ≡ insert self.now i 1) }
@@ -90,9 +91,10 @@ impl IxDynImpl {
         Ok(IxDynImpl { lens: wider })
     }
 
-    /// The lengths without the axis at place `i`, where no axes leave no axes. Upstream's `remove`.
+    /// The lengths without the axis at place `i`; no axes stay none. The caller ensures that there is that
+    /// axis, or none at all. ndarray's `remove`.
     ///
-    /// Errors: want of memory, and none where the result has at most four lengths.
+    /// Errors: out of memory; none where the result has at most four lengths.
     pub fn remove(&self, alloc: Global, i: usize) -> Result<Self, AllocError>
         requires { (i < length self.now) ⊎ (length self.now ≡ 0) }
         ensures list { IfOk result (λ dim. dim ≡ remove self.now i) }

@@ -7,7 +7,7 @@ use std::error::Error;
 use std::fmt;
 use std::marker::Model;
 
-/// The kinds of fault that a shape or a layout can have. Upstream's `ErrorKind`.
+/// The kinds of fault that a shape or a layout can have. ndarray's `ErrorKind`.
 #[derive(Clone, Copy, PartialEq, Debug)]
 pub enum ErrorKind {
     /// Counts of axes or lengths do not go together.
@@ -24,7 +24,7 @@ pub enum ErrorKind {
     Overflow,
 }
 
-/// A refusal, with its kind. Upstream's `ShapeError`.
+/// A refusal, with its kind. ndarray's `ShapeError`.
 #[derive(Clone, PartialEq, Drop)]
 pub struct ShapeError {
     repr: ErrorKind,
@@ -57,7 +57,7 @@ impl ShapeError {
     }
 }
 
-/// The refusal of a kind. Upstream's `from_kind`.
+/// The refusal of a kind. ndarray's `from_kind`.
 pub fn from_kind(kind: ErrorKind) -> ShapeError
     ensures { result ≡ kind }
 {
@@ -97,12 +97,12 @@ impl fmt::Debug for ShapeError {
 
 impl Error for ShapeError {}
 
-/// Why a call that makes a layout was refused: by a rule, or for want of memory.
+/// Why a call that makes a layout was refused: by a rule, or because memory was refused.
 #[derive(Debug, Drop)]
 pub enum LayoutError {
     /// A rule refuses it.
     Shape(ShapeError),
-    /// A growth was refused.
+    /// A request for memory was refused.
     Memory(AllocError),
 }
 

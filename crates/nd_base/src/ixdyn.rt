@@ -13,9 +13,9 @@ use crate::lengths::{FixedCount, INLINE_AXES, Lengths};
 use std::alloc::{AllocError, Global};
 use std::ops::{Index, IndexMut};
 
-/// A shape or an index of as many axes as the slice has entries. Upstream's `IxDyn(..)`.
+/// A shape or an index of as many axes as the slice has entries. ndarray's `IxDyn(..)`.
 ///
-/// Errors: want of memory, and none where there are at most four entries.
+/// Errors: out of memory; none where there are at most four entries.
 pub fn new_ixdyn(alloc: Global, lens: &[usize]) -> Result<IxDyn, AllocError>
     ensures list { IfOk result (λ dim. lengths dim ≡ lens.now) }
     ensures memory { length lens.now ≤ INLINE_AXES → IsOk result }
@@ -24,7 +24,7 @@ pub fn new_ixdyn(alloc: Global, lens: &[usize]) -> Result<IxDyn, AllocError>
 }
 
 impl Dim<IxDynImpl> {
-    /// The dimension of these lengths. Upstream's `Dim::new`.
+    /// The dimension of these lengths. ndarray's `Dim::new`.
     #[inline]
     pub fn new(index: IxDynImpl) -> Self
         ensures { lengths result ≡ index }
@@ -32,9 +32,9 @@ impl Dim<IxDynImpl> {
         Dim { index }
     }
 
-    /// `n` axes of length 0. Upstream's `IxDyn::zeros`.
+    /// `n` axes of length 0. ndarray's `IxDyn::zeros`.
     ///
-    /// Errors: want of memory, and none where there are at most four axes.
+    /// Errors: out of memory; none where there are at most four axes.
     pub fn zeros(alloc: Global, n: usize) -> Result<Self, AllocError>
         ensures list { IfOk result (λ dim. lengths dim ≡ replicate n 0) }
         ensures memory { n ≤ INLINE_AXES → IsOk result }

@@ -15,12 +15,12 @@ pub const INLINE_AXES: usize = 4;
 pub trait FixedCount {
     ghost NDIM: { Option ℕ };
 
-    /// The count of axes, or `None` where values of the type may differ in it. Upstream's `NDIM`.
+    /// The count of axes, or `None` where values of the type may differ in it. ndarray's `NDIM`.
     const NDIM: Option<usize>;
 }
 
 /// A list of lengths, or of the entries of an index: one number for each axis, in order. What the values
-/// of a type do depends on this list alone. The part of upstream's `Dimension` that needs no other trait.
+/// of a type do depends on this list alone. The part of ndarray's `Dimension` that needs no other trait.
 pub trait Lengths: FixedCount + Eq + Debug + IndexMut<usize, Output = usize> + Drop {
     // The list that a value stands for.
     ghost list: { Self → List ℕ };
@@ -28,28 +28,28 @@ pub trait Lengths: FixedCount + Eq + Debug + IndexMut<usize, Output = usize> + D
     // The value that stands for another list of as many lengths.
     ghost with_list: { Self → List ℕ → Self };
 
-    /// How many axes there are. Upstream's `ndim`.
+    /// How many axes there are. ndarray's `ndim`.
     fn ndim(&self) -> usize
         ensures count { result ≡ length (list self.now) }
         ensures fixed { IsCount Self.NDIM (length (list self.now)) };
 
-    /// The lengths, in order. Upstream's `slice`.
+    /// The lengths, in order. ndarray's `slice`.
     fn slice(&self) -> &[usize]
         ensures list { result.now ≡ list self.now }
         ensures fixed { IsCount Self.NDIM (length (list self.now)) };
 
-    /// The lengths, to be written; their count stays. Upstream's `slice_mut`.
+    /// The lengths, to be written; their count stays. ndarray's `slice_mut`.
     fn slice_mut(&mut self) -> &mut [usize]
         ensures* writes_back { sem 𝓛 (Lends Self.row (Array word 0) self.entry result (with_list self.old)) }
         ensures list { result.now ≡ list self.old };
 
-    /// Whether both stand for one list. Upstream's `equal`.
+    /// Whether both stand for one list. ndarray's `equal`.
     fn equal(&self, other: &Self) -> bool
         ensures { IsTrue result ↔ (list self.now ≡ list other.now) };
 
-    /// `n` zeros, where `n` is a count of axes that the type allows. Upstream's `zeros`.
+    /// `n` zeros. The caller ensures that the type allows `n` axes. ndarray's `zeros`.
     ///
-    /// Errors: want of memory, and none where the type fixes the count or `n` is at most 4.
+    /// Errors: out of memory; none where the type fixes the count or `n` is at most 4 (`INLINE_AXES`).
     fn zeros(alloc: Global, n: usize) -> Result<Self, AllocError>
     where
         Self: Sized,
@@ -57,16 +57,16 @@ pub trait Lengths: FixedCount + Eq + Debug + IndexMut<usize, Output = usize> + D
         ensures list { IfOk result (λ d. list d ≡ replicate n 0) }
         ensures memory { NeedsNoMemory Self.NDIM n → IsOk result };
 
-    /// The same list in a value of its own. In place of upstream's `Clone`.
+    /// The same list in a value of its own. In place of ndarray's `Clone`.
     ///
-    /// Errors: want of memory, and none where the type fixes the count or there are at most 4 axes.
+    /// Errors: out of memory; none where the type fixes the count or there are at most 4 axes.
     fn duplicate(&self, alloc: Global) -> Result<Self, AllocError>
     where
         Self: Sized,
         ensures list { IfOk result (λ d. list d ≡ list self.now) }
         ensures memory { NeedsNoMemory Self.NDIM (length (list self.now)) → IsOk result };
 
-    // `==` tells whether the lists are one.
+    // `==` answers whether both lists are one.
     ghost eq_of_lists: { (d e : Self) → Decides (Self.PartialEq.eq d e) (list d ≡ list e) };
 
     // Lists of one count replace one another.

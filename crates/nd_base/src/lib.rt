@@ -1,5 +1,6 @@
 //! What every layer of the array stack above speaks of: dimension types as lists of lengths, axes, orders,
-//! errors, and strides read as signed numbers.
+//! errors, and strides read as signed numbers. Where docs name an item of ndarray, it is that of
+//! ndarray 0.17.2.
 #![tactic(auto)]
 
 mod arithmetic;

@@ -9,7 +9,9 @@ ghost use Rattle.nd_base.specs.ValidLayout.{IsValidLayout};
 
 use crate::strides::stride_offset;
 
-/// The sum of each entry times its stride.
+/// The sum of each entry times its stride, in elements. The caller ensures that no entry passes the
+/// greatest `isize`, and that the entries times the magnitudes of their strides add up to at most that:
+/// an index of a valid layout meets this (`is_index`).
 #[inline(always)]
 pub fn index_offset(index: &[usize], strides: &[usize]) -> isize
     requires small { All (λ entry. entry ≤ limit) index.now }
@@ -24,7 +26,9 @@ pub fn index_offset(index: &[usize], strides: &[usize]) -> isize
 }
 
 /// How many elements lie between the first index of the shape `dim` and this one, with its sign;
-/// `None` where this is no index of the shape. Upstream's `stride_offset_checked`.
+/// `None` where this is no index of the shape. The caller ensures that the layout is valid: one stride for
+/// each axis, and neither the product of the lengths that are not 0 nor the reach of all axes together
+/// passes the greatest `isize`. ndarray's `stride_offset_checked`.
 #[inline(always)]
 pub fn stride_offset_checked(dim: &[usize], strides: &[usize], index: &[usize]) -> Option<isize>
     requires { IsValidLayout dim.now (all_signed strides.now) }

@@ -9,14 +9,14 @@ use crate::numbers::Numbers;
 use std::ops::{Add, AddAssign, Mul, MulAssign, Sub, SubAssign};
 
 impl<const N: usize> Dim<[usize; N]> {
-    /// All lengths 0. Upstream's `zero`.
+    /// All lengths 0. ndarray's `zero`.
     pub fn zero() -> Self
         ensures { lengths result ≡ replicate N 0 }
     {
         Dim { index: [0; N] }
     }
 
-    /// Whether all lengths are 0. Upstream's `is_zero`.
+    /// Whether all lengths are 0. ndarray's `is_zero`.
     pub fn is_zero(&self) -> bool
         ensures { IsTrue result ↔ (lengths self.now ≡ replicate N 0) }
     {

@@ -2,7 +2,7 @@
 ghost use Rattle.std.specs.Prelude.{◌≡◌, ◌↔◌, IsTrue, cond, if◌then◌else◌};
 ghost use Rattle.nd_base.specs.Order.{transposed};
 
-/// The order in which the indices of a shape are read. Upstream's `Order`.
+/// The order in which the indices of a shape are read. ndarray's `Order`.
 #[derive(Clone, Copy, PartialEq, Eq, Debug)]
 pub enum Order {
     /// The last axis moves fastest.
@@ -12,10 +12,10 @@ pub enum Order {
 }
 
 impl Order {
-    /// Row-major order under C's name. Upstream's `Order::C`.
+    /// Row-major order under C's name. ndarray's `Order::C`.
     pub const C: Order = Order::RowMajor;
 
-    /// Column-major order under Fortran's name. Upstream's `Order::F`.
+    /// Column-major order under Fortran's name. ndarray's `Order::F`.
     pub const F: Order = Order::ColumnMajor;
 
     /// Whether the last axis moves fastest.
@@ -58,7 +58,7 @@ impl Order {
         }
     }
 
-    /// The other order. Upstream's `transpose`.
+    /// The other order. ndarray's `transpose`.
     #[inline]
     pub const fn transpose(self) -> Order
         ensures other { result ≡ transposed self }

@@ -23,7 +23,8 @@ pub const fn unsigned(stride: isize) -> usize
 }
 
 /// How many elements lie between the first entry of an axis and its entry `n`: `n` times the stride, with
-/// its sign. Upstream's `stride_offset`.
+/// its sign. The caller ensures that `n` is below 2^63 and that the product fits an `isize`. ndarray's
+/// `stride_offset`.
 #[inline]
 pub fn stride_offset(n: usize, stride: usize) -> isize
     requires small { n < 2 ^ 63 }

@@ -4,7 +4,7 @@ use Rattle.std.proofs.lemmas.Nat.{mul-le}
 use Rattle.nd_base.specs.Size.{nonzero_size}
 use Rattle.nd_base.proofs.laws.NonzeroSize.{nonzero_size_of_other, nonzero_size_pos}
 
--- a product that leaves room for the lengths from one on does so behind it, with that length and without it
+-- a product that leaves room for the lengths from one on does so after it, with that length and without it
 taken : (n whole top : ℕ) (lens : List ℕ) → whole * nonzero_size (n ∷ lens) ≤ top → (whole * n) * nonzero_size lens ≤ top
 taken zero whole top lens room = rw (mul-zero, zero-mul) (omega arith)
 taken (suc n) whole top lens room =

@@ -1,4 +1,4 @@
--- The step at one axis: the entries behind it are at their ends and become 0.
+-- The step at one axis: the entries after it are at their ends and become 0.
 use Rattle.std.proofs.Common.{◌≡◌, ℕ, suc, ◌+◌, ◌-◌, ◌*◌, ◌<◌, ◌≤◌, true, List, [], ◌∷◌, ◌++◌, length, get_or, set, take, drop, replicate, reverse, refl, sym, ap, subst, ◌∙◌, arith, drop-cons, add-one, append_assoc}
 use Rattle.std.specs.Prelude.{nat_lt}
 use Rattle.std.proofs.Math.Seq.{get_or-append_seam, set-append_seam}
@@ -12,7 +12,7 @@ use Rattle.nd_base.proofs.laws.IsIndex.{entry_of_index, is_index-reverse, is_ind
 use Rattle.nd_base.proofs.laws.Rank.{index_of_rank-rank, rank-lt-size, rank-zeros, reverse-zeros}
 use Rattle.nd_base.proofs.laws.Size.{size-reverse, size_take_more}
 
--- ---- the step of one entry, where those behind it are at their ends
+-- ---- the step of one entry, where those after it are at their ends
 record IsStepped (shape index stepped : List ℕ) : Type 0 where
   within : is_index shape stepped ≡ true
   ranks : rank shape stepped ≡ rank shape index + 1
@@ -36,7 +36,7 @@ stepped (n ∷ front) len back (j ∷ index) i rest e h full more =
       ranks = omega (arith, later.ranks);
     }
 
--- ---- an entry between those before and behind it
+-- ---- an entry between those before and after it
 seam_is : (front back : List ℕ) (entry k : ℕ) → length front ≡ k → get_or (front ++ entry ∷ back) k 0 ≡ entry
 seam_is front back entry k e = rw (← e) (get_or-append_seam front entry back 0)
 
@@ -233,7 +233,7 @@ columns_stepped shape old index k is h g more at =
     let written : set index k (get_or index k 0 + 1) ≡ new = ap (λ n. set index k (n + 1)) (columns_entry shape old index k g at) ∙ columns_write shape old index k (get_or old k 0 + 1) g at in
     (omega (arith, next.0, size-reverse shape), written ∙ sym (reverse-reverse new) ∙ ap reverse next.1)
 
--- what is known at the axis behind those
+-- what is known at the axis after those
 record IsAtColumn (k : ℕ) (shape old index : List ℕ) : Type 0 where
   in_old : k < length old
   same : get_or index k 0 ≡ get_or old k 0

@@ -10,4 +10,3 @@ pub record LeadsBelow (leads : ℕ → ℕ → Type 0) (otherwise : ℕ) (lens :
   pub leading : (k : ℕ) → k < i → 1 < get_or lens k 0 → leads (magnitude_at strides axis) (magnitude_at strides k)
   pub of_equals : (k : ℕ) → k < i → 1 < get_or lens k 0 → magnitude_at strides axis ≡ magnitude_at strides k → k ≤ axis
   pub without_long : get_or lens axis 0 ≤ 1 → axis ≡ otherwise
-

@@ -3,3 +3,12 @@ pub mod Contiguous
 pub mod LastLen
 pub mod OneStretch
 pub mod Strides
+pub use Rattle.nd_base.specs.Dim
+pub use Rattle.nd_base.specs.Indices
+pub use Rattle.nd_base.specs.Lengths
+pub use Rattle.nd_base.specs.Offset
+pub use Rattle.nd_base.specs.Rank
+pub use Rattle.nd_base.specs.Reach
+pub use Rattle.nd_base.specs.Signed
+pub use Rattle.nd_base.specs.Size
+pub use Rattle.nd_base.specs.ValidLayout

@@ -2,7 +2,7 @@
 ghost use Rattle.std.specs.Prelude.{◌≡◌, ◌+◌, ◌-◌, ◌<◌, ◌≤◌, length, insert, remove, slice_set};
 ghost use Rattle.nd_dim.specs.LastLen.{last_len as last_of_lengths};
 
-/// Writes the lengths with an axis of length 1 before the axis `axis`, or behind all of them.
+/// Writes the lengths with an axis of length 1 before the axis `axis`, or after all of them.
 pub(crate) fn insert_axis_into(lens: &[usize], axis: usize, larger: &mut [usize])
     requires within { axis ≤ length lens.now }
     requires one_more { length larger.old ≡ length lens.now + 1 }

@@ -9,7 +9,7 @@ use nd_base::{
 };
 use std::alloc::{AllocError, Global};
 
-/// What stands for a list of lengths and can be made a dimension. Upstream's `IntoDimension`.
+/// What stands for a list of lengths and can be made a dimension. ndarray's `IntoDimension`.
 pub trait IntoDimension {
     /// The dimension type that it makes.
     type Dim: Lengths;
@@ -17,17 +17,17 @@ pub trait IntoDimension {
     // The list that a value stands for.
     ghost lens: { Self → List ℕ };
 
-    /// The dimension of the same list. Upstream's `into_dimension`.
+    /// The dimension of the same list. ndarray's `into_dimension`.
     ///
-    /// Errors: want of memory, and none where the type fixes the count or there are at most 4 axes.
+    /// Errors: out of memory; none where the type fixes the count or there are at most 4 axes.
     fn into_dimension(self, alloc: Global) -> Result<Self::Dim, AllocError>
         ensures list { IfOk result (λ dim. Self.Dim.list dim ≡ lens self) }
         ensures memory { NeedsNoMemory Self.Dim.NDIM (length (lens self)) → IsOk result };
 }
 
-/// The dimension of a list of lengths, however it is written. Upstream's `Dim(..)`.
+/// The dimension of a list of lengths, however it is written. ndarray's `Dim(..)`.
 ///
-/// Errors: want of memory, and none where the type fixes the count or there are at most 4 axes.
+/// Errors: out of memory; none where the type fixes the count or there are at most 4 axes.
 pub fn new_dim<T: IntoDimension>(alloc: Global, lens: T) -> Result<T::Dim, AllocError>
     ensures list { IfOk result (λ dim. T.Dim.list dim ≡ T.lens lens) }
     ensures memory { NeedsNoMemory T.Dim.NDIM (length (T.lens lens)) → IsOk result }

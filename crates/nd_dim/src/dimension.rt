@@ -32,26 +32,26 @@ use nd_base::{
 };
 use std::alloc::{AllocError, Global};
 
-/// A shape, an index, or a list of strides: one list of numbers, one for each axis. Upstream's
+/// A shape, an index, or a list of strides: one list of numbers, one for each axis. ndarray's
 /// `Dimension`.
 pub trait Dimension: Lengths + Arithmetic + Scale {
-    /// A number, a tuple or the dimension itself: the form that a pattern takes apart. Upstream's
+    /// A number, a tuple or the dimension itself: the form that a pattern takes apart. ndarray's
     /// `Pattern`.
     type Pattern: IntoDimension;
 
-    /// The type of one axis less, where there is one. Upstream's `Smaller`.
+    /// The type of one axis less, where there is one. ndarray's `Smaller`.
     type Smaller: Lengths;
 
-    /// The type of one axis more. Upstream's `Larger`.
+    /// The type of one axis more. ndarray's `Larger`.
     type Larger: Lengths;
 
-    /// The same list in the form that a pattern takes apart. Upstream's `into_pattern`.
+    /// The same list in the form that a pattern takes apart. ndarray's `into_pattern`.
     fn into_pattern(self) -> Self::Pattern
         ensures { Self.Pattern.lens result ≡ Self.list self };
 
-    /// The same list, as a dimension of any number of axes. Upstream's `into_dyn`.
+    /// The same list, as a dimension of any number of axes. ndarray's `into_dyn`.
     ///
-    /// Errors: want of memory, and none where there are at most 4 axes.
+    /// Errors: out of memory; none where there are at most 4 axes.
     fn into_dyn(self, alloc: Global) -> Result<IxDyn, AllocError>
     where
         Self: Sized,
@@ -67,7 +67,8 @@ pub trait Dimension: Lengths + Arithmetic + Scale {
     // and the larger one has one axis more.
     ghost larger_count: { (n : ℕ) → IsCount Self.FixedCount.NDIM n → IsCount Self.Larger.NDIM (n + 1) };
 
-    /// The product of all lengths, which fits. Upstream's `size`.
+    /// The product of all lengths. The caller ensures that it is below 2^64 (`size_checked`).
+    /// ndarray's `size`.
     #[inline]
     final fn size(&self) -> usize
         requires { size (Self.list self.now) < 2 ^ 64 }
@@ -76,7 +77,7 @@ pub trait Dimension: Lengths + Arithmetic + Scale {
         product(self.slice())
     }
 
-    /// The product of all lengths, where it fits; 0 wherever a length is 0. Upstream's `size_checked`.
+    /// The product of all lengths, where it fits; 0 wherever a length is 0. ndarray's `size_checked`.
     #[inline]
     final fn size_checked(&self) -> Option<usize>
         ensures { SomeIff result (size (Self.list self.now) < 2 ^ 64) (size (Self.list self.now)) }
@@ -85,9 +86,9 @@ pub trait Dimension: Lengths + Arithmetic + Scale {
     }
 
     /// The strides, in elements, by which the last axis moves fastest; all 0 where a length is 0.
-    /// The size fits. Upstream's `default_strides`.
+    /// The caller ensures that the size is below 2^64 (`size_checked`). ndarray's `default_strides`.
     ///
-    /// Errors: want of memory, and none where the type fixes the count or there are at most 4 axes.
+    /// Errors: out of memory; none where the type fixes the count or there are at most 4 axes.
     #[inline]
     final fn default_strides(&self, alloc: Global) -> Result<Self, AllocError>
     where
@@ -101,9 +102,9 @@ pub trait Dimension: Lengths + Arithmetic + Scale {
     }
 
     /// The strides, in elements, by which the first axis moves fastest; all 0 where a length is 0.
-    /// The size fits. Upstream's `fortran_strides`.
+    /// The caller ensures that the size is below 2^64 (`size_checked`). ndarray's `fortran_strides`.
     ///
-    /// Errors: want of memory, and none where the type fixes the count or there are at most 4 axes.
+    /// Errors: out of memory; none where the type fixes the count or there are at most 4 axes.
     #[inline]
     final fn fortran_strides(&self, alloc: Global) -> Result<Self, AllocError>
     where
@@ -117,9 +118,9 @@ pub trait Dimension: Lengths + Arithmetic + Scale {
     }
 
     /// The first index of the shape, all 0, or `None` where a length is 0, so that there is no index.
-    /// Upstream's `first_index`.
+    /// ndarray's `first_index`.
     ///
-    /// Errors: want of memory, and none where the type fixes the count, where there are at most 4
+    /// Errors: out of memory; none where the type fixes the count, where there are at most 4
     /// axes, or where a length is 0.
     final fn first_index(&self, alloc: Global) -> Result<Option<Self>, AllocError>
     where
@@ -138,8 +139,9 @@ pub trait Dimension: Lengths + Arithmetic + Scale {
         Ok(Some(Self::zeros(alloc, lens.len())?))
     }
 
-    /// The index behind one of the shape in row-major order, where the last axis moves fastest, or
-    /// `None` behind the last one. Upstream's `next_for`.
+    /// The index after one of the shape in row-major order, where the last axis moves fastest, or
+    /// `None` after the last one. The caller ensures that `index` is an index of the shape
+    /// (`is_index`). ndarray's `next_for`.
     #[inline]
     final fn next_for(&self, index: Self) -> Option<Self>
     where
@@ -160,9 +162,10 @@ pub trait Dimension: Lengths + Arithmetic + Scale {
         }
     }
 
-    /// Moves an index of the shape to the one behind it in column-major order, where the first axis
-    /// moves fastest, and says that there is one; the last index becomes the first, all 0, with
-    /// `false`. Upstream's `next_for_f`.
+    /// Moves an index of the shape to the one after it in column-major order, where the first axis
+    /// moves fastest, and answers whether there is one; the last index becomes the first, all 0, with
+    /// `false`. The caller ensures that `index` is an index of the shape (`is_index`). ndarray's
+    /// `next_for_f`.
     #[inline]
     final fn next_for_f(&self, index: &mut Self) -> bool
         requires { is_index (Self.list self.now) (Self.list index.old) ≡ true }
@@ -180,7 +183,7 @@ pub trait Dimension: Lengths + Arithmetic + Scale {
         step_by_columns(self.slice(), index.slice_mut())
     }
 
-    /// Zeros, as many as the type fixes, or one where it fixes no count. In place of upstream's
+    /// Zeros, as many as the type fixes, or one where it fixes no count. In place of ndarray's
     /// `Default`.
     ///
     /// Errors: none.
@@ -194,7 +197,7 @@ pub trait Dimension: Lengths + Arithmetic + Scale {
     }
 
     /// Whether both lists of strides have one for each axis, and agree wherever an axis has more
-    /// than one entry. Upstream's `strides_equivalent`.
+    /// than one entry. ndarray's `strides_equivalent`.
     final fn strides_equivalent<D: Lengths>(&self, strides: &Self, others: &D) -> bool
         ensures { IsTrue result ↔ AreEquivalent
             (Self.list self.now)
@@ -205,8 +208,10 @@ pub trait Dimension: Lengths + Arithmetic + Scale {
     }
 
     /// How many elements lie between the first index and this one, with its sign, whatever the
-    /// shape: the sum of each entry times its stride. There is a stride for each entry, and no
-    /// part of the sum passes the greatest `isize`. Upstream's `stride_offset`.
+    /// shape: the sum of each entry times its stride. The caller ensures that there is a stride for
+    /// each entry, that no entry passes the greatest `isize`, and that the entries times the
+    /// magnitudes of their strides add up to at most that: an index of a valid layout meets this.
+    /// ndarray's `stride_offset`.
     #[inline]
     final fn stride_offset(index: &Self, strides: &Self) -> isize
         requires same_count { length (Self.list index.now) ≡ length (Self.list strides.now) }
@@ -219,8 +224,9 @@ pub trait Dimension: Lengths + Arithmetic + Scale {
     }
 
     /// How many elements lie between the first index of this shape and another one, with its sign;
-    /// `None` where that is no index of the shape. The layout is valid. Upstream's
-    /// `stride_offset_checked`.
+    /// `None` where that is no index of the shape. The caller ensures that the layout is valid: one
+    /// stride for each axis, and neither the product of the lengths that are not 0 nor the reach of
+    /// all axes together passes the greatest `isize`. ndarray's `stride_offset_checked`.
     #[inline]
     final fn stride_offset_checked(&self, strides: &Self, index: &Self) -> Option<isize>
         requires { IsValidLayout (Self.list self.now) (all_signed (Self.list strides.now)) }
@@ -232,7 +238,7 @@ pub trait Dimension: Lengths + Arithmetic + Scale {
         stride_offset_checked(self.slice(), strides.slice(), index.slice())
     }
 
-    /// The length of the last axis, or 0 without axes. Upstream's `last_elem`.
+    /// The length of the last axis, or 0 without axes. ndarray's `last_elem`.
     #[inline]
     final fn last_elem(&self) -> usize
         ensures { result ≡ last_of_lengths (Self.list self.now) }
@@ -240,7 +246,8 @@ pub trait Dimension: Lengths + Arithmetic + Scale {
         last_len(self.slice())
     }
 
-    /// Gives the last axis, which there is, another length. Upstream's `set_last_elem`.
+    /// Gives the last axis another length. The caller ensures that there is an axis. ndarray's
+    /// `set_last_elem`.
     #[inline]
     final fn set_last_elem(&mut self, len: usize)
         requires { 0 < length (Self.list self.old) }
@@ -256,8 +263,8 @@ pub trait Dimension: Lengths + Arithmetic + Scale {
     /// of each axis of other than one entry is the product of the lengths of all axes before it, in
     /// the order of those magnitudes.
     ///
-    /// For a shape without a zero axis the answer is exact: true where no two indices share a place
-    /// and each number from the least place up, as many as the size, is a place; and nowhere else.
+    /// For a shape without a zero axis the answer is exact: true where each index has a place of its
+    /// own and these places are consecutive numbers; and nowhere else.
     ///
     /// The caller ensures that there is a stride for each axis and that the product of the lengths,
     /// zeros aside, is at most the greatest `isize`. Takes no memory. ndarray's
@@ -274,10 +281,10 @@ pub trait Dimension: Lengths + Arithmetic + Scale {
     }
 
     /// The numbers of the axes whose strides these are, that of the least stride first, whatever
-    /// the signs; axes of equal strides stand in their own order. Upstream's
+    /// the signs; axes of equal strides stand in their own order. ndarray's
     /// `_fastest_varying_stride_order`.
     ///
-    /// Errors: want of memory, and none where the type fixes the count or there are at most 4 axes.
+    /// Errors: out of memory; none where the type fixes the count or there are at most 4 axes.
     final fn _fastest_varying_stride_order(&self, alloc: Global) -> Result<Self, AllocError>
     where
         Self: Sized,
@@ -291,8 +298,8 @@ pub trait Dimension: Lengths + Arithmetic + Scale {
     }
 
     /// The axis whose stride is of least magnitude among those of more than one entry, and the last
-    /// of these where several are; the last axis where none has more than one entry. There is an
-    /// axis, and a stride for each. Upstream's `min_stride_axis`.
+    /// of these where several are; the last axis where none has more than one entry. The caller
+    /// ensures that there is an axis, and a stride for each. ndarray's `min_stride_axis`.
     final fn min_stride_axis(&self, strides: &Self) -> Axis
         requires some_axis { 0 < length (Self.list self.now) }
         requires same_count { length (Self.list self.now) ≡ length (Self.list strides.now) }
@@ -305,8 +312,8 @@ pub trait Dimension: Lengths + Arithmetic + Scale {
     }
 
     /// The axis whose stride is of greatest magnitude among those of more than one entry, and the
-    /// last of these where several are; the first axis where none has more than one entry. There is
-    /// an axis, and a stride for each. Upstream's `max_stride_axis`.
+    /// last of these where several are; the first axis where none has more than one entry. The caller
+    /// ensures that there is an axis, and a stride for each. ndarray's `max_stride_axis`.
     final fn max_stride_axis(&self, strides: &Self) -> Axis
         requires some_axis { 0 < length (Self.list self.now) }
         requires same_count { length (Self.list self.now) ≡ length (Self.list strides.now) }
@@ -319,9 +326,9 @@ pub trait Dimension: Lengths + Arithmetic + Scale {
     }
 
     /// The same list as a dimension of this type, or `None` where the type fixes another count.
-    /// Upstream's `from_dimension`.
+    /// ndarray's `from_dimension`.
     ///
-    /// Errors: want of memory, and none where the type fixes the count or there are at most 4 axes.
+    /// Errors: out of memory; none where the type fixes the count or there are at most 4 axes.
     final fn from_dimension<D: Lengths>(alloc: Global, dim: &D) -> Result<Option<Self>, AllocError>
     where
         Self: Sized,
@@ -339,10 +346,10 @@ pub trait Dimension: Lengths + Arithmetic + Scale {
         Ok(Some(same))
     }
 
-    /// The lengths with a new axis of length 1 before the axis `axis`, or behind all of them.
-    /// Upstream's `insert_axis`.
+    /// The lengths with a new axis of length 1 before the axis `axis`, or after all of them. The
+    /// caller ensures that `axis` is at most the count of axes. ndarray's `insert_axis`.
     ///
-    /// Errors: want of memory, and none where the result's type fixes the count or has at most 4
+    /// Errors: out of memory; none where the result's type fixes the count or has at most 4
     /// axes.
     final fn insert_axis(&self, alloc: Global, axis: Axis) -> Result<Self::Larger, AllocError>
         requires { axis.0 ≤ length (Self.list self.now) }
@@ -357,9 +364,10 @@ pub trait Dimension: Lengths + Arithmetic + Scale {
         Ok(larger)
     }
 
-    /// The lengths without an axis; no axes stay none. Upstream's `try_remove_axis`.
+    /// The lengths without an axis; no axes stay none. The caller ensures that the shape has that
+    /// axis (`has_axis`), or none at all. ndarray's `try_remove_axis`.
     ///
-    /// Errors: want of memory, and none where the result's type fixes the count or has at most 4
+    /// Errors: out of memory; none where the result's type fixes the count or has at most 4
     /// axes.
     final fn try_remove_axis(&self, alloc: Global, axis: Axis) -> Result<Self::Smaller, AllocError>
         requires { (axis.0 < length (Self.list self.now)) ⊎ (length (Self.list self.now) ≡ 0) }

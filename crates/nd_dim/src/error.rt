@@ -4,7 +4,7 @@ ghost use Rattle.nd_base.specs.declared.error.ErrorKind.TheVariants.{Incompatibl
 
 use nd_base::{ErrorKind, Lengths, ShapeError, from_kind};
 
-/// The refusal of two shapes that do not go together, whatever they are. Upstream's
+/// The refusal of two shapes that do not go together, whatever they are. ndarray's
 /// `incompatible_shapes`.
 pub fn incompatible_shapes<D: Lengths, E: Lengths>(_dim: &D, _other: &E) -> ShapeError
     ensures { result ≡ IncompatibleShape }

@@ -6,12 +6,13 @@ use crate::dimension::Dimension;
 use nd_base::{Axis, Ix1, Ix2, Ix3, Ix4, Ix5, Ix6, IxDyn};
 use std::alloc::{AllocError, Global};
 
-/// A dimension type that can have an axis to remove: all but that of no axes. Upstream's
+/// A dimension type that can have an axis to remove: all but that of no axes. ndarray's
 /// `RemoveAxis`.
 pub trait RemoveAxis: Dimension {
-    /// The lengths without that of an axis that there is. Upstream's `remove_axis`.
+    /// The lengths without that of one axis. The caller ensures that the shape has that axis
+    /// (`has_axis`). ndarray's `remove_axis`.
     ///
-    /// Errors: want of memory, and none where the result's type fixes the count or has at most 4
+    /// Errors: out of memory; none where the result's type fixes the count or has at most 4
     /// axes.
     final fn remove_axis(&self, alloc: Global, axis: Axis) -> Result<Self::Smaller, AllocError>
         requires { axis.0 < length (Self.list self.now) }

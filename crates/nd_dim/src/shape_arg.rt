@@ -7,7 +7,7 @@ use crate::conversion::IntoDimension;
 use nd_base::{Lengths, Order};
 use std::alloc::{AllocError, Global};
 
-/// A shape, and the order in which its indices are read where the caller says so. Upstream's
+/// A shape, and the order in which its indices are read where the caller says so. ndarray's
 /// `ShapeArg`.
 pub trait ShapeArg {
     /// The dimension type of the shape.
@@ -19,9 +19,9 @@ pub trait ShapeArg {
     // and the order.
     ghost shape_order: { Self → Option Order };
 
-    /// The shape and the order. Upstream's `into_shape_and_order`.
+    /// The shape and the order. ndarray's `into_shape_and_order`.
     ///
-    /// Errors: want of memory, and none where the type fixes the count or there are at most 4 axes.
+    /// Errors: out of memory; none where the type fixes the count or there are at most 4 axes.
     fn into_shape_and_order(self, alloc: Global) -> Result<(Self::Dim, Option<Order>), AllocError>
         ensures list { IfOk result (λ shape. Self.Dim.list shape.0 ≡ shape_lens self) }
         ensures order { IfOk result (λ shape. shape.1 ≡ shape_order self) }

@@ -16,8 +16,8 @@ pub(crate) fn checked_size(lens: &[usize]) -> Option<usize>
     Some(size)
 }
 
-/// The product of the lengths, which fits; 0 wherever one of them is 0. What `Dimension::size` answers, of a
-/// list.
+/// The product of the lengths; 0 wherever one of them is 0. The caller ensures that it is below 2^64. What
+/// `Dimension::size` answers, of a list.
 pub fn product(lens: &[usize]) -> usize
     requires { size lens.now < 2 ^ 64 }
     ensures { result ≡ size lens.now }

@@ -6,8 +6,9 @@ ghost use Rattle.nd_base.specs.Rank.{rank, index_of_rank, rank_in, index_of_rank
 ghost use Rattle.nd_base.specs.Size.{size};
 
 /// Moves an index of a shape to the next one in row-major order, where the last axis moves
-/// fastest, and says that there is one; the last index becomes the first, with `false`. The step
-/// of upstream's `next_for`.
+/// fastest, and answers whether there is one; the last index becomes the first, with `false`. The
+/// caller ensures that `index` is an index of the shape (`is_index`). The step of ndarray's
+/// `next_for`.
 #[inline(always)]
 pub fn step_by_rows(shape: &[usize], index: &mut [usize]) -> bool
     requires { is_index shape.now index.old ≡ true }
@@ -29,10 +30,11 @@ pub fn step_by_rows(shape: &[usize], index: &mut [usize]) -> bool
 }
 
 /// Moves an index of a shape to the next one in column-major order, where the first axis moves
-/// fastest, and says that there is one; the last index becomes the first, with `false`. The step
-/// of upstream's `next_for_f`.
+/// fastest, and answers whether there is one; the last index becomes the first, with `false`. The
+/// caller ensures that `index` is an index of the shape (`is_index`). The step of ndarray's
+/// `next_for_f`.
 #[inline(always)]
-pub(crate) fn step_by_columns(shape: &[usize], index: &mut [usize]) -> bool
+pub fn step_by_columns(shape: &[usize], index: &mut [usize]) -> bool
     requires { is_index shape.now index.old ≡ true }
     ensures more { IsTrue result
         ↔ (rank_in ColumnMajor shape.now index.old + 1 < size shape.now) }

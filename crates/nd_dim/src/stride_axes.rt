@@ -16,7 +16,7 @@ pub fn magnitude_at(strides: &[usize], axis: usize) -> usize
 }
 
 /// The axis whose stride is of least magnitude among those of more than one entry, and the last
-/// of these where several are; the last axis where none has more than one entry. Upstream's
+/// of these where several are; the last axis where none has more than one entry. ndarray's
 /// `min_stride_axis`.
 pub(crate) fn min_stride_axis(lens: &[usize], strides: &[usize]) -> usize
     requires some_axis { 0 < length lens.now }
@@ -35,7 +35,7 @@ pub(crate) fn min_stride_axis(lens: &[usize], strides: &[usize]) -> usize
 }
 
 /// The axis whose stride is of greatest magnitude among those of more than one entry, and the
-/// last of these where several are; the first axis where none has more than one entry. Upstream's
+/// last of these where several are; the first axis where none has more than one entry. ndarray's
 /// `max_stride_axis`.
 pub(crate) fn max_stride_axis(lens: &[usize], strides: &[usize]) -> usize
     requires some_axis { 0 < length lens.now }

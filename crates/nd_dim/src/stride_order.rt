@@ -6,7 +6,7 @@ ghost use Rattle.nd_dim.specs.AxisOrder.{IsStrideOrder};
 use crate::stride_axes::magnitude_at;
 
 /// Writes the numbers of the axes, that of the least stride first, whatever the signs; axes of
-/// equal strides stand in their own order. Upstream's `_fastest_varying_stride_order`.
+/// equal strides stand in their own order. ndarray's `_fastest_varying_stride_order`.
 pub(crate) fn fill_stride_order(strides: &[usize], order: &mut [usize])
     requires { length strides.now ≡ length order.old }
     ensures { IsStrideOrder (all_signed strides.now) order.new }

@@ -8,7 +8,7 @@ use nd_base::Lengths;
 use std::alloc::{AllocError, Global};
 
 /// Writes the strides by which the last axis moves fastest: each the product of the later
-/// lengths, and all 0 where some length is 0. The strides of upstream's `default_strides`.
+/// lengths, and all 0 where some length is 0. The strides of ndarray's `default_strides`.
 #[inline(always)]
 fn fill_default_strides(lens: &[usize], strides: &mut [usize])
     requires same_count { length lens.now ≡ length strides.old }
@@ -27,7 +27,7 @@ fn fill_default_strides(lens: &[usize], strides: &mut [usize])
 }
 
 /// Writes the strides by which the first axis moves fastest: each the product of the earlier
-/// lengths, and all 0 where some length is 0. The strides of upstream's `fortran_strides`.
+/// lengths, and all 0 where some length is 0. The strides of ndarray's `fortran_strides`.
 #[inline(always)]
 fn fill_fortran_strides(lens: &[usize], strides: &mut [usize])
     requires same_count { length lens.now ≡ length strides.old }
@@ -46,9 +46,9 @@ fn fill_fortran_strides(lens: &[usize], strides: &mut [usize])
 }
 
 /// The strides, in elements, by which the last axis of a shape moves fastest; all 0 where a length is 0.
-/// The size fits. What `Dimension::default_strides` answers, where a type is known by its list alone.
+/// The caller ensures that the size is below 2^64 (`Dimension::size_checked`). What `Dimension::default_strides` answers, where a type is known by its list alone.
 ///
-/// Errors: want of memory, and none where the type fixes the count or there are at most 4 axes.
+/// Errors: out of memory; none where the type fixes the count or there are at most 4 axes.
 #[inline]
 pub fn default_strides<D: Lengths>(alloc: Global, dim: &D) -> Result<D, AllocError>
     requires { size (D.list dim.now) < 2 ^ 64 }
@@ -62,9 +62,9 @@ pub fn default_strides<D: Lengths>(alloc: Global, dim: &D) -> Result<D, AllocErr
 }
 
 /// The strides, in elements, by which the first axis of a shape moves fastest; all 0 where a length is 0.
-/// The size fits. What `Dimension::fortran_strides` answers, where a type is known by its list alone.
+/// The caller ensures that the size is below 2^64 (`Dimension::size_checked`). What `Dimension::fortran_strides` answers, where a type is known by its list alone.
 ///
-/// Errors: want of memory, and none where the type fixes the count or there are at most 4 axes.
+/// Errors: out of memory; none where the type fixes the count or there are at most 4 axes.
 #[inline]
 pub fn fortran_strides<D: Lengths>(alloc: Global, dim: &D) -> Result<D, AllocError>
     requires { size (D.list dim.now) < 2 ^ 64 }
@@ -78,7 +78,7 @@ pub fn fortran_strides<D: Lengths>(alloc: Global, dim: &D) -> Result<D, AllocErr
 }
 
 /// Whether both lists of strides have one for each axis, and agree wherever an axis has more than
-/// one entry. Upstream's `strides_equivalent`.
+/// one entry. ndarray's `strides_equivalent`.
 pub(crate) fn are_equivalent(lens: &[usize], strides: &[usize], others: &[usize]) -> bool
     ensures { IsTrue result ↔ AreEquivalent lens.now strides.now others.now }
 {

@@ -2,7 +2,7 @@
 //!
 //! The tables are worked rows, and below them a sample of what ndarray 0.17.2 answers. Those values are
 //! that crate's own: its dimension files were built by themselves, with overflow checks and debug
-//! assertions, and each row was asked of them at `IxDyn`, with strides read and told as signed numbers.
+//! assertions, and each row was asked of them at `IxDyn`, with strides read and written as signed numbers.
 //! Left out is what this layer answers otherwise on purpose: strides of `isize::MIN` where the crate takes
 //! their magnitude, axes of at most one entry with the least stride, and sizes that overflow before a
 //! length of 0.
@@ -11,6 +11,6 @@ mod conversions;
 mod lists;
 mod memory;
 mod operators;
+pub(crate) mod questions;
 mod steps;
 mod tables;
-pub(crate) mod told;

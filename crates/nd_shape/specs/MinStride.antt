@@ -1,5 +1,5 @@
 -- Which axis changes places with the last one, so that the one of the least stride comes last.
-use Rattle.std.specs.Prelude.{◌≡◌, ◌≢◌, ℕ, ◌-◌, ◌<◌, ◌≤◌, ◌&&◌, ◌||◌, Bool, true, false, nat_le, nat_lt, ℤ, pos, negsuc}
+use Rattle.std.specs.Prelude.{◌≡◌, ◌≢◌, ℕ, ◌-◌, ◌≤◌, ◌&&◌, ◌||◌, Bool, true, false, nat_le, nat_lt, ℤ, pos, negsuc}
 use Rattle.std.specs.Prelude.{if◌then◌else◌, List, [], ◌∷◌, length, slice_index, refl}
 use Rattle.std.proofs.Math.Arith.{le→nltb}
 use Rattle.std.proofs.Math.Dec.{lit<, lt→ltb}

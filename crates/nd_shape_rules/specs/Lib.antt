@@ -3,3 +3,8 @@ pub mod CommonShape
 pub mod Merge
 pub mod OwnedRule
 pub mod OwnedWalk
+pub use Rattle.nd_base.specs.Signed
+pub use Rattle.nd_base.specs.Size
+pub use Rattle.nd_base.specs.Span
+pub use Rattle.nd_base.specs.ValidLayout
+pub use Rattle.nd_dim.specs.AxisOrder

@@ -10,38 +10,54 @@ use Rattle.nd_slice_axis.specs.SliceFault.{slice_fault, index_fault}
 use Rattle.nd_slice.specs.declared.elem.SliceInfoElem.{SliceInfoElem}
 use Rattle.nd_slice.specs.declared.elem.SliceInfoElem.TheVariants as elem
 
--- how many axes of the shape an argument speaks of: each element but a new axis is for one
+-- how many axes of a shape an argument is for: one for each element but a new axis
 abbrev pub in_count : List SliceInfoElem → ℕ
 in_count [] = 0
 in_count (elem.Slice start end step ∷ elems) = 1 + in_count elems
 in_count (elem.Index index ∷ elems) = 1 + in_count elems
 in_count (elem.NewAxis ∷ elems) = in_count elems
 
--- how many axes it leaves: one for each element but an index
+-- how many axes an argument leaves: one for each element but an index
 abbrev pub out_count : List SliceInfoElem → ℕ
 out_count [] = 0
 out_count (elem.Slice start end step ∷ elems) = 1 + out_count elems
 out_count (elem.Index index ∷ elems) = out_count elems
 out_count (elem.NewAxis ∷ elems) = 1 + out_count elems
 
--- the fault of an argument whose count of axes is that of the shape: that of the first element at fault
+-- the fault of an argument for as many axes as a shape has: that of the first element at fault, each on its own axis
 abbrev pub first_fault : Fit → List ℕ → List SliceInfoElem → Option ErrorKind
 first_fault fit shape [] = None
 first_fault fit shape (elem.NewAxis ∷ elems) = first_fault fit shape elems
 first_fault fit [] (elem.Slice start end step ∷ elems) = None
 first_fault fit [] (elem.Index index ∷ elems) = None
-first_fault fit (len ∷ shape) (elem.Slice start end step ∷ elems) = option_or (slice_fault fit len (slice_with start end step)) (first_fault fit shape elems)
+first_fault fit (len ∷ shape) (elem.Slice start end step ∷ elems) =
+    option_or (slice_fault fit len (slice_with start end step)) (first_fault fit shape elems)
 first_fault fit (len ∷ shape) (elem.Index index ∷ elems) = option_or (index_fault len index) (first_fault fit shape elems)
 
--- the fault of a slice argument on a shape: a wrong count of axes before any element
+-- the fault of an argument on a shape: that it is for more axes or fewer, then that of the first element at fault
 abbrev pub argument_fault : Fit → List ℕ → List SliceInfoElem → Option ErrorKind
 argument_fault fit shape elems = if in_count elems == length shape then first_fault fit shape elems else Some IncompatibleShape
 
 -- examples
+row_and_new_axis_in : in_count (elem.Index (pos 0) ∷ elem.NewAxis ∷ elem.Slice (pos 0) None (pos 1) ∷ []) ≡ 2
+row_and_new_axis_in = refl
+
+row_and_new_axis_out : out_count (elem.Index (pos 0) ∷ elem.NewAxis ∷ elem.Slice (pos 0) None (pos 1) ∷ []) ≡ 2
+row_and_new_axis_out = refl
+
+row_alone_out : out_count (elem.Index (pos 0) ∷ []) ≡ 0
+row_alone_out = refl
+
+second_element_at_fault : first_fault Strict (4 ∷ 5 ∷ []) (elem.Index (pos 3) ∷ elem.Index (pos 5) ∷ []) ≡ Some OutOfBounds
+second_element_at_fault = refl
+
+no_fault : argument_fault Strict (4 ∷ 5 ∷ []) (elem.Index (pos 3) ∷ elem.NewAxis ∷ elem.Slice (pos 1) None (pos 2) ∷ []) ≡ None
+no_fault = refl
+
 too_few : argument_fault Strict (4 ∷ 5 ∷ []) (elem.Index (pos 0) ∷ []) ≡ Some IncompatibleShape
 too_few = refl
 
-first_at_fault : argument_fault Strict (4 ∷ 5 ∷ []) (elem.Slice (pos 0) None (pos 0) ∷ elem.Slice (pos 9) None (pos 1) ∷ []) ≡ Some Unsupported
+first_at_fault : argument_fault Strict (4 ∷ 5 ∷ []) (elem.Slice (pos 0) None (pos 0) ∷ elem.Index (pos 9) ∷ []) ≡ Some Unsupported
 first_at_fault = refl
 
 index_not_clamped : argument_fault Clamp (4 ∷ []) (elem.Index (pos 4) ∷ []) ≡ Some OutOfBounds

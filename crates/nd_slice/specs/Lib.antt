@@ -4,3 +4,8 @@ pub mod Kinds
 pub mod Selected
 pub mod Sliced
 pub mod Text
+pub use Rattle.nd_base.specs.Lengths
+pub use Rattle.nd_base.specs.Signed
+pub use Rattle.nd_base.specs.Size
+pub use Rattle.nd_base.specs.ValidLayout
+pub use Rattle.nd_slice_axis.specs.Ranges

@@ -1,4 +1,4 @@
--- The shape, strides and offset that a slice argument gives.
+-- The lengths, the strides and the offset that a slice argument leaves of a layout.
 use Rattle.std.specs.Prelude.{◌≡◌, ℕ, ℤ, pos, negsuc, ◌+ℤ◌, ◌*ℤ◌, Some, None, List, [], ◌∷◌, length, refl}
 use Rattle.nd_slice_axis.specs.declared.fit.Fit.{Fit}
 use Rattle.nd_slice_axis.specs.declared.fit.Fit.TheVariants.{Strict, Clamp}
@@ -7,30 +7,34 @@ use Rattle.nd_slice.specs.declared.elem.SliceInfoElem.TheVariants as elem
 use Rattle.nd_slice_axis.specs.Picked.{picked_stride, first_offset}
 use Rattle.nd_slice_axis.specs.Picks.{slice_with, meaning, picks}
 
--- the lengths that are left
+-- the lengths that an argument without fault leaves of a shape
 abbrev pub sliced_shape : Fit → List SliceInfoElem → List ℕ → List ℕ
 sliced_shape fit [] shape = []
 sliced_shape fit (elem.NewAxis ∷ elems) shape = 1 ∷ sliced_shape fit elems shape
 sliced_shape fit (elem.Slice start end step ∷ elems) [] = []
-sliced_shape fit (elem.Slice start end step ∷ elems) (len ∷ shape) = length (picks fit len (slice_with start end step)) ∷ sliced_shape fit elems shape
+sliced_shape fit (elem.Slice start end step ∷ elems) (len ∷ shape) =
+    length (picks fit len (slice_with start end step)) ∷ sliced_shape fit elems shape
 sliced_shape fit (elem.Index index ∷ elems) [] = []
 sliced_shape fit (elem.Index index ∷ elems) (len ∷ shape) = sliced_shape fit elems shape
 
--- their strides
+-- the strides that an argument without fault leaves of those of a shape
 abbrev pub sliced_strides : Fit → List SliceInfoElem → List ℕ → List ℤ → List ℤ
 sliced_strides fit [] shape strides = []
 sliced_strides fit (elem.NewAxis ∷ elems) shape strides = pos 0 ∷ sliced_strides fit elems shape strides
-sliced_strides fit (elem.Slice start end step ∷ elems) (len ∷ shape) (stride ∷ strides) = picked_stride (length (picks fit len (slice_with start end step))) stride step ∷ sliced_strides fit elems shape strides
+sliced_strides fit (elem.Slice start end step ∷ elems) (len ∷ shape) (stride ∷ strides) =
+    picked_stride (length (picks fit len (slice_with start end step))) stride step ∷ sliced_strides fit elems shape strides
 sliced_strides fit (elem.Index index ∷ elems) (len ∷ shape) (stride ∷ strides) = sliced_strides fit elems shape strides
 sliced_strides fit (elem.Slice start end step ∷ elems) shape strides = []
 sliced_strides fit (elem.Index index ∷ elems) shape strides = []
 
--- how far the first index moves
+-- how many elements the first index that an argument leaves lies after the first index of the shape, with its sign
 abbrev pub sliced_offset : Fit → List SliceInfoElem → List ℕ → List ℤ → ℤ
 sliced_offset fit [] shape strides = pos 0
 sliced_offset fit (elem.NewAxis ∷ elems) shape strides = sliced_offset fit elems shape strides
-sliced_offset fit (elem.Slice start end step ∷ elems) (len ∷ shape) (stride ∷ strides) = first_offset (picks fit len (slice_with start end step)) stride +ℤ sliced_offset fit elems shape strides
-sliced_offset fit (elem.Index index ∷ elems) (len ∷ shape) (stride ∷ strides) = (meaning len index *ℤ stride) +ℤ sliced_offset fit elems shape strides
+sliced_offset fit (elem.Slice start end step ∷ elems) (len ∷ shape) (stride ∷ strides) =
+    first_offset (picks fit len (slice_with start end step)) stride +ℤ sliced_offset fit elems shape strides
+sliced_offset fit (elem.Index index ∷ elems) (len ∷ shape) (stride ∷ strides) =
+    (meaning len index *ℤ stride) +ℤ sliced_offset fit elems shape strides
 sliced_offset fit (elem.Slice start end step ∷ elems) shape strides = pos 0
 sliced_offset fit (elem.Index index ∷ elems) shape strides = pos 0
 
@@ -50,5 +54,6 @@ clamped_offset = refl
 row_with_new_axis : sliced_shape Strict (elem.Index (pos 1) ∷ elem.NewAxis ∷ elem.Slice (pos 0) None (pos 1) ∷ []) (2 ∷ 3 ∷ []) ≡ 1 ∷ 3 ∷ []
 row_with_new_axis = refl
 
-row_with_new_axis_strides : sliced_strides Strict (elem.Index (pos 1) ∷ elem.NewAxis ∷ elem.Slice (pos 0) None (pos 1) ∷ []) (2 ∷ 3 ∷ []) (pos 3 ∷ pos 1 ∷ []) ≡ pos 0 ∷ pos 1 ∷ []
+row_with_new_axis_strides : sliced_strides Strict (elem.Index (pos 1) ∷ elem.NewAxis ∷ elem.Slice (pos 0) None (pos 1) ∷ []) (2 ∷ 3 ∷ []) (pos 3 ∷ pos 1 ∷ [])
+    ≡ pos 0 ∷ pos 1 ∷ []
 row_with_new_axis_strides = refl

@@ -6,7 +6,7 @@ use Rattle.nd_slice_axis.specs.Text.{slice_text}
 use Rattle.nd_slice.specs.declared.elem.SliceInfoElem.{SliceInfoElem}
 use Rattle.nd_slice.specs.declared.elem.SliceInfoElem.TheVariants as elem
 
--- an element: a range as its slice, an index as its number
+-- the text of an element: a range as its slice, an index as its number, a new axis by its name
 abbrev pub elem_text : SliceInfoElem → List ℕ
 elem_text (elem.Slice start end step) = slice_text (slice_with start end step)
 elem_text (elem.Index index) = signed_decimal index

@@ -1,4 +1,4 @@
-//! Slice arguments whose type tells which shapes they are for.
+//! Slice arguments whose type says which shapes they are for.
 ghost use Rattle.std.specs.Prelude.{◌≡◌};
 ghost use Rattle.nd_base.specs.Lengths.{IsCount};
 ghost use Rattle.nd_slice.specs.ArgumentFault.{in_count, out_count};
@@ -7,17 +7,19 @@ use crate::elems::SliceElems;
 use crate::info::SliceInfo;
 use nd_base::{Dim, FixedCount, IxDyn, Lengths};
 
-/// A slice argument for shapes of the type `D`. Upstream's `SliceArg`.
+/// A slice argument for shapes of the type `D`. ndarray's `SliceArg`.
 pub trait SliceArg<D: FixedCount>: SliceElems {
     /// The type of the shapes that it leaves.
     type OutDim: Lengths;
 
-    /// How many axes of a shape it is for. Upstream's `in_ndim`.
+    /// How many axes of a shape it is for: as many as `D` has, where `D` fixes a count. ndarray's
+    /// `SliceArg::in_ndim`.
     fn in_ndim(&self) -> usize
         ensures count { result ≡ in_count (Self.list self.now) }
         ensures fixed { IsCount D.NDIM result };
 
-    /// How many axes it leaves. Upstream's `out_ndim`.
+    /// How many axes it leaves: as many as `OutDim` has, where that fixes a count. ndarray's
+    /// `SliceArg::out_ndim`.
     fn out_ndim(&self) -> usize
         ensures count { result ≡ out_count (Self.list self.now) }
         ensures fixed { IsCount Self.OutDim.NDIM result };

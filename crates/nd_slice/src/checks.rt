@@ -8,8 +8,8 @@ use crate::elems::SliceElems;
 use nd_base::{ErrorKind, Lengths, ShapeError, from_kind};
 use nd_slice_axis::{Fit, Slice, entry_of, to_abs_slice};
 
-/// How many axes of a shape a slice argument is for: one for each element but a new axis. Upstream's
-/// `SliceArg::in_ndim`.
+/// How many axes of a shape a slice argument is for: one for each element but a new axis. ndarray's
+/// `SliceArg::in_ndim` of a bare list.
 #[inline]
 pub fn in_ndim_of(list: &[SliceInfoElem]) -> usize
     ensures { result ≡ in_count list.now }
@@ -22,8 +22,8 @@ pub fn in_ndim_of(list: &[SliceInfoElem]) -> usize
     count
 }
 
-/// How many axes a slice argument leaves: one for each element but an index. Upstream's
-/// `SliceArg::out_ndim`.
+/// How many axes a slice argument leaves: one for each element but an index. ndarray's
+/// `SliceArg::out_ndim` of a bare list.
 #[inline]
 pub fn out_ndim_of(list: &[SliceInfoElem]) -> usize
     ensures { result ≡ out_count list.now }
@@ -35,10 +35,11 @@ pub fn out_ndim_of(list: &[SliceInfoElem]) -> usize
     count
 }
 
-/// Whether the elements of a slice argument fit the lengths of a shape. Refused with
-/// `IncompatibleShape` where they are for more axes or fewer; otherwise as the first element at fault
-/// is: with `OutOfBounds` for an index that is not on its axis, or a bound that is not and is not to
-/// be clamped, then with `Unsupported` for a step of 0. For the panics of upstream's `slice_collapse`.
+/// Checks that the elements of a slice argument fit the lengths of a shape. Fails with
+/// `IncompatibleShape` where they are for more axes or fewer than the shape has; otherwise as the first
+/// element at fault does: with `OutOfBounds` for an index that is no entry of its axis, or for a bound
+/// that is not from 0 to the length and is not to be clamped, then with `Unsupported` for a step of 0.
+/// In place of the panics of ndarray's `slice_collapse`.
 pub fn check_elems(shape: &[usize], elems: &[SliceInfoElem], fit: Fit) -> Result<(), ShapeError>
     ensures { result_err result ≡ argument_fault fit shape.now elems.now }
 {
@@ -62,8 +63,8 @@ pub fn check_elems(shape: &[usize], elems: &[SliceInfoElem], fit: Fit) -> Result
     Ok(())
 }
 
-/// Whether a slice argument fits a shape; refused as `check_elems` is, with the count of axes before
-/// any element. For the panics of upstream's `slice_move`.
+/// Checks that a slice argument fits a shape, whatever types hold the two. Fails as `check_elems` does.
+/// In place of the panics of ndarray's `slice_move`.
 #[inline]
 pub fn check_slice<D: Lengths, S: SliceElems>(
     dim: &D,

@@ -5,9 +5,10 @@ ghost use Rattle.nd_base.specs.ValidLayout.{IsValidLayout};
 
 use nd_base::{Axis, Lengths, set_axis_of, stride_offset};
 
-/// Takes one entry of an axis in place: the axis has a length of 1 then, and its stride stays. Answers
-/// how many elements the entry lies behind the first one, with its sign. Upstream's
-/// `do_collapse_axis`.
+/// Takes the entry `index` of an axis in place: the axis has a length of 1 then, and its stride stays.
+/// Answers how many elements the entry lies after the first one of the axis, with its sign. The caller
+/// ensures that the layout is valid, that the axis is one of its axes, and that the index is below the
+/// length of the axis. ndarray's `do_collapse_axis`.
 pub fn do_collapse_axis<D: Lengths>(dims: &mut D, strides: &D, axis: usize, index: usize) -> isize
     requires valid { IsValidLayout (D.list dims.old) (all_signed (D.list strides.now)) }
     requires exists { axis < length (D.list dims.old) }

@@ -6,11 +6,11 @@ ghost use Rattle.nd_slice.specs.Kinds.{is_slice, is_index, is_new_axis};
 mod display;
 mod from;
 
-/// A new axis of length 1. Upstream's `NewAxis`.
+/// A new axis of length 1. ndarray's `NewAxis`.
 #[derive(Clone, Copy, Debug)]
 pub struct NewAxis;
 
-/// One element of a slice argument. Upstream's `SliceInfoElem`.
+/// One element of a slice argument. ndarray's `SliceInfoElem`.
 #[derive(Clone, Copy, PartialEq, Eq, Hash, Debug)]
 pub enum SliceInfoElem {
     /// A range with a step, which keeps the axis.
@@ -19,17 +19,18 @@ pub enum SliceInfoElem {
         start: isize,
         /// The entry that the range stops before.
         end: Option<isize>,
-        /// How many entries on the next pick lies.
+        /// How many entries after a pick the next one lies, with its sign.
         step: isize,
     },
-    /// One entry; the axis goes.
+    /// One entry, counted from the end of the axis where it is negative; the axis is left out.
     Index(isize),
     /// A new axis of length 1.
     NewAxis,
 }
 
 impl SliceInfoElem {
-    /// One entry, counted from the front and at most `isize::MAX`. For upstream's `From` of a `usize`.
+    /// One entry, counted from the first one. The caller ensures that `index` is at most `isize::MAX`.
+    /// For ndarray's `From` of a `usize`.
     #[inline]
     pub fn index_usize(index: usize) -> SliceInfoElem
         requires { index ≤ limit }
@@ -38,7 +39,7 @@ impl SliceInfoElem {
         SliceInfoElem::Index(index as isize)
     }
 
-    /// Whether it is a range with a step. Upstream's `SliceInfoElem::is_slice`.
+    /// Whether it is a range with a step. ndarray's `SliceInfoElem::is_slice`.
     #[inline]
     pub fn is_slice(&self) -> bool
         ensures { result ≡ is_slice self.now }
@@ -46,7 +47,7 @@ impl SliceInfoElem {
         matches!(self, SliceInfoElem::Slice { .. })
     }
 
-    /// Whether it is one entry. Upstream's `SliceInfoElem::is_index`.
+    /// Whether it is one entry. ndarray's `SliceInfoElem::is_index`.
     #[inline]
     pub fn is_index(&self) -> bool
         ensures { result ≡ is_index self.now }
@@ -54,7 +55,7 @@ impl SliceInfoElem {
         matches!(self, SliceInfoElem::Index(_))
     }
 
-    /// Whether it is a new axis. Upstream's `SliceInfoElem::is_new_axis`.
+    /// Whether it is a new axis. ndarray's `SliceInfoElem::is_new_axis`.
     #[inline]
     pub fn is_new_axis(&self) -> bool
         ensures { result ≡ is_new_axis self.now }

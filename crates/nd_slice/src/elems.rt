@@ -1,10 +1,10 @@
-//! Values that hold the elements of a slice argument.
+//! Types that hold the elements of a slice argument.
 ghost use Rattle.std.specs.Prelude.{◌≡◌, List};
 ghost use Rattle.nd_slice.specs.declared.elem.SliceInfoElem.{SliceInfoElem};
 
 use crate::elem::SliceInfoElem;
 
-/// The elements of a slice argument, however they are kept. For upstream's bound
+/// The elements of a slice argument, whatever type keeps them. For ndarray's bound
 /// `AsRef<[SliceInfoElem]>` of `SliceArg`.
 pub trait SliceElems {
     ghost list: { Self → List SliceInfoElem };

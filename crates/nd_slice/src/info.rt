@@ -13,7 +13,7 @@ use std::alloc::AllocError;
 use std::marker::{Model, PhantomData};
 
 /// The elements of a slice argument, kept in a `T`, that are for as many axes as `Din` has and leave as
-/// many as `Dout` has, where those types fix it. Upstream's `SliceInfo`.
+/// many as `Dout` has, where those types fix a count. ndarray's `SliceInfo`.
 #[derive(Debug, Drop)]
 pub struct SliceInfo<T: SliceElems, Din: FixedCount, Dout: FixedCount> {
     in_dim: PhantomData<Din>,
@@ -49,7 +49,7 @@ impl<T: SliceElems + Copy, Din: FixedCount, Dout: FixedCount> Clone for SliceInf
 
 impl<T: SliceElems + Copy, Din: FixedCount, Dout: FixedCount> Copy for SliceInfo<T, Din, Dout> {}
 
-/// Whether a type of dimensions has so many axes, or any number.
+/// Whether a dimension type has `count` axes or allows any number.
 fn allows<D: FixedCount>(count: usize) -> bool
     ensures { IsTrue result ↔ IsCount D.NDIM count }
 {
@@ -60,7 +60,8 @@ fn allows<D: FixedCount>(count: usize) -> bool
 }
 
 impl<T: SliceElems + Drop, Din: FixedCount, Dout: FixedCount> SliceInfo<T, Din, Dout> {
-    /// The elements with the types, if their counts of axes are those of the types.
+    /// The elements with the types. Fails with `IncompatibleShape` where a type fixes another count of
+    /// axes than the elements have.
     fn checked(indices: T) -> Result<Self, ShapeError>
         ensures value { OkIff result (HasCounts Din.NDIM Dout.NDIM (T.list indices)) indices }
         ensures fault { IsOkUnless result ErrorKind.IncompatibleShape }
@@ -78,7 +79,7 @@ impl<T: SliceElems + Drop, Din: FixedCount, Dout: FixedCount> SliceInfo<T, Din, 
 }
 
 impl<T: SliceElems, Din: FixedCount, Dout: FixedCount> SliceInfo<T, Din, Dout> {
-    /// What keeps the elements. In place of upstream's `Deref`.
+    /// The value that keeps the elements. In place of ndarray's `Deref`.
     #[inline]
     pub fn indices(&self) -> &T
         ensures value { result.now ≡ self.now }
@@ -87,7 +88,7 @@ impl<T: SliceElems, Din: FixedCount, Dout: FixedCount> SliceInfo<T, Din, Dout> {
         &self.indices
     }
 
-    /// How many axes of a shape the elements are for. Upstream's `SliceInfo::in_ndim`.
+    /// How many axes of a shape the elements are for. ndarray's `SliceInfo::in_ndim`.
     #[inline]
     pub fn in_ndim(&self) -> usize
         ensures count { result ≡ in_count (T.list self.now) }
@@ -99,7 +100,7 @@ impl<T: SliceElems, Din: FixedCount, Dout: FixedCount> SliceInfo<T, Din, Dout> {
         }
     }
 
-    /// How many axes they leave. Upstream's `SliceInfo::out_ndim`.
+    /// How many axes the elements leave. ndarray's `SliceInfo::out_ndim`.
     #[inline]
     pub fn out_ndim(&self) -> usize
         ensures count { result ≡ out_count (T.list self.now) }
@@ -121,8 +122,8 @@ impl<T: SliceElems, Din: FixedCount, Dout: FixedCount> SliceElems for SliceInfo<
     }
 }
 
-/// The elements with the types, where the counts of axes are those of the types; `IncompatibleShape`
-/// where one that a type fixes is another.
+/// The elements of an array with the types. Fails with `IncompatibleShape` where a type fixes another
+/// count of axes than the elements have.
 impl<Din: FixedCount, Dout: FixedCount, const N: usize> TryFrom<[SliceInfoElem; N]>
     for SliceInfo<[SliceInfoElem; N], Din, Dout> {
     type Error = ShapeError;
@@ -136,7 +137,8 @@ impl<Din: FixedCount, Dout: FixedCount, const N: usize> TryFrom<[SliceInfoElem; 
     }
 }
 
-/// The same of elements that are kept elsewhere.
+/// Elements that are kept elsewhere with the types. Fails with `IncompatibleShape` where a type fixes
+/// another count of axes than the elements have.
 impl<'a, Din: FixedCount, Dout: FixedCount> TryFrom<&'a [SliceInfoElem]>
     for SliceInfo<&'a [SliceInfoElem], Din, Dout> {
     type Error = ShapeError;
@@ -150,7 +152,8 @@ impl<'a, Din: FixedCount, Dout: FixedCount> TryFrom<&'a [SliceInfoElem]>
     }
 }
 
-/// The same of a vector.
+/// The elements of a vector with the types. Fails with `IncompatibleShape` where a type fixes another
+/// count of axes than the elements have.
 impl<Din: FixedCount, Dout: FixedCount> TryFrom<Vec<SliceInfoElem>>
     for SliceInfo<Vec<SliceInfoElem>, Din, Dout> {
     type Error = ShapeError;
@@ -164,7 +167,7 @@ impl<Din: FixedCount, Dout: FixedCount> TryFrom<Vec<SliceInfoElem>>
     }
 }
 
-/// The same elements and types, with the elements left where they are.
+/// The same elements and types, with the elements lent.
 impl<'a, T: SliceElems, Din: FixedCount, Dout: FixedCount> From<&'a SliceInfo<T, Din, Dout>>
     for SliceInfo<&'a [SliceInfoElem], Din, Dout> {
     ghost from_gives = { λ info lent. lent.now ≡ T.list info.now };

@@ -1,4 +1,4 @@
-//! Slice arguments: which fit a shape, and what they leave of it.
+//! Slice arguments, as in ndarray 0.17.2: which fit a shape, and how many axes they leave of it.
 #![tactic(auto)]
 
 mod arg;
@@ -14,4 +14,7 @@ pub use collapse::do_collapse_axis;
 pub use elem::{NewAxis, SliceInfoElem};
 pub use elems::SliceElems;
 pub use info::SliceInfo;
-pub use nd_slice_axis::{Fit, Slice, abs_index, do_slice, entry_of, slice_min_max, to_abs_slice};
+pub use nd_slice_axis::{
+    Fit, Slice, abs_index, count_of_picks, do_slice, entry_of, first_pick, pick_count,
+    slice_min_max, to_abs_slice,
+};

@@ -1,11 +1,11 @@
--- Where the picks of an axis lie.
+-- Where the picks of a slice lie, in elements of the data.
 use Rattle.std.specs.Prelude.{◌≡◌, ℕ, ℤ, pos, negsuc, ◌*ℤ◌, nat_le, if◌then◌else◌, List, [], ◌∷◌, refl}
 
--- the stride of an axis of count entries that lie so many entries of the old axis apart; one entry needs none
+-- the stride of an axis of count picks that lie step entries of an axis of a stride apart; at most one pick needs none
 abbrev pub picked_stride : ℕ → ℤ → ℤ → ℤ
 picked_stride count stride step = if nat_le count 1 then pos 0 else stride *ℤ step
 
--- how far the first pick lies from the first entry
+-- how far the first of some picks lies from the first entry of their axis, with the stride of that; 0 where nothing is picked
 abbrev pub first_offset : List ℕ → ℤ → ℤ
 first_offset [] stride = pos 0
 first_offset (pick ∷ others) stride = pos pick *ℤ stride
@@ -16,6 +16,9 @@ two_entries_back = refl
 
 lone_entry : picked_stride 1 (pos 3) (negsuc 1) ≡ pos 0
 lone_entry = refl
+
+nothing_picked : first_offset [] (pos 3) ≡ pos 0
+nothing_picked = refl
 
 third_entry_first : first_offset (2 ∷ 0 ∷ []) (pos 3) ≡ pos 6
 third_entry_first = refl

@@ -1,5 +1,6 @@
 -- What a slice picks of an axis.
-use Rattle.std.specs.Prelude.{◌≡◌, ℕ, ◌-◌, ◌%◌, ◌==◌, min, ℤ, pos, negsuc, ◌+ℤ◌, Bool, false, nat_le, nat_lt, Option, Some, None, List, [], ◌∷◌, map, reverse, refl}
+use Rattle.std.specs.Prelude.{◌≡◌, ℕ, ◌-◌, ◌%◌, ◌==◌, min, ℤ, pos, negsuc, ◌+ℤ◌, Bool, true, false, nat_le, nat_lt}
+use Rattle.std.specs.Prelude.{Option, Some, None, List, [], ◌∷◌, map, reverse, refl}
 use Rattle.std.specs.Option.{option_map_or}
 use Rattle.std.specs.List.{enumerate_from, filter, range_with_len}
 use Rattle.nd_base.specs.Signed.{magnitude}
@@ -7,7 +8,7 @@ use Rattle.nd_slice_axis.specs.declared.fit.Fit.{Fit}
 use Rattle.nd_slice_axis.specs.declared.fit.Fit.TheVariants.{Strict, Clamp}
 use Rattle.nd_slice_axis.specs.declared.slice.Slice.{Slice}
 
--- the number that a bound or an index means on an axis of length len: a negative one counts from the end
+-- the number that a bound or an index means on an axis of length len: a negative one counts from the end, and -1 is the last entry
 abbrev pub meaning : ℕ → ℤ → ℤ
 meaning len (pos bound) = pos bound
 meaning len (negsuc bound) = pos len +ℤ negsuc bound
@@ -26,7 +27,7 @@ is_entry len (negsuc index) = false
 abbrev pub slice_with : ℤ → Option ℤ → ℤ → Slice
 slice_with start end step = record { start = start; end = end; step = step }
 
--- the number from 0 to len that is nearest
+-- the number from 0 to len that is nearest to a number
 abbrev pub nearest : ℕ → ℤ → ℤ
 nearest len (pos number) = pos (min number len)
 nearest len (negsuc number) = pos 0
@@ -40,11 +41,11 @@ bound_meaning Clamp len bound = nearest len (meaning len bound)
 abbrev pub start_meaning : Fit → ℕ → Slice → ℤ
 start_meaning fit len slice = bound_meaning fit len slice.start
 
--- the number that it stops before: a missing end is the end of the axis
+-- the number that the range of a slice stops before: the length of the axis where it has no end
 abbrev pub end_meaning : Fit → ℕ → Slice → ℤ
 end_meaning fit len slice = option_map_or (bound_meaning fit len) slice.end (pos len)
 
--- from one number up to, not including, another
+-- the numbers from start up to, not including, end
 abbrev pub range : ℕ → ℕ → List ℕ
 range start end = range_with_len start (end - start)
 
@@ -52,37 +53,79 @@ range start end = range_with_len start (end - start)
 abbrev pub every : ℕ → List ℕ → List ℕ
 every step items = map (λ item. item.1) (filter (λ item. item.0 % step == 0) (enumerate_from 0 items))
 
--- in the direction of a step
+-- items in the direction of a step: the other way round where it is negative
 abbrev pub directed : ℤ → List ℕ → List ℕ
 directed (pos step) items = items
 directed (negsuc step) items = reverse items
 
--- what a step picks from one number up to, not including, another
+-- what a step picks of the numbers from start up to, not including, end, in order
 abbrev pub between : ℤ → ℕ → ℕ → List ℕ
 between step start end = every (magnitude step) (directed step (range start end))
 
--- what a slice that fits picks, in order
+-- the entries that a slice picks of an axis which it fits, in order
 abbrev pub picks : Fit → ℕ → Slice → List ℕ
 picks fit len slice = between slice.step (magnitude (start_meaning fit len slice)) (magnitude (end_meaning fit len slice))
 
 -- examples
-from_the_back : picks Strict 4 (record { start = pos 1; end = None; step = negsuc 1 }) ≡ 3 ∷ 1 ∷ []
+last_entry : meaning 4 (negsuc 0) ≡ pos 3
+last_entry = refl
+
+before_the_first : meaning 4 (negsuc 4) ≡ negsuc 0
+before_the_first = refl
+
+length_is_a_bound : is_bound 4 (pos 4) ≡ true
+length_is_a_bound = refl
+
+length_is_no_entry : is_entry 4 (pos 4) ≡ false
+length_is_no_entry = refl
+
+no_bound_before_the_first : is_bound 4 (negsuc 0) ≡ false
+no_bound_before_the_first = refl
+
+nearest_to_nine : nearest 4 (pos 9) ≡ pos 4
+nearest_to_nine = refl
+
+bound_kept : bound_meaning Strict 4 (negsuc 8) ≡ negsuc 4
+bound_kept = refl
+
+bound_moved : bound_meaning Clamp 4 (negsuc 8) ≡ pos 0
+bound_moved = refl
+
+start_from_the_end : start_meaning Strict 4 (slice_with (negsuc 2) None (pos 1)) ≡ pos 1
+start_from_the_end = refl
+
+no_end_is_the_length : end_meaning Strict 4 (slice_with (negsuc 2) None (pos 1)) ≡ pos 4
+no_end_is_the_length = refl
+
+two_to_four : range 2 5 ≡ 2 ∷ 3 ∷ 4 ∷ []
+two_to_four = refl
+
+every_second : every 2 (5 ∷ 6 ∷ 7 ∷ 8 ∷ 9 ∷ []) ≡ 5 ∷ 7 ∷ 9 ∷ []
+every_second = refl
+
+turned_round : directed (negsuc 1) (5 ∷ 6 ∷ 7 ∷ []) ≡ 7 ∷ 6 ∷ 5 ∷ []
+turned_round = refl
+
+two_steps_back : between (negsuc 1) 1 4 ≡ 3 ∷ 1 ∷ []
+two_steps_back = refl
+
+from_the_back : picks Strict 4 (slice_with (pos 1) None (negsuc 1)) ≡ 3 ∷ 1 ∷ []
 from_the_back = refl
 
-from_the_front : picks Strict 10 (record { start = pos 1; end = Some (pos 8); step = pos 3 }) ≡ 1 ∷ 4 ∷ 7 ∷ []
+from_the_front : picks Strict 10 (slice_with (pos 1) (Some (pos 8)) (pos 3)) ≡ 1 ∷ 4 ∷ 7 ∷ []
 from_the_front = refl
 
-end_before_start : picks Strict 4 (record { start = pos 3; end = Some (pos 1); step = pos 1 }) ≡ []
+end_before_start : picks Strict 4 (slice_with (pos 3) (Some (pos 1)) (pos 1)) ≡ []
 end_before_start = refl
 
-from_the_end : picks Strict 10 (record { start = negsuc 8; end = Some (negsuc 1); step = negsuc 2 }) ≡ 7 ∷ 4 ∷ 1 ∷ []
+from_the_end : picks Strict 10 (slice_with (negsuc 8) (Some (negsuc 1)) (negsuc 2)) ≡ 7 ∷ 4 ∷ 1 ∷ []
 from_the_end = refl
 
-clamped_at_both_ends : picks Clamp 4 (record { start = negsuc 8; end = Some (pos 9); step = negsuc 1 }) ≡ 3 ∷ 1 ∷ []
+clamped_at_both_ends : picks Clamp 4 (slice_with (negsuc 8) (Some (pos 9)) (negsuc 1)) ≡ 3 ∷ 1 ∷ []
 clamped_at_both_ends = refl
 
-clamped_end_before_start : picks Clamp 4 (record { start = pos 5; end = Some (pos 2); step = pos 1 }) ≡ []
+clamped_end_before_start : picks Clamp 4 (slice_with (pos 5) (Some (pos 2)) (pos 1)) ≡ []
 clamped_end_before_start = refl
 
-clamped_end : picks Clamp 4 (record { start = pos 3; end = Some (pos 9); step = pos 1 }) ≡ 3 ∷ []
+clamped_end : picks Clamp 4 (slice_with (pos 3) (Some (pos 9)) (pos 1)) ≡ 3 ∷ []
 clamped_end = refl

@@ -4,21 +4,21 @@ use Rattle.std.specs.Option.{option_map_or}
 use Rattle.std.specs.Fmt.{digits, signed_decimal}
 use Rattle.nd_slice_axis.specs.declared.slice.Slice.{Slice}
 
--- a start of 0 is left out
+-- the text of a start: nothing for 0
 abbrev pub start_text : ℤ → List ℕ
 start_text (pos zero) = []
 start_text start = signed_decimal start
 
--- a missing end too
+-- the text of an end: nothing where there is none
 abbrev pub end_text : Option ℤ → List ℕ
 end_text end = option_map_or signed_decimal end []
 
--- and a step of 1
+-- the text of a step: nothing for 1
 abbrev pub step_text : ℤ → List ℕ
 step_text (pos (suc zero)) = []
 step_text step = codes ";" ++ signed_decimal step
 
--- a range
+-- the text of a slice
 abbrev pub slice_text : Slice → List ℕ
 slice_text slice = start_text slice.start ++ codes ".." ++ end_text slice.end ++ step_text slice.step
 

@@ -14,8 +14,8 @@ use crate::fit::Fit;
 use crate::slice::Slice;
 use nd_base::{ShapeError, signed, stride_offset, unsigned};
 
-/// The stride of `count` entries that lie `step` entries of an axis of a stride apart; at most one
-/// needs none.
+/// The stride in elements of `count` entries that lie `step` entries of an axis of a stride apart; 0
+/// where there is at most one.
 #[inline(always)]
 fn stepped_stride(count: usize, stride: usize, step: isize) -> usize
     requires { 1 < count → FitsSigned w64 (signed_reading stride *ℤ step) }
@@ -28,10 +28,12 @@ fn stepped_stride(count: usize, stride: usize, step: isize) -> usize
     }
 }
 
-/// Slices one axis in place: its length becomes the number of entries picked and its stride the
-/// distance in elements from one of them to the next, 0 where there is at most one. Answers how many
-/// elements the first of them lies behind the first entry, with its sign; 0 where there is none.
-/// Refused as `to_abs_slice` is, and then the length and the stride stay. Upstream's `do_slice`.
+/// Slices one axis in place: its length `dim` becomes the number of entries picked, and its stride, in
+/// elements, the distance from one of them to the next, 0 where there is at most one. Answers how many
+/// elements the first of them lies after the first entry, with its sign; 0 where there is none. The
+/// caller ensures that the length and the reach of the axis, (length - 1) * |stride|, are at most
+/// `isize::MAX`. Fails as `to_abs_slice` does, and then the length and the stride stay. ndarray's
+/// `do_slice`.
 #[inline]
 pub fn do_slice(
     dim: &mut usize,

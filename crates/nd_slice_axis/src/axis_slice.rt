@@ -11,8 +11,9 @@ use crate::slice::Slice;
 use nd_base::{ErrorKind, ShapeError, from_kind};
 use num_traits::clamp;
 
-/// The entry that an index means on an axis of `len` entries: itself, or `len + index` where it is
-/// negative. Upstream's `abs_index`.
+/// The entry that an index means on an axis of `len` entries, counted from 0: the index itself, or
+/// `len + index` where it is negative. The caller ensures that the result is not negative (`-len` is
+/// the least index); it may lie past the axis. ndarray's `abs_index`.
 #[inline]
 pub fn abs_index(len: usize, index: isize) -> usize
     requires { pos 0 ≤ℤ meaning len index }
@@ -22,8 +23,8 @@ pub fn abs_index(len: usize, index: isize) -> usize
     if index < 0 { len - distance } else { distance }
 }
 
-/// The entry that an index means on an axis of `len` entries, as `abs_index` tells it. An index that
-/// is not from `-len` to `len - 1` is `OutOfBounds`. The project's own.
+/// The entry that an index means on an axis of `len` entries, as `abs_index` gives it. Fails with
+/// `OutOfBounds` where the index is not from `-len` to `len - 1`. The project's own.
 #[inline(always)]
 pub fn entry_of(len: usize, index: isize) -> Result<usize, ShapeError>
     ensures fault { result_err result ≡ index_fault len index }
@@ -59,9 +60,9 @@ fn abs_bound(len: usize, bound: isize, fit: Fit) -> Result<usize, ShapeError>
 }
 
 /// The start, the end and the step of a slice on an axis of `len` entries, with the bounds counted
-/// from the first entry. An end before the start becomes the start. Refused where a bound is not
-/// from 0 to `len` and is not to be clamped (`OutOfBounds`), then for a step of 0 (`Unsupported`).
-/// Upstream's `to_abs_slice`.
+/// from the first entry: both are from 0 to `len`, and an end before the start becomes the start.
+/// Fails with `OutOfBounds` where a bound means no number from 0 to `len` and is not to be clamped,
+/// then with `Unsupported` for a step of 0. ndarray's `to_abs_slice`.
 #[inline]
 pub fn to_abs_slice(len: usize, slice: Slice, fit: Fit) -> Result<(usize, usize, isize), ShapeError>
     ensures fault { result_err result ≡ slice_fault fit len slice }
@@ -84,7 +85,8 @@ pub fn to_abs_slice(len: usize, slice: Slice, fit: Fit) -> Result<(usize, usize,
     Ok((start, end.max(start), slice.step))
 }
 
-/// How many entries a step picks from `start` up to, not including, `end`. The project's own.
+/// How many entries a step picks from `start` up to, not including, `end`. The caller ensures that
+/// the end is not before the start, and that the step is not 0. The project's own.
 #[inline(always)]
 pub fn pick_count(start: usize, end: usize, step: isize) -> usize
     requires order { start ≤ end }
@@ -94,8 +96,9 @@ pub fn pick_count(start: usize, end: usize, step: isize) -> usize
     (end - start).div_ceil(step.unsigned_abs())
 }
 
-/// The entry that a step picks first from `start` up to, not including, `end`: the last one for a
-/// step back. The project's own.
+/// The entry that a step picks first from `start` up to, not including, `end`: the last of them where
+/// the step is negative. The caller ensures that the end is after the start, and that the step is
+/// not 0. The project's own.
 #[inline(always)]
 pub fn first_pick(start: usize, end: usize, step: isize) -> usize
     requires order { start < end }
@@ -133,8 +136,18 @@ fn pick_ends(start: usize, end: usize, step: isize) -> (usize, usize)
     }
 }
 
-/// The least and the greatest entry that a slice picks of an axis of `len` entries which it fits;
-/// `None` where it picks none. Upstream's `slice_min_max`.
+/// How many entries a slice picks of an axis of `len` entries. The caller ensures that the slice fits
+/// the axis. The project's own.
+pub fn count_of_picks(len: usize, slice: Slice, fit: Fit) -> usize
+    requires { SliceFits fit len slice }
+    ensures { result ≡ length (picks fit len slice) }
+{
+    let (start, end, step) = to_abs_slice(len, slice, fit).unwrap();
+    pick_count(start, end, step)
+}
+
+/// The least and the greatest entry that a slice picks of an axis of `len` entries; `None` where it
+/// picks none. The caller ensures that the slice fits the axis. ndarray's `slice_min_max`.
 pub fn slice_min_max(len: usize, slice: Slice, fit: Fit) -> Option<(usize, usize)>
     requires { SliceFits fit len slice }
     ensures picks { MatchOption result (picks fit len slice ≡ [])

@@ -1,15 +1,19 @@
 -- Runs of lists of steps from runs of their parts.
-use Rattle.std.proofs.Common.{◌≡◌, ℕ, ◌+◌, suc, Option, Some, None, Err, List, [], ◌∷◌, ◌++◌, length, take, drop, refl, sym, ap, ◌∙◌, arith}
+use Rattle.std.proofs.Common.{◌≡◌, ℕ, ◌+◌, suc, Option, Some, None, Err, List, [], ◌∷◌, ◌++◌, length, take, drop, refl, sym, ap, subst, ◌∙◌, arith, false, nat_lt, IsOk}
 use Rattle.std.specs.List.{slice_get}
 use Rattle.std.proofs.Math.Seq.{take-suc, drop-cons}
 use Rattle.std.proofs.lemmas.List.{length-take-le, take-append-drop}
 use Rattle.std.proofs.lemmas.Option.{get_or_from_slice_get, slice_get_within}
 use Rattle.nd_base.specs.declared.error.ErrorKind.{ErrorKind}
-use Rattle.ndarray_layout.specs.Step.{StepValue, step_fault, view_after}
+use Rattle.std.proofs.lemmas.Bool.{ltb-true, true_from_ne_false}
+use Rattle.nd_slice.specs.ArgumentFault.{out_count}
+use Rattle.ndarray_layout.specs.Step.{StepValue, SliceBy, CollapseTo, MergeInto, BroadcastTo, may_want_memory, step_fault, view_after}
+use Rattle.ndarray_layout.specs.StepFits.{MayRefuseMemory}
+use Rattle.ndarray_layout.proofs.laws.StepFits.{fits_of_no_fault_of_step, no_fault_of_fitting_step}
 use Rattle.nd_base.specs.declared.error.LayoutError.{LayoutError}
 use Rattle.nd_base.specs.declared.error.LayoutError.TheVariants.{Shape, Memory}
 use Rattle.nd_base.specs.ShapeFault.{shape_fault}
-use Rattle.ndarray_layout.specs.Run.{IsEndedBy, Outcome, stayed, stepped, unless_fault, run_of_step, joined, in_turn, run_of}
+use Rattle.ndarray_layout.specs.Run.{AllFit, IsEndedBy, IsRefusedBy, NeedNoMemory, Outcome, stayed, stepped, unless_fault, run_of_step, joined, in_turn, run_of}
 use Rattle.ndarray_layout_views.specs.View.{View}
 
 -- a run after no steps
@@ -86,3 +90,44 @@ ended_by X steps at step start left (Shape kind) there before same refused =
     let within = slice_get_within steps at step there in
     let count = taken_of_no_fault (take at steps) start before ∙ length-take-le at steps (omega (arith, within)) in
     rw (run_of_ended steps at step start left kind there before same (sym refused)) (refl, omega (arith, count), refl)
+
+-- what is known of a step that is not taken
+pub refused_of : (X : Type 0) (view : View) (step : StepValue) (fault : LayoutError) → shape_fault {X = X} (Err fault) ≡ step_fault view step → (step_fault view step ≡ None → may_want_memory step ≡ false → IsOk {T = X} {E = LayoutError} (Err fault)) → IsRefusedBy view fault step
+refused_of X view step (Shape kind) refused memory = (
+  sym refused,
+  λ fits.
+      let none = no_fault_of_fitting_step view step fits in
+      let e : Some kind ≡ None = refused ∙ none in
+      cc,
+)
+refused_of X view step (Memory e) refused memory = wanted view step (sym refused) (λ few.
+    let ok = memory (sym refused) few in
+    cc)
+  where
+    wanted : (view : View) (step : StepValue) → step_fault view step ≡ None → (may_want_memory step ≡ false → ⊥) → MayRefuseMemory view step
+    wanted view (SliceBy elems fit) none wants = (fits_of_no_fault_of_step view (SliceBy elems fit) none, ltb-true 4 (out_count elems) (true_from_ne_false (nat_lt 4 (out_count elems)) wants))
+    wanted view (CollapseTo axis index) none wants = wants refl
+    wanted view (MergeInto take into) none wants = wants refl
+    wanted view (BroadcastTo shape) none wants = (fits_of_no_fault_of_step view (BroadcastTo shape) none, ltb-true 4 (length shape) (true_from_ne_false (nat_lt 4 (length shape)) wants))
+
+-- a run without fault whose steps want no memory is not stopped
+pub not_stopped : (X : Type 0) (steps : List StepValue) (at : ℕ) (step : StepValue) (start left : View) (fault : LayoutError) → slice_get steps at ≡ Some step → (run_of (take at steps) start).fault ≡ None → (run_of (take at steps) start).view ≡ left → shape_fault {X = X} (Err fault) ≡ step_fault left step
+    → (step_fault left step ≡ None → may_want_memory step ≡ false → IsOk {T = X} {E = LayoutError} (Err fault)) → (run_of steps start).fault ≡ None → NeedNoMemory steps → ⊥
+not_stopped X steps at step start left (Shape kind) there before same refused memory none few =
+    let ended = run_of_ended steps at step start left kind there before same (sym refused) in
+    let e : Some kind ≡ None = rw ended at none in
+    cc
+not_stopped X steps at step start left (Memory e) there before same refused memory none few =
+    let within = slice_get_within steps at step there in
+    let here : may_want_memory step ≡ false = subst (λ one. may_want_memory one ≡ false) (get_or_from_slice_get steps at step step there) (few at step within) in
+    let ok = memory (sym refused) here in
+    cc
+
+-- where a run has no fault, each step fits
+pub all_fit : (steps : List StepValue) (view : View) → (run_of steps view).fault ≡ None → AllFit steps view
+all_fit [] view none = tt
+all_fit (step ∷ steps) view none = by (step_fault view step) refl (all_fit steps (view_after view step)) none
+  where
+    by : (fault : Option ErrorKind) → step_fault view step ≡ fault → ((run_of steps (view_after view step)).fault ≡ None → AllFit steps (view_after view step)) → (joined (unless_fault fault view step).fault (unless_fault fault view step) (run_of steps (unless_fault fault view step).view)).fault ≡ None → AllFit (step ∷ steps) view
+    by None e rest none = (fits_of_no_fault_of_step view step e, rest none)
+    by (Some kind) e rest none = absurd (cc)

@@ -1,11 +1,12 @@
 -- What a list of steps makes of a view: what its steps make of it, one after another.
-use Rattle.std.specs.Prelude.{◌≡◌, ℕ, ◌+◌, pos, false, IsTrue, Option, Some, None, IsSomeAnd, List, [], ◌∷◌, take, slice_get, refl}
+use Rattle.std.specs.Prelude.{◌≡◌, ℕ, ◌+◌, ◌<◌, pos, false, Option, Some, None, IsSomeAnd, List, [], ◌∷◌, take, slice_get, refl}
 use Rattle.std.specs.List.{All}
 use Rattle.nd_base.specs.declared.error.ErrorKind.{ErrorKind}
 use Rattle.nd_base.specs.declared.error.ErrorKind.TheVariants.{OutOfBounds}
 use Rattle.nd_base.specs.declared.error.LayoutError.{LayoutError}
 use Rattle.nd_base.specs.declared.error.LayoutError.TheVariants.{Shape, Memory}
 use Rattle.ndarray_layout.specs.Step.{StepValue, CollapseTo, MergeInto, BroadcastTo, step_fault, view_after, source_index, may_want_memory, is_broadcast}
+use Rattle.ndarray_layout.specs.StepFits.{StepFits, MayRefuseMemory}
 use Rattle.ndarray_layout_views.specs.View.{View}
 
 -- what became of a view: how many steps were taken, the view that they left, which index of the first view an index of
@@ -49,10 +50,19 @@ run_of (step ∷ steps) = in_turn (run_of_step step) (run_of steps)
 abbrev pub HasNoBroadcast : List StepValue → Type 0
 HasNoBroadcast steps = All (λ step. is_broadcast step ≡ false) steps
 
--- why a step is not taken: it doesn't fit, or it does and memory was refused
+-- each step fits the view that those before it leave
+abbrev pub AllFit : List StepValue → View → Type 0
+AllFit [] view = Unit {0}
+AllFit (step ∷ steps) view = StepFits view step × AllFit steps (view_after view step)
+
+-- no step leaves more than four axes
+abbrev pub NeedNoMemory : List StepValue → Type 0
+NeedNoMemory steps = All (λ step. may_want_memory step ≡ false) steps
+
+-- why a step is not taken: it doesn't fit, for this fault, or memory was refused to a step that may want it
 abbrev pub IsRefusedBy : View → LayoutError → StepValue → Type 0
-IsRefusedBy view (Shape kind) step = step_fault view step ≡ Some kind
-IsRefusedBy view (Memory e) step = (step_fault view step ≡ None) × IsTrue (may_want_memory step)
+IsRefusedBy view (Shape kind) step = (step_fault view step ≡ Some kind) × ¬ StepFits view step
+IsRefusedBy view (Memory e) step = MayRefuseMemory view step
 
 -- the steps before the one of this number fit and leave this view, and that step is not taken
 pub record StopsAt (steps : List StepValue) (start : View) (at : ℕ) (fault : LayoutError) (view : View) : Type 0 where
@@ -86,3 +96,6 @@ one_was_taken = refl
 
 and_left_a_row : (run_of (CollapseTo 0 1 ∷ CollapseTo 0 1 ∷ MergeInto 0 1 ∷ []) two_by_three).view ≡ record { start = 3; shape = 1 ∷ 3 ∷ []; strides = pos 3 ∷ pos 1 ∷ [] }
 and_left_a_row = refl
+
+second_entry_of_one : AllFit (CollapseTo 0 1 ∷ CollapseTo 0 1 ∷ []) two_by_three → 1 < 1
+second_entry_of_one fits = fits.1.0.1

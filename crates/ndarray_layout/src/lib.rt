@@ -3,13 +3,19 @@
 
 mod steps;
 
-pub use nd_dim::{
-    Arithmetic, Axis, Convert, Dim, Dimension, ErrorKind, FixedCount, IntoDimension, Ix0, Ix1, Ix2,
-    Ix3, Ix4, Ix5, Ix6, IxDyn, IxDynImpl, LayoutError, Lengths, Order, RemoveAxis, Scale, ShapeArg,
-    ShapeError, axis_of, from_kind, incompatible_shapes, index_offset, new_dim, new_ix0, new_ix1,
-    new_ix2, new_ix3, new_ix4, new_ix5, new_ix6, new_ixdyn, set_axis_of, signed, stride_offset,
-    stride_offset_checked, unsigned,
+// Dimension types, and what all of them can do.
+pub use nd_base::{
+    Arithmetic, Axis, Convert, Dim, ErrorKind, FixedCount, INLINE_AXES, Ix0, Ix1, Ix2, Ix3, Ix4,
+    Ix5, Ix6, IxDyn, IxDynImpl, LayoutError, Lengths, Order, Scale, ShapeError, axis_of, from_kind,
+    has_axis, index_offset, is_index, new_ix0, new_ix1, new_ix2, new_ix3, new_ix4, new_ix5,
+    new_ix6, new_ixdyn, set_axis_of, signed, stride_offset, stride_offset_checked, unsigned,
 };
+pub use nd_dim::{
+    Dimension, IntoDimension, RemoveAxis, ShapeArg, default_strides, fortran_strides,
+    incompatible_shapes, magnitude_at, new_dim, product, step_by_columns, step_by_rows,
+};
+
+// Layouts: acceptance, shapes and their builders, walks, common shapes, merges.
 pub use nd_shape::{
     Axes, AxisDescription, CanIndexCheckMode, IndexCursor, IndexCursorF, Indices, IndicesIter,
     IndicesIterF, Layout, NdIndex, Shape, ShapeBuilder, StrideShape, Strides, all_indices, axes_of,
@@ -18,10 +24,14 @@ pub use nd_shape::{
     merge_axes, move_min_stride_axis_to_last, offset_from_low_addr_ptr_to_logical_ptr,
     size_of_shape_checked, strides_non_negative,
 };
+
+// Slices, and arguments of slices.
 pub use nd_slice::{
     Fit, NewAxis, Slice, SliceArg, SliceElems, SliceInfo, SliceInfoElem, abs_index, check_elems,
-    check_slice, do_collapse_axis, do_slice, entry_of, in_ndim_of, out_ndim_of, slice_min_max,
-    to_abs_slice,
+    check_slice, count_of_picks, do_collapse_axis, do_slice, entry_of, first_pick, in_ndim_of,
+    out_ndim_of, pick_count, slice_min_max, to_abs_slice,
 };
+
+// Views, and steps from one to the next.
 pub use ndarray_layout_strided::Strided;
 pub use steps::{Step, Stopped, run};

@@ -1,11 +1,11 @@
 //! Steps from one view to the next, and runs of them.
-ghost use Rattle.std.specs.Prelude.{◌≡◌, ℕ, ◌<◌, length, None, Some, map, IfOk, IfErr, IsOk, OnErr, OnOk, false};
+ghost use Rattle.std.specs.Prelude.{◌≡◌, ℕ, ◌<◌, length, None, Some, map, IfOk, IfErr, IsOk, OnErr, OnOk, false, take};
 ghost use Rattle.std.specs.Result.{result_err};
 ghost use Rattle.nd_base.specs.ShapeFault.{shape_fault};
 ghost use Rattle.ndarray_layout_views.specs.MergedView.{merge_fault, merge_of};
 ghost use Rattle.ndarray_layout_views.specs.DistinctPlaces.{HasDistinctPlaces};
 ghost use Rattle.ndarray_layout_views.specs.KeepsPlaces.{KeepsPlaces};
-ghost use Rattle.ndarray_layout.specs.Run.{run_of, StopsAt, IsEndedBy, HasNoBroadcast};
+ghost use Rattle.ndarray_layout.specs.Run.{run_of, AllFit, StopsAt, IsEndedBy, HasNoBroadcast, NeedNoMemory};
 ghost use Rattle.ndarray_layout.specs.Step.{may_want_memory, step_fault, step_value, view_after};
 ghost use Rattle.ndarray_layout_views.specs.View.{IsView, LiesWithin};
 
@@ -62,7 +62,7 @@ fn step_to(view: &mut Strided<IxDyn>, next: Strided<IxDyn>)
 
 /// Takes one step. A refusal leaves the view.
 ///
-/// Errors: the fault of the step, then want of memory, which is none for at most four axes.
+/// Errors: the fault of the step, then that memory is refused, but not where it leaves at most four axes.
 fn take_step(alloc: Global, view: &mut Strided<IxDyn>, step: &Step) -> Result<(), LayoutError>
     ensures fault { shape_fault result ≡ step_fault view.old (step_value step.now) }
     ensures refusal { OnErr result (view.new ≡ view.old) }
@@ -91,15 +91,21 @@ fn take_step(alloc: Global, view: &mut Strided<IxDyn>, step: &Step) -> Result<()
 /// Errors of a step: those of `Strided::slice`; `OutOfBounds` for a collapse of no such axis or
 /// entry; for a merge `OutOfBounds` where an axis is missing, then `Unsupported` for one axis twice,
 /// then `IncompatibleLayout` where no stride has the entries of both; those of `Strided::broadcast`.
-/// Want of memory comes last, and not where the step leaves at most 4 axes. The project's own.
+/// That memory is refused comes last, and not where the step leaves at most 4 axes. The project's own.
 pub fn run(alloc: Global, view: Strided<IxDyn>, steps: &[Step]) -> Result<Strided<IxDyn>, Stopped>
     ensures fits { IfOk result (λ v. (run_of (map step_value steps.now) view).fault ≡ None) }
+    ensures each_fits { IsOk result → AllFit (map step_value steps.now) view }
     ensures left { IfOk result (λ v. v ≡ (run_of (map step_value steps.now) view).view) }
     ensures at { IfErr result (λ s. s.at < length steps.now) }
     ensures stopped { IfErr result (λ s.
         StopsAt (map step_value steps.now) view s.at s.fault s.view) }
     ensures ended { IfErr result (λ s.
         IsEndedBy (run_of (map step_value steps.now) view) s.at s.fault s.view) }
+    ensures memory { (run_of (map step_value steps.now) view).fault ≡ None →
+        NeedNoMemory (map step_value steps.now) → IsOk result }
+    ensures stopped_view { IfErr result (λ s. IsView s.view) }
+    ensures stopped_places { IfErr result (λ s.
+        KeepsPlaces (run_of (take s.at (map step_value steps.now)) view).source view s.view) }
     ensures is_view { IfOk result (λ v. IsView v) }
     ensures places { IfOk result (λ v.
         KeepsPlaces (run_of (map step_value steps.now) view).source view v) }
@@ -107,6 +113,7 @@ pub fn run(alloc: Global, view: Strided<IxDyn>, steps: &[Step]) -> Result<Stride
     ensures distinct { IfOk result (λ v. HasNoBroadcast (map step_value steps.now) →
         HasDistinctPlaces view → HasDistinctPlaces v) }
 {
+    // Says to the proof that the view given is one, which is known of a value of the type only where a method returns.
     let _start = view.start();
     let mut view = view;
     for (at, step) in steps.iter().enumerate() {

@@ -34,7 +34,7 @@ use nd_shape::{
 };
 use nd_slice::{Fit, SliceElems, check_elems, do_collapse_axis};
 use ndarray_layout_views::{
-    broadcast_axes, check_axes, counted_axes, has_entry, offset_place, picked_size, push_places,
+    broadcast_axes, check_axes, has_entry, offset_place, picked_size, push_places, sliced_axes,
 };
 use std::alloc::{AllocError, Global};
 use std::marker::Model;
@@ -200,12 +200,9 @@ impl<D: Lengths> Strided<D> {
         ensures memory { size self.now.shape ≡ 0 → IsOk result }
     {
         let size = product(self.dim.slice());
-        let mut places = Vec::with_capacity(alloc, size)?;
-        if size > 0 {
-            let (shape, strides) = (self.dim.slice(), self.strides.slice());
-            places = push_places(places, order, shape, strides, self.start);
-        }
-        Ok(places)
+        let places = Vec::with_capacity(alloc, size)?;
+        let (shape, strides) = (self.dim.slice(), self.strides.slice());
+        Ok(push_places(places, order, shape, strides, self.start))
     }
 
     /// The view of the same data that a slice argument leaves. Refused with `IncompatibleShape`
@@ -232,7 +229,7 @@ impl<D: Lengths> Strided<D> {
         ensures distinct { IfOk result (λ v. HasDistinctPlaces self.now → HasDistinctPlaces v) }
     {
         let (shape, strides) = (self.dim.slice(), self.strides.slice());
-        let (dim, strides, offset) = counted_axes(alloc, slices.elems(), shape, strides, fit)?;
+        let (dim, strides, offset) = sliced_axes(alloc, slices.elems(), shape, strides, fit)?;
         let start = offset_place(self.start, offset);
         Ok(Strided {
             start,

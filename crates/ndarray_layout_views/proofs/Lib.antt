@@ -1,5 +1,6 @@
 pub mod Broadcasts
 pub mod Collapses
+pub mod LongerSteps
 pub mod Merged
 pub mod Offsets
 pub mod OneAxis

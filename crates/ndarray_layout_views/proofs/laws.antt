@@ -2,6 +2,7 @@ pub mod BroadcastView
 pub mod CollapsedView
 pub mod DistinctPlaces
 pub mod KeepsPlaces
+pub mod LongerAxes
 pub mod MergedView
 pub mod SlicedView
 pub mod View

@@ -1,5 +1,5 @@
 -- What broadcasting to a shape makes of a view, and which shapes are refused.
-use Rattle.std.specs.Prelude.{◌≡◌, ℕ, ◌-◌, ◌==◌, ℤ, pos, negsuc, Bool, false, not, nat_lt, nat_eq, Option, Some, None, if◌then◌else◌, List, [], ◌∷◌, ◌++◌, length, drop, replicate, refl}
+use Rattle.std.specs.Prelude.{◌≡◌, ℕ, ◌-◌, ◌≤◌, ◌==◌, ℤ, pos, negsuc, Bool, false, not, nat_lt, nat_eq, Option, Some, None, if◌then◌else◌, List, [], ◌∷◌, ◌++◌, length, drop, replicate, refl}
 use Rattle.std.specs.Option.{option_map_or}
 use Rattle.std.specs.Cmp.Lexicographic.{pointwise}
 use Rattle.nd_base.specs.declared.error.ErrorKind.{ErrorKind}
@@ -11,6 +11,10 @@ use Rattle.ndarray_layout_views.specs.View.{View}
 -- a shape is the one that it and another have in common, so that views of the other can be read as views of it
 abbrev pub takes_in : List ℕ → List ℕ → Bool
 takes_in shape other = option_map_or (λ common. pointwise nat_eq common shape) (common_shape other shape) false
+
+-- a view of a shape can be read as one of another: that is the one that both have in common, and its size is within the limit
+abbrev pub BroadcastFits : List ℕ → List ℕ → Type 0
+BroadcastFits shape view_shape = (common_shape view_shape shape ≡ Some shape) × (nonzero_size shape ≤ limit)
 
 -- the fault of broadcasting a view of a shape to another one, told first: the shapes, and then the product of the lengths that are not 0
 abbrev pub broadcast_fault : List ℕ → List ℕ → Option ErrorKind
@@ -85,3 +89,6 @@ one_entry_to_none = refl
 
 two_new_axes : broadcast_fault (2 ∷ 2 ∷ 3 ∷ []) (3 ∷ []) ≡ None
 two_new_axes = refl
+
+rows_of_no_common_shape : BroadcastFits (3 ∷ 4 ∷ []) (2 ∷ 4 ∷ []) → ◌≡◌ {A = Option (List ℕ)} None (Some (3 ∷ 4 ∷ []))
+rows_of_no_common_shape fits = fits.0

@@ -57,3 +57,12 @@ within = refl
 
 outside : checked_place (record { start = 3; shape = 2 ∷ []; strides = negsuc 1 ∷ [] }) (2 ∷ []) ≡ None
 outside = refl
+
+place_below_the_data : LiesWithin 4 (record { start = 0; shape = 2 ∷ []; strides = negsuc 0 ∷ [] }) → ⊥
+place_below_the_data within = within (1 ∷ []) refl
+
+start_too_low : IsView (record { start = 1; shape = 3 ∷ []; strides = negsuc 0 ∷ [] }) → 2 ≤ 1
+start_too_low view = view.low
+
+one_stride_for_two_axes : IsView (record { start = 0; shape = 2 ∷ 3 ∷ []; strides = pos 1 ∷ [] }) → ◌≡◌ {A = ℕ} 2 1
+one_stride_for_two_axes view = view.valid.same_count

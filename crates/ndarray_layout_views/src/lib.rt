@@ -4,6 +4,7 @@
 
 mod broadcasting;
 mod collapsing;
+mod longer;
 mod merging;
 mod places;
 mod sizes;
@@ -14,4 +15,4 @@ pub use collapsing::has_entry;
 pub use merging::check_axes;
 pub use places::{offset_place, push_places};
 pub use sizes::picked_size;
-pub use slicing::counted_axes;
+pub use slicing::sliced_axes;

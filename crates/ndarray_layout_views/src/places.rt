@@ -4,19 +4,43 @@ ghost use Rattle.std.specs.Prelude.{[], ◌∷◌, ◌++◌, map, length, MatchO
 ghost use Rattle.nd_base.specs.Signed.{signed as signed_reading, all_signed};
 ghost use Rattle.nd_base.specs.Size.{size, limit};
 ghost use Rattle.nd_base.specs.declared.order.Order.TheVariants.{RowMajor};
-ghost use Rattle.ndarray_layout_views.specs.View.{IsView, view_places};
+ghost use Rattle.ndarray_layout_views.specs.View.{IsView, view_of, view_places};
 ghost use Rattle.ndarray_layout_views.specs.Walk.{nested, nested_view, row_view};
 
+use crate::longer::longer_axes;
 use nd_base::{Order, stride_offset};
 
-/// Appends the places of all indices, in an order, to a list with room for them.
+/// Appends the places of all indices, in an order, to a list with room for them. Axes of length 1 are left out
+/// first, so that no more calls nest than there are axes of two entries or more.
 pub fn push_places(
+    places: Vec<usize>,
+    order: Order,
+    shape: &[usize],
+    strides: &[usize],
+    start: usize,
+) -> Vec<usize>
+    requires view { IsView (view_of start shape.now strides.now) }
+    requires room { vec_len places + size shape.now ≤ vec_capacity places }
+    ensures items { map pos result.items ≡ map pos places.items ++
+        view_places order (view_of start shape.now strides.now) }
+    ensures len { vec_len result ≡ vec_len places + size shape.now }
+    ensures capacity { vec_capacity result ≡ vec_capacity places }
+{
+    match longer_axes(shape, strides) {
+        Some(axes) => push_entries(places, order, axes.lens(), axes.strides(), start),
+        None => places,
+    }
+}
+
+/// Appends the places of all indices, entry by entry of the slowest axis: one call within another for each axis.
+fn push_entries(
     mut places: Vec<usize>,
     order: Order,
     shape: &[usize],
     strides: &[usize],
     start: usize,
 ) -> Vec<usize>
+    requires few { length shape.now ≤ 62 }
     requires view { IsView (nested_view order start shape.now (all_signed strides.now)) }
     requires room { vec_len places + size (nested order shape.now) ≤ vec_capacity places }
     ensures items { map pos result.items ≡ map pos places.items ++
@@ -30,7 +54,7 @@ pub fn push_places(
                 return push_row(places, start, len, stride);
             }
             for i in 0..len {
-                places = push_places(places, order, lens, rest, entry_place(start, i, stride));
+                places = push_entries(places, order, lens, rest, entry_place(start, i, stride));
             }
         },
         _ => places.push_reserved(start),
@@ -78,7 +102,7 @@ fn entry_place(start: usize, i: usize, stride: usize) -> usize
     offset_place(start, stride_offset(i, stride))
 }
 
-/// The place that lies an offset behind another one.
+/// The place at an offset from another one.
 pub fn offset_place(start: usize, offset: isize) -> usize
     requires first { start ≤ limit }
     requires low { pos 0 ≤ℤ (pos start +ℤ offset) }

@@ -4,10 +4,11 @@ ghost use Rattle.nd_base.specs.Size.{nonzero_size, size, limit};
 ghost use Rattle.nd_slice.specs.ArgumentFault.{argument_fault};
 ghost use Rattle.nd_slice.specs.Sliced.{sliced_shape};
 
-use crate::slicing::count_of_picks;
-use nd_slice::{Fit, Slice, SliceInfoElem};
+use nd_slice::{Fit, Slice, SliceInfoElem, count_of_picks};
 
-/// The product of the lengths that an argument which fits a shape leaves.
+/// The product of the lengths that a slice argument leaves of a shape: how many indices. The caller ensures
+/// that the product of the lengths that are not 0 is at most `isize::MAX`, and that the argument fits the
+/// shape.
 pub fn picked_size(shape: &[usize], elems: &[SliceInfoElem], fit: Fit) -> usize
     requires size_fits { nonzero_size shape.now ≤ limit }
     requires fits { argument_fault fit shape.now elems.now ≡ None }

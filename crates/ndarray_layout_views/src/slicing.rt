@@ -1,5 +1,5 @@
 //! The shape and the strides that a slice argument leaves of a layout.
-ghost use Rattle.std.specs.Prelude.{◌≡◌, ◌↔◌, ◌⊎◌, ◌<◌, ◌≤◌, ◌^◌, false, IsFalse, None, IfOk, IsOk, OnErr, OnOk, length};
+ghost use Rattle.std.specs.Prelude.{◌≡◌, ◌↔◌, ◌⊎◌, ◌<◌, ◌≤◌, ◌^◌, IsTrue, IsFalse, Some, None, IfOk, IsOk, OnErr, OnOk, length};
 ghost use Rattle.std.specs.Result.{result_err};
 ghost use Rattle.nd_base.specs.Lengths.{NeedsNoMemory};
 ghost use Rattle.nd_base.specs.ShapeFault.{shape_fault};
@@ -9,10 +9,11 @@ ghost use Rattle.nd_base.specs.Span.{reach};
 ghost use Rattle.nd_base.specs.ValidLayout.{IsValidLayout};
 ghost use Rattle.nd_slice_axis.specs.Picks.{picks};
 ghost use Rattle.nd_slice_axis.specs.SliceFault.{slice_fault};
-ghost use Rattle.nd_slice.specs.ArgumentFault.{first_fault, in_count, out_count};
 ghost use Rattle.nd_slice_axis.specs.Picked.{picked_stride, first_offset};
+ghost use Rattle.nd_slice.specs.ArgumentFault.{first_fault, in_count, out_count};
+ghost use Rattle.nd_slice.specs.Counts.{HasCounts};
 ghost use Rattle.nd_slice.specs.Sliced.{sliced_shape, sliced_strides, sliced_offset};
-ghost use Rattle.ndarray_layout_views.specs.SlicedView.{counts_differ, slice_refusal};
+ghost use Rattle.ndarray_layout_views.specs.SlicedView.{slice_refusal};
 
 use nd_dim::{ErrorKind, LayoutError, Lengths, ShapeError, from_kind, stride_offset};
 use nd_slice::{
@@ -20,25 +21,26 @@ use nd_slice::{
 };
 use std::alloc::Global;
 
-/// Whether a slice argument is for more axes or fewer than a shape has, or leaves more or fewer than a
-/// type fixes, if it fixes a count.
+/// Whether a slice argument is for as many axes as a shape has, and leaves as many as a type fixes, if
+/// it fixes a count.
 #[inline(always)]
-fn has_other_counts(fixed: Option<usize>, shape: &[usize], elems: &[SliceInfoElem]) -> bool
-    ensures { result ≡ counts_differ fixed shape.now elems.now }
+fn has_counts(fixed: Option<usize>, shape: &[usize], elems: &[SliceInfoElem]) -> bool
+    ensures { IsTrue result ↔ HasCounts (Some (length shape.now)) fixed elems.now }
 {
-    in_ndim_of(elems) != shape.len() || matches!(fixed, Some(ndim) if ndim != out_ndim_of(elems))
+    in_ndim_of(elems) == shape.len() && !matches!(fixed, Some(ndim) if ndim != out_ndim_of(elems))
 }
 
-/// Whether a list of so many lengths may want memory, where its type fixes their count or not.
+/// Whether a list of `ndim` lengths needs memory of its own: one of more than four does, unless its type
+/// fixes their count.
 #[inline(always)]
-fn may_want_memory(fixed: Option<usize>, ndim: usize) -> bool
+fn needs_memory(fixed: Option<usize>, ndim: usize) -> bool
     ensures { IsFalse result ↔ NeedsNoMemory fixed ndim }
 {
     fixed.is_none() && ndim > 4
 }
 
 /// Slices one axis: the length and the stride that are left, and how many elements the first pick lies
-/// behind the first entry. Refused as `do_slice` is.
+/// after the first entry. Fails as `do_slice` does.
 #[inline(always)]
 fn slice_axis(
     len: usize,
@@ -60,22 +62,12 @@ fn slice_axis(
     Ok((len, stride, offset))
 }
 
-/// How many entries a slice picks of an axis which it fits.
-pub fn count_of_picks(len: usize, slice: Slice, fit: Fit) -> usize
-    requires len_fits { len < 2 ^ 63 }
-    requires fits { slice_fault fit len slice ≡ None }
-    ensures { result ≡ length (picks fit len slice) }
-{
-    let mut count = len;
-    do_slice(&mut count, &mut 0, slice, fit).unwrap();
-    count
-}
-
 /// Writes the lengths and the strides that an argument for as many axes as there are leaves, one for
-/// each element but an index. Answers how many elements the first index left lies behind the first
-/// index before. Refused as the first element at fault is, with nothing told of what was written.
+/// each element but an index, into lists with as many places. Answers how many elements the first index
+/// that is left lies after the first index of the shape. Fails as the first element at fault does, and
+/// then says nothing of the lists.
 #[inline(always)]
-fn slice_axes(
+fn write_axes(
     elems: &[SliceInfoElem],
     shape: &[usize],
     strides: &[usize],
@@ -101,12 +93,8 @@ fn slice_axes(
         match *elem {
             SliceInfoElem::Slice { start, end, step } => {
                 let slice = Slice { start, end, step };
-                let (len, stride, moved) = slice_axis(
-                    shape[old_axis],
-                    strides[old_axis],
-                    slice,
-                    fit,
-                )?;
+                let (old_len, old_stride) = (shape[old_axis], strides[old_axis]);
+                let (len, stride, moved) = slice_axis(old_len, old_stride, slice, fit)?;
                 new_shape[new_axis] = len;
                 new_strides[new_axis] = stride;
                 offset += moved;
@@ -128,8 +116,8 @@ fn slice_axes(
     Ok(offset)
 }
 
-/// Checks the elements of an argument for as many axes as there are where the lengths that it leaves may
-/// want memory, since faults come before that.
+/// Checks the elements of an argument for as many axes as there are, where the lengths that it leaves may
+/// ask for memory, since faults come before refused memory.
 #[inline(always)]
 fn check_before_memory(
     fixed: Option<usize>,
@@ -143,55 +131,20 @@ fn check_before_memory(
     ensures passed { OnOk result
         (first_fault fit shape.now elems.now ≡ None ⊎ NeedsNoMemory fixed ndim) }
 {
-    if may_want_memory(fixed, ndim) {
+    if needs_memory(fixed, ndim) {
         check_elems(shape, elems, fit)?;
     }
     Ok(())
 }
 
-/// The lengths and the strides that an argument of fitting counts leaves, and how many elements the
-/// first index left lies behind the first index before. Refused as the first element at fault is, and
-/// then for want of memory.
+/// The lengths and the strides that an argument leaves, and how many elements the first index that is left
+/// lies after the first index of the shape. The caller ensures that the layout is valid. Fails with
+/// `IncompatibleShape` where the argument is for more axes or fewer than the shape has, or leaves more or
+/// fewer than the type `E` fixes; then as the first element at fault does, with `OutOfBounds` or
+/// `Unsupported`; and then where memory is refused, never for at most four axes or a type that fixes their
+/// count.
 #[inline(always)]
-fn sliced_axes<E: Lengths>(
-    alloc: Global,
-    elems: &[SliceInfoElem],
-    shape: &[usize],
-    strides: &[usize],
-    fit: Fit,
-) -> Result<(E, E, isize), LayoutError>
-    requires valid { IsValidLayout shape.now (all_signed strides.now) }
-    requires counts { counts_differ E.NDIM shape.now elems.now ≡ false }
-    ensures fault { shape_fault result ≡ first_fault fit shape.now elems.now }
-    ensures memory { first_fault fit shape.now elems.now ≡ None →
-        NeedsNoMemory E.NDIM (out_count elems.now) → IsOk result }
-    ensures shape { IfOk result (λ (dim, kept, offset).
-        E.list dim ≡ sliced_shape fit elems.now shape.now) }
-    ensures strides { IfOk result (λ (dim, kept, offset). all_signed (E.list kept) ≡
-        sliced_strides fit elems.now shape.now (all_signed strides.now)) }
-    ensures offset { IfOk result (λ (dim, kept, offset).
-        offset ≡ sliced_offset fit elems.now shape.now (all_signed strides.now)) }
-{
-    let ndim = out_ndim_of(elems);
-    check_before_memory(E::NDIM, ndim, elems, shape, fit)?;
-    let mut dim = E::zeros(alloc, ndim)?;
-    let mut kept = E::zeros(alloc, ndim)?;
-    let offset = slice_axes(
-        elems,
-        shape,
-        strides,
-        dim.slice_mut(),
-        kept.slice_mut(),
-        fit,
-    )?;
-    Ok((dim, kept, offset))
-}
-
-/// The lengths and the strides that an argument leaves, and how many elements the first index left lies
-/// behind the first index before. Refused with `IncompatibleShape` for counts that do not fit, then as
-/// the first element at fault is, and then for want of memory.
-#[inline(always)]
-pub fn counted_axes<E: Lengths>(
+pub fn sliced_axes<E: Lengths>(
     alloc: Global,
     elems: &[SliceInfoElem],
     shape: &[usize],
@@ -209,8 +162,20 @@ pub fn counted_axes<E: Lengths>(
     ensures offset { IfOk result (λ (dim, kept, offset).
         offset ≡ sliced_offset fit elems.now shape.now (all_signed strides.now)) }
 {
-    if has_other_counts(E::NDIM, shape, elems) {
+    if !has_counts(E::NDIM, shape, elems) {
         return Err(LayoutError::Shape(from_kind(ErrorKind::IncompatibleShape)));
     }
-    sliced_axes(alloc, elems, shape, strides, fit)
+    let ndim = out_ndim_of(elems);
+    check_before_memory(E::NDIM, ndim, elems, shape, fit)?;
+    let mut dim = E::zeros(alloc, ndim)?;
+    let mut kept = E::zeros(alloc, ndim)?;
+    let offset = write_axes(
+        elems,
+        shape,
+        strides,
+        dim.slice_mut(),
+        kept.slice_mut(),
+        fit,
+    )?;
+    Ok((dim, kept, offset))
 }

@@ -1,8 +1,8 @@
-//! Reads a layout and the steps to take from it, and prints where the elements that are left lie.
+//! Reads a script from standard input, a layout and the steps to take from it, and prints where the elements that are left
+//! lie. The exit status is that of `session`.
 #![tactic(auto)]
 
-use ndl_session::session;
-use ndl_text::Watched;
+use ndl_session::{Watched, session};
 use std::process::ExitCode;
 
 fn main(rt: HostRuntime) -> ExitCode {

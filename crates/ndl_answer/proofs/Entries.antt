@@ -7,6 +7,6 @@ use Rattle.std.specs.Result.{result_map_both}
 abbrev pub with_front : {A : Type 0} → List A → Option (List A) → Option (List A)
 with_front front reading = option_map (λ rest. front ++ rest) reading
 
--- the same of readings that tell a number
+-- what was read before, and what the lines that are left spell, or the number of an unreadable one
 abbrev pub with_front_lines : {A : Type 0} → List A → Result (List A) ℕ → Result (List A) ℕ
 with_front_lines front reading = result_map_both (λ rest. front ++ rest) (λ number. number) reading

@@ -1,9 +1,9 @@
 -- The text of a view from its three lines, and the statuses of replies.
 use Rattle.std.proofs.Common.{◌≡◌, ℕ, pos, ◌≤◌, List, [], ◌∷◌, ◌++◌, map, codes, decimal, Option, Some, None, refl, ap, ◌∙◌, sym, arith}
 use Rattle.std.specs.Fmt.{signed_decimal}
-use Rattle.nd_base.specs.declared.error.ErrorKind.{ErrorKind}
-use Rattle.nd_base.specs.declared.order.Order.TheVariants.{RowMajor}
-use Rattle.ndarray_layout_views.specs.View.{View, view_places}
+use Rattle.ndarray_layout.specs.declared.ErrorKind.{ErrorKind}
+use Rattle.ndarray_layout.specs.declared.Order.TheVariants.{RowMajor}
+use Rattle.ndarray_layout.specs.View.{View, view_places}
 use Rattle.ndarray_layout.specs.Run.{Outcome}
 use Rattle.ndl_answer.specs.Answer.{Reply, listing, unless, reply_to_run, reply_to_script}
 use Rattle.ndl_answer.specs.Script.{ScriptValue}

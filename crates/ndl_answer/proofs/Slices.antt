@@ -4,8 +4,8 @@ use Rattle.std.specs.List.{onto_first}
 use Rattle.std.specs.Option.{option_map}
 use Rattle.std.proofs.lemmas.Bool.{ne_eqb, and_parts}
 use Rattle.std.specs.Cmp.Lexicographic.{pointwise}
-use Rattle.nd_slice.specs.declared.elem.SliceInfoElem.{SliceInfoElem}
-use Rattle.nd_slice.specs.declared.elem.SliceInfoElem.TheVariants as elem
+use Rattle.ndarray_layout.specs.declared.SliceInfoElem.{SliceInfoElem}
+use Rattle.ndarray_layout.specs.declared.SliceInfoElem.TheVariants as elem
 use Rattle.ndl_text.specs.Bytes.{dot, semicolon}
 use Rattle.ndl_answer.specs.Reading.{◌>>=◌}
 use Rattle.ndl_text.specs.Lines.{parts}
@@ -53,7 +53,7 @@ bounds_at step start end (part ∷ other ∷ more) None h one lone = sym (no_end
 pub two_dots : (step : ℤ) (start end : List ℕ) → slice_of_bounds step (start ∷ [] ∷ parts dot end) ≡ slice_from step (start_of start) (end_of end)
 two_dots step start end = bounds_at step start end (parts dot end) (end_of end) refl (end_part end) (lone_part dot end)
 
--- one dot, and no other right behind it
+-- one dot, and no other right after it
 not_next : (step : ℤ) (start : List ℕ) (b : ℕ) (cut : List (List ℕ)) → slice_of_bounds step (start ∷ onto_first b cut) ≡ None
 not_next step start b [] = refl
 not_next step start b (part ∷ more) = refl

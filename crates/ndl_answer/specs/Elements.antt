@@ -2,25 +2,25 @@
 use Rattle.std.specs.Prelude.{◌≡◌, ℕ, ℤ, pos, negsuc, Option, Some, None, if◌then◌else◌, List, [], ◌∷◌, codes, refl}
 use Rattle.std.specs.Option.{option_map, option_or}
 use Rattle.std.specs.Str.{bytes_eq}
-use Rattle.nd_slice.specs.declared.elem.SliceInfoElem.{SliceInfoElem}
-use Rattle.nd_slice.specs.declared.elem.SliceInfoElem.TheVariants as elem
+use Rattle.ndarray_layout.specs.declared.SliceInfoElem.{SliceInfoElem}
+use Rattle.ndarray_layout.specs.declared.SliceInfoElem.TheVariants as elem
 use Rattle.ndl_text.specs.Bytes.{dot, semicolon}
 use Rattle.ndl_answer.specs.Reading.{◌>>=◌}
 use Rattle.ndl_text.specs.Lines.{parts}
 use Rattle.ndl_text.specs.Numbers.{signed_number_of}
 use Rattle.ndl_answer.specs.Lists.{list_of}
 
--- the start of a range, where missing means the first entry
+-- the start of a range by its text, which may be empty: then it is the first entry
 abbrev pub start_of : List ℕ → Option ℤ
 start_of [] = Some (pos 0)
 start_of (byte ∷ text) = signed_number_of (byte ∷ text)
 
--- its end, where missing means none
+-- the end of a range by its text, which may be empty: then it has none
 abbrev pub end_of : List ℕ → Option (Option ℤ)
 end_of [] = Some None
 end_of (byte ∷ text) = option_map Some (signed_number_of (byte ∷ text))
 
--- a range with a step: its bounds stand on both sides of two dots
+-- the slice by a step and by the parts of a range between its dots: two bounds, and nothing between the two dots
 abbrev pub slice_of_bounds : ℤ → List (List ℕ) → Option SliceInfoElem
 slice_of_bounds step (start ∷ [] ∷ end ∷ []) = do
   start ← start_of start
@@ -28,7 +28,7 @@ slice_of_bounds step (start ∷ [] ∷ end ∷ []) = do
   Some (elem.Slice start end step)
 slice_of_bounds step _ = None
 
--- the step follows a semicolon, where missing means 1
+-- the slice by the parts of a text between its semicolons: a range, and a step, which is 1 where it is missing
 abbrev pub slice_of_parts : List (List ℕ) → Option SliceInfoElem
 slice_of_parts (range ∷ []) = slice_of_bounds (pos 1) (parts dot range)
 slice_of_parts (range ∷ step ∷ []) = do
@@ -36,20 +36,36 @@ slice_of_parts (range ∷ step ∷ []) = do
   slice_of_bounds step (parts dot range)
 slice_of_parts _ = None
 
--- a range with an optional step
+-- the slice by a text: a range, and after a semicolon a step, which may be missing
 abbrev pub range_of : List ℕ → Option SliceInfoElem
 range_of text = slice_of_parts (parts semicolon text)
 
--- one element of a slice argument: a new axis by its name, an index by its number, or a range
+-- one element of a slice argument: a new axis by its name, an index by its number, or the slice by a range
 abbrev pub element_of : List ℕ → Option SliceInfoElem
 element_of text =
     if bytes_eq text (codes "NewAxis") then Some elem.NewAxis
     else option_or (option_map elem.Index (signed_number_of text)) (range_of text)
 
+-- the elements that a word lists
 abbrev pub elements_of : List ℕ → Option (List SliceInfoElem)
 elements_of word = list_of element_of word
 
 -- examples
+no_start : start_of [] ≡ Some (pos 0)
+no_start = refl
+
+no_end : end_of [] ≡ Some None
+no_end = refl
+
+three_bounds : slice_of_bounds (pos 1) (codes "1" ∷ [] ∷ codes "3" ∷ codes "5" ∷ []) ≡ None
+three_bounds = refl
+
+step_of_two : slice_of_parts (codes "1..3" ∷ codes "2" ∷ []) ≡ Some (elem.Slice (pos 1) (Some (pos 3)) (pos 2))
+step_of_two = refl
+
+range_of_all : range_of (codes "..") ≡ Some (elem.Slice (pos 0) None (pos 1))
+range_of_all = refl
+
 whole : element_of (codes "..") ≡ Some (elem.Slice (pos 0) None (pos 1))
 whole = refl
 

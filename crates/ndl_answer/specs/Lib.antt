@@ -5,3 +5,11 @@ pub mod Lists
 pub mod Reading
 pub mod Script
 pub mod StepLine
+pub use Rattle.ndarray_layout.specs.Dim
+pub use Rattle.ndarray_layout.specs.Signed
+pub use Rattle.ndarray_layout.specs.Step
+pub use Rattle.ndarray_layout.specs.View
+pub use Rattle.ndl_text.specs.Bytes
+pub use Rattle.ndl_text.specs.Lines
+pub use Rattle.ndl_text.specs.Numbers
+pub use Rattle.ndl_text.specs.Text

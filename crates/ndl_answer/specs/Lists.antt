@@ -6,13 +6,15 @@ use Rattle.ndl_text.specs.Lines.{parts}
 use Rattle.ndl_text.specs.Numbers.{number_of, signed_number_of}
 use Rattle.ndl_answer.specs.Reading.{read_each}
 
--- the entries of a list, parted by commas; `-` is the empty list
+-- the entries that a word lists, separated by commas; `-` is the empty list
 abbrev pub list_of : {A : Type 0} → (List ℕ → Option A) → List ℕ → Option (List A)
 list_of entry_of word = if bytes_eq word (codes "-") then Some [] else read_each entry_of (parts comma word)
 
+-- the lengths that a word lists
 abbrev pub lengths_of : List ℕ → Option (List ℕ)
 lengths_of word = list_of number_of word
 
+-- the strides that a word lists, each with its sign
 abbrev pub strides_of : List ℕ → Option (List ℤ)
 strides_of word = list_of signed_number_of word
 

@@ -1,9 +1,11 @@
 -- The script that an input spells, or the number of its first unreadable line.
-use Rattle.std.specs.Prelude.{◌≡◌, ℕ, pos, negsuc, Option, None, Result, Ok, Err, List, [], ◌∷◌, ◌++◌, map, codes, refl}
+use Rattle.std.specs.Prelude.{◌≡◌, ℕ, ◌+◌, pos, negsuc, Option, None, Result, Ok, Err, is_ok, List, [], ◌∷◌, ◌++◌, map, codes, refl}
 use Rattle.std.specs.Option.{ok_or}
-use Rattle.nd_shape_rules.specs.declared.checks.CanIndexCheckMode.TheVariants.{OwnedMutable}
-use Rattle.nd_slice_axis.specs.declared.fit.Fit.TheVariants.{Strict, Clamp}
-use Rattle.nd_slice.specs.declared.elem.SliceInfoElem.TheVariants as elem
+use Rattle.std.proofs.Common.{ap}
+use Rattle.std.proofs.lemmas.Bool.{false≢true}
+use Rattle.ndarray_layout.specs.declared.CanIndexCheckMode.TheVariants.{OwnedMutable}
+use Rattle.ndarray_layout.specs.declared.Fit.TheVariants.{Strict, Clamp}
+use Rattle.ndarray_layout.specs.declared.SliceInfoElem.TheVariants as elem
 use Rattle.ndarray_layout.specs.Step.{StepValue, SliceBy, step_value}
 use Rattle.ndl_answer.specs.declared.script.Script.{Script}
 use Rattle.ndl_answer.specs.declared.script.ReadError.{ReadError}
@@ -14,38 +16,40 @@ use Rattle.ndl_text.specs.Lines.{NumberedLine, lines_from}
 use Rattle.ndl_answer.specs.DataLine.{LayoutValue, layout_value, layout_of}
 use Rattle.ndl_answer.specs.StepLine.{step_of}
 
--- a layout, and the steps to take from it, in order
+-- what a script says: a layout, and the steps to take from it, in order
 pub record ScriptValue : Type 0 where
   pub layout : LayoutValue
   pub steps : List StepValue
 
+-- a script of the program by what its lists hold
 abbrev pub script_value : Script → ScriptValue
 script_value s = record { layout = layout_value s.layout; steps = map step_value s.steps.items }
 
--- what a function answered, seen by view, is what the lines spell, or the number of the first unreadable one; it is free to answer that memory ran out
+-- an error of a reader is the one of a reading, the number of the first unreadable line; out of memory it may be in any case
 abbrev pub IsFirstUnreadable : {Y : Type 0} → ReadError → Result Y ℕ → Type 0
 IsFirstUnreadable (script.Unreadable line) reading = reading ≡ Err line
 IsFirstUnreadable script.Memory reading = Unit {0}
 
+-- a reader answers a reading: its value, by what it holds, or the number of the first unreadable line; it may be out of memory in any case
 abbrev pub Gives : {X Y : Type 0} → (X → Y) → Result X ReadError → Result Y ℕ → Type 0
 Gives view (Ok x) reading = reading ≡ Ok (view x)
 Gives view (Err e) reading = IsFirstUnreadable e reading
 
--- what a line spells, or else its number
+-- what the words of a line spell, or else the line's number
 abbrev pub of_line : {A : Type 0} → (List (List ℕ) → Option A) → NumberedLine → Result A ℕ
 of_line reading line = ok_or (reading line.1) line.0
 
--- a step for each line
+-- the steps of lines, one for each, or the number of the first unreadable one
 abbrev pub steps_of_lines : List NumberedLine → Result (List StepValue) ℕ
 steps_of_lines [] = Ok []
 steps_of_lines (line ∷ lines) = both (λ step steps. step ∷ steps) (of_line step_of line) (steps_of_lines lines)
 
--- the layout first; a script without a line is unreadable at line 1
+-- the script of lines, with the layout first, or the number of the first unreadable one, which is 1 where there is none
 abbrev pub script_of_lines : List NumberedLine → Result ScriptValue ℕ
 script_of_lines [] = Err 1
 script_of_lines (line ∷ lines) = both (λ layout steps. record { layout = layout; steps = steps }) (of_line layout_of line) (steps_of_lines lines)
 
--- what an input asks for, or the number of its first unreadable line
+-- the script that an input spells, or the number of its first unreadable line
 abbrev pub script_of : List ℕ → Result ScriptValue ℕ
 script_of input = script_of_lines (lines_from 1 input)
 
@@ -58,6 +62,24 @@ two_of_four = SliceBy (elem.Slice (pos 1) None (negsuc 1) ∷ []) Strict
 
 abbrev clamped : StepValue
 clamped = SliceBy (elem.Slice (pos 9) None (pos 1) ∷ []) Clamp
+
+a_value_given : Gives (λ n. n + 1) (Ok 2) (Ok 3)
+a_value_given = refl
+
+a_line_given : Gives {X = ℕ} {Y = ℕ} (λ n. n) (Err (script.Unreadable 4)) (Err 4)
+a_line_given = refl
+
+out_of_memory : Gives {X = ℕ} (λ n. n) (Err script.Memory) (Ok 3)
+out_of_memory = tt
+
+a_value_for_a_line : Gives {X = ℕ} {Y = ℕ} (λ n. n) (Ok 3) (Err 4) → ⊥
+a_value_for_a_line same = false≢true (ap is_ok same)
+
+no_steps_kept : (s : Script) → s.steps.items ≡ [] → (script_value s).steps ≡ []
+no_steps_kept s same = ap (map step_value) same
+
+an_unread_line : of_line step_of (3, codes "slise" ∷ []) ≡ Err 3
+an_unread_line = refl
 
 with_a_step : script_of (codes "data 4 owned 4 1\nslice 1..;-2\n") ≡ Ok (record { layout = four; steps = two_of_four ∷ [] })
 with_a_step = refl
@@ -86,7 +108,8 @@ two_layouts = refl
 past_a_step : script_of (codes "data 4 owned 4 1\nslice ..\n\nslise ..\n") ≡ Err 4
 past_a_step = refl
 
-three_axes : script_of (codes "data 8 owned 2,2,2 4,2,1\n") ≡ Ok (record { layout = record { len = 8; mode = OwnedMutable; shape = 2 ∷ 2 ∷ 2 ∷ []; strides = pos 4 ∷ pos 2 ∷ pos 1 ∷ [] }; steps = [] })
+three_axes : script_of (codes "data 8 owned 2,2,2 4,2,1\n")
+    ≡ Ok (record { layout = record { len = 8; mode = OwnedMutable; shape = 2 ∷ 2 ∷ 2 ∷ []; strides = pos 4 ∷ pos 2 ∷ pos 1 ∷ [] }; steps = [] })
 three_axes = refl
 
 unended_carriage_return : script_of (codes "data 1 owned 1 1" ++ carriage_return ∷ []) ≡ Err 1

@@ -2,9 +2,9 @@
 use Rattle.std.specs.Prelude.{◌≡◌, ℕ, pos, Option, Some, None, if◌then◌else◌, List, [], ◌∷◌, codes, refl}
 use Rattle.std.specs.Option.{option_map}
 use Rattle.std.specs.Str.{bytes_eq}
-use Rattle.nd_slice_axis.specs.declared.fit.Fit.{Fit}
-use Rattle.nd_slice_axis.specs.declared.fit.Fit.TheVariants.{Strict, Clamp}
-use Rattle.nd_slice.specs.declared.elem.SliceInfoElem.TheVariants as elem
+use Rattle.ndarray_layout.specs.declared.Fit.{Fit}
+use Rattle.ndarray_layout.specs.declared.Fit.TheVariants.{Strict, Clamp}
+use Rattle.ndarray_layout.specs.declared.SliceInfoElem.TheVariants as elem
 use Rattle.ndarray_layout.specs.Step.{StepValue, SliceBy, CollapseTo, MergeInto, BroadcastTo}
 use Rattle.ndl_text.specs.Lines.{words_of}
 use Rattle.ndl_text.specs.Numbers.{number_of}
@@ -16,34 +16,44 @@ use Rattle.ndl_answer.specs.Reading.{◌>>=◌}
 abbrev pub fit_of : List ℕ → Option Fit
 fit_of keyword = if bytes_eq keyword (codes "slice") then Some Strict else if bytes_eq keyword (codes "clamp") then Some Clamp else None
 
--- `slice ELEMENTS` or `clamp ELEMENTS`
+-- the slice by a keyword, `slice` or `clamp`, and a word that lists elements
 abbrev pub slice_of_words : List ℕ → List ℕ → Option StepValue
 slice_of_words keyword word = do
   fit ← fit_of keyword
   elems ← elements_of word
   Some (SliceBy elems fit)
 
--- one of these, or `broadcast SHAPE`
+-- the step by a keyword and a word that is a list: a slice, or the broadcast to a shape
 abbrev pub step_of_list : List ℕ → List ℕ → Option StepValue
 step_of_list keyword word = if bytes_eq keyword (codes "broadcast") then option_map BroadcastTo (lengths_of word) else slice_of_words keyword word
 
--- the step of two numbers that a keyword stands for
+-- the step by a keyword and two numbers: the collapse of an axis to an index, or the merge of an axis into another one
 abbrev pub step_of_keyword : List ℕ → ℕ → ℕ → Option StepValue
-step_of_keyword keyword first second = if bytes_eq keyword (codes "collapse") then Some (CollapseTo first second) else if bytes_eq keyword (codes "merge") then Some (MergeInto first second) else None
+step_of_keyword keyword first second =
+    if bytes_eq keyword (codes "collapse") then Some (CollapseTo first second)
+    else if bytes_eq keyword (codes "merge") then Some (MergeInto first second)
+    else None
 
--- `collapse AXIS INDEX` or `merge TAKE INTO`
+-- the step by a keyword and two words that are numbers
 abbrev pub step_of_numbers : List ℕ → List ℕ → List ℕ → Option StepValue
 step_of_numbers keyword first second = do
   first ← number_of first
   second ← number_of second
   step_of_keyword keyword first second
 
+-- the step that the words of a line ask for
 abbrev pub step_of : List (List ℕ) → Option StepValue
 step_of (keyword ∷ word ∷ []) = step_of_list keyword word
 step_of (keyword ∷ first ∷ second ∷ []) = step_of_numbers keyword first second
 step_of _ = None
 
 -- examples
+clamps : fit_of (codes "clamp") ≡ Some Clamp
+clamps = refl
+
+slices_no_list : slice_of_words (codes "slice") (codes "1,") ≡ None
+slices_no_list = refl
+
 a_slice : step_of (words_of (codes "slice 1..")) ≡ Some (SliceBy (elem.Slice (pos 1) None (pos 1) ∷ []) Strict)
 a_slice = refl
 

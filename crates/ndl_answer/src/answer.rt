@@ -1,13 +1,13 @@
 //! The answer to a whole input: its text and its status.
 ghost use Rattle.std.specs.Prelude.{◌≡◌, ◌≤◌, ◌++◌, codes, map, string_bytes, IfOk, OnOk};
 ghost use Rattle.std.specs.Fmt.{signed_decimal};
-ghost use Rattle.nd_base.specs.Signed.{all_signed};
-ghost use Rattle.nd_base.specs.declared.order.Order.TheVariants.{RowMajor};
+ghost use Rattle.ndarray_layout.specs.Signed.{all_signed};
+ghost use Rattle.ndarray_layout.specs.declared.Order.TheVariants.{RowMajor};
 ghost use Rattle.ndl_answer.specs.Answer.{answer_of, listing, refused as refusal, IsReply};
 ghost use Rattle.ndl_answer.specs.Answer.{reply_to_script, reply_to_steps, unreadable as unreadable_reply};
 ghost use Rattle.ndl_answer.specs.Script.{script_value};
 ghost use Rattle.ndarray_layout.specs.Step.{step_value};
-ghost use Rattle.ndarray_layout_views.specs.View.{view_places};
+ghost use Rattle.ndarray_layout.specs.View.{view_places};
 ghost use Rattle.ndl_text.specs.Text.{line, listed};
 
 use crate::script::{ReadError, Script, read_script};
@@ -23,13 +23,15 @@ use std::alloc::{AllocError, Global};
 pub struct Answer {
     /// The text.
     pub text: String,
-    /// 0 where every step was done, 1 where one was refused, 2 where a line could not be read.
+    /// 0 where every step was taken, 1 where the layout or a step was refused, 2 where a line can't be
+    /// read.
     pub status: u8,
 }
 
-/// The answer to an input.
+/// The answer to an input: the list of the view that is left, the first step that was refused, or the
+/// first line that can't be read.
 ///
-/// Errors: want of memory.
+/// Errors: out of memory.
 pub fn answer_to(alloc: Global, input: &[u8]) -> Result<Answer, AllocError>
     ensures reply { IfOk result (λ answer. IsReply answer (answer_of input.now)) }
     ensures small { IfOk result (λ answer. answer.status ≤ 2) }
@@ -51,7 +53,7 @@ fn unreadable(alloc: Global, line: usize) -> Result<Answer, AllocError>
     })
 }
 
-/// The answer where a step has a fault: 0 is the layout, and the steps after it count from 1.
+/// The answer where a step is refused: 0 is the layout, and the steps after it count from 1.
 fn refused(alloc: Global, step: usize, fault: &ShapeError) -> Result<Answer, AllocError>
     ensures { IfOk result (λ answer. IsReply answer (refusal step fault.now)) }
 {
@@ -92,7 +94,7 @@ fn answer_to_steps(
     }
 }
 
-/// The strides, each read with its sign.
+/// The strides, each as the signed number of its bits.
 fn signed_strides(alloc: Global, strides: &[usize]) -> Result<Vec<isize>, AllocError>
     ensures { IfOk result (λ v. v.items ≡ all_signed strides.now) }
 {
@@ -108,7 +110,7 @@ fn push_strides(alloc: Global, text: &mut String, view: &Strided<IxDyn>) -> Resu
     push_line(text, "strides", ",", strides.as_slice())
 }
 
-/// Appends the line of the places of a view's elements.
+/// Appends the line of the places of a view's elements, in row-major order.
 fn push_places(alloc: Global, text: &mut String, view: &Strided<IxDyn>) -> Result<(), AllocError>
     ensures { OnOk result (string_bytes text.new ≡ string_bytes text.old
         ++ line (codes "places")

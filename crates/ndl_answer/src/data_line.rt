@@ -4,7 +4,7 @@ ghost use Rattle.std.specs.Option.{option_map};
 ghost use Rattle.ndl_answer.specs.DataLine.{layout_value, layout_of, mode_of};
 
 use crate::lists::list;
-use nd_shape::CanIndexCheckMode;
+use ndarray_layout::CanIndexCheckMode;
 use ndl_text::number;
 use std::alloc::{AllocError, Global};
 
@@ -13,15 +13,15 @@ use std::alloc::{AllocError, Global};
 pub struct Layout {
     /// How many elements the data has.
     pub len: usize,
-    /// How the layout is going to be used.
+    /// Whether two indices may share an element.
     pub mode: CanIndexCheckMode,
     /// The lengths of the axes.
     pub shape: Vec<usize>,
-    /// The strides of the axes, in elements.
+    /// The strides of the axes, in elements, each with its sign.
     pub strides: Vec<isize>,
 }
 
-/// The mode of a name.
+/// The mode of a name; `None` where it is neither `owned` nor `read`.
 fn mode(name: &[u8]) -> Option<CanIndexCheckMode>
     ensures { result ≡ mode_of name.now }
 {
@@ -34,10 +34,10 @@ fn mode(name: &[u8]) -> Option<CanIndexCheckMode>
     }
 }
 
-/// The layout that the words of a line make; none where they aren't of the grammar.
+/// The layout that the words of a line make; `None` where they aren't of the grammar.
 ///
-/// Errors: want of memory.
-pub fn read_layout(alloc: Global, words: &[&[u8]]) -> Result<Option<Layout>, AllocError>
+/// Errors: out of memory.
+pub(crate) fn read_layout(alloc: Global, words: &[&[u8]]) -> Result<Option<Layout>, AllocError>
     ensures { IfOk result (λ found. option_map layout_value found
         ≡ layout_of (map (λ word. word.now) words.now)) }
 {

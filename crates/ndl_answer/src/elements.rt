@@ -5,10 +5,10 @@ ghost use Rattle.ndl_text.specs.Lines.{parts};
 ghost use Rattle.ndl_answer.specs.Elements.{element_of, end_of, range_of, slice_of_bounds, start_of};
 
 use crate::lists::Entry;
-use nd_slice::SliceInfoElem;
+use ndarray_layout::SliceInfoElem;
 use ndl_text::{signed_number, split_once};
 
-/// The start of a range: the first entry where it is missing.
+/// The start of a range: the first entry where it is missing; `None` where it is no number.
 fn start(text: &[u8]) -> Option<isize>
     ensures { result ≡ start_of text.now }
 {
@@ -18,7 +18,7 @@ fn start(text: &[u8]) -> Option<isize>
     signed_number(text)
 }
 
-/// The end of a range: none where it is missing.
+/// The end of a range: no end where it is missing; `None` where it is no number.
 fn end(text: &[u8]) -> Option<Option<isize>>
     ensures { result ≡ end_of text.now }
 {
@@ -28,7 +28,7 @@ fn end(text: &[u8]) -> Option<Option<isize>>
     signed_number(text).map(Some)
 }
 
-/// A range with a step.
+/// The slice by a range and a step; `None` where the text is no range.
 fn slice(range: &[u8], step: isize) -> Option<SliceInfoElem>
     ensures { result ≡ slice_of_bounds step (parts dot range.now) }
 {
@@ -41,7 +41,7 @@ fn slice(range: &[u8], step: isize) -> Option<SliceInfoElem>
     })
 }
 
-/// A range, with an optional step behind a semicolon.
+/// The slice by a range, with an optional step after a semicolon; `None` where the text is neither.
 fn range(text: &[u8]) -> Option<SliceInfoElem>
     ensures { result ≡ range_of text.now }
 {

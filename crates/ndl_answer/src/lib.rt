@@ -1,4 +1,4 @@
-//! The answer to a script: where the elements that are left lie, after a layout and the steps taken from it.
+//! The answer to a script: a layout and steps from it in, and the places of the elements that are left out.
 #![tactic(auto)]
 
 mod answer;
@@ -11,5 +11,5 @@ mod strides;
 
 pub use answer::{Answer, answer_to};
 pub use data_line::Layout;
-pub use ndarray_layout::Step;
+pub use ndarray_layout::{CanIndexCheckMode, Step};
 pub use script::{ReadError, Script, read_script};

@@ -8,10 +8,10 @@ use ndl_text::{number, signed_number, split_once};
 use std::alloc::{AllocError, Global};
 
 /// What an entry of a list can be.
-pub trait Entry: Sized + Drop {
+pub(crate) trait Entry: Sized + Drop {
     ghost entry_of: { List ℕ → Option Self };
 
-    /// The entry that a text spells, if it spells one.
+    /// The entry that a text spells; `None` where it spells none.
     fn read(text: &[u8]) -> Option<Self>
         ensures { result ≡ entry_of text.now };
 }
@@ -32,10 +32,10 @@ impl Entry for isize {
     }
 }
 
-/// The entries of a list, parted by commas; `-` is the empty list. None where one can't be read.
+/// The entries of a list, separated by commas; `-` is the empty list. `None` where one can't be read.
 ///
-/// Errors: want of memory.
-pub fn list<T: Entry>(alloc: Global, word: &[u8]) -> Result<Option<Vec<T>>, AllocError>
+/// Errors: out of memory.
+pub(crate) fn list<T: Entry>(alloc: Global, word: &[u8]) -> Result<Option<Vec<T>>, AllocError>
     ensures { IfOk result (λ found. option_map (λ v. v.items) found
         ≡ list_of T.entry_of word.now) }
 {

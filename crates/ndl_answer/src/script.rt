@@ -24,7 +24,7 @@ pub struct Script {
 pub enum ReadError {
     /// The number of the first line that isn't of the grammar, from 1 on.
     Unreadable(usize),
-    /// A growth was refused.
+    /// Memory was refused.
     Memory,
 }
 
@@ -48,7 +48,7 @@ impl<T: Drop> From<AllocFailed<T>> for ReadError {
     }
 }
 
-/// The steps that follow a layout, from the line with this number on.
+/// The steps that follow a layout. The number given is that of the first line of the text.
 fn read_steps(alloc: Global, text: &[u8], number: usize) -> Result<Vec<Step>, ReadError>
     requires { number + length text.now < 2 ^ 64 }
     ensures { Gives (λ v. map step_value v.items) result
@@ -69,7 +69,9 @@ fn read_steps(alloc: Global, text: &[u8], number: usize) -> Result<Vec<Step>, Re
 }
 
 /// The script that an input spells. All of it is read before any of it is used: one line that can't
-/// be read makes the whole unreadable. The error is the first such line, or that memory ran out.
+/// be read makes the whole unreadable.
+///
+/// Errors: the first such line, or line 1 where no line has a word; out of memory.
 pub fn read_script(alloc: Global, input: &[u8]) -> Result<Script, ReadError>
     ensures { Gives script_value result (script_of input.now) }
 {

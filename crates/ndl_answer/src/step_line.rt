@@ -5,12 +5,12 @@ ghost use Rattle.ndarray_layout.specs.Step.{step_value};
 ghost use Rattle.ndl_answer.specs.StepLine.{fit_of, step_of, step_of_list, step_of_numbers};
 
 use crate::lists::list;
-use nd_slice::Fit;
-use ndarray_layout::{Axis, Step, new_ixdyn};
+use ndarray_layout::{Axis, Fit, Step, new_ixdyn};
 use ndl_text::number;
 use std::alloc::{AllocError, Global};
 
-/// What becomes of a bound past its axis, by the word that a slice begins with.
+/// What becomes of a bound past its axis, by the word that a slice begins with; `None` where it is
+/// neither `slice` nor `clamp`.
 fn fit(keyword: &[u8]) -> Option<Fit>
     ensures { result ≡ fit_of keyword.now }
 {
@@ -23,9 +23,10 @@ fn fit(keyword: &[u8]) -> Option<Fit>
     }
 }
 
-/// The slice by the elements of a word, or the broadcast to the lengths that are its.
+/// The slice by the elements that a word lists, or the broadcast to the shape that it lists; `None`
+/// where they aren't of the grammar.
 ///
-/// Errors: want of memory.
+/// Errors: out of memory.
 fn step_with_list(alloc: Global, keyword: &[u8], word: &[u8]) -> Result<Option<Step>, AllocError>
     ensures { IfOk result (λ found. option_map step_value found
         ≡ step_of_list keyword.now word.now) }
@@ -45,7 +46,8 @@ fn step_with_list(alloc: Global, keyword: &[u8], word: &[u8]) -> Result<Option<S
     Ok(Some(Step::Slice(elems, fit)))
 }
 
-/// The collapse of an axis to an index of it, or the merge of an axis into another one.
+/// The collapse of an axis to an index of it, or the merge of an axis into another one; `None` where
+/// the words aren't of the grammar.
 fn step_with_numbers(keyword: &[u8], first: &[u8], second: &[u8]) -> Option<Step>
     ensures { option_map step_value result ≡ step_of_numbers keyword.now first.now second.now }
 {
@@ -60,10 +62,10 @@ fn step_with_numbers(keyword: &[u8], first: &[u8], second: &[u8]) -> Option<Step
     }
 }
 
-/// The step that the words of a line ask for; none where they aren't of the grammar.
+/// The step that the words of a line ask for; `None` where they aren't of the grammar.
 ///
-/// Errors: want of memory.
-pub fn read_step(alloc: Global, words: &[&[u8]]) -> Result<Option<Step>, AllocError>
+/// Errors: out of memory.
+pub(crate) fn read_step(alloc: Global, words: &[&[u8]]) -> Result<Option<Step>, AllocError>
     ensures { IfOk result (λ found. option_map step_value found
         ≡ step_of (map (λ word. word.now) words.now)) }
 {

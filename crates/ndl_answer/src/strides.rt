@@ -1,12 +1,12 @@
 //! The strides of a layout, as a view keeps them.
 ghost use Rattle.std.specs.Prelude.{◌≡◌, ◌≤◌, map, length, IfOk, IsOk};
-ghost use Rattle.nd_base.specs.Dim.{lengths};
-ghost use Rattle.nd_base.specs.Signed.{all_signed, unsigned as unsigned_bits};
+ghost use Rattle.ndarray_layout.specs.Dim.{lengths};
+ghost use Rattle.ndarray_layout.specs.Signed.{all_signed, unsigned as unsigned_bits};
 
 use ndarray_layout::{IxDyn, Lengths, unsigned};
 use std::alloc::{AllocError, Global};
 
-/// Writes strides as they are kept.
+/// Writes signed strides as a view keeps them.
 fn keep_strides(kept: &mut [usize], strides: &[isize])
     requires { length kept.old ≡ length strides.now }
     ensures bits { kept.new ≡ map unsigned_bits strides.now }
@@ -19,8 +19,8 @@ fn keep_strides(kept: &mut [usize], strides: &[isize])
 
 /// The strides of a layout, as a view keeps them.
 ///
-/// Errors: want of memory, and none for at most four axes.
-pub fn kept_strides(alloc: Global, strides: &[isize]) -> Result<IxDyn, AllocError>
+/// Errors: out of memory, not for at most four axes.
+pub(crate) fn kept_strides(alloc: Global, strides: &[isize]) -> Result<IxDyn, AllocError>
     ensures bits { IfOk result (λ kept. lengths kept ≡ map unsigned_bits strides.now) }
     ensures back { IfOk result (λ kept. all_signed (lengths kept) ≡ strides.now) }
     ensures memory { length strides.now ≤ 4 → IsOk result }

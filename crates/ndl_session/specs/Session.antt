@@ -1,6 +1,9 @@
 -- What a session writes.
-use Rattle.std.specs.Prelude.{ℕ, List, ◌⊎◌, codes, Option, IfSome}
+use Rattle.std.specs.Prelude.{◌≡◌, ℕ, ◌++◌, List, [], ◌∷◌, ◌⊎◌, codes, Option, Some, None, IfSome, refl}
+use Rattle.std.specs.Fmt.{digits}
+use Rattle.std.proofs.Common.{inl, inr, lit<}
 use Rattle.ndl_answer.specs.Answer.{answer_of}
+use Rattle.ndl_text.specs.Bytes.{line_feed}
 use Rattle.ndl_text.specs.Device.{AppendsBeginning}
 
 -- the whole text where a read failed
@@ -11,8 +14,26 @@ input_failed_text = codes "input failed\n"
 abbrev pub out_of_memory_text : List ℕ
 out_of_memory_text = codes "out of memory\n"
 
--- where no read failed: known bytes grow by a beginning, which leaves some of it out, of the text
--- that stands for refused memory or of the answer to the input
+-- a writer's bytes, where they are known, grow by a beginning that leaves some of it out: of the text where memory was
+-- refused, or of the answer to an input, where that is known
 abbrev pub AppendsAnswerBeginning : Option (List ℕ) → Option (List ℕ) → Option (List ℕ) → Type 0
 AppendsAnswerBeginning old new known_input = AppendsBeginning old new out_of_memory_text
     ⊎ IfSome known_input (λ input. AppendsBeginning old new (answer_of input).text)
+
+-- examples
+failed_read_ends_its_line : input_failed_text ≡ codes "input failed" ++ line_feed ∷ []
+failed_read_ends_its_line = refl
+
+refused_memory_ends_its_line : out_of_memory_text ≡ codes "out of memory" ++ line_feed ∷ []
+refused_memory_ends_its_line = refl
+
+three_bytes_of_refused_memory : AppendsAnswerBeginning (Some []) (Some (codes "out")) None
+three_bytes_of_refused_memory = inl (3, lit< tt, refl)
+
+six_bytes_of_an_answer : AppendsAnswerBeginning (Some []) (Some (codes "line 1")) (Some [])
+unfolding digits
+six_bytes_of_an_answer = inr (6, lit< tt, refl)
+
+lost_bytes : AppendsAnswerBeginning (Some []) None (Some []) → ⊥
+lost_bytes (inl beginning) = beginning.2
+lost_bytes (inr beginning) = beginning.2

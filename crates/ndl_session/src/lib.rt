@@ -3,4 +3,5 @@
 
 mod over_devices;
 
+pub use ndl_text::Watched;
 pub use over_devices::session;

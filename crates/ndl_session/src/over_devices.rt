@@ -1,4 +1,7 @@
 //! A session over a reader and a writer.
+//!
+//! `Read` and `Write` are not in scope here: devices are read and written by `read_whole` and
+//! `write_whole` alone, which require that no call before them failed.
 ghost use Rattle.std.specs.Prelude.{◌≡◌, ◌≢◌, ◌≤◌, ◌↔◌, ◌⊎◌, true, false, Err, IfOk, IfSome, IsTrue, OnOk};
 ghost use Rattle.std.specs.Io.KnownBytes.{Appends, IsAtEnd};
 ghost use Rattle.ndl_answer.specs.Answer.{answer_of, IsReply};
@@ -9,7 +12,7 @@ ghost use Rattle.ndl_text.specs.Watched.{device, has_failed};
 use ndl_answer::{Answer, answer_to};
 use ndl_text::{InputError, Watched, read_whole, write_whole};
 use std::alloc::Global;
-use std::io::{Read, Write};
+use std::io;
 
 /// The whole text where a read failed.
 const INPUT_FAILED_TEXT: &[u8] = b"input failed\n";
@@ -23,14 +26,16 @@ const OUT_OF_MEMORY: u8 = 3;
 /// The status where a read or a write failed.
 const DEVICE_FAILED: u8 = 4;
 
-/// Reads the whole input, writes the whole text of the answer to it, and gives the answer's status,
-/// which is 0, 1 or 2.
+/// Reads the whole input, writes the whole text of the answer to it, and answers its status, which is
+/// 0, 1 or 2.
 ///
-/// A failed read makes the whole text `input failed` and a line feed, with status 4. Where no read
-/// failed and memory was refused, in reading or in making the answer, the whole text is `out of
-/// memory` and a line feed, with status 3. Where a write fails or takes no byte, a beginning of the
-/// text due went out, nothing more is written, and the status is 4.
-pub fn session<R: Read, W: Write>(
+/// The caller ensures that no read or write of either device has failed before.
+///
+/// Where a read fails, the whole text is `input failed` and a line feed, and the status is 4. Where no
+/// read fails and memory is refused, for the input or for the answer, the whole text is `out of
+/// memory` and a line feed, and the status is 3. Where a write fails or takes no byte, a beginning of
+/// that text has gone out, nothing more is written, and the status is 4.
+pub fn session<R: io::Read, W: io::Write>(
     alloc: Global,
     reader: &mut Watched<R>,
     writer: &mut Watched<W>,
@@ -85,7 +90,7 @@ pub fn session<R: Read, W: Write>(
 }
 
 // The answer to all the bytes that are left to read.
-fn answer_input<R: Read>(alloc: Global, reader: &mut Watched<R>) -> Result<Answer, InputError>
+fn answer_input<R: io::Read>(alloc: Global, reader: &mut Watched<R>) -> Result<Answer, InputError>
     requires { has_failed reader.old ≡ false }
     ensures answer { IfOk result (λ answer. IfSome (R.remaining (device reader.old)) (λ input.
         IsReply answer (answer_of input))) }

@@ -7,7 +7,7 @@ use std::io::{ErrorKind, Read, Write};
 
 /// How a call goes wrong.
 #[derive(Clone, Copy)]
-pub enum Fault {
+pub(crate) enum Fault {
     /// It answers an error.
     Error(ErrorKind),
     /// It takes or gives no byte.
@@ -26,20 +26,20 @@ impl Fault {
 }
 
 /// The call that goes wrong, counted from 0, and how it does.
-pub type FaultyCall = Option<(usize, Fault)>;
+pub(crate) type FaultyCall = Option<(usize, Fault)>;
 
 /// Gives `most` bytes a call at the most, but for the call that goes wrong.
 #[derive(Drop)]
-pub struct FakeReader<'a> {
-    pub left: &'a [u8],
-    pub most: usize,
-    pub calls: usize,
-    pub fault: FaultyCall,
+pub(crate) struct FakeReader<'a> {
+    pub(crate) left: &'a [u8],
+    pub(crate) most: usize,
+    pub(crate) calls: usize,
+    pub(crate) fault: FaultyCall,
 }
 
 impl<'a> FakeReader<'a> {
     /// Gives these bytes.
-    pub fn new(left: &'a [u8], most: usize, fault: FaultyCall) -> Self {
+    pub(crate) fn new(left: &'a [u8], most: usize, fault: FaultyCall) -> Self {
         FakeReader {
             left,
             most,
@@ -65,16 +65,16 @@ impl<'a> Read for FakeReader<'a> {
 /// Takes `most` bytes a call at the most, but for the call that goes wrong. Its `flush` is a call
 /// too, and always answers an error.
 #[derive(Drop)]
-pub struct FakeWriter {
-    pub taken: Vec<u8>,
-    pub most: usize,
-    pub calls: usize,
-    pub fault: FaultyCall,
+pub(crate) struct FakeWriter {
+    pub(crate) taken: Vec<u8>,
+    pub(crate) most: usize,
+    pub(crate) calls: usize,
+    pub(crate) fault: FaultyCall,
 }
 
 impl FakeWriter {
     /// Has taken nothing so far.
-    pub fn new(alloc: Global, most: usize, fault: FaultyCall) -> Self {
+    pub(crate) fn new(alloc: Global, most: usize, fault: FaultyCall) -> Self {
         FakeWriter {
             taken: Vec::new(alloc),
             most,

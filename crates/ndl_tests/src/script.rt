@@ -1,6 +1,5 @@
 //! What `read_script` answers: what a script says, or the first line that can't be read.
-use nd_shape::CanIndexCheckMode;
-use ndl_answer::{ReadError, Script, read_script};
+use ndl_answer::{CanIndexCheckMode, ReadError, Script, read_script};
 use std::alloc::{AllocError, Global};
 use std::test::Fail;
 
@@ -55,7 +54,7 @@ data 4 Owned 4 1| => 1
 ";
 
 /// A layout and steps, in the words of a row.
-fn told(alloc: Global, script: &Script) -> Result<String, AllocError> {
+fn text_of(alloc: Global, script: &Script) -> Result<String, AllocError> {
     let (layout, steps) = (&script.layout, &script.steps);
     let mode = match layout.mode {
         CanIndexCheckMode::OwnedMutable => "owned",
@@ -68,10 +67,10 @@ fn told(alloc: Global, script: &Script) -> Result<String, AllocError> {
 /// Whether an input says this.
 fn input_says(alloc: Global, input: &str, due: &str) -> Result<bool, Fail> {
     let script = read_script(alloc, input.as_bytes())?;
-    Ok(told(alloc, &script)?.as_str() == due)
+    Ok(text_of(alloc, &script)?.as_str() == due)
 }
 
-/// A row: an input, the layout that it says, and the steps.
+/// Whether a row holds: an input, the layout that it says, and the steps.
 fn says(alloc: Global, row: &str) -> Result<bool, Fail> {
     let row = row.replace(alloc, "|", "\n")?;
     match row.as_str().split_once(" => ") {
@@ -85,7 +84,7 @@ fn ends_at(alloc: Global, input: &[u8], line: usize) -> bool {
     matches!(read_script(alloc, input), Err(ReadError::Unreadable(number)) if number == line)
 }
 
-/// A row: an input, and the number of its first unreadable line.
+/// Whether a row holds: an input, and the number of its first unreadable line.
 fn ends(alloc: Global, row: &str) -> Result<bool, Fail> {
     let row = row.replace(alloc, "|", "\n")?;
     match row.as_str().split_once(" => ") {

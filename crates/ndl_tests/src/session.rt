@@ -8,7 +8,7 @@ use std::io::ErrorKind;
 use std::process::Abort;
 use std::test::Fail;
 
-/// A row: whether this is the answer to an input.
+/// Whether this is the answer to an input.
 fn answers(alloc: Global, input: &[u8], text: &[u8], status: u8) -> bool {
     let mut reader = Watched::new(input);
     let mut writer = Watched::new(Vec::new(alloc));
@@ -27,8 +27,8 @@ fn row_holds(alloc: Global, row: &str, status: u8) -> bool {
     }
 }
 
-/// All lines of a table hold, whose answers have one status.
-pub fn hold(rt: &impl Abort, alloc: Global, table: &str, status: u8) {
+/// Asserts each line of a table, whose answers have one status.
+pub(crate) fn assert_rows(rt: &impl Abort, alloc: Global, table: &str, status: u8) {
     for row in table.lines() {
         assert!(rt; row_holds(alloc, row, status), "{row}");
     }
@@ -53,8 +53,8 @@ data 4 owned 4 1|slice ..,..,..,..,..| => step 1: ShapeError/IncompatibleShape: 
 
 #[test]
 fn r1_rows(rt: HostRuntime) {
-    hold(&rt, rt.alloc(), DONE, 0);
-    hold(&rt, rt.alloc(), REFUSED, 1);
+    assert_rows(&rt, rt.alloc(), DONE, 0);
+    assert_rows(&rt, rt.alloc(), REFUSED, 1);
 }
 
 const READABLE: &str = "\
@@ -118,14 +118,15 @@ data 6 owned 2,3 1|slise ..| => line 2: unreadable|
 
 #[test]
 fn r1_grammar_rows(rt: HostRuntime) {
-    hold(&rt, rt.alloc(), READABLE, 0);
-    hold(&rt, rt.alloc(), UNREADABLE, 2);
+    assert_rows(&rt, rt.alloc(), READABLE, 0);
+    assert_rows(&rt, rt.alloc(), UNREADABLE, 2);
     let text = b"line 1: unreadable\n";
     assert!(rt; answers(rt.alloc(), b"data \xff owned 4 1\n", text, 2));
 }
 
-/// A row whose input is more than one read can give: many blanks or blank lines, and then the rest.
-fn answers_behind(alloc: Global, blank: u8, rest: &[u8], text: &[u8], status: u8) -> bool {
+/// Whether this is the answer to an input of more bytes than one read gives: many blanks or blank lines, and
+/// then the rest.
+fn answers_after_blanks(alloc: Global, blank: u8, rest: &[u8], text: &[u8], status: u8) -> bool {
     match vec![in alloc; blank; 9000] {
         Ok(mut input) => {
             input.extend_from_slice(rest).is_ok() && answers(alloc, &input, text, status)
@@ -135,14 +136,14 @@ fn answers_behind(alloc: Global, blank: u8, rest: &[u8], text: &[u8], status: u8
 }
 
 #[test]
-fn a_row_of_more_than_one_read(rt: HostRuntime) {
+fn an_input_of_more_than_one_read(rt: HostRuntime) {
     let text = b"shape 4\nstrides 1\nplaces 0 1 2 3\n";
-    assert!(rt; answers_behind(rt.alloc(), b' ', b"data 4 owned 4 1\n", text, 0));
+    assert!(rt; answers_after_blanks(rt.alloc(), b' ', b"data 4 owned 4 1\n", text, 0));
     let text = b"line 9001: unreadable\n";
-    assert!(rt; answers_behind(rt.alloc(), b'\n', b"slise ..", text, 2));
+    assert!(rt; answers_after_blanks(rt.alloc(), b'\n', b"slise ..", text, 2));
 }
 
-/// The text of as many places as there are elements, one behind the other.
+/// The answer to one axis over as many elements.
 fn places_text(alloc: Global, len: usize) -> Result<String, Fail> {
     let mut text = format!(in alloc; "shape {len}\nstrides 1\nplaces 0")?;
     for place in 1..len {
@@ -153,7 +154,7 @@ fn places_text(alloc: Global, len: usize) -> Result<String, Fail> {
 }
 
 #[test]
-fn a_row_of_many_places(rt: HostRuntime) -> Result<(), Fail> {
+fn a_view_of_many_places(rt: HostRuntime) -> Result<(), Fail> {
     let text = places_text(rt.alloc(), 150)?;
     assert!(rt; answers(rt.alloc(), b"data 150 owned 150 1\n", text.as_bytes(), 0));
     Ok(())
@@ -169,14 +170,14 @@ fn script_of_ranges(alloc: Global, ranges: usize) -> Result<String, Fail> {
 }
 
 #[test]
-fn a_row_of_many_ranges(rt: HostRuntime) -> Result<(), Fail> {
+fn a_slice_of_many_ranges(rt: HostRuntime) -> Result<(), Fail> {
     let script = script_of_ranges(rt.alloc(), 150)?;
     let text = b"step 1: ShapeError/IncompatibleShape: incompatible shapes\n";
     assert!(rt; answers(rt.alloc(), script.as_bytes(), text, 1));
     Ok(())
 }
 
-/// More places than can be reserved.
+/// More places than memory can be reserved for.
 #[test]
 fn too_many_places(rt: HostRuntime) {
     let input = b"data 1 read 1000000000000000000 0\n";
@@ -195,7 +196,7 @@ const INTERRUPTED: Fault = Fault::Error(ErrorKind::Interrupted);
 /// out.
 type Ended<'a> = (u8, usize, usize, &'a [u8]);
 
-/// A row: whether a run over these devices ends so.
+/// Whether a run over these devices ends so.
 fn ends(alloc: Global, reader: FakeReader, writer: FakeWriter, due: Ended) -> bool {
     let mut reader = Watched::new(reader);
     let mut writer = Watched::new(writer);
@@ -223,7 +224,7 @@ fn nothing_is_read_after_the_end(rt: HostRuntime) {
     assert!(rt; ends(rt.alloc(), reader, writer, due));
 }
 
-/// A row: a read that fails is the last one, and what is written tells so.
+/// Whether a read that fails is the last one, and the text is that of a failed read.
 fn ends_at_read(alloc: Global, call: usize, reads: usize, fault: Fault) -> bool {
     let reader = FakeReader::new(INPUT, 2, Some((call, fault)));
     let writer = FakeWriter::new(alloc, 100, None);
@@ -239,7 +240,7 @@ fn a_failed_read(rt: HostRuntime) {
     }
 }
 
-/// A row: a write that fails is the last one, and the text ends before it.
+/// Whether a write that fails is the last one, and the text ends before it.
 fn ends_at_write(alloc: Global, call: usize, writes: usize, text: &[u8], fault: Fault) -> bool {
     let reader = FakeReader::new(INPUT, 100, None);
     let writer = FakeWriter::new(alloc, 1, Some((call, fault)));

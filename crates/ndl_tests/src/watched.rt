@@ -5,19 +5,19 @@ use std::io::{ErrorKind, Read, Write};
 use std::process::Abort;
 
 /// What a call moved, none where it answered an error, and whether the device has failed after it.
-type Met = (Option<usize>, bool);
+type Outcome = (Option<usize>, bool);
 
 const BROKEN: Fault = Fault::Error(ErrorKind::BrokenPipe);
 
 const INTERRUPTED: Fault = Fault::Error(ErrorKind::Interrupted);
 
-fn met_by_read<R: Read>(reader: &mut Watched<R>) -> Met {
+fn outcome_of_read<R: Read>(reader: &mut Watched<R>) -> Outcome {
     let mut piece = [0u8; 4];
     let moved = reader.read(&mut piece).ok();
     (moved, reader.failed())
 }
 
-fn met_by_write<W: Write>(writer: &mut Watched<W>, piece: &[u8]) -> Met {
+fn outcome_of_write<W: Write>(writer: &mut Watched<W>, piece: &[u8]) -> Outcome {
     let moved = writer.write(piece).ok();
     (moved, writer.failed())
 }
@@ -25,12 +25,12 @@ fn met_by_write<W: Write>(writer: &mut Watched<W>, piece: &[u8]) -> Met {
 fn reader_fails_at_second_call(rt: &impl Abort, fault: Fault) {
     let mut reader = Watched::new(FakeReader::new(b"abc", 1, Some((1, fault))));
     assert!(rt; !reader.failed());
-    let met = [
-        met_by_read(&mut reader),
-        met_by_read(&mut reader),
-        met_by_read(&mut reader),
+    let outcomes = [
+        outcome_of_read(&mut reader),
+        outcome_of_read(&mut reader),
+        outcome_of_read(&mut reader),
     ];
-    assert!(rt; met == [(Some(1), false), (None, true), (Some(1), true)]);
+    assert!(rt; outcomes == [(Some(1), false), (None, true), (Some(1), true)]);
     assert!(rt; reader.into_inner().left == b"c".as_slice());
 }
 
@@ -43,18 +43,18 @@ fn a_reader_fails_at_an_error_and_stays_failed(rt: HostRuntime) {
 #[test]
 fn the_end_of_an_input_is_no_failure(rt: HostRuntime) {
     let mut reader = Watched::new(b"a".as_slice());
-    let met = [met_by_read(&mut reader), met_by_read(&mut reader)];
-    assert!(rt; met == [(Some(1), false), (Some(0), false)]);
+    let outcomes = [outcome_of_read(&mut reader), outcome_of_read(&mut reader)];
+    assert!(rt; outcomes == [(Some(1), false), (Some(0), false)]);
 }
 
 fn writer_fails_at_second_call(rt: &impl Abort, fake: FakeWriter, moved: Option<usize>) {
     let mut writer = Watched::new(fake);
-    let met = [
-        met_by_write(&mut writer, b"abc"),
-        met_by_write(&mut writer, b"c"),
-        met_by_write(&mut writer, b"c"),
+    let outcomes = [
+        outcome_of_write(&mut writer, b"abc"),
+        outcome_of_write(&mut writer, b"c"),
+        outcome_of_write(&mut writer, b"c"),
     ];
-    assert!(rt; met == [(Some(2), false), (moved, true), (Some(1), true)]);
+    assert!(rt; outcomes == [(Some(2), false), (moved, true), (Some(1), true)]);
     assert!(rt; writer.into_inner().taken.as_slice() == b"abc".as_slice());
 }
 
@@ -73,17 +73,17 @@ fn a_writer_fails_where_it_answers_an_error_or_takes_nothing(rt: HostRuntime) {
 #[test]
 fn no_byte_of_an_empty_piece_is_no_failure(rt: HostRuntime) {
     let mut writer = Watched::new(Vec::new(rt.alloc()));
-    let met = [
-        met_by_write(&mut writer, b""),
-        met_by_write(&mut writer, b"a"),
+    let outcomes = [
+        outcome_of_write(&mut writer, b""),
+        outcome_of_write(&mut writer, b"a"),
     ];
-    assert!(rt; met == [(Some(0), false), (Some(1), false)]);
+    assert!(rt; outcomes == [(Some(0), false), (Some(1), false)]);
 }
 
 #[test]
 fn an_error_at_an_empty_piece_is_a_failure(rt: HostRuntime) {
     let mut writer = Watched::new(FakeWriter::new(rt.alloc(), 1, Some((0, INTERRUPTED))));
-    assert!(rt; met_by_write(&mut writer, b"") == (None, true));
+    assert!(rt; outcome_of_write(&mut writer, b"") == (None, true));
 }
 
 #[test]

@@ -1,4 +1,4 @@
--- The bytes that part an input and sign a number, by what they are.
+-- The bytes that separate the pieces of an input, and those that spell a number, by their names.
 use Rattle.std.specs.Prelude.{◌≡◌, ℕ, [], ◌∷◌, codes, refl}
 
 abbrev pub line_feed : ℕ
@@ -31,6 +31,9 @@ digit_nine = 57
 abbrev pub semicolon : ℕ
 semicolon = 59
 
--- example
+-- examples
 as_text : codes " +,-.09;\n" ≡ space ∷ plus_sign ∷ comma ∷ minus_sign ∷ dot ∷ digit_zero ∷ digit_nine ∷ semicolon ∷ line_feed ∷ []
 as_text = refl
+
+return_before_feed : codes "\r" ≡ carriage_return ∷ []
+return_before_feed = refl

@@ -4,28 +4,29 @@ use Rattle.std.specs.List.{slice_split, filter, enumerate_from}
 use Rattle.std.specs.Str.Lines.{lines}
 use Rattle.ndl_text.specs.Bytes.{line_feed, carriage_return, space}
 
--- the lines, each ended by a line feed, which the last may lack; a carriage return just before a line feed is dropped
+-- the lines of an input, each ended by a line feed, which the last may lack; a carriage return just before a line feed is dropped
 abbrev pub lines_of : List ℕ → List (List ℕ)
 lines_of input = lines input
 
--- the parts between the bytes that are the separator: one more than there are such bytes
+-- the parts of a text between the bytes that are the separator: one part more than there are such bytes
 abbrev pub parts : ℕ → List ℕ → List (List ℕ)
 parts separator text = slice_split (λ b. b == separator) text
 
--- the words, parted by spaces
+-- the words of a line: its parts between spaces, but for the empty ones
 abbrev pub words_of : List ℕ → List (List ℕ)
 words_of line = filter (λ word. nat_lt 0 (length word)) (parts space line)
 
--- a line's number and its words
+-- a line by its number and its words
 abbrev pub NumberedLine : Type 0
 NumberedLine = ℕ × List (List ℕ)
 
--- the lines that aren't blank, where every line counts, from a number on
+-- the lines of an input that have a word, where the first line of all has a number given and each further one the next number
 abbrev pub lines_from : ℕ → List ℕ → List NumberedLine
 lines_from number input = filter (λ line. nat_lt 0 (length line.1)) (enumerate_from number (map words_of (lines_of input)))
 
 -- examples
-two_lines : lines_of (codes "a" ++ carriage_return ∷ line_feed ∷ codes "b" ++ carriage_return ∷ []) ≡ codes "a" ∷ (codes "b" ++ carriage_return ∷ []) ∷ []
+two_lines : lines_of (codes "a" ++ carriage_return ∷ line_feed ∷ codes "b" ++ carriage_return ∷ [])
+    ≡ codes "a" ∷ (codes "b" ++ carriage_return ∷ []) ∷ []
 two_lines = refl
 
 ended_lines : lines_of (codes "a\n\nb\n") ≡ codes "a" ∷ [] ∷ codes "b" ∷ []
@@ -33,6 +34,12 @@ ended_lines = refl
 
 no_lines : lines_of [] ≡ []
 no_lines = refl
+
+three_parts : parts 44 (codes "a,,b") ≡ codes "a" ∷ [] ∷ codes "b" ∷ []
+three_parts = refl
+
+one_part : parts 44 [] ≡ [] ∷ []
+one_part = refl
 
 two_words : words_of (codes "  ab  c ") ≡ codes "ab" ∷ codes "c" ∷ []
 two_words = refl

@@ -1,21 +1,22 @@
 -- The numbers that words spell.
-use Rattle.std.specs.Prelude.{◌≡◌, ℕ, ◌^◌, ℤ, pos, negsuc, neg_ℤ, Bool, ◌&&◌, nat_lt, nat_le, Option, Some, None, if◌then◌else◌, List, [], length, drop, codes, refl}
+use Rattle.std.specs.Prelude.{◌≡◌, ℕ, ◌^◌, ℤ, pos, negsuc, neg_ℤ, Bool, true, false, ◌&&◌, nat_lt, nat_le, if◌then◌else◌}
+use Rattle.std.specs.Prelude.{Option, Some, None, List, [], length, drop, codes, refl}
 use Rattle.std.specs.Str.{all_ascii_digits}
 use Rattle.std.specs.Str.Parse.{digits_value, starts_with_minus}
 
--- one digit or more, and nothing else
+-- a word is one digit or more, and nothing else
 abbrev pub is_decimal : List ℕ → Bool
 is_decimal word = nat_lt 0 (length word) && all_ascii_digits word
 
--- a decimal that fits 64 bits
+-- the number of a word that is a decimal, where it fits 64 bits
 abbrev pub number_of : List ℕ → Option ℕ
 number_of word = if is_decimal word && nat_lt (digits_value 10 word) (2 ^ 64) then Some (digits_value 10 word) else None
 
--- the negative of a decimal, down to -2^63
+-- the negative of the number of a word that is a decimal, down to -2^63
 abbrev pub negative_of : List ℕ → Option ℤ
 negative_of digits = if is_decimal digits && nat_le (digits_value 10 digits) (2 ^ 63) then Some (neg_ℤ (pos (digits_value 10 digits))) else None
 
--- a decimal up to 2^63 - 1, or `-` and a decimal for its negative
+-- the number with a sign of a word: a decimal up to 2^63 - 1, or `-` and a decimal for its negative, down to -2^63
 abbrev pub signed_number_of : List ℕ → Option ℤ
 signed_number_of word =
     if starts_with_minus word then negative_of (drop 1 word)
@@ -23,6 +24,12 @@ signed_number_of word =
     else None
 
 -- examples
+two_digits : is_decimal (codes "07") ≡ true
+two_digits = refl
+
+digit_and_letter : is_decimal (codes "7a") ≡ false
+digit_and_letter = refl
+
 leading_zeros : number_of (codes "004") ≡ Some 4
 leading_zeros = refl
 
@@ -46,6 +53,9 @@ past_least_signed = refl
 
 past_greatest_signed : signed_number_of (codes "9223372036854775808") ≡ None
 past_greatest_signed = refl
+
+negative_of_seven : negative_of (codes "7") ≡ Some (negsuc 6)
+negative_of_seven = refl
 
 negative_zero : signed_number_of (codes "-0") ≡ Some (pos 0)
 negative_zero = refl

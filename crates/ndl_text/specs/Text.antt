@@ -1,19 +1,19 @@
 -- How the lists of an answer are written.
-use Rattle.std.specs.Prelude.{◌≡◌, ℕ, List, [], ◌∷◌, ◌++◌, codes, map, unwrap_or, Option, refl}
+use Rattle.std.specs.Prelude.{◌≡◌, ℕ, List, [], ◌∷◌, ◌++◌, codes, map, unwrap_or, Option, Some, refl}
 use Rattle.std.specs.List.{flat_map}
 
--- the first text, and each further one behind a separator; a minus sign where there is none
+-- texts as one: the first, and each further one after a separator; a minus sign where there is no text
 abbrev pub listed : List ℕ → List (List ℕ) → List ℕ
 listed separator [] = codes "-"
 listed separator (text ∷ texts) = text ++ flat_map (λ another. separator ++ another) texts
 
--- what each item prints
+-- the text that each item prints
 abbrev pub printed : {T : Type 0} → (T → Option (List ℕ)) → List T → List (List ℕ)
 printed output items = map (λ item. unwrap_or (output item) []) items
 
--- a line: a name, a space, and what is told of it
+-- a line of an answer: a name, a space, and a text
 abbrev pub line : List ℕ → List ℕ → List ℕ
-line name told = name ++ codes " " ++ told ++ codes "\n"
+line name text = name ++ codes " " ++ text ++ codes "\n"
 
 -- examples
 three_numbers : listed (codes ",") (codes "2" ∷ codes "3" ∷ codes "4" ∷ []) ≡ codes "2,3,4"
@@ -21,3 +21,9 @@ three_numbers = refl
 
 no_numbers : listed (codes ",") [] ≡ codes "-"
 no_numbers = refl
+
+two_printed : printed Some (codes "2" ∷ codes "34" ∷ []) ≡ codes "2" ∷ codes "34" ∷ []
+two_printed = refl
+
+a_line : line (codes "shape") (codes "2,3") ≡ codes "shape 2,3\n"
+a_line = refl

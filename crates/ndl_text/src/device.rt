@@ -40,10 +40,12 @@ impl From<AllocError> for InputError {
 /// How many bytes one read asks for.
 const PIECE_LEN: usize = 8192;
 
-/// All the bytes that are left to read.
+/// Reads all the bytes that are left, up to the first read that gives 0 bytes.
 ///
-/// It stops at the first read that gives 0 bytes, which is the end of the input, at the first read
-/// that fails, an interrupted one too, and where the bytes read so far do not fit into memory.
+/// The caller ensures that no read or write of the device has failed before.
+///
+/// Errors: `ReadFailed` at the first read that fails, an interrupted one too; `OutOfMemory` where the
+/// bytes read so far do not fit into memory. Nothing more is read then.
 pub fn read_whole<R: io::Read>(
     alloc: Global,
     reader: &mut Watched<R>,
@@ -67,8 +69,9 @@ pub fn read_whole<R: io::Read>(
 
 /// Writes the whole text, or a beginning of it where a write fails.
 ///
-/// After a write that answers an error, an interrupted one too, or that takes no byte, nothing more
-/// is written.
+/// The caller ensures that no read or write of the device has failed before. After a write that
+/// answers an error, an interrupted one too, or that takes no byte, nothing more is written; the
+/// device has failed then.
 pub fn write_whole<W: io::Write>(writer: &mut Watched<W>, text: &[u8])
     requires { has_failed writer.old ≡ false }
     ensures whole { has_failed writer.new ≡ false → Appends (W.contents (device writer.old))

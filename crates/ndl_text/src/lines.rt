@@ -6,18 +6,18 @@ ghost use Rattle.ndl_text.specs.Lines.{lines_of, lines_from};
 use crate::words::{split_once, words};
 use std::alloc::{AllocError, Global};
 
-/// A line that isn't blank.
+/// A line that has a word.
 #[derive(Drop)]
 pub struct Line<'a> {
-    /// Its number in the script, from 1 on.
+    /// Its number: each line counts, blank ones too.
     pub number: usize,
     /// Its words, at least one.
     pub words: Vec<&'a [u8]>,
-    /// What follows it.
+    /// The text after it.
     pub rest: &'a [u8],
 }
 
-/// The first line of a text, and what follows it; none where nothing is left.
+/// The first line of a text, and the text after it; `None` where nothing is left.
 fn first_line(text: &[u8]) -> Option<(&[u8], &[u8])>
     ensures lines { MatchOption result (lines_of text.now ≡ [])
         (λ found. lines_of text.now ≡ found.0.now ∷ lines_of found.1.now) }
@@ -30,7 +30,12 @@ fn first_line(text: &[u8]) -> Option<(&[u8], &[u8])>
     }
 }
 
-/// The first line that isn't blank; a number is that of the first line of the text.
+/// The first line of a text that has a word; `None` where there is none. The number given is that of
+/// the first line of the text.
+///
+/// The caller ensures that this number and the text's length in bytes are together below 2^64.
+///
+/// Errors: out of memory.
 pub fn next_line(alloc: Global, text: &[u8], number: usize) -> Result<Option<Line<'_>>, AllocError>
     requires { number + length text.now < 2 ^ 64 }
     ensures lines { IfOk result (λ found. MatchOption found (lines_from number text.now ≡ [])

@@ -2,7 +2,8 @@
 ghost use Rattle.std.specs.Prelude.{◌≡◌};
 ghost use Rattle.ndl_text.specs.Numbers.{number_of, signed_number_of};
 
-/// The number of one digit or more, without a sign; none where the text spells no such number, or one past 64 bits.
+/// The number of one digit or more, without a sign; `None` where the text spells no such number, or one that no `usize`
+/// is.
 pub fn number(text: &[u8]) -> Option<usize>
     ensures { result ≡ number_of text.now }
 {
@@ -12,7 +13,7 @@ pub fn number(text: &[u8]) -> Option<usize>
     str::from_utf8(text).ok()?.parse().ok()
 }
 
-/// The number of one digit or more, with an optional `-` in front; none where the text spells no such number, or one
+/// The number of one digit or more, with an optional `-` in front; `None` where the text spells no such number, or one
 /// that no `isize` is.
 pub fn signed_number(text: &[u8]) -> Option<isize>
     ensures { result ≡ signed_number_of text.now }

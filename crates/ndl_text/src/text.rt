@@ -6,7 +6,9 @@ use std::alloc::AllocError;
 use std::fmt::{Display, Write};
 
 /// Appends the items with the separator between each two, or `-` where there are none.
-pub fn push_list<T: Display + Copy>(
+///
+/// Errors: out of memory.
+fn push_list<T: Display + Copy>(
     text: &mut String,
     separator: &str,
     items: &[T],
@@ -26,7 +28,12 @@ pub fn push_list<T: Display + Copy>(
     Ok(())
 }
 
-/// Appends a line: a name, a space and the list of the items.
+/// Appends a line: a name, a space, the items with the separator between each two, or `-` where there
+/// are none, and a line feed.
+///
+/// The caller ensures that it is known what each item prints, as it is of numbers.
+///
+/// Errors: out of memory; a part of the line may have been appended then.
 pub fn push_line<T: Display + Copy>(
     text: &mut String,
     name: &str,

@@ -20,7 +20,7 @@ pub struct Watched<T> {
 impl<T> Watched<T> {
     ghost use Rattle.ndl_text.specs.Watched.{device, has_failed};
 
-    /// The device, of which no call has failed yet.
+    /// The device, none of whose calls counts as failed yet.
     pub fn new(inner: T) -> Self
         ensures device { device result ≡ inner }
         ensures failed { has_failed result ≡ false }
@@ -49,7 +49,9 @@ impl<T> Watched<T> {
 impl<R: Read> Watched<R> {
     ghost use Rattle.ndl_text.specs.Watched.{device, has_failed};
 
-    /// Reads on, where no call has failed yet.
+    /// Reads as the device does. The caller ensures that no read or write of it has failed before.
+    ///
+    /// Errors: those of the device; it has failed then.
     pub fn read_on(&mut self, buf: &mut [u8]) -> io::Result<usize>
         requires { has_failed self.old ≡ false }
         ensures bound { ReadsAtMost result buf.new }
@@ -64,7 +66,10 @@ impl<R: Read> Watched<R> {
 impl<W: Write> Watched<W> {
     ghost use Rattle.ndl_text.specs.Watched.{device, has_failed, is_failed_write};
 
-    /// Writes on, where no call has failed yet.
+    /// Writes as the device does. The caller ensures that no read or write of it has failed before.
+    ///
+    /// Errors: those of the device; it has failed then, and where it took no byte of a piece that has
+    /// some.
     pub fn write_on(&mut self, buf: &[u8]) -> io::Result<usize>
         requires { has_failed self.old ≡ false }
         ensures bound { WritesAtMost result buf.now }

@@ -4,8 +4,10 @@ ghost use Rattle.ndl_text.specs.Lines.{parts, words_of};
 
 use std::alloc::{AllocError, Global};
 
-/// The words of a line.
-pub fn words(alloc: Global, line: &[u8]) -> Result<Vec<&[u8]>, AllocError>
+/// The words of a line: what stands between its spaces.
+///
+/// Errors: out of memory.
+pub(crate) fn words(alloc: Global, line: &[u8]) -> Result<Vec<&[u8]>, AllocError>
     ensures { IfOk result (λ v. map (λ word. word.now) v.items ≡ words_of line.now) }
 {
     line.split(|b| *b == b' ')
@@ -13,7 +15,7 @@ pub fn words(alloc: Global, line: &[u8]) -> Result<Vec<&[u8]>, AllocError>
         .collect(alloc)
 }
 
-/// What stands before and after the first separator; none without one.
+/// The parts of a text before and after the first separator; `None` without one.
 pub fn split_once(text: &[u8], separator: u8) -> Option<(&[u8], &[u8])>
     ensures parts { MatchOption result (parts separator text.now ≡ text.now ∷ [])
         (λ found. parts separator text.now ≡ found.0.now ∷ parts separator found.1.now) }

@@ -1,4 +1,4 @@
-//! What a refusal names.
+//! The names of faults.
 ghost use Rattle.std.specs.Prelude.{◌≡◌};
 ghost use Rattle.std.specs.Result.{result_err};
 
@@ -20,7 +20,7 @@ pub fn name_of(fault: Option<ErrorKind>) -> &'static str {
     }
 }
 
-/// The name of the fault of a layout, or `memory` where a request for it was refused.
+/// The name of the fault of a layout, or `memory` where memory was refused.
 pub fn layout_fault_name(fault: &LayoutError) -> &'static str {
     match fault {
         LayoutError::Shape(fault) => name_of(Some(fault.kind())),
@@ -28,7 +28,7 @@ pub fn layout_fault_name(fault: &LayoutError) -> &'static str {
     }
 }
 
-/// The fault that a call names, if any.
+/// The fault by which a call was refused, if it was.
 pub fn fault_of(answer: Result<(), ShapeError>) -> Option<ErrorKind>
     ensures { result ≡ result_err answer }
 {
@@ -38,7 +38,7 @@ pub fn fault_of(answer: Result<(), ShapeError>) -> Option<ErrorKind>
     }
 }
 
-/// The answer of a call, or the fault that it names.
+/// The answer of a call, or the fault by which it was refused.
 pub fn or_fault<T: Drop>(answer: Result<T, ShapeError>) -> Result<T, ErrorKind>
     ensures { result ≡ answer }
 {

@@ -1,5 +1,5 @@
-//! What the tests of several crates share: what a refusal names, which values are equal, what tells of
-//! refused memory, and tables as text.
+//! What the tests of several crates share: the names of faults, which values are equal, refused requests for
+//! memory, and tables as text.
 #![tactic(auto)]
 
 mod equality;

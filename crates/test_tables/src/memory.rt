@@ -7,9 +7,9 @@ pub fn grants(alloc: Global) -> bool {
     one.push(1_u8).is_ok()
 }
 
-/// Whether the calls just made, one after the other, asked for memory. Of their requests and a small one
-/// after them one of the first two is refused, or none: the call that is refused fails, and nothing else
-/// does. Calls that asked for none would leave the refusal to the small one.
+/// Whether the two calls just made, one after the other, asked for memory. Of their requests and a small
+/// one after them, one of the first two is refused, or none: the call whose request is refused fails, and
+/// nothing else does. Had the calls asked for none, the small request would be refused.
 pub fn asked<T: Drop>(
     alloc: Global,
     first: Result<T, AllocError>,

@@ -1,4 +1,4 @@
-//! Tables as text: a row is a line of words, a list is a word of numbers parted by commas, `-` is the
+//! Tables as text: a row is a line of words, a list is a word of numbers separated by commas, `-` is the
 //! empty list.
 use nd_base::unsigned;
 use std::alloc::{AllocError, Global};
@@ -9,9 +9,9 @@ use std::str::{Lines, SplitWhitespace};
 pub enum TableError {
     /// A row has fewer words than are asked of it.
     MissingWord,
-    /// A word is no number, or no list of numbers.
+    /// A word is no number, or not a list of numbers.
     NotANumber,
-    /// No memory for a list.
+    /// Memory for a list was refused.
     Memory(AllocError),
 }
 
@@ -41,21 +41,30 @@ impl<'a> Row<'a> {
     }
 
     /// The next word.
+    ///
+    /// Errors: `MissingWord` where no word is left.
     pub fn word(&mut self) -> Result<&'a str, TableError> {
         self.words.next().ok_or(TableError::MissingWord)
     }
 
     /// The next word as a length.
+    ///
+    /// Errors: `MissingWord`, then `NotANumber`.
     pub fn length(&mut self) -> Result<usize, TableError> {
         self.word()?.parse().ok().ok_or(TableError::NotANumber)
     }
 
     /// The next word as a signed number.
+    ///
+    /// Errors: `MissingWord`, then `NotANumber`.
     pub fn number(&mut self) -> Result<isize, TableError> {
         self.word()?.parse().ok().ok_or(TableError::NotANumber)
     }
 
-    /// The next word as a list of lengths, or of strides as they are kept.
+    /// The next word as a list of lengths, or of strides by their bits.
+    ///
+    /// Errors: `MissingWord`; `NotANumber` or `Memory` at the first entry that is no number or finds no
+    /// room.
     pub fn lengths(&mut self, alloc: Global) -> Result<Vec<usize>, TableError> {
         let mut lengths = Vec::new(alloc);
         for part in self.word()?.split(',') {
@@ -67,7 +76,7 @@ impl<'a> Row<'a> {
     }
 }
 
-/// A length, or a stride as it is kept.
+/// A length, or a negative stride by its bits; `None` where the text is no such number.
 pub(crate) fn entry(part: &str) -> Option<usize> {
     if part.starts_with('-') {
         let stride: isize = part.parse().ok()?;
@@ -76,7 +85,7 @@ pub(crate) fn entry(part: &str) -> Option<usize> {
     part.parse().ok()
 }
 
-/// Adds what a word was read as, if it was.
+/// Adds the number of an entry, where it is one.
 fn push(list: &mut Vec<usize>, item: Option<usize>) -> Result<(), TableError> {
     match list.push(item.ok_or(TableError::NotANumber)?) {
         Ok(()) => Ok(()),

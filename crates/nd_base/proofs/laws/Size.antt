@@ -43,7 +43,7 @@ is_empty-reverse [] = refl
 is_empty-reverse (n ∷ shape) =
     ap is_empty (reverse-append (n ∷ []) shape) ∙ is_empty-push (reverse shape) n ∙ ap (λ b. eqb n 0 || b) (is_empty-reverse shape)
 
--- ---- shapes one behind the other
+-- ---- shapes one after the other
 -- the axes of two shapes have both sizes as factors
 pub size-append : (xs ys : List ℕ) → size (xs ++ ys) ≡ size xs * size ys
 size-append [] ys = sym (one-mul (size ys))
@@ -61,7 +61,7 @@ size-reverse (n ∷ shape) =
     ap size (reverse-append (n ∷ []) shape) ∙ size-push (reverse shape) n ∙ ap (λ m. n * m) (size-reverse shape)
 
 -- ---- parts of a shape
--- the size from an axis on is its length times the size behind it
+-- the size from an axis on is its length times the size after it
 pub size_from : (shape : List ℕ) (k : ℕ) → k < length shape → size (drop k shape) ≡ get_or shape k 0 * size (drop (k + 1) shape)
 size_from shape k h = rw add-one (ap size (drop-cons shape k 0 h))
 
@@ -86,7 +86,7 @@ size_take_le (n ∷ lens) (suc k) h = mul-le-mul_left n (size_take_le lens k (or
 head_positive : (n : ℕ) (lens : List ℕ) → is_empty (n ∷ lens) ≡ false → 0 < n
 head_positive n lens h = pos_of_ne-zero (eqb-false n 0 (or_parts (eqb n 0) (is_empty lens) h).0)
 
--- nor is what stands behind the front
+-- nor is what comes after the front
 pub size_drop_le : (lens : List ℕ) (k : ℕ) → is_empty lens ≡ false → size (drop k lens) ≤ size lens
 size_drop_le lens zero h = omega arith
 size_drop_le [] (suc k) h = omega arith

@@ -1,10 +1,11 @@
 //! Axes, orders, and the entries of an index as tuples.
-use nd_base::{Axis, Convert, Order, axis_of, set_axis_of};
+use nd_base::{Axis, Convert, Order, axis_of, has_axis, set_axis_of};
+use std::cmp::Ordering;
 
-/// The length of an axis of the shape 2, 3, 4 is told, and written.
+/// The length of an axis of the shape 2, 3, 4 is read, and written.
 fn rewrites(axis: Axis, len: usize, rewritten: [usize; 3]) -> bool {
     let mut lens = [2, 3, 4];
-    if axis.index() >= lens.len() || axis_of(&lens, axis) != len {
+    if !has_axis(&lens, axis) || axis_of(&lens, axis) != len {
         return false;
     }
     set_axis_of(&mut lens, axis, 7);
@@ -17,6 +18,28 @@ fn r2_rows_of_axes(rt: HostRuntime) {
         rewrites(Axis(0), 2, [7, 3, 4])
             && rewrites(Axis(1), 3, [2, 7, 4])
             && rewrites(Axis(2), 4, [2, 3, 7])
+            && !has_axis(&[2, 3, 4], Axis(3))
+            && !has_axis(&[], Axis(0))
+            && Axis(2).index() == 2
+    );
+}
+
+/// How one axis compares with another, by each comparison.
+fn compares(axis: Axis, other: Axis, order: Ordering) -> bool {
+    axis.cmp(&other) == order
+        && axis.partial_cmp(&other) == Some(order)
+        && (axis < other) == (order == Ordering::Less)
+        && (axis > other) == (order == Ordering::Greater)
+        && (axis <= other) == (order != Ordering::Greater)
+        && (axis == other) == (order == Ordering::Equal)
+}
+
+#[test]
+fn r2_rows_of_axes_in_order(rt: HostRuntime) {
+    assert!(rt;
+        compares(Axis(0), Axis(1), Ordering::Less)
+            && compares(Axis(7), Axis(2), Ordering::Greater)
+            && compares(Axis(3), Axis(3), Ordering::Equal)
     );
 }
 

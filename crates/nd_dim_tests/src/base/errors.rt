@@ -10,7 +10,7 @@ fn is(printed: &Result<String, AllocError>, text: &str) -> bool {
 }
 
 /// A refusal of a kind prints the text, and is its own copy.
-fn tells(alloc: Global, kind: ErrorKind, text: &str) -> bool {
+fn prints(alloc: Global, kind: ErrorKind, text: &str) -> bool {
     let error = ShapeError::from_kind(kind);
     error.kind() == kind
         && is(&error.to_string(alloc), text)
@@ -20,15 +20,15 @@ fn tells(alloc: Global, kind: ErrorKind, text: &str) -> bool {
 
 /// What the refusals of layouts and shapes print.
 fn shapes_tell(alloc: Global) -> bool {
-    tells(
+    prints(
         alloc,
         ErrorKind::IncompatibleShape,
         "ShapeError/IncompatibleShape: incompatible shapes",
-    ) && tells(
+    ) && prints(
         alloc,
         ErrorKind::IncompatibleLayout,
         "ShapeError/IncompatibleLayout: incompatible memory layout",
-    ) && tells(
+    ) && prints(
         alloc,
         ErrorKind::RangeLimited,
         "ShapeError/RangeLimited: the shape does not fit in type limits",
@@ -37,15 +37,15 @@ fn shapes_tell(alloc: Global) -> bool {
 
 /// What the other ones print.
 fn others_tell(alloc: Global) -> bool {
-    tells(
+    prints(
         alloc,
         ErrorKind::OutOfBounds,
         "ShapeError/OutOfBounds: out of bounds indexing",
-    ) && tells(
+    ) && prints(
         alloc,
         ErrorKind::Unsupported,
         "ShapeError/Unsupported: unsupported operation",
-    ) && tells(
+    ) && prints(
         alloc,
         ErrorKind::Overflow,
         "ShapeError/Overflow: arithmetic overflow",

@@ -1,6 +1,9 @@
 //! Strides, and where indices lie.
-use crate::dim::told::demand;
-use nd_base::{index_offset, signed, stride_offset, stride_offset_checked, unsigned};
+ghost use Rattle.nd_base.specs.Signed.{all_signed};
+ghost use Rattle.nd_base.specs.ValidLayout.{IsValidLayout};
+
+use crate::dim::questions::demand;
+use nd_base::{index_offset, is_index, signed, stride_offset, stride_offset_checked, unsigned};
 use test_tables::{Lists, rows};
 
 #[test]
@@ -25,12 +28,28 @@ fn r1_rows(rt: HostRuntime) {
     );
 }
 
+/// The offset of entries where they are an index of the shape, by the sum alone. It agrees with the checked
+/// one.
+fn offset_in(shape: &[usize], strides: &[usize], entries: &[usize]) -> Option<isize>
+    requires { IsValidLayout shape.now (all_signed strides.now) }
+{
+    if is_index(shape, entries) {
+        Some(index_offset(entries, strides))
+    } else {
+        None
+    }
+}
+
 /// Whether entries have this offset beside the shape 2, 3 with the strides -3, 1, as it is kept, or none.
 fn has_offset(entries: &[usize], offset: &[usize]) -> bool {
-    match stride_offset_checked(&[2, 3], &[unsigned(-3), 1], entries) {
-        Some(found) => [unsigned(found)].as_slice() == offset,
-        None => offset.is_empty(),
-    }
+    let shape = [2, 3];
+    let strides = [unsigned(-3), 1];
+    let found = stride_offset_checked(&shape, &strides, entries);
+    found == offset_in(&shape, &strides, entries)
+        && match found {
+            Some(found) => [unsigned(found)].as_slice() == offset,
+            None => offset.is_empty(),
+        }
 }
 
 fn row_holds(line: &str) -> bool {
@@ -66,5 +85,8 @@ fn r2_rows_without_elements(rt: HostRuntime) {
             && stride_offset_checked(&[], &[], &[0]) == None
             && stride_offset_checked(&[2, 0], &[1, 1], &[0, 0]) == None
             && stride_offset_checked(&[2, 0], &[1, 1], &[1]) == None
+            && is_index(&[], &[])
+            && !is_index(&[2, 0], &[0, 0])
+            && !is_index(&[2], &[])
     );
 }

@@ -1,4 +1,4 @@
-//! What the calls answer, each by the bound alone: whether it is what a row wants. Want of memory is not.
+//! What the calls answer, each by the bound alone: whether it is what a row wants. Refused memory is not.
 use crate::dim::lists::dim_of;
 use nd_base::FixedCount;
 use nd_dim::{
@@ -207,7 +207,7 @@ pub(crate) fn handed_on<D: Dimension>(alloc: Global, lens: &[usize]) -> Result<I
 }
 
 /// A value of any number of axes that a call made has these lengths, and is one of this type or is none.
-/// Whether the call may want memory is told as well.
+/// The last argument says whether the call may be refused for memory.
 pub(crate) fn becomes<D: Dimension>(
     alloc: Global,
     dynamic: Result<IxDyn, AllocError>,

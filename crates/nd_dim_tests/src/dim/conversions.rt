@@ -128,7 +128,7 @@ fn r2_rows_of_equality(rt: HostRuntime) {
     );
 }
 
-/// A value stands for this shape of this type, and tells an order or none.
+/// A value stands for this shape of this type, with an order or none.
 fn shapes<T: ShapeArg<Dim = D>, D: Lengths>(
     alloc: Global,
     value: T,
@@ -136,7 +136,7 @@ fn shapes<T: ShapeArg<Dim = D>, D: Lengths>(
     order: Option<Order>,
 ) -> bool {
     match value.into_shape_and_order(alloc) {
-        Ok((dim, told)) => dim.slice() == lens && told == order,
+        Ok((dim, found)) => dim.slice() == lens && found == order,
         Err(_) => false,
     }
 }

@@ -4,7 +4,7 @@
 //! A call that needs no memory goes well whatever is refused. A call that needs memory is made
 //! twice, before one small request. To make a list of more than four lengths is a request itself.
 use crate::dim::checks::{By, becomes, handed_on, is_one, strides};
-use crate::dim::told::{Told, Types, table};
+use crate::dim::questions::{Question, Types, table};
 use nd_dim::{
     Axis, Dimension, FixedCount, IntoDimension, IxDyn, IxDynImpl, Lengths, Order, RemoveAxis,
     ShapeArg, new_dim, new_ixdyn,
@@ -31,6 +31,7 @@ pub(crate) enum Call {
     /// One axis less, in either way.
     TryRemoveAxis,
     RemoveAxis,
+    FirstIndex,
 }
 
 /// How calls go about memory.
@@ -72,6 +73,7 @@ fn is_made<D: Dimension>(alloc: Global, call: Call, dim: &D, axis: usize) -> boo
                 && is_given(dim.try_remove_axis(alloc, Axis(axis)))
         },
         Call::RemoveAxis => false,
+        Call::FirstIndex => is_given(dim.first_index(alloc)),
     }
 }
 
@@ -156,16 +158,16 @@ pub(crate) fn asks<D: RemoveAxis + IntoDimension<Dim = D>>(
 
 /// The rows of a table, which tell how calls go about memory at the type of any number of axes.
 fn table_at_any_count(rt: &impl Abort, alloc: Global, memory: Memory, rows: &str) {
-    table(rt, alloc, Told::Memory(memory), Types::AnyCount, rows);
+    table(rt, alloc, Question::Memory(memory), Types::AnyCount, rows);
 }
 
 /// The same at the types of fixed counts of axes.
 fn table_at_fixed(rt: &impl Abort, alloc: Global, memory: Memory, rows: &str) {
-    table(rt, alloc, Told::Memory(memory), Types::Fixed, rows);
+    table(rt, alloc, Question::Memory(memory), Types::Fixed, rows);
 }
 
 /// What needs no memory at a type of a fixed count of axes, nor with up to four axes at another.
-const NEEDS_NONE: [Call; 11] = [
+const NEEDS_NONE: [Call; 12] = [
     Call::Strides(Order::RowMajor, By::Shape),
     Call::Strides(Order::ColumnMajor, By::Shape),
     Call::StrideOrder,
@@ -177,6 +179,7 @@ const NEEDS_NONE: [Call; 11] = [
     Call::TryRemoveAxis,
     Call::RemoveAxis,
     Call::IntoAny,
+    Call::FirstIndex,
 ];
 
 /// The rows of a table, at each of which nothing of this needs memory.
@@ -185,7 +188,7 @@ fn table_of_needs(rt: &impl Abort, alloc: Global, types: Types, rows: &str) {
         table(
             rt,
             alloc,
-            Told::Memory(Memory::NeedsNone(call)),
+            Question::Memory(Memory::NeedsNone(call)),
             types,
             rows,
         );
@@ -286,6 +289,13 @@ fn r9_rows_vector_of_four(rt: HostRuntime) {
 }
 
 #[test]
+fn r9_rows_vector_of_five(rt: HostRuntime) {
+    if let Ok(items) = [1, 2, 3, 4, 5].to_vec(rt.alloc()) {
+        assert!(rt; is_given(new_dim(rt.alloc(), items)));
+    }
+}
+
+#[test]
 fn r9_rows_list_of_five(rt: HostRuntime) {
     if let Ok(list) = IxDynImpl::copy_from(rt.alloc(), &[1, 2, 3, 4, 5]) {
         let first = new_dim(rt.alloc(), list);
@@ -327,6 +337,22 @@ fn r9_rows_duplicate_of_five(rt: HostRuntime) {
 #[test]
 fn r9_rows_stride_order_of_five(rt: HostRuntime) {
     asks_of_five(&rt, rt.alloc(), Call::StrideOrder);
+}
+
+#[test]
+fn r9_rows_first_index_of_five(rt: HostRuntime) {
+    asks_of_five(&rt, rt.alloc(), Call::FirstIndex);
+}
+
+// A shape without an index asks for nothing.
+#[test]
+fn r9_rows_first_index_of_empty_five(rt: HostRuntime) {
+    table_at_any_count(
+        &rt,
+        rt.alloc(),
+        Memory::NeedsNone(Call::FirstIndex),
+        "1,2,0,4,5",
+    );
 }
 
 #[test]

@@ -5,7 +5,7 @@ ghost use Rattle.std.specs.Prelude.{◌+◌, ◌*◌, ◌^◌, ◌<◌, ◌≤�
 ghost use Rattle.nd_base.specs.Entrywise.{SumsFit, DifferencesFit, ProductsFit, ScaledFit};
 
 use crate::dim::lists::dim_of;
-use crate::dim::told::{Told, Types, table};
+use crate::dim::questions::{Question, Types, table};
 use nd_dim::{Arithmetic, Lengths, Scale};
 use std::alloc::Global;
 use std::process::Abort;
@@ -172,33 +172,33 @@ fn tables_of_operators_in_turn(rt: &impl Abort, alloc: Global) {
     table(
         rt,
         alloc,
-        Told::Calculated(Operator::Mul),
+        Question::Calculated(Operator::Mul),
         Types::Both,
         "3,5 1,2 3,10",
     );
-    table(rt, alloc, Told::Scaled, Types::Both, "3,10 2 6,20");
+    table(rt, alloc, Question::Scaled, Types::Both, "3,10 2 6,20");
     table(
         rt,
         alloc,
-        Told::Calculated(Operator::Add),
+        Question::Calculated(Operator::Add),
         Types::Both,
         "3,5 1,2 4,7",
     );
     table(
         rt,
         alloc,
-        Told::Calculated(Operator::Mul),
+        Question::Calculated(Operator::Mul),
         Types::Both,
         "4,7 1,2 4,14",
     );
     table(
         rt,
         alloc,
-        Told::Calculated(Operator::Sub),
+        Question::Calculated(Operator::Sub),
         Types::Both,
         "4,14 1,2 3,12",
     );
-    table(rt, alloc, Told::Scaled, Types::Both, "3,12 3 9,36");
+    table(rt, alloc, Question::Scaled, Types::Both, "3,12 3 9,36");
 }
 
 #[test]
@@ -207,24 +207,24 @@ fn r2_rows_of_operators(rt: HostRuntime) {
     table(
         &rt,
         alloc,
-        Told::Calculated(Operator::Add),
+        Question::Calculated(Operator::Add),
         Types::Both,
         SUMS,
     );
     table(
         &rt,
         alloc,
-        Told::Calculated(Operator::Sub),
+        Question::Calculated(Operator::Sub),
         Types::Both,
         DIFFERENCES,
     );
     table(
         &rt,
         alloc,
-        Told::Calculated(Operator::Mul),
+        Question::Calculated(Operator::Mul),
         Types::Both,
         PRODUCTS,
     );
-    table(&rt, alloc, Told::Scaled, Types::Both, DOUBLES);
+    table(&rt, alloc, Question::Scaled, Types::Both, DOUBLES);
     tables_of_operators_in_turn(&rt, alloc);
 }

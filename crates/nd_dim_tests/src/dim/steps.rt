@@ -1,28 +1,14 @@
 //! Walks over the indices of a shape, in either order.
 //!
 //! A row is a shape, how many indices it has, and the entries of these.
-ghost use Rattle.std.specs.Prelude.{◌≡◌, true, IsTrue};
-ghost use Rattle.nd_base.specs.Indices.{is_index};
-
-use crate::dim::told::{Told, Types, table};
-use nd_dim::{Dimension, Order};
+use crate::dim::questions::{Question, Types, table};
+use nd_dim::{Dimension, Order, is_index};
 use std::alloc::Global;
 
-/// Whether these are the entries of an index of a shape.
-fn is_inside(lens: &[usize], entries: &[usize]) -> bool
-    ensures { IsTrue result → is_index lens.now entries.now ≡ true }
-{
-    match (lens, entries) {
-        ([], []) => true,
-        ([len, lens @ ..], [entry, entries @ ..]) => *entry < *len && is_inside(lens, entries),
-        _ => false,
-    }
-}
-
-/// The index behind one in an order, if there is one. By columns it is written over the one before it, and
-/// behind the last index that is the first one, with which the entries begin: else it is told as one more.
-fn behind<D: Dimension>(order: Order, dim: &D, mut index: D, entries: &[usize]) -> Option<D> {
-    if !is_inside(dim.slice(), index.slice()) {
+/// The index after one in an order, if there is one. By columns it is written over the one before it, and
+/// after the last index that is the first one, with which the entries begin: else it counts as one more.
+fn next_of<D: Dimension>(order: Order, dim: &D, mut index: D, entries: &[usize]) -> Option<D> {
+    if !is_index(dim.slice(), index.slice()) {
         return Some(index);
     }
     match order {
@@ -57,7 +43,7 @@ pub(crate) fn has_indices<D: Dimension>(
             return false;
         };
         rest = others;
-        next = behind(order, dim, index, entries);
+        next = next_of(order, dim, index, entries);
     }
     next.is_none() && rest.is_empty()
 }
@@ -79,14 +65,14 @@ fn indices_by_steps(rt: HostRuntime) {
     table(
         &rt,
         rt.alloc(),
-        Told::Indices(Order::C),
+        Question::Indices(Order::C),
         Types::Both,
         BY_ROWS,
     );
     table(
         &rt,
         rt.alloc(),
-        Told::Indices(Order::F),
+        Question::Indices(Order::F),
         Types::Both,
         BY_COLUMNS,
     );

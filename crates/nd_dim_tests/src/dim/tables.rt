@@ -1,5 +1,5 @@
 //! Tables of rows of one call each.
-use crate::dim::told::{Told, Types, table};
+use crate::dim::questions::{Question, Types, table};
 use std::alloc::Global;
 use std::process::Abort;
 
@@ -239,9 +239,15 @@ const DIMENSIONS: &str = "\
 #[test]
 fn r2_rows_of_other_types(rt: HostRuntime) {
     let alloc = rt.alloc();
-    table(&rt, alloc, Told::Made(false), Types::Fixed, "3,4 3,4,5");
-    table(&rt, alloc, Told::Made(true), Types::Fixed, "3,4 3,4");
-    table(&rt, alloc, Told::Incompatible, Types::Fixed, "2,3,4 2,3");
+    table(&rt, alloc, Question::Made(false), Types::Fixed, "3,4 3,4,5");
+    table(&rt, alloc, Question::Made(true), Types::Fixed, "3,4 3,4");
+    table(
+        &rt,
+        alloc,
+        Question::Incompatible,
+        Types::Fixed,
+        "2,3,4 2,3",
+    );
 }
 
 const ZEROS: &str = "\
@@ -267,7 +273,7 @@ const DEFAULTS: &str = "\
 
 #[test]
 fn r2_rows_of_default(rt: HostRuntime) {
-    table(&rt, rt.alloc(), Told::Default, Types::Fixed, DEFAULTS);
+    table(&rt, rt.alloc(), Question::Default, Types::Fixed, DEFAULTS);
 }
 
 const LAST_LENGTHS: &str = "\
@@ -318,42 +324,48 @@ const WRITTEN: &str = "\
 7,4,9 0,8 8,4,9
 7,2,3,4,5,9 0,8 8,2,3,4,5,9";
 
-/// What is told of shapes and their strides.
+/// What is asked of shapes and their strides.
 fn tables_of_strides(rt: &impl Abort, alloc: Global) {
-    table(rt, alloc, Told::Size, Types::Both, SIZES);
-    table(rt, alloc, Told::Strides, Types::Both, STRIDES);
-    table(rt, alloc, Told::Equivalent(true), Types::Both, EQUIVALENT);
+    table(rt, alloc, Question::Size, Types::Both, SIZES);
+    table(rt, alloc, Question::Strides, Types::Both, STRIDES);
     table(
         rt,
         alloc,
-        Told::Equivalent(false),
+        Question::Equivalent(true),
+        Types::Both,
+        EQUIVALENT,
+    );
+    table(
+        rt,
+        alloc,
+        Question::Equivalent(false),
         Types::Both,
         NOT_EQUIVALENT,
     );
-    table(rt, alloc, Told::StrideAxes, Types::Both, STRIDE_AXES);
-    table(rt, alloc, Told::Order, Types::Both, ORDERS);
+    table(rt, alloc, Question::StrideAxes, Types::Both, STRIDE_AXES);
+    table(rt, alloc, Question::Order, Types::Both, ORDERS);
 }
 
-/// What is told of values and their lengths.
+/// What is asked of values and their lengths.
 fn tables_of_lengths(rt: &impl Abort, alloc: Global) {
-    table(rt, alloc, Told::Values, Types::Both, VALUES);
-    table(rt, alloc, Told::Values, Types::Both, DIMENSIONS);
-    table(rt, alloc, Told::Zeros, Types::Both, ZEROS);
-    table(rt, alloc, Told::Last, Types::Both, LAST_LENGTHS);
+    table(rt, alloc, Question::Values, Types::Both, VALUES);
+    table(rt, alloc, Question::Values, Types::Both, DIMENSIONS);
+    table(rt, alloc, Question::Zeros, Types::Both, ZEROS);
+    table(rt, alloc, Question::Last, Types::Both, LAST_LENGTHS);
     table(
         rt,
         alloc,
-        Told::LastWritten,
+        Question::LastWritten,
         Types::Both,
         LAST_LENGTHS_WRITTEN,
     );
-    table(rt, alloc, Told::Written, Types::Both, WRITTEN);
+    table(rt, alloc, Question::Written, Types::Both, WRITTEN);
 }
 
 #[test]
 fn r2_rows(rt: HostRuntime) {
     tables_of_strides(&rt, rt.alloc());
     tables_of_lengths(&rt, rt.alloc());
-    table(&rt, rt.alloc(), Told::Inserted, Types::Both, INSERTED);
-    table(&rt, rt.alloc(), Told::Removed, Types::Both, REMOVED);
+    table(&rt, rt.alloc(), Question::Inserted, Types::Both, INSERTED);
+    table(&rt, rt.alloc(), Question::Removed, Types::Both, REMOVED);
 }

@@ -1,10 +1,9 @@
 -- Laws of accepted layouts.
-use Rattle.std.proofs.Common.{◌≡◌, ℕ, ℤ, ◌≤◌, false, List, length, None, inl, inr, arith, sym, ◌∙◌}
+use Rattle.std.proofs.Common.{◌≡◌, ℕ, ℤ, false, List, length, None, arith, sym, ◌∙◌}
 use Rattle.std.specs.Prelude.{nat_le, nat_lt, not, ◌&&◌}
-use Rattle.std.proofs.lemmas.Bool.{both_ways, cond-false, leb-false}
+use Rattle.std.proofs.lemmas.Bool.{cond-false, leb-false}
 use Rattle.std.proofs.lemmas.Grind.{common_steps}
-use Rattle.nd_base.specs.Signed.{all_signed}
-use Rattle.nd_base.specs.Size.{size, nonzero_size, is_empty, limit}
+use Rattle.nd_base.specs.Size.{is_empty}
 use Rattle.nd_base.specs.Span.{span, low_span}
 use Rattle.nd_base.specs.ValidLayout.{IsValidLayout}
 use Rattle.nd_shape_rules.specs.Acceptance.{size_fault, acceptance, leaves_data}

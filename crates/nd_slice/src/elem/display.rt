@@ -6,7 +6,7 @@ use super::SliceInfoElem;
 use nd_slice_axis::Slice;
 use std::fmt;
 
-/// A range as its `Slice`, an index as its number, and a new axis as its name.
+/// Prints a range as its `Slice`, an index as its number, and a new axis as `NewAxis`.
 impl fmt::Display for SliceInfoElem {
     ghost output = { λ elem. Some (elem_text elem) };
 

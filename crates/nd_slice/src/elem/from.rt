@@ -12,8 +12,8 @@ impl From<RangeFull> for SliceInfoElem {
     ghost from_gives = { λ _ elem. elem ≡ elem_of.Slice (pos 0) None (pos 1) };
 
     #[inline]
-    fn from(_range: RangeFull) -> SliceInfoElem {
-        Slice::from(_range).into()
+    fn from(range: RangeFull) -> SliceInfoElem {
+        Slice::from(range).into()
     }
 }
 

@@ -1,4 +1,4 @@
-//! Slices from numbers that a range can't be made of without a condition.
+//! Slices from ranges that need a condition.
 ghost use Rattle.std.specs.Prelude.{◌≡◌, ◌+◌, ◌<◌, ◌≤◌, pos, ◌<ℤ◌, Some, None};
 ghost use Rattle.nd_base.specs.Size.{limit};
 ghost use Rattle.nd_slice_axis.specs.Picks.{slice_with};
@@ -6,7 +6,7 @@ ghost use Rattle.nd_slice_axis.specs.Ranges.{end_after};
 
 use super::Slice;
 
-/// The number that a range stops before, if `last` is its last entry; none where that is -1, the last
+/// The number that a range stops before where `last` is its last entry; none where that is -1, the last
 /// entry of the axis.
 #[inline]
 fn end_after(last: isize) -> Option<isize>
@@ -17,8 +17,9 @@ fn end_after(last: isize) -> Option<isize>
 }
 
 impl Slice {
-    /// Every entry from `first` to `last`, which it still picks; either counts from the end where it
-    /// is negative. `last` is below `isize::MAX`. For upstream's `From` of `a..=b`.
+    /// The entries from `first` to `last`, both included; either counts from the end of the axis where
+    /// it is negative. The caller ensures that `last` is below `isize::MAX`. For ndarray's `From` of
+    /// `a..=b`.
     #[inline]
     pub fn inclusive(first: isize, last: isize) -> Slice
         requires { last <ℤ pos limit }
@@ -31,8 +32,8 @@ impl Slice {
         }
     }
 
-    /// Every entry up to `last`, which it still picks, counted from the end where it is negative.
-    /// `last` is below `isize::MAX`. For upstream's `From` of `..=b`.
+    /// The entries up to `last`, included, which counts from the end of the axis where it is negative.
+    /// The caller ensures that `last` is below `isize::MAX`. For ndarray's `From` of `..=b`.
     #[inline]
     pub fn to_inclusive(last: isize) -> Slice
         requires { last <ℤ pos limit }
@@ -41,8 +42,8 @@ impl Slice {
         Slice::inclusive(0, last)
     }
 
-    /// Every entry from `start` up to, not including, `end`, both counted from the front and at most
-    /// `isize::MAX`. For upstream's `From` of `a..b` over `usize`.
+    /// The entries from `start` up to, not including, `end`, both counted from the first entry. The
+    /// caller ensures that both are at most `isize::MAX`. For ndarray's `From` of `a..b` over `usize`.
     #[inline]
     pub fn of_usize(start: usize, end: usize) -> Slice
         requires start_fits { start ≤ limit }
@@ -56,8 +57,8 @@ impl Slice {
         }
     }
 
-    /// Every entry from `start` on, counted from the front and at most `isize::MAX`. For upstream's
-    /// `From` of `a..` over `usize`.
+    /// The entries from `start` on, counted from the first entry. The caller ensures that `start` is at
+    /// most `isize::MAX`. For ndarray's `From` of `a..` over `usize`.
     #[inline]
     pub fn from_usize(start: usize) -> Slice
         requires { start ≤ limit }
@@ -70,8 +71,8 @@ impl Slice {
         }
     }
 
-    /// Every entry up to, not including, `end`, counted from the front and at most `isize::MAX`. For
-    /// upstream's `From` of `..b` over `usize`.
+    /// The entries up to, not including, `end`, counted from the first entry. The caller ensures that
+    /// `end` is at most `isize::MAX`. For ndarray's `From` of `..b` over `usize`.
     #[inline]
     pub fn to_usize(end: usize) -> Slice
         requires { end ≤ limit }
@@ -80,8 +81,9 @@ impl Slice {
         Slice::of_usize(0, end)
     }
 
-    /// Every entry from `first` to `last`, which it still picks, both counted from the front; `first`
-    /// is at most `isize::MAX` and `last` below. For upstream's `From` of `a..=b` over `usize`.
+    /// The entries from `first` to `last`, both included and counted from the first entry of the axis.
+    /// The caller ensures that `first` is at most `isize::MAX` and `last` below it. For ndarray's
+    /// `From` of `a..=b` over `usize`.
     #[inline]
     pub fn inclusive_usize(first: usize, last: usize) -> Slice
         requires first_fits { first ≤ limit }
@@ -91,8 +93,8 @@ impl Slice {
         Slice::of_usize(first, last + 1)
     }
 
-    /// Every entry up to `last`, which it still picks, counted from the front and below `isize::MAX`.
-    /// For upstream's `From` of `..=b` over `usize`.
+    /// The entries up to `last`, included and counted from the first entry. The caller ensures that
+    /// `last` is below `isize::MAX`. For ndarray's `From` of `..=b` over `usize`.
     #[inline]
     pub fn to_inclusive_usize(last: usize) -> Slice
         requires { last < limit }

@@ -6,7 +6,7 @@ ghost use Rattle.nd_slice_axis.specs.Text.{start_text, end_text, step_text, slic
 use super::Slice;
 use std::fmt;
 
-/// A start unless it is 0.
+/// Writes a start, unless it is 0.
 fn write_start<W: fmt::Write>(start: isize, f: &mut fmt::Formatter<W>) -> fmt::Result
     ensures { DisplaysOnOk W.write_str_gives f.old result (Some (start_text start)) f.new }
 {
@@ -16,7 +16,7 @@ fn write_start<W: fmt::Write>(start: isize, f: &mut fmt::Formatter<W>) -> fmt::R
     write!(f, "{start}")
 }
 
-/// An end, if there is one.
+/// Writes an end, if there is one.
 fn write_end<W: fmt::Write>(end: Option<isize>, f: &mut fmt::Formatter<W>) -> fmt::Result
     ensures { DisplaysOnOk W.write_str_gives f.old result (Some (end_text end)) f.new }
 {
@@ -26,7 +26,7 @@ fn write_end<W: fmt::Write>(end: Option<isize>, f: &mut fmt::Formatter<W>) -> fm
     }
 }
 
-/// A step behind `;`, unless it is 1.
+/// Writes `;` and a step, unless it is 1.
 fn write_step<W: fmt::Write>(step: isize, f: &mut fmt::Formatter<W>) -> fmt::Result
     ensures { DisplaysOnOk W.write_str_gives f.old result (Some (step_text step)) f.new }
 {
@@ -36,7 +36,7 @@ fn write_step<W: fmt::Write>(step: isize, f: &mut fmt::Formatter<W>) -> fmt::Res
     write!(f, ";{step}")
 }
 
-/// Its start unless 0, `..`, its end if any, then `;` and its step unless 1.
+/// Prints the start unless it is 0, `..`, the end if there is one, then `;` and the step unless it is 1.
 impl fmt::Display for Slice {
     ghost output = { λ slice. Some (slice_text slice) };
 

@@ -27,18 +27,18 @@ fn signed_number(rt: &impl Abort, row: &mut Row<'_>) -> isize {
 }
 
 /// Whether the next words of a row are what the slice of an axis answers, and the length and the stride that
-/// it leaves.
+/// the axis has afterwards.
 fn gives(rt: &impl Abort, row: &mut Row<'_>, len: usize, stride: isize, fit: Fit) -> bool
     requires len_fits { len < 2 ^ 63 }
     requires span_fits { reach len stride ≤ limit }
 {
     let (mut len, mut stride) = (len, unsigned(stride));
     let slice = slice(rt, row).expect(rt, "a slice");
-    let is_told = match do_slice(&mut len, &mut stride, slice, fit) {
+    let answers = match do_slice(&mut len, &mut stride, slice, fit) {
         Ok(offset) => row.number().ok() == Some(offset),
         Err(fault) => is_refused(rt, row, fault.kind()),
     };
-    is_told && number(rt, row) == len && signed_number(rt, row) == signed(stride)
+    answers && number(rt, row) == len && signed_number(rt, row) == signed(stride)
 }
 
 /// A row holds: the length and the stride of an axis, a slice of it, the answer, and the length and the stride

@@ -11,15 +11,15 @@ const LIMIT: usize = 9223372036854775807;
 /// The start, the end and the step of a slice.
 type Parts = (isize, Option<isize>, isize);
 
-/// Whether these are slices of these parts, or elements that say the same, in order.
-fn are<T: PartialEq + From<Slice> + Drop>(made: &[T], told: &[Parts]) -> bool {
-    for (made, told) in made.iter().zip(told) {
-        let (start, end, step) = *told;
+/// Whether these are slices of these parts, or elements made of such slices, in order.
+fn are<T: PartialEq + From<Slice> + Drop>(made: &[T], expected: &[Parts]) -> bool {
+    for (made, parts) in made.iter().zip(expected) {
+        let (start, end, step) = *parts;
         if *made != T::from(Slice { start, end, step }) {
             return false;
         }
     }
-    made.len() == told.len()
+    made.len() == expected.len()
 }
 
 #[test]
@@ -38,7 +38,7 @@ fn r4_rows_of_builders(rt: HostRuntime) {
         Slice::inclusive_usize(LIMIT, LIMIT - 1),
         Slice::to_inclusive_usize(0),
     ];
-    let told = [
+    let expected = [
         (2, None, 1),
         (2, Some(5), 1),
         (-3, Some(-1), 1),
@@ -52,7 +52,7 @@ fn r4_rows_of_builders(rt: HostRuntime) {
         (MAX, Some(MAX), 1),
         (0, Some(1), 1),
     ];
-    assert!(rt; are(&slices, &told));
+    assert!(rt; are(&slices, &expected));
     assert!(rt; SliceInfoElem::index_usize(LIMIT) == SliceInfoElem::Index(MAX));
 }
 
@@ -64,13 +64,13 @@ fn rows_of_steps(rt: HostRuntime) {
         Slice::new(-4, None, -1).step_by(MAX),
         Slice::new(0, Some(0), MIN).step_by(1),
     ];
-    let told = [
+    let expected = [
         (1, Some(8), -6),
         (0, None, -MAX),
         (-4, None, -MAX),
         (0, Some(0), MIN),
     ];
-    assert!(rt; are(&slices, &told));
+    assert!(rt; are(&slices, &expected));
 }
 
 /// The ranges that a slice and an element can be made of.
@@ -103,7 +103,7 @@ where
 }
 
 /// The parts of each.
-const TOLD: [Parts; 12] = [
+const PARTS_OF_RANGES: [Parts; 12] = [
     (0, None, 1),
     (MIN, Some(MAX), 1),
     (MIN, None, 1),
@@ -120,12 +120,12 @@ const TOLD: [Parts; 12] = [
 
 #[test]
 fn slices_of_ranges(rt: HostRuntime) {
-    assert!(rt; are(&made::<Slice>(), &TOLD));
+    assert!(rt; are(&made::<Slice>(), &PARTS_OF_RANGES));
 }
 
 #[test]
 fn elements_of_ranges(rt: HostRuntime) {
-    assert!(rt; are(&made::<SliceInfoElem>(), &TOLD));
+    assert!(rt; are(&made::<SliceInfoElem>(), &PARTS_OF_RANGES));
 }
 
 #[test]
@@ -137,13 +137,13 @@ fn other_elements(rt: HostRuntime) {
         SliceInfoElem::from(-7i32),
         SliceInfoElem::from(NewAxis),
     ];
-    let told = [
+    let expected = [
         SliceInfoElem::Slice { start, end, step },
         SliceInfoElem::Index(MIN),
         SliceInfoElem::Index(-7),
         SliceInfoElem::NewAxis,
     ];
-    assert!(rt; made == told);
+    assert!(rt; made == expected);
 }
 
 /// Whether an element is a range, an index or a new axis.

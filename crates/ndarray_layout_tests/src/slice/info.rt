@@ -1,4 +1,4 @@
-//! Slice arguments whose type tells the shapes before and after.
+//! Slice arguments whose type says the counts of axes before and after.
 use nd_base::{ErrorKind, FixedCount, Ix0, Ix1, Ix2, Ix3, Ix6, IxDyn, ShapeError, new_ix2};
 use nd_dim::Lengths;
 use nd_slice::{Fit, NewAxis, SliceArg, SliceElems, SliceInfo, SliceInfoElem, check_slice};
@@ -8,7 +8,7 @@ use test_tables::or_fault;
 /// The counts that the elements have, or the fault that they are refused with.
 type Counts = Result<(usize, usize), ErrorKind>;
 
-/// What is told of elements that are tried as an argument between these types.
+/// The counts of elements that are tried as an argument between these types, or their fault.
 fn counts<T: SliceElems + Drop, Din: FixedCount, Dout: FixedCount>(
     info: Result<SliceInfo<T, Din, Dout>, ShapeError>,
 ) -> Counts {
@@ -16,27 +16,28 @@ fn counts<T: SliceElems + Drop, Din: FixedCount, Dout: FixedCount>(
     Ok((info.in_ndim(), info.out_ndim()))
 }
 
-/// Whether a vector of these elements, tried between these types, tells this.
-fn vector_tells<Din: FixedCount, Dout: FixedCount>(
+/// Whether a vector of these elements, tried between these types, has these counts or this fault.
+fn vector_has<Din: FixedCount, Dout: FixedCount>(
     alloc: Global,
     elems: &[SliceInfoElem],
-    told: Counts,
+    expected: Counts,
 ) -> bool {
     match elems.to_vec(alloc) {
-        Ok(kept) => counts(SliceInfo::<Vec<SliceInfoElem>, Din, Dout>::try_from(kept)) == told,
+        Ok(kept) => counts(SliceInfo::<Vec<SliceInfoElem>, Din, Dout>::try_from(kept)) == expected,
         Err(_) => false,
     }
 }
 
-/// Whether an array, a slice and a vector of the same elements, tried between these types, tell this.
+/// Whether an array, a slice and a vector of the same elements, tried between these types, have these counts or
+/// this fault.
 fn agree<Din: FixedCount, Dout: FixedCount, const N: usize>(
     alloc: Global,
     elems: [SliceInfoElem; N],
-    told: Counts,
+    expected: Counts,
 ) -> bool {
-    counts(SliceInfo::<[SliceInfoElem; N], Din, Dout>::try_from(elems)) == told
-        && counts(SliceInfo::<&[SliceInfoElem], Din, Dout>::try_from(&elems[..])) == told
-        && vector_tells::<Din, Dout>(alloc, &elems, told)
+    counts(SliceInfo::<[SliceInfoElem; N], Din, Dout>::try_from(elems)) == expected
+        && counts(SliceInfo::<&[SliceInfoElem], Din, Dout>::try_from(&elems[..])) == expected
+        && vector_has::<Din, Dout>(alloc, &elems, expected)
 }
 
 /// The refusal of other counts.
@@ -64,7 +65,7 @@ fn eight() -> [SliceInfoElem; 8] {
     [whole, new, whole, whole, index, whole, new, whole]
 }
 
-/// Whether eight elements tell this at types of six and of any number of axes.
+/// Whether eight elements have the counts of types of six and of any number of axes, and no others.
 fn eight_agree(alloc: Global) -> bool {
     agree::<Ix6, IxDyn, 8>(alloc, eight(), Ok((6, 7)))
         && agree::<IxDyn, Ix6, 8>(alloc, eight(), REFUSED)
@@ -83,43 +84,43 @@ fn counts_between_other_types(rt: HostRuntime) {
     assert!(rt; eight_agree(alloc));
 }
 
-/// Whether an argument for shapes of a type tells this, and has these elements.
+/// Whether an argument for shapes of a type has these counts and these elements.
 fn is_argument<D: FixedCount, S: SliceArg<D>>(
     arg: &S,
-    told: (usize, usize),
+    counts: (usize, usize),
     elems: &[SliceInfoElem],
 ) -> bool {
-    (arg.in_ndim(), arg.out_ndim()) == told && arg.elems() == elems
+    (arg.in_ndim(), arg.out_ndim()) == counts && arg.elems() == elems
 }
 
-/// Whether an argument tells this, for shapes of its own type and of any number of axes, and keeps these
+/// Whether an argument has these counts, for shapes of its own type and of any number of axes, and keeps these
 /// elements.
 fn is_of<T: SliceElems, Dout: Lengths>(
     info: &SliceInfo<T, Ix2, Dout>,
-    told: (usize, usize),
+    counts: (usize, usize),
     elems: &[SliceInfoElem],
 ) -> bool {
-    is_argument::<Ix2, _>(info, told, elems)
-        && is_argument::<IxDyn, _>(info, told, elems)
+    is_argument::<Ix2, _>(info, counts, elems)
+        && is_argument::<IxDyn, _>(info, counts, elems)
         && info.indices().elems() == elems
 }
 
-/// Whether an argument fits three rows of four elements, and no rows of as many not.
+/// Whether an argument fits three rows of four elements, and does not fit no rows of as many.
 fn fits_some_rows<S: SliceElems>(arg: &S) -> bool {
     check_slice(&new_ix2(3, 4), arg, Fit::Strict).is_ok()
         && check_slice(&new_ix2(0, 4), arg, Fit::Strict).is_err()
 }
 
-/// Whether an argument, and the same with its elements lent, tells this, keeps these elements, and fits some
-/// rows.
+/// Whether an argument, and the same with its elements lent, has these counts, keeps these elements, and fits
+/// some rows.
 fn is_of_both<T: SliceElems, Dout: Lengths>(
     info: &SliceInfo<T, Ix2, Dout>,
-    told: (usize, usize),
+    counts: (usize, usize),
     elems: &[SliceInfoElem],
 ) -> bool {
     let lent = SliceInfo::<&[SliceInfoElem], Ix2, Dout>::from(info);
-    is_of(info, told, elems)
-        && is_of(&lent, told, elems)
+    is_of(info, counts, elems)
+        && is_of(&lent, counts, elems)
         && fits_some_rows(info)
         && fits_some_rows(&lent)
 }

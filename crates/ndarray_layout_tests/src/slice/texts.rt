@@ -1,4 +1,4 @@
-//! What slices and elements print.
+//! What slices and elements print as.
 use nd_slice::{Slice, SliceInfoElem};
 use std::alloc::Global;
 use std::fmt::Display;
@@ -8,7 +8,7 @@ fn range(start: isize, end: Option<isize>, step: isize) -> SliceInfoElem {
     SliceInfoElem::Slice { start, end, step }
 }
 
-/// Whether a value prints so.
+/// Whether a value prints as this text.
 fn prints<T: Display>(alloc: Global, value: &T, text: &str) -> bool {
     match value.to_string(alloc) {
         Ok(printed) => printed.as_str() == text,
@@ -16,7 +16,7 @@ fn prints<T: Display>(alloc: Global, value: &T, text: &str) -> bool {
     }
 }
 
-/// Whether an element prints so, and a range does as a slice too.
+/// Whether an element prints as this text, and a range as a slice too.
 fn elem_prints(alloc: Global, elem: SliceInfoElem, text: &str) -> bool {
     let as_slice = match elem {
         SliceInfoElem::Slice { start, end, step } => {

@@ -1,43 +1,63 @@
 -- Laws of slices of views: a slice is a view of the same data, whose indices lie where those that they stand for do.
-use Rattle.std.proofs.Common.{◌≡◌, ℕ, ℤ, pos, negsuc, ◌≤ℤ◌, Option, Some, None, Bool, true, false, not, ◌||◌, cond, eqb, List, length, refl, arith}
+use Rattle.std.proofs.Common.{◌≡◌, ℕ, ℤ, pos, negsuc, ◌≤ℤ◌, Option, Some, None, Bool, true, false, cond, eqb, List, length, refl, ◌∙◌, arith}
+use Rattle.std.proofs.lemmas.Bool.{cond-true, eq-eqb, eqb-true}
 use Rattle.std.proofs.lemmas.Int.{ints}
-use Rattle.std.specs.Option.{option_map_or}
 use Rattle.nd_base.specs.declared.error.ErrorKind.{ErrorKind}
 use Rattle.nd_base.specs.declared.error.ErrorKind.TheVariants.{IncompatibleShape}
 use Rattle.nd_base.specs.Signed.{magnitude}
+use Rattle.nd_base.specs.Lengths.{IsCount}
 use Rattle.nd_base.specs.Size.{limit}
 use Rattle.nd_base.proofs.laws.Span.{low_high_span}
 use Rattle.nd_slice_axis.specs.declared.fit.Fit.{Fit}
 use Rattle.nd_slice.specs.declared.elem.SliceInfoElem.{SliceInfoElem}
 use Rattle.nd_slice.specs.ArgumentFault.{in_count, out_count, first_fault, argument_fault}
+use Rattle.nd_slice.specs.Counts.{HasCounts}
 use Rattle.nd_slice.specs.Sliced.{sliced_shape, sliced_strides}
 use Rattle.nd_slice.specs.Selected.{selected}
 use Rattle.nd_slice.proofs.laws.Selected.{selected_injective}
 use Rattle.nd_slice.proofs.laws.ArgumentFault.{elements_of_no_fault}
 use Rattle.ndarray_layout_views.specs.DistinctPlaces.{HasDistinctPlaces}
 use Rattle.ndarray_layout_views.specs.KeepsPlaces.{KeepsPlaces}
-use Rattle.ndarray_layout_views.specs.SlicedView.{slice_of, sliced_start, counts_differ, slice_refusal}
+use Rattle.ndarray_layout_views.specs.SlicedView.{slice_of, sliced_start, slice_refusal}
 use Rattle.ndarray_layout_views.specs.View.{View, IsView, LiesWithin}
 use Rattle.ndarray_layout_views.proofs.laws.KeepsPlaces.{LiesWithin-kept, HasDistinctPlaces-kept}
 use Rattle.ndarray_layout_views.proofs.Slices.{SliceKept, slices_kept, places_kept}
 
 -- an argument that is not refused fits the shape
 pub fits_of_no_refusal : (fit : Fit) (fixed : Option ℕ) (shape : List ℕ) (elems : List SliceInfoElem) → slice_refusal fit fixed shape elems ≡ None → argument_fault fit shape elems ≡ None
-fits_of_no_refusal fit fixed shape elems = by (eqb (in_count elems) (length shape)) (option_map_or (λ count. eqb (out_count elems) count) fixed true)
+fits_of_no_refusal fit None shape elems none = none
+fits_of_no_refusal fit (Some count) shape elems none = by (eqb (out_count elems) count) none
   where
-    by : (t u : Bool) → cond (not t || not u) (Some IncompatibleShape) (first_fault fit shape elems) ≡ None → cond t (first_fault fit shape elems) (Some IncompatibleShape) ≡ None
-    by true true none = none
-    by true false none = absurd (cc)
-    by false true none = absurd (cc)
-    by false false none = absurd (cc)
+    by : (t : Bool) → cond t (argument_fault fit shape elems) (Some IncompatibleShape) ≡ None → argument_fault fit shape elems ≡ None
+    by true none = none
+    by false none = absurd (cc)
 
--- nor is one of fitting counts whose elements are without fault
-pub fits_of_counts : (fit : Fit) (fixed : Option ℕ) (shape : List ℕ) (elems : List SliceInfoElem) → counts_differ fixed shape elems ≡ false → first_fault fit shape elems ≡ None → argument_fault fit shape elems ≡ None
-fits_of_counts fit fixed shape elems same none = fits_of_no_refusal fit fixed shape elems (by (counts_differ fixed shape elems) (first_fault fit shape elems) same none)
+chosen : (t : Bool) (first second : Option ErrorKind) → t ≡ true → cond t first second ≡ first
+chosen t first second e = cond-true {A = Option ErrorKind} t first second e
+
+of_one_kind : (t : Bool) (first second : Option ErrorKind) → (t ≡ true → first ≡ second) → cond t first second ≡ second
+of_one_kind true first second same = same refl
+of_one_kind false first second same = refl
+
+-- an argument whose counts of axes fit is refused as its first element at fault is
+pub refusal_of_counts : (fit : Fit) (fixed : Option ℕ) (shape : List ℕ) (elems : List SliceInfoElem) → HasCounts (Some (length shape)) fixed elems → slice_refusal fit fixed shape elems ≡ first_fault fit shape elems
+refusal_of_counts fit fixed shape elems counts = by fixed counts.out_fits
   where
-    by : (t : Bool) (first : Option ErrorKind) → t ≡ false → first ≡ None → cond t (Some IncompatibleShape) first ≡ None
-    by true first e n = absurd (cc)
-    by false first e n = n
+    whole : argument_fault fit shape elems ≡ first_fault fit shape elems
+    whole = chosen (eqb (in_count elems) (length shape)) (first_fault fit shape elems) (Some IncompatibleShape) (eq-eqb (in_count elems) (length shape) counts.in_fits)
+
+    by : (fixed : Option ℕ) → IsCount fixed (out_count elems) → slice_refusal fit fixed shape elems ≡ first_fault fit shape elems
+    by None out = whole
+    by (Some count) out = chosen (eqb (out_count elems) count) (argument_fault fit shape elems) (Some IncompatibleShape) (eq-eqb (out_count elems) count out) ∙ whole
+
+-- and any other for its counts
+pub refusal_of_other_counts : (fit : Fit) (fixed : Option ℕ) (shape : List ℕ) (elems : List SliceInfoElem) → (HasCounts (Some (length shape)) fixed elems → ⊥) → slice_refusal fit fixed shape elems ≡ Some IncompatibleShape
+refusal_of_other_counts fit None shape elems other =
+    of_one_kind (eqb (in_count elems) (length shape)) (first_fault fit shape elems) (Some IncompatibleShape) (λ e. absurd (other (record { in_fits = eqb-true (in_count elems) (length shape) e; out_fits = tt })))
+refusal_of_other_counts fit (Some count) shape elems other =
+    of_one_kind (eqb (out_count elems) count) (argument_fault fit shape elems) (Some IncompatibleShape) (λ out.
+    of_one_kind (eqb (in_count elems) (length shape)) (first_fault fit shape elems) (Some IncompatibleShape) (λ e.
+    absurd (other (record { in_fits = eqb-true (in_count elems) (length shape) e; out_fits = eqb-true (out_count elems) count out }))))
 
 kept : (fit : Fit) (elems : List SliceInfoElem) (view : View) → IsView view → argument_fault fit view.shape elems ≡ None → SliceKept fit elems view.shape view.strides
 kept fit elems view v none =

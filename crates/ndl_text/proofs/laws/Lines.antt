@@ -1,4 +1,4 @@
--- Laws of the parts of a text between separators: how the first cut parts it, and what a lone part is.
+-- Laws of the parts of a text between separators: what the first cut leaves of it, and what a lone part is.
 use Rattle.std.proofs.Common.{◌≡◌, ◌≢◌, ℕ, suc, ◌+◌, ◌≤◌, Bool, true, false, not, cond, eqb, List, [], ◌∷◌, length, take, drop, Some, None, refl, ap, arith}
 use Rattle.std.specs.List.{slice_split, onto_first, position_or_len, prefix_len, position}
 use Rattle.std.proofs.lemmas.Bool.{ltb-true, ltb-false}

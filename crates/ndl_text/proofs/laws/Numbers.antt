@@ -1,4 +1,4 @@
--- Laws of numbers: what spells one has no separator in it.
+-- Laws of numbers: a text that spells one has no separator in it.
 use Rattle.std.proofs.Common.{◌≡◌, ◌≢◌, ℕ, ℤ, Bool, true, cond, ◌&&◌, List, [], ◌∷◌, get_or, drop, Some, None, refl, sym, ◌∙◌, subst, inl, inr}
 use Rattle.std.specs.Int.{IsInRange}
 use Rattle.std.specs.Str.{all_ascii_digits}

@@ -17,13 +17,13 @@ returns c =
     (search rules) (search rules) c.loop-entry.yielded_by c.in-None.is c.next.ensures.steps in
     omega (arith, ints)
 
--- this entry's offset, and that of those behind it
+-- this entry's offset, and that of those after it
 step : (c : In-Some) → offset_from c.args.strides.now c.args.index.now (length c.loop-entry.yielded) ≡ (pos c.in-Some.entry.now *ℤ signed c.in-Some.stride.now) +ℤ offset_from c.args.strides.now c.args.index.now (length c.loop-entry.yielded + 1)
 step c =
     offset_at_turn c.args.index.now c.args.strides.now c.loop-entry.yielded c.into_iter-entry-iterator.result c.loop-entry.entry-iterator c.next.new.self c.next.result
     (search rules) (search rules) c.loop-entry.yielded_by (c.in-Some.entry, c.in-Some.stride) c.in-Some.is c.next.ensures.steps
 
--- how far it lies, and how far those behind it can
+-- how far it lies, and how far those after it can
 far : (c : In-Some) → sum_from entry_offset c.args.index.now c.args.strides.now (length c.loop-entry.yielded) ≡ entry_offset c.in-Some.entry.now (signed c.in-Some.stride.now) + sum_from entry_offset c.args.index.now c.args.strides.now (length c.loop-entry.yielded + 1)
 far c =
     far_at_turn c.args.index.now c.args.strides.now c.loop-entry.yielded c.into_iter-entry-iterator.result c.loop-entry.entry-iterator c.next.new.self c.next.result

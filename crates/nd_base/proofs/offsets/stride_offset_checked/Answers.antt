@@ -27,11 +27,11 @@ returns-then-index-axis c =
 at_axis : (c : Else-index-axis) → c.loop-axis.axis < length c.args.strides.now
 at_axis c = omega (arith, c.loop-axis-test.true, c.requires.same_count, length-map c.args.strides.now signed)
 
--- this entry's offset, and that of those behind it
+-- this entry's offset, and that of those after it
 step : (c : Else-index-axis) → offset_from c.args.strides.now c.args.index.now c.loop-axis.axis ≡ (pos (get_or c.args.index.now c.loop-axis.axis 0) *ℤ signed (get_or c.args.strides.now c.loop-axis.axis 0)) +ℤ offset_from c.args.strides.now c.args.index.now (c.loop-axis.axis + 1)
 step c = offset_from_step c.args.strides.now c.args.index.now c.loop-axis.axis (omega (arith, c.loop-axis-test.true, c.if-dim-index.false)) (at_axis c)
 
--- how far it lies, and how far those behind it can
+-- how far it lies, and how far those after it can
 far : (c : Else-index-axis) → entry_offset (get_or c.args.index.now c.loop-axis.axis 0) (signed (get_or c.args.strides.now c.loop-axis.axis 0)) + sum_from reach c.args.dim.now c.args.strides.now (c.loop-axis.axis + 1) ≤ sum_from reach c.args.dim.now c.args.strides.now c.loop-axis.axis
 far c =
     let split = sum_from_step reach c.args.dim.now c.args.strides.now c.loop-axis.axis c.loop-axis-test.true (at_axis c) in

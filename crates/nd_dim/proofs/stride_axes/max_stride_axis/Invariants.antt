@@ -5,4 +5,4 @@ use Rattle.nd_dim.proofs.StrideAxes.{LeadsBelow}
 use Rattle.nd_dim.proofs.stride_axes.max_stride_axis.Given as goal
 
 abbrev pub invariant-loop-axis : goal.invariant-loop-axis
-invariant-loop-axis l = LeadsBelow (λ m n. n ≤ m) (0) l.lens (all_signed l.strides) l.axis l.greatest
+invariant-loop-axis l = LeadsBelow (λ m n. n ≤ m) 0 l.lens (all_signed l.strides) l.axis l.greatest

@@ -1,5 +1,5 @@
 -- Each follows from the invariant by the usual steps, which Rattle would try only after others.
-use Rattle.std.proofs.Common.{arith}
+use Rattle.std.proofs.Common.{arith, rules}
 use Rattle.std.proofs.lemmas.Grind.{common_steps}
 use Rattle.nd_slice.proofs.checks.check_elems.Goals as goal
 
@@ -20,3 +20,7 @@ returns-in_err-entry_of-in-Index c = grind (arith, common_steps)
 
 pub loop-elem-preserved : goal.loop-elem-preserved
 loop-elem-preserved c = grind (arith, common_steps)
+
+-- (a search that ends soon where a wrong count is not refused)
+pub returns-then-in_ndim_of-shape : goal.returns-then-in_ndim_of-shape
+returns-then-in_ndim_of-shape c = search rules depth 5

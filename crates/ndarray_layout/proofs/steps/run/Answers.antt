@@ -1,5 +1,5 @@
 -- Each step fits what those before it left, or ends the run of them all.
-use Rattle.std.proofs.Common.{◌≡◌, ℕ, ◌<◌, List, Some, map, length, get_or, sym, ap, subst, ◌∙◌, arith}
+use Rattle.std.proofs.Common.{◌≡◌, ℕ, ◌<◌, List, None, Some, map, take, length, get_or, sym, ap, subst, ◌∙◌, arith}
 use Rattle.std.specs.List.{slice_get}
 use Rattle.std.specs.Option.{option_map}
 use Rattle.std.proofs.lemmas.List.{length-map, take_all}
@@ -10,7 +10,7 @@ use Rattle.ndarray_layout.specs.Run.{run_of}
 use Rattle.ndarray_layout.specs.declared.steps.Step.{Step}
 use Rattle.ndarray_layout.specs.Step.{step_value}
 use Rattle.ndarray_layout_views.specs.View.{IsView}
-use Rattle.ndarray_layout.proofs.Runs.{taken_so_far, ended_by}
+use Rattle.ndarray_layout.proofs.Runs.{all_fit, ended_by, not_stopped, refused_of, taken_so_far}
 use Rattle.ndarray_layout_views.proofs.laws.KeepsPlaces.{LiesWithin-kept}
 use Rattle.ndarray_layout.proofs.laws.Run.{run_sound}
 use Rattle.ndarray_layout.proofs.steps.run.Goals as goal
@@ -25,6 +25,35 @@ returns-in-Err-clause-ended c =
     let stays = c.in-Err.ensures.refusal in
     rw (stays) (ended_by (Unit {0}) (map step_value c.args.steps.now) c.loop-at.at (step_value c.index-steps-at.result) c.args.view c.loop-at.view c.in-Err.fault (next c.args.steps.now c.loop-at.at c.index-steps-at.result c.loop-at-test.true c.index-steps-at.is) c.loop-at.invariant.fits c.loop-at.invariant.left refused)
 
+pub returns-in-Err-clause-stopped : goal.returns-in-Err-clause-stopped
+returns-in-Err-clause-stopped c =
+    let refused = rw (c.in-Err.is) at c.take_step.ensures.fault in
+    let memory = rw (c.in-Err.is) at c.take_step.ensures.memory in
+    let stays = c.in-Err.ensures.refusal in
+    rw (stays) (record {
+      before = c.loop-at.invariant.fits;
+      left = c.loop-at.invariant.left;
+      refused = rw (next c.args.steps.now c.loop-at.at c.index-steps-at.result c.loop-at-test.true c.index-steps-at.is) (refused_of (Unit {0}) c.loop-at.view (step_value c.index-steps-at.result) c.in-Err.fault refused memory);
+    })
+
+pub returns-in-Err-clause-memory : goal.returns-in-Err-clause-memory
+returns-in-Err-clause-memory c =
+    let refused = rw (c.in-Err.is) at c.take_step.ensures.fault in
+    let memory = rw (c.in-Err.is) at c.take_step.ensures.memory in
+    λ none few. absurd (not_stopped (Unit {0}) (map step_value c.args.steps.now) c.loop-at.at (step_value c.index-steps-at.result) c.args.view c.loop-at.view c.in-Err.fault (next c.args.steps.now c.loop-at.at c.index-steps-at.result c.loop-at-test.true c.index-steps-at.is) c.loop-at.invariant.fits c.loop-at.invariant.left refused memory none few)
+
+-- the view that the steps before it leave is one, with its places where their sources are
+pub returns-in-Err-clause-stopped_view : goal.returns-in-Err-clause-stopped_view
+returns-in-Err-clause-stopped_view c =
+    let stays = c.in-Err.ensures.refusal in
+    rw (stays) (subst IsView c.loop-at.invariant.left (run_sound (take c.loop-at.at (map step_value c.args.steps.now)) c.args.view c.start-start.ensures.is_view).is_view)
+
+pub returns-in-Err-clause-stopped_places : goal.returns-in-Err-clause-stopped_places
+returns-in-Err-clause-stopped_places c =
+    let stays = c.in-Err.ensures.refusal in
+    let steps = take c.loop-at.at (map step_value c.args.steps.now) in
+    rw (stays) (subst (KeepsPlaces (run_of steps c.args.view).source c.args.view) c.loop-at.invariant.left (run_sound steps c.args.view c.start-start.ensures.is_view).places)
+
 pub loop-at-preserved : goal.loop-at-preserved
 loop-at-preserved c =
     let fits = rw (c.in_default.is) at c.take_step.ensures.fault in
@@ -38,6 +67,16 @@ whole c =
     let steps = map step_value c.args.steps.now in
     let all = take_all c.loop-at.at steps (omega (arith, c.loop-at-test.false, length-map c.args.steps.now step_value)) in
     subst (λ part. (run_of part c.args.view).view ≡ c.loop-at.view) all c.loop-at.invariant.left
+
+-- and none had a fault
+none : (c : goal.After-loop-at) → (run_of (map step_value c.args.steps.now) c.args.view).fault ≡ None
+none c =
+    let steps = map step_value c.args.steps.now in
+    let all = take_all c.loop-at.at steps (omega (arith, c.loop-at-test.false, length-map c.args.steps.now step_value)) in
+    subst (λ part. (run_of part c.args.view).fault ≡ None) all c.loop-at.invariant.fits
+
+pub returns-clause-each_fits : goal.returns-clause-each_fits
+returns-clause-each_fits c = λ ok. all_fit (map step_value c.args.steps.now) c.args.view (none c)
 
 pub returns-clause-is_view : goal.returns-clause-is_view
 returns-clause-is_view c = subst IsView (whole c) (run_sound (map step_value c.args.steps.now) c.args.view c.start-start.ensures.is_view).is_view

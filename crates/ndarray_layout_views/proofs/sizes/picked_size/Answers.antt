@@ -2,8 +2,8 @@ use Rattle.std.proofs.Common.{rules, FitsSigned, arith}
 use Rattle.std.specs.Int.{w64}
 use Rattle.std.proofs.lemmas.Int.{to_z-of_z}
 use Rattle.nd_slice_axis.specs.declared.slice.Slice.{Slice}
+use Rattle.nd_slice_axis.proofs.laws.SliceFault.{fits_of_no_fault}
 use Rattle.ndarray_layout_views.proofs.PickedSize.{none_picked, all_picked, axis_there, slice_picked, index_picked, new_axis_picked, size_small, next_elem, next_axis, fits_axis}
-use Rattle.ndarray_layout_views.proofs.SliceSteps.{len_small}
 use Rattle.ndarray_layout_views.proofs.sizes.picked_size.Goals as goal
 use Rattle.ndarray_layout_views.proofs.sizes.picked_size.Goals.{in-Slice, in-Index, in-NewAxis}
 
@@ -14,9 +14,6 @@ pub bounds-shape-axis : goal.bounds-shape-axis
 bounds-shape-axis c =
     let here = next_elem c.args.fit c.args.elems.now c.args.shape.now _ c.loop-elem.elem-index c.loop-elem.size _ _ c.loop-elem-test.true c.in-Slice.is c.loop-elem.invariant in
     axis_there c.args.fit c.args.elems.now c.args.shape.now _ c.loop-elem.axis c.loop-elem.size (omega arith) here
-
-pub count_of_picks-size-requires-clause-len_fits : goal.count_of_picks-size-requires-clause-len_fits
-count_of_picks-size-requires-clause-len_fits c = omega (arith, len_small c.args.shape.now c.loop-elem.axis, c.requires.size_fits)
 
 pub overflow_mul-size : goal.overflow_mul-size
 overflow_mul-size c =
@@ -52,11 +49,11 @@ loop-elem-preserved c =
 pub returns : goal.returns
 returns c = all_picked c.args.fit c.args.elems.now c.args.shape.now _ c.loop-elem.elem-index c.loop-elem.size c.loop-elem-test.false c.loop-elem.invariant
 
-pub count_of_picks-size-requires-clause-fits : goal.count_of_picks-size-requires-clause-fits
-count_of_picks-size-requires-clause-fits c =
+pub count_of_picks-size-requires : goal.count_of_picks-size-requires
+count_of_picks-size-requires c =
     let f : FitsSigned w64 c.in-Slice.start = search rules in
     let g : FitsSigned w64 c.in-Slice.step = search rules in
     let slice : Slice = record { start = c.in-Slice.start; end = c.in-Slice.end; step = c.in-Slice.step } in
     let here = next_elem c.args.fit c.args.elems.now c.args.shape.now _ c.loop-elem.elem-index c.loop-elem.size _ _ c.loop-elem-test.true c.in-Slice.is c.loop-elem.invariant in
     let there = next_axis c.args.fit c.args.elems.now c.args.shape.now _ c.loop-elem.axis c.loop-elem.size (omega arith) here in
-    rw (to_z-of_z w64 c.in-Slice.start f, to_z-of_z w64 c.in-Slice.step g) (fits_axis c.args.fit c.args.elems.now c.args.shape.now _ _ c.loop-elem.size slice _ there)
+    rw (to_z-of_z w64 c.in-Slice.start f, to_z-of_z w64 c.in-Slice.step g) (fits_of_no_fault c.args.fit _ slice (fits_axis c.args.fit c.args.elems.now c.args.shape.now _ _ c.loop-elem.size slice _ there))

@@ -1,8 +1,8 @@
--- The strides as they are kept read as those of the view.
+-- The numbers of the bits that are kept are the strides of the view.
 use Rattle.std.proofs.Common.{◌≡◌, ◌++◌, map, codes, string_bytes, subst, ap, ◌∙◌}
 use Rattle.std.specs.Fmt.{signed_decimal}
 use Rattle.std.specs.Result.{OnOk}
-use Rattle.nd_base.specs.Signed.{all_signed}
+use Rattle.ndarray_layout.specs.Signed.{all_signed}
 use Rattle.ndl_text.specs.Text.{line, listed}
 use Rattle.ndl_answer.proofs.answer.push_strides.Goals as goal
 

@@ -1,5 +1,5 @@
 use Rattle.std.proofs.Common.{◌≡◌, sym, ◌∙◌, Some, refl, rules}
-use Rattle.nd_slice.specs.declared.elem.SliceInfoElem.TheVariants as elem
+use Rattle.ndarray_layout.specs.declared.SliceInfoElem.TheVariants as elem
 use Rattle.ndl_text.specs.Bytes.{dot}
 use Rattle.ndl_text.specs.Lines.{parts}
 use Rattle.ndl_answer.specs.Elements.{slice_of_bounds}

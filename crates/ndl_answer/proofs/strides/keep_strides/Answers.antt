@@ -1,7 +1,7 @@
 -- As many entries, of which each is that of its stride.
 use Rattle.std.proofs.Common.{sym, ◌∙◌, pos, arith}
 use Rattle.std.proofs.lemmas.List.{ext_get_or, get_or-map, length-map}
-use Rattle.nd_base.specs.Signed.{signed, unsigned as unsigned_bits}
+use Rattle.ndarray_layout.specs.Signed.{signed, unsigned as unsigned_bits}
 use Rattle.ndl_answer.proofs.strides.keep_strides.Goals as goal
 
 pub returns-clause-bits : goal.returns-clause-bits

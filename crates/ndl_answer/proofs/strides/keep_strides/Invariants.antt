@@ -1,6 +1,6 @@
--- The strides so far are kept with their bits, which read with a sign are the strides.
+-- The strides so far are kept by their bits, and the signed numbers of these bits are the strides.
 use Rattle.std.proofs.Common.{◌≡◌, ◌<◌, ℕ, pos, get_or}
-use Rattle.nd_base.specs.Signed.{signed, unsigned as unsigned_bits}
+use Rattle.ndarray_layout.specs.Signed.{signed, unsigned as unsigned_bits}
 use Rattle.ndl_answer.proofs.strides.keep_strides.Given as goal
 
 abbrev pub invariant-loop-axis : goal.invariant-loop-axis

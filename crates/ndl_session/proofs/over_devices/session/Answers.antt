@@ -28,7 +28,7 @@ returns-else-write_failed-clause-input g c read_failed written =
 pub returns-else-write_failed-clause-failed : goal.returns-else-write_failed-clause-failed
 returns-else-write_failed-clause-failed g c =
     let written = c.if-write_failed.false in
-    let told = c.failed-write_failed.ensures in
+    let known = c.failed-write_failed.ensures in
     elim c.match-answer_input.branch [
       | in-Ok w ↦ (
         λ is_four. inl (absurd (let small = w.in-Ok.ensures.small in omega arith)),
@@ -48,14 +48,14 @@ returns-else-write_failed-clause-failed g c =
       )
     ]
 
--- Where nothing fails the answer's text went out whole, and its status is what is told.
+-- Where nothing fails the answer's text went out whole, and its status is the result.
 pub returns-else-write_failed-clause-answered : goal.returns-else-write_failed-clause-answered
 returns-else-write_failed-clause-answered g c not_memory not_failed =
-    let told = sym c.failed-write_failed.ensures ∙ c.if-write_failed.false in
+    let known = sym c.failed-write_failed.ensures ∙ c.if-write_failed.false in
     elim c.match-answer_input.branch [
       | in-Ok w ↦ (let is = w.writer-is in
           rw is (answered _ _ _ w.in-Ok.answer _ _ w.in-Ok.ensures.answer
-          w.as_bytes.ensures.value (w.write_whole.ensures.whole (rw is at told)) w.status-is))
+          w.as_bytes.ensures.value (w.write_whole.ensures.whole (rw is at known)) w.status-is))
       | in-Err-ReadFailed w ↦ absurd (not_failed w.status-is)
       | in-Err-OutOfMemory w ↦ absurd (not_memory w.status-is)
     ]

@@ -1,4 +1,4 @@
--- What is written so far, and then the items still to come, is the whole list behind the old text.
+-- What is written so far, and then the items still to come, is the whole list after the old text.
 use Rattle.std.proofs.Common.{◌≡◌, ◌++◌, drop, string_bytes}
 use Rattle.std.specs.List.{flat_map}
 use Rattle.ndl_text.specs.Text.{listed, printed}

@@ -4,8 +4,8 @@ use Rattle.std.specs.Result.{result_err}
 use Rattle.std.proofs.lemmas.Int.{to_z-of_z}
 use Rattle.nd_base.specs.Signed.{all_signed}
 use Rattle.ndarray_layout_views.proofs.SliceSteps.{none_sliced, all_sliced, axis_there, room_there, at_elem, at_both, slice_arm, slice_at_fault, index_arm, index_at_fault, index_within, new_axis_step}
-use Rattle.ndarray_layout_views.proofs.slicing.slice_axes.Goals as goal
-use Rattle.ndarray_layout_views.proofs.slicing.slice_axes.Goals.{in-Slice+in_ok-len-in-Slice, in-Index+in_ok-entry-in-Index, in-NewAxis}
+use Rattle.ndarray_layout_views.proofs.slicing.write_axes.Goals as goal
+use Rattle.ndarray_layout_views.proofs.slicing.write_axes.Goals.{in-Slice+in_ok-len-in-Slice, in-Index+in_ok-entry-in-Index, in-NewAxis}
 
 pub slice_axis-requires-clause-len_fits : goal.slice_axis-requires-clause-len_fits
 slice_axis-requires-clause-len_fits c =

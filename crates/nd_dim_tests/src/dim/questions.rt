@@ -1,4 +1,4 @@
-//! What the rows of a table tell, at the type of any number of axes and at that of as many as the row has.
+//! What the rows of a table ask, at the type of any number of axes and at that of as many as the row has.
 //!
 //! Each type is named in one place, since the check takes seconds for each function that names one.
 use crate::dim::checks::{
@@ -17,9 +17,9 @@ use std::alloc::Global;
 use std::process::Abort;
 use test_tables::{Lists, made, rows};
 
-/// What the rows of a table tell of their lists.
+/// What the rows of a table ask of the calls, by their lists.
 #[derive(Clone, Copy)]
-pub(crate) enum Told {
+pub(crate) enum Question {
     /// Lengths, which are kept by what a value of them is made into.
     Values,
     /// Lengths, and as many zeros.
@@ -92,44 +92,44 @@ fn keeps<D: Dimension + IntoDimension<Dim = D>>(
         )
 }
 
-/// Whether a row tells what the calls of a dimension answer, whatever its type. Where the second list is one
+/// Whether the calls of a dimension answer what a row says, whatever its type. Where the second list is one
 /// number, that is the number.
-fn tells_of_dimension<D: Dimension>(
+fn dimension_answers<D: Dimension>(
     rt: &impl Abort,
-    told: Told,
+    question: Question,
     alloc: Global,
     dim: &D,
     number: usize,
     second: &[usize],
     third: &[usize],
 ) -> bool {
-    match told {
-        Told::Made(answer) => {
+    match question {
+        Question::Made(answer) => {
             becomes::<D>(alloc, new_ixdyn(alloc, second), second, answer, false)
         },
-        Told::Incompatible => is_incompatible(rt, alloc, dim, second),
-        Told::Inserted => widens(alloc, dim, number, third),
-        Told::Removed => tries_to_narrow(alloc, dim, number, third),
-        Told::Last => dim.last_elem() == number,
-        Told::LastWritten => writes_last(dim_of::<D>(rt, alloc, dim.slice()), number, third),
-        Told::Size => has_size(dim, second),
-        Told::Strides => has_strides(alloc, dim, second, third),
-        Told::Equivalent(answer) => is_equivalent(rt, alloc, dim, second, third) == answer,
-        Told::Calculated(operator) => {
+        Question::Incompatible => is_incompatible(rt, alloc, dim, second),
+        Question::Inserted => widens(alloc, dim, number, third),
+        Question::Removed => tries_to_narrow(alloc, dim, number, third),
+        Question::Last => dim.last_elem() == number,
+        Question::LastWritten => writes_last(dim_of::<D>(rt, alloc, dim.slice()), number, third),
+        Question::Size => has_size(dim, second),
+        Question::Strides => has_strides(alloc, dim, second, third),
+        Question::Equivalent(answer) => is_equivalent(rt, alloc, dim, second, third) == answer,
+        Question::Calculated(operator) => {
             calculates::<D>(rt, alloc, operator, dim.slice(), second, third)
         },
-        Told::Scaled => scales::<D>(rt, alloc, dim.slice(), number, third),
-        Told::Indices(order) => has_indices(alloc, order, dim, number, third),
-        Told::StrideAxes => has_stride_axes(rt, alloc, dim, second, third),
-        Told::Order => gives(dim._fastest_varying_stride_order(alloc), second),
+        Question::Scaled => scales::<D>(rt, alloc, dim.slice(), number, third),
+        Question::Indices(order) => has_indices(alloc, order, dim, number, third),
+        Question::StrideAxes => has_stride_axes(rt, alloc, dim, second, third),
+        Question::Order => gives(dim._fastest_varying_stride_order(alloc), second),
         _ => false,
     }
 }
 
-/// Whether a row tells what the calls answer at a type.
-fn tells<D: Dimension + IntoDimension<Dim = D>>(
+/// Whether the calls answer what a row says at a type.
+fn answers<D: Dimension + IntoDimension<Dim = D>>(
     rt: &impl Abort,
-    told: Told,
+    question: Question,
     alloc: Global,
     dim: &D,
     row: &Lists<'_>,
@@ -137,80 +137,81 @@ fn tells<D: Dimension + IntoDimension<Dim = D>>(
     let number = row.second.at(0);
     let second = row.second.as_slice();
     let third = row.third.as_slice();
-    match told {
-        Told::Values => keeps(rt, alloc, dim, row.first.as_slice()),
-        Told::Zeros => gives(D::zeros(alloc, dim.ndim()), second),
-        Told::Default => {
+    match question {
+        Question::Values => keeps(rt, alloc, dim, row.first.as_slice()),
+        Question::Zeros => gives(D::zeros(alloc, dim.ndim()), second),
+        Question::Default => {
             D::NDIM.unwrap_or(1) == second.len() && gives(D::default_in(alloc), second)
         },
-        Told::Written => writes(
+        Question::Written => writes(
             dim_of::<D>(rt, alloc, row.first.as_slice()),
             number,
             row.second.at(1),
             third,
         ),
-        Told::Memory(memory) => serves(alloc, memory, dim, number),
-        _ => tells_of_dimension(rt, told, alloc, dim, number, second, third),
+        Question::Memory(memory) => serves(alloc, memory, dim, number),
+        _ => dimension_answers(rt, question, alloc, dim, number, second, third),
     }
 }
 
-/// Whether a row tells what the calls answer at a type that can have an axis to remove. A value may not be made
-/// for want of memory where a row tells of that.
+/// Whether the calls answer what a row says at a type that can have an axis to remove. Where a row asks how
+/// calls go about memory, memory for the value itself may be refused.
 fn holds<D: RemoveAxis + IntoDimension<Dim = D>>(
     rt: &impl Abort,
-    told: Told,
+    question: Question,
     alloc: Global,
     row: &Lists<'_>,
 ) -> bool {
     let lens = row.first.as_slice();
     let Some(dim) = made::<D>(alloc, lens) else {
-        return matches!(told, Told::Memory(_)) && D::NDIM.is_none() && lens.len() > 4;
+        return matches!(question, Question::Memory(_)) && D::NDIM.is_none() && lens.len() > 4;
     };
-    match told {
-        Told::Removed => narrows(alloc, &dim, row.second.at(0), row.third.as_slice()),
-        Told::Memory(memory) => asks(alloc, memory, &dim, row.second.at(0)),
-        _ => tells(rt, told, alloc, &dim, row),
+    match question {
+        Question::Removed => narrows(alloc, &dim, row.second.at(0), row.third.as_slice()),
+        Question::Memory(memory) => asks(alloc, memory, &dim, row.second.at(0)),
+        _ => answers(rt, question, alloc, &dim, row),
     }
 }
 
 /// The same at the type of so many axes, or at that of any number.
 pub(crate) fn holds_at(
     rt: &impl Abort,
-    told: Told,
+    question: Question,
     alloc: Global,
     ndim: Option<usize>,
     row: &Lists<'_>,
 ) -> bool {
     match ndim {
-        Some(0) => tells(rt, told, alloc, &new_ix0(), row),
-        Some(1) => holds::<Ix1>(rt, told, alloc, row),
-        Some(2) => holds::<Ix2>(rt, told, alloc, row),
-        Some(3) => holds::<Ix3>(rt, told, alloc, row),
-        Some(4) => holds::<Ix4>(rt, told, alloc, row),
-        Some(5) => holds::<Ix5>(rt, told, alloc, row),
-        Some(6) => holds::<Ix6>(rt, told, alloc, row),
-        _ => holds::<IxDyn>(rt, told, alloc, row),
+        Some(0) => answers(rt, question, alloc, &new_ix0(), row),
+        Some(1) => holds::<Ix1>(rt, question, alloc, row),
+        Some(2) => holds::<Ix2>(rt, question, alloc, row),
+        Some(3) => holds::<Ix3>(rt, question, alloc, row),
+        Some(4) => holds::<Ix4>(rt, question, alloc, row),
+        Some(5) => holds::<Ix5>(rt, question, alloc, row),
+        Some(6) => holds::<Ix6>(rt, question, alloc, row),
+        _ => holds::<IxDyn>(rt, question, alloc, row),
     }
 }
 
-/// Whether a row of a table tells what the calls answer at these types.
-fn row_holds(rt: &impl Abort, alloc: Global, told: Told, types: Types, line: &str) -> bool {
+/// Whether the calls answer what a row of a table says at these types.
+fn row_holds(rt: &impl Abort, alloc: Global, question: Question, types: Types, line: &str) -> bool {
     let Some(row) = Lists::read(line) else {
         return false;
     };
     let count = row.first.as_slice().len();
-    let at_fixed = matches!(types, Types::AnyCount) || holds_at(rt, told, alloc, Some(count), &row);
-    at_fixed && (matches!(types, Types::Fixed) || holds_at(rt, told, alloc, None, &row))
+    let at_fixed = matches!(types, Types::AnyCount)
+        || holds_at(rt, question, alloc, Some(count), &row);
+    at_fixed && (matches!(types, Types::Fixed) || holds_at(rt, question, alloc, None, &row))
 }
 
-/// Fails, and tells the row, where it doesn't hold.
+/// Fails, and prints the row, where it doesn't hold.
 pub(crate) fn demand(rt: &impl Abort, holds: bool, line: &str) {
     assert!(rt; holds, "{line}");
 }
 
 /// The rows of a table, one by one, at these types.
-pub(crate) fn table(rt: &impl Abort, alloc: Global, told: Told, types: Types, table: &str) {
+pub(crate) fn table(rt: &impl Abort, alloc: Global, question: Question, types: Types, table: &str) {
     for line in rows(table) {
-        demand(rt, row_holds(rt, alloc, told, types, line), line);
+        demand(rt, row_holds(rt, alloc, question, types, line), line);
     }
 }

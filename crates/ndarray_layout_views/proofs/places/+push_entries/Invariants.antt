@@ -5,10 +5,10 @@ use Rattle.nd_base.specs.Size.{size}
 use Rattle.nd_base.specs.declared.order.Order.TheVariants.{RowMajor}
 use Rattle.ndarray_layout_views.specs.View.{view_places}
 use Rattle.ndarray_layout_views.specs.Walk.{nested}
-use Rattle.ndarray_layout_views.proofs.places.+push_places.Given as goal
+use Rattle.ndarray_layout_views.proofs.places.+push_entries.Given as goal
 
-abbrev pub decreases-push_places : goal.decreases-push_places
-decreases-push_places l = length l.shape.now
+abbrev pub decreases-push_entries : goal.decreases-push_entries
+decreases-push_entries l = length l.shape.now
 
 abbrev pub invariant-loop-i : goal.invariant-loop-i
 invariant-loop-i l = record {

@@ -9,7 +9,7 @@ use Rattle.nd_base.specs.declared.order.Order.TheVariants.{RowMajor}
 use Rattle.ndarray_layout_views.specs.View.{IsView, view_places}
 use Rattle.ndarray_layout_views.specs.Walk.{nested, nested_view, row_view}
 use Rattle.ndarray_layout_views.proofs.Walks.{IsEntry, entry_of, nested_signed, places_more, row_after, view_of_row, size_of_row, walk_whole}
-use Rattle.ndarray_layout_views.proofs.places.+push_places.Goals as goal
+use Rattle.ndarray_layout_views.proofs.places.+push_entries.Goals as goal
 
 entry : (t : ℕ) (c : goal.In-loop-i t) → IsEntry c.args.start c.in-Some-Some.len (nested c.args.order c.in-Some-Some.lens.now) (signed c.in-Some-Some.stride) (all_signed (nested c.args.order c.in-Some-Some.rest.now)) c.loop-i.i
 entry t c = entry_of c.args.order c.args.start c.in-Some-Some.len c.in-Some-Some.stride c.loop-i.i c.args.shape.now c.in-Some-Some.lens.now c.args.strides.now c.in-Some-Some.rest.now c.in-Some-Some.ensures.0 c.in-Some-Some.ensures'.0 c.requires.view c.loop-i-test.true
@@ -27,27 +27,30 @@ entry_place-requires-clause-high t c = (entry t c).high
 room_for : (length_before i len rest capacity whole : ℕ) → i < len → whole ≡ len * rest → length_before + whole ≤ capacity → length_before + i * rest + rest ≤ capacity
 room_for length_before i len rest capacity whole h e room = omega (arith, mul-le-mul_right rest h)
 
-pub push_places-places-requires : goal.push_places-places-requires
-push_places-places-requires t c =
+pub push_entries-places-requires : goal.push_entries-places-requires
+push_entries-places-requires t c =
     let order = c.args.order in
     let known = entry_of order c.args.start c.in-Some-Some.len c.in-Some-Some.stride c.loop-i.i c.args.shape.now c.in-Some-Some.lens.now c.args.strides.now c.in-Some-Some.rest.now c.in-Some-Some.ensures.0 c.in-Some-Some.ensures'.0 c.requires.view c.loop-i-test.true in
     let whole : size (nested order c.args.shape.now) ≡ c.in-Some-Some.len * size (nested order c.in-Some-Some.lens.now) = ap size c.in-Some-Some.ensures.0 in (
       omega (arith, c.in-Some-Some.ensures.1),
       (
-        rw (nested_signed order c.in-Some-Some.rest.now) (known.inner c.entry_place.result c.entry_place.ensures),
-        omega (arith, room_for (vec_len c.args.places) c.loop-i.i c.in-Some-Some.len (size (nested order c.in-Some-Some.lens.now)) (vec_capacity c.args.places) (size (nested order c.args.shape.now)) c.loop-i-test.true whole c.requires.room),
+        omega (arith, c.in-Some-Some.ensures.1, c.requires.few),
+        (
+          rw (nested_signed order c.in-Some-Some.rest.now) (known.inner c.entry_place.result c.entry_place.ensures),
+          omega (arith, room_for (vec_len c.args.places) c.loop-i.i c.in-Some-Some.len (size (nested order c.in-Some-Some.lens.now)) (vec_capacity c.args.places) (size (nested order c.args.shape.now)) c.loop-i-test.true whole c.requires.room),
+        ),
       ),
     )
 
 pub loop-i-preserved : goal.loop-i-preserved
 loop-i-preserved t c =
     let order = c.args.order in
-    let inner = rw (nested_signed order c.in-Some-Some.rest.now) at c.push_places-places.ensures.items in
+    let inner = rw (nested_signed order c.in-Some-Some.rest.now) at c.push_entries-places.ensures.items in
     let more = places_more c.args.start c.loop-i.i c.entry_place.result (nested order c.in-Some-Some.lens.now) (signed c.in-Some-Some.stride) (all_signed (nested order c.in-Some-Some.rest.now)) c.entry_place.ensures in
     record {
       items = row_after _ _ _ _ _ _ inner c.loop-i.invariant.items more;
-      len = omega (arith, c.push_places-places.ensures.len, c.loop-i.invariant.len);
-      capacity = c.push_places-places.ensures.capacity ∙ c.loop-i.invariant.capacity;
+      len = omega (arith, c.push_entries-places.ensures.len, c.loop-i.invariant.len);
+      capacity = c.push_entries-places.ensures.capacity ∙ c.loop-i.invariant.capacity;
     }
 
 pub returns-after-loop-i-clause-items : goal.returns-after-loop-i-clause-items

@@ -1,0 +1,54 @@
+-- Which steps fit a view, and which may be refused for memory.
+use Rattle.std.specs.Prelude.{◌≡◌, ◌≢◌, ℕ, ◌<◌, pos, negsuc, List, [], ◌∷◌, length, slice_index, refl}
+use Rattle.nd_slice_axis.specs.declared.fit.Fit.{Fit}
+use Rattle.nd_slice_axis.specs.declared.fit.Fit.TheVariants.{Strict}
+use Rattle.nd_slice_axis.specs.Picks.{slice_with}
+use Rattle.nd_slice_axis.specs.SliceFault.{SliceFits, IndexFits}
+use Rattle.nd_slice.specs.declared.elem.SliceInfoElem.{SliceInfoElem}
+use Rattle.nd_slice.specs.declared.elem.SliceInfoElem.TheVariants as elem
+use Rattle.nd_slice.specs.ArgumentFault.{in_count, out_count}
+use Rattle.ndarray_layout.specs.Step.{StepValue, SliceBy, CollapseTo, MergeInto, BroadcastTo}
+use Rattle.ndarray_layout_views.specs.BroadcastView.{BroadcastFits}
+use Rattle.ndarray_layout_views.specs.MergedView.{HasMergedStride}
+use Rattle.ndarray_layout_views.specs.View.{View}
+
+-- each element of a slice argument fits the axis that it is for, as far as there are elements and axes
+abbrev pub ElementsFit : Fit → List ℕ → List SliceInfoElem → Type 0
+ElementsFit fit shape [] = Unit {0}
+ElementsFit fit shape (elem.NewAxis ∷ elems) = ElementsFit fit shape elems
+ElementsFit fit [] (elem.Slice start end step ∷ elems) = Unit {0}
+ElementsFit fit [] (elem.Index index ∷ elems) = Unit {0}
+ElementsFit fit (len ∷ shape) (elem.Slice start end step ∷ elems) = SliceFits fit len (slice_with start end step) × ElementsFit fit shape elems
+ElementsFit fit (len ∷ shape) (elem.Index index ∷ elems) = IndexFits len index × ElementsFit fit shape elems
+
+-- a slice has an element for each axis, and each fits; an entry that is taken is one of an axis that there is; two different
+-- axes that there are can be merged where some stride has every entry of both; a view can be read as one of a shape
+-- that it and the view's own have in common, with a size within the limit
+abbrev pub StepFits : View → StepValue → Type 0
+StepFits view (SliceBy elems fit) = (in_count elems ≡ length view.shape) × ElementsFit fit view.shape elems
+StepFits view (CollapseTo axis index) = (axis < length view.shape) × (index < slice_index view.shape axis)
+StepFits view (MergeInto take into) = (take < length view.shape) × (into < length view.shape) × (take ≢ into) × HasMergedStride take into view
+StepFits view (BroadcastTo shape) = BroadcastFits shape view.shape
+
+-- what is known where memory was refused to a step: a slice or a broadcast fits and leaves more than four axes; the others want none
+abbrev pub MayRefuseMemory : View → StepValue → Type 0
+MayRefuseMemory view (SliceBy elems fit) = StepFits view (SliceBy elems fit) × (4 < out_count elems)
+MayRefuseMemory view (CollapseTo axis index) = ⊥
+MayRefuseMemory view (MergeInto take into) = ⊥
+MayRefuseMemory view (BroadcastTo shape) = StepFits view (BroadcastTo shape) × (4 < length shape)
+
+-- examples
+abbrev two_by_three : View
+two_by_three = record { start = 0; shape = 2 ∷ 3 ∷ []; strides = pos 3 ∷ pos 1 ∷ [] }
+
+no_third_row : StepFits two_by_three (CollapseTo 0 2) → 2 < 2
+no_third_row fits = fits.1
+
+axis_into_itself : StepFits two_by_three (MergeInto 0 0) → ⊥
+axis_into_itself fits = fits.2 refl
+
+one_element_for_two_axes : StepFits two_by_three (SliceBy (elem.Index (negsuc 0) ∷ []) Strict) → ◌≡◌ {A = ℕ} 1 2
+one_element_for_two_axes fits = fits.0
+
+no_memory_for_one_entry : MayRefuseMemory two_by_three (CollapseTo 0 1) → ⊥
+no_memory_for_one_entry refused = refused
