@@ -206,7 +206,3 @@ pub packed_from_reaches : (lens : List ℕ) (strides : List ℤ) → length lens
 packed_from_reaches lens strides count some reaches axis inside =
     let place = stride_place strides (length lens) axis in
     packed_at_place lens strides place axis count some reaches (fills_reached lens strides place count some reaches) inside refl
-
--- a shape without a zero axis has an index
-pub size_of_nonempty : (lens : List ℕ) → is_empty lens ≡ false → 0 < size lens
-size_of_nonempty lens some = size_above lens (λ axis h. lens_above lens axis some h)

@@ -13,10 +13,11 @@ use Rattle.nd_base.specs.Size.{size, is_empty}
 use Rattle.nd_base.specs.Span.{low_span}
 use Rattle.nd_base.proofs.laws.Indices.{Contains-indices_in, length-indices_in}
 use Rattle.nd_base.proofs.laws.Offset.{offset_bounds}
+use Rattle.nd_base.proofs.laws.Size.{size_of_nonempty}
 use Rattle.nd_base.proofs.laws.Turned.{turned, is_index-turned, turned-turned, offset_of-turned, has_offset_turned, least_offset}
 use Rattle.nd_dim.specs.OneStretch.{HasIndexAt, FillsStretch}
 use Rattle.nd_dim.proofs.Filled.{ReachesEach}
-use Rattle.nd_dim.proofs.PackedLayouts.{fills_from_packed, packed_from_reaches, size_of_nonempty}
+use Rattle.nd_dim.proofs.PackedLayouts.{fills_from_packed, packed_from_reaches}
 use Rattle.nd_dim.proofs.Rearranged.{permutation_from_members}
 
 -- ---- where it begins
