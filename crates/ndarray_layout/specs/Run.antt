@@ -1,6 +1,8 @@
 -- What a list of steps makes of a view: what its steps make of it, one after another.
-use Rattle.std.specs.Prelude.{◌≡◌, ℕ, ◌+◌, ◌<◌, pos, false, Option, Some, None, IsSomeAnd, List, [], ◌∷◌, take, slice_get, refl}
+use Rattle.std.specs.Prelude.{◌≡◌, ℕ, ◌+◌, ◌<◌, pos, true, false, Option, Some, None, IsSomeAnd, List, [], ◌∷◌, take, slice_get, refl}
 use Rattle.std.specs.List.{All}
+use Rattle.std.proofs.Math.Dec.{lit<, lt→ltb}
+use Rattle.std.proofs.lemmas.Bool.{both_ways}
 use Rattle.nd_base.specs.declared.error.ErrorKind.{ErrorKind}
 use Rattle.nd_base.specs.declared.error.ErrorKind.TheVariants.{OutOfBounds}
 use Rattle.nd_base.specs.declared.error.LayoutError.{LayoutError}
@@ -17,27 +19,30 @@ pub record Outcome : Type 0 where
   pub source : List ℕ → List ℕ
   pub fault : Option ErrorKind
 
--- no step was taken
+-- what became of a view of which no step was taken
 abbrev pub stayed : Option ErrorKind → View → Outcome
 stayed fault view = record { taken = 0; view = view; source = λ index. index; fault = fault }
 
--- one step was
+-- what became of a view of which one step was taken
 abbrev pub stepped : View → StepValue → Outcome
 stepped view step = record { taken = 1; view = view_after view step; source = source_index view step; fault = None }
 
--- what one step makes of a view
+-- what becomes of a view by a step that has this fault, or none
 abbrev pub unless_fault : Option ErrorKind → View → StepValue → Outcome
 unless_fault None view step = stepped view step
 unless_fault (Some kind) view step = stayed (Some kind) view
 
+-- what one step makes of a view
 abbrev pub run_of_step : StepValue → View → Outcome
 run_of_step step view = unless_fault (step_fault view step) view step
 
 -- two outcomes, of which the second began with the view that the first left; a fault ends both
 abbrev pub joined : Option ErrorKind → Outcome → Outcome → Outcome
-joined None first second = record { taken = first.taken + second.taken; view = second.view; source = λ index. first.source (second.source index); fault = second.fault }
+joined None first second =
+    record { taken = first.taken + second.taken; view = second.view; source = λ index. first.source (second.source index); fault = second.fault }
 joined (Some kind) first second = first
 
+-- what two parts of a run make of a view, one after the other
 abbrev pub in_turn : (View → Outcome) → (View → Outcome) → View → Outcome
 in_turn first second view = joined (first view).fault (first view) (second (first view).view)
 
@@ -70,7 +75,8 @@ pub record StopsAt (steps : List StepValue) (start : View) (at : ℕ) (fault : L
   pub left : (run_of (take at steps) start).view ≡ view
   pub refused : IsSomeAnd (slice_get steps at) (IsRefusedBy view fault)
 
--- so that a step which doesn't fit is the one that ends the run of them all
+-- a run ends as it is reported: a step that is refused for a fault of its own is the one that ends the run of all steps;
+-- where memory was refused, nothing is said
 abbrev pub IsEndedBy : Outcome → ℕ → LayoutError → View → Type 0
 IsEndedBy outcome at (Shape kind) view = (outcome.fault ≡ Some kind) × (outcome.taken ≡ at) × (outcome.view ≡ view)
 IsEndedBy outcome at (Memory e) view = Unit {0}
@@ -94,8 +100,34 @@ ends_at_the_second = refl
 one_was_taken : (run_of (CollapseTo 0 1 ∷ CollapseTo 0 1 ∷ MergeInto 0 1 ∷ []) two_by_three).taken ≡ 1
 one_was_taken = refl
 
-and_left_a_row : (run_of (CollapseTo 0 1 ∷ CollapseTo 0 1 ∷ MergeInto 0 1 ∷ []) two_by_three).view ≡ record { start = 3; shape = 1 ∷ 3 ∷ []; strides = pos 3 ∷ pos 1 ∷ [] }
+and_left_a_row :
+    (run_of (CollapseTo 0 1 ∷ CollapseTo 0 1 ∷ MergeInto 0 1 ∷ []) two_by_three).view
+    ≡ record { start = 3; shape = 1 ∷ 3 ∷ []; strides = pos 3 ∷ pos 1 ∷ [] }
 and_left_a_row = refl
 
-second_entry_of_one : AllFit (CollapseTo 0 1 ∷ CollapseTo 0 1 ∷ []) two_by_three → 1 < 1
-second_entry_of_one fits = fits.1.0.1
+second_entry_of_one : AllFit (CollapseTo 0 1 ∷ CollapseTo 0 1 ∷ []) two_by_three → ⊥
+second_entry_of_one fits = lt→ltb 1 1 fits.1.0.1
+
+four_axes_need_no_memory : may_want_memory (BroadcastTo (2 ∷ 1 ∷ 2 ∷ 3 ∷ [])) ≡ false
+four_axes_need_no_memory = refl
+
+five_axes_may_need_memory : NeedNoMemory (CollapseTo 0 1 ∷ BroadcastTo (2 ∷ 1 ∷ 1 ∷ 2 ∷ 3 ∷ []) ∷ []) → ⊥
+five_axes_may_need_memory none = both_ways true (none 1 (CollapseTo 0 0) (lit< tt)) refl
+
+abbrev second_row : View
+second_row = record { start = 3; shape = 1 ∷ 3 ∷ []; strides = pos 3 ∷ pos 1 ∷ [] }
+
+refused_a_second_entry : IsRefusedBy second_row (Shape OutOfBounds) (CollapseTo 0 1)
+refused_a_second_entry = (refl, λ fits. lt→ltb 1 1 fits.1)
+
+no_refusal_of_an_entry : IsRefusedBy two_by_three (Shape OutOfBounds) (CollapseTo 0 1) → ⊥
+no_refusal_of_an_entry refused = refused.1 (lit< tt, lit< tt)
+
+stops_at_the_second : StopsAt (CollapseTo 0 1 ∷ CollapseTo 0 1 ∷ []) two_by_three 1 (Shape OutOfBounds) second_row
+stops_at_the_second = record { before = refl; left = refl; refused = refused_a_second_entry }
+
+not_at_the_first : StopsAt (CollapseTo 0 1 ∷ CollapseTo 0 1 ∷ []) two_by_three 0 (Shape OutOfBounds) two_by_three → ⊥
+not_at_the_first stops = no_refusal_of_an_entry stops.refused
+
+ended_by_the_second : IsEndedBy (run_of (CollapseTo 0 1 ∷ CollapseTo 0 1 ∷ []) two_by_three) 1 (Shape OutOfBounds) second_row
+ended_by_the_second = (refl, refl, refl)

@@ -69,7 +69,9 @@ is_broadcast (BroadcastTo shape) = true
 abbrev two_by_three : View
 two_by_three = record { start = 0; shape = 2 ∷ 3 ∷ []; strides = pos 3 ∷ pos 1 ∷ [] }
 
-last_row : view_after two_by_three (SliceBy (elem.Index (negsuc 0) ∷ elem.Slice (pos 0) None (pos 1) ∷ []) Strict) ≡ record { start = 3; shape = 3 ∷ []; strides = pos 1 ∷ [] }
+last_row :
+    view_after two_by_three (SliceBy (elem.Index (negsuc 0) ∷ elem.Slice (pos 0) None (pos 1) ∷ []) Strict)
+    ≡ record { start = 3; shape = 3 ∷ []; strides = pos 1 ∷ [] }
 last_row = refl
 
 in_last_row : source_index two_by_three (SliceBy (elem.Index (negsuc 0) ∷ elem.Slice (pos 0) None (pos 1) ∷ []) Strict) (2 ∷ []) ≡ 1 ∷ 2 ∷ []

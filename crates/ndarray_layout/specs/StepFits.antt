@@ -1,5 +1,8 @@
 -- Which steps fit a view, and which may be refused for memory.
-use Rattle.std.specs.Prelude.{◌≡◌, ◌≢◌, ℕ, ◌<◌, pos, negsuc, List, [], ◌∷◌, length, slice_index, refl}
+use Rattle.std.specs.Prelude.{◌≡◌, ◌≢◌, ℕ, ◌<◌, ℤ, pos, negsuc, List, [], ◌∷◌, length, slice_index, nat_eq, refl}
+use Rattle.std.proofs.Common.{eq-eqb}
+use Rattle.std.proofs.Math.Dec.{lit<, lt→ltb}
+use Rattle.std.proofs.lemmas.Bool.{both_ways}
 use Rattle.nd_slice_axis.specs.declared.fit.Fit.{Fit}
 use Rattle.nd_slice_axis.specs.declared.fit.Fit.TheVariants.{Strict}
 use Rattle.nd_slice_axis.specs.Picks.{slice_with}
@@ -21,7 +24,7 @@ ElementsFit fit [] (elem.Index index ∷ elems) = Unit {0}
 ElementsFit fit (len ∷ shape) (elem.Slice start end step ∷ elems) = SliceFits fit len (slice_with start end step) × ElementsFit fit shape elems
 ElementsFit fit (len ∷ shape) (elem.Index index ∷ elems) = IndexFits len index × ElementsFit fit shape elems
 
--- a slice has an element for each axis, and each fits; an entry that is taken is one of an axis that there is; two different
+-- a step fits a view. A slice has an element for each axis, and each fits; an entry that is taken is one of an axis that there is; two different
 -- axes that there are can be merged where some stride has every entry of both; a view can be read as one of a shape
 -- that it and the view's own have in common, with a size within the limit
 abbrev pub StepFits : View → StepValue → Type 0
@@ -41,14 +44,17 @@ MayRefuseMemory view (BroadcastTo shape) = StepFits view (BroadcastTo shape) × 
 abbrev two_by_three : View
 two_by_three = record { start = 0; shape = 2 ∷ 3 ∷ []; strides = pos 3 ∷ pos 1 ∷ [] }
 
-no_third_row : StepFits two_by_three (CollapseTo 0 2) → 2 < 2
-no_third_row fits = fits.1
+last_column : StepFits two_by_three (CollapseTo 1 2)
+last_column = (lit< tt, lit< tt)
+
+no_third_row : StepFits two_by_three (CollapseTo 0 2) → ⊥
+no_third_row fits = lt→ltb 2 2 fits.1
 
 axis_into_itself : StepFits two_by_three (MergeInto 0 0) → ⊥
 axis_into_itself fits = fits.2 refl
 
-one_element_for_two_axes : StepFits two_by_three (SliceBy (elem.Index (negsuc 0) ∷ []) Strict) → ◌≡◌ {A = ℕ} 1 2
-one_element_for_two_axes fits = fits.0
+one_element_for_two_axes : StepFits two_by_three (SliceBy (elem.Index (negsuc 0) ∷ []) Strict) → ⊥
+one_element_for_two_axes fits = both_ways (nat_eq 1 2) refl (eq-eqb 1 2 fits.0)
 
 no_memory_for_one_entry : MayRefuseMemory two_by_three (CollapseTo 0 1) → ⊥
 no_memory_for_one_entry refused = refused

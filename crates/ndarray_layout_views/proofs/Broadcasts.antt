@@ -103,22 +103,22 @@ within_kept (len ∷ lens) (other ∷ others) (stride ∷ strides) (i ∷ entrie
     }
 
 -- ---- new axes
-sum_behind_new : (f : ℕ → ℤ → ℕ) → StaysAtZero f → (n : ℕ) (shape : List ℕ) (strides : List ℤ) → n ≤ length shape → sum_over_axes f shape (replicate n (pos 0) ++ strides) ≡ sum_over_axes f (drop n shape) strides
-sum_behind_new f stays zero shape strides h = refl
-sum_behind_new f stays (suc n) [] strides h = absurd (omega arith)
-sum_behind_new f stays (suc n) (len ∷ shape) strides h = omega (arith, stays.at_zero len, sum_behind_new f stays n shape strides (omega arith))
+sum_after_new : (f : ℕ → ℤ → ℕ) → StaysAtZero f → (n : ℕ) (shape : List ℕ) (strides : List ℤ) → n ≤ length shape → sum_over_axes f shape (replicate n (pos 0) ++ strides) ≡ sum_over_axes f (drop n shape) strides
+sum_after_new f stays zero shape strides h = refl
+sum_after_new f stays (suc n) [] strides h = absurd (omega arith)
+sum_after_new f stays (suc n) (len ∷ shape) strides h = omega (arith, stays.at_zero len, sum_after_new f stays n shape strides (omega arith))
 
-index_behind_new : (n : ℕ) (shape entries : List ℕ) → is_index shape entries ≡ true → is_index (drop n shape) (drop n entries) ≡ true
-index_behind_new zero shape entries here = here
-index_behind_new (suc n) [] [] here = refl
-index_behind_new (suc n) [] (i ∷ entries) here = absurd (cc)
-index_behind_new (suc n) (len ∷ shape) [] here = absurd (cc)
-index_behind_new (suc n) (len ∷ shape) (i ∷ entries) here = index_behind_new n shape entries (and_parts (nat_lt i len) (is_index shape entries) here).1
+index_after_new : (n : ℕ) (shape entries : List ℕ) → is_index shape entries ≡ true → is_index (drop n shape) (drop n entries) ≡ true
+index_after_new zero shape entries here = here
+index_after_new (suc n) [] [] here = refl
+index_after_new (suc n) [] (i ∷ entries) here = absurd (cc)
+index_after_new (suc n) (len ∷ shape) [] here = absurd (cc)
+index_after_new (suc n) (len ∷ shape) (i ∷ entries) here = index_after_new n shape entries (and_parts (nat_lt i len) (is_index shape entries) here).1
 
-offset_behind_new : (n : ℕ) (strides : List ℤ) (entries : List ℕ) → n ≤ length entries → offset_of (replicate n (pos 0) ++ strides) entries ≡ offset_of strides (drop n entries)
-offset_behind_new zero strides entries h = refl
-offset_behind_new (suc n) strides [] h = absurd (omega arith)
-offset_behind_new (suc n) strides (i ∷ entries) h = omega (arith, ints, offset_behind_new n strides entries (omega arith))
+offset_after_new : (n : ℕ) (strides : List ℤ) (entries : List ℕ) → n ≤ length entries → offset_of (replicate n (pos 0) ++ strides) entries ≡ offset_of strides (drop n entries)
+offset_after_new zero strides entries h = refl
+offset_after_new (suc n) strides [] h = absurd (omega arith)
+offset_after_new (suc n) strides (i ∷ entries) h = omega (arith, ints, offset_after_new n strides entries (omega arith))
 
 -- ---- all axes
 -- a layout, and a shape that its own stretches to
@@ -127,8 +127,8 @@ pub record Stretches (shape view_shape : List ℕ) (strides : List ℤ) : Type 0
   pub fewer : length view_shape ≤ length shape
   pub stretches : StretchesTo shape view_shape
 
-count_behind : (shape view_shape : List ℕ) → length view_shape ≤ length shape → length (drop (new_axes shape view_shape) shape) ≡ length view_shape
-count_behind shape view_shape h = omega (arith, length-drop (new_axes shape view_shape) shape)
+count_after : (shape view_shape : List ℕ) → length view_shape ≤ length shape → length (drop (new_axes shape view_shape) shape) ≡ length view_shape
+count_after shape view_shape h = omega (arith, length-drop (new_axes shape view_shape) shape)
 
 pub record BroadcastKept (shape view_shape : List ℕ) (strides : List ℤ) : Type 0 where
   pub counts : length shape ≡ length (broadcast_strides shape view_shape strides)
@@ -139,16 +139,16 @@ sum_broadcast : (f : ℕ → ℤ → ℕ) → StaysAtZero f → (shape view_shap
 sum_broadcast f stays shape view_shape strides s =
     let n = new_axes shape view_shape in
     let lens = drop n shape in
-    omega (arith, sum_behind_new f stays n shape (stretched_strides lens view_shape strides) (omega arith), sum_stretched f stays lens view_shape strides (count_behind shape view_shape s.fewer) s.counts)
+    omega (arith, sum_after_new f stays n shape (stretched_strides lens view_shape strides) (omega arith), sum_stretched f stays lens view_shape strides (count_after shape view_shape s.fewer) s.counts)
 
 pub broadcast_kept : (shape view_shape : List ℕ) (strides : List ℤ) → Stretches shape view_shape strides → BroadcastKept shape view_shape strides
 broadcast_kept shape view_shape strides s =
     let n = new_axes shape view_shape in
     let new : List ℤ = replicate n (pos 0) in
-    let behind = stretched_strides (drop n shape) view_shape strides in
-    let count : length behind ≡ length strides = length-stretched_strides (drop n shape) view_shape strides (count_behind shape view_shape s.fewer) s.counts in
+    let after = stretched_strides (drop n shape) view_shape strides in
+    let count : length after ≡ length strides = length-stretched_strides (drop n shape) view_shape strides (count_after shape view_shape s.fewer) s.counts in
     record {
-      counts = omega (arith, length-append new behind, length-replicate {A = ℤ} n (pos 0), count, s.counts, s.fewer);
+      counts = omega (arith, length-append new after, length-replicate {A = ℤ} n (pos 0), count, s.counts, s.fewer);
       low = sum_broadcast reach_down down shape view_shape strides s;
       high = sum_broadcast reach_up up shape view_shape strides s;
     }
@@ -164,11 +164,11 @@ broadcast_source_kept shape view_shape strides entries s here =
     let count = length_of_index shape entries here in
     let same : new_axes entries view_shape ≡ n = ap (λ m. m - length view_shape) count in
     let stretched : Stretched lens view_shape = λ k l. rw (get_or-drop n shape k 0) (s.stretches k l) in
-    let rest = within_kept lens view_shape strides (drop n entries) (count_behind shape view_shape s.fewer) s.counts stretched (index_behind_new n shape entries here) in
+    let rest = within_kept lens view_shape strides (drop n entries) (count_after shape view_shape s.fewer) s.counts stretched (index_after_new n shape entries here) in
     let source : broadcast_source view_shape entries ≡ entries_within view_shape (drop n entries) = ap (λ m. entries_within view_shape (drop m entries)) same in
     record {
       within = ap (is_index view_shape) source ∙ rest.within;
-      offset = offset_behind_new n (stretched_strides lens view_shape strides) entries (omega arith) ∙ rest.offset ∙ sym (ap (offset_of strides) source);
+      offset = offset_after_new n (stretched_strides lens view_shape strides) entries (omega arith) ∙ rest.offset ∙ sym (ap (offset_of strides) source);
     }
 
 -- ---- axis by axis
@@ -182,7 +182,7 @@ stretched_at (len ∷ lens) (other ∷ others) (stride ∷ strides) (suc k) e f 
 
 -- a list that is written axis by axis is that of the strides
 pub strides_by_axes : (shape view_shape strides new : List ℕ) → length view_shape ≤ length shape → length view_shape ≡ length strides → length new ≡ length shape → ((k : ℕ) → k < new_axes shape view_shape → get_or new k 0 ≡ 0) → ((k : ℕ) → k < length view_shape → get_or new (new_axes shape view_shape + k) 0 ≡ cond (eqb (get_or shape (new_axes shape view_shape + k) 0) (get_or view_shape k 0)) (get_or strides k 0) 0) → all_signed new ≡ broadcast_strides shape view_shape (all_signed strides)
-strides_by_axes shape view_shape strides new fewer counts count front behind =
+strides_by_axes shape view_shape strides new fewer counts count front after =
     let n = new_axes shape view_shape in
     let lens = drop n shape in
     let zeros : List ℤ = replicate n (pos 0) in
@@ -190,7 +190,7 @@ strides_by_axes shape view_shape strides new fewer counts count front behind =
     let count_strides : length (all_signed strides) ≡ length strides = length-map strides signed in
     let count_new : length (all_signed new) ≡ length new = length-map new signed in
     let count_zeros : length zeros ≡ n = length-replicate {A = ℤ} n (pos 0) in
-    let count_lens = count_behind shape view_shape fewer in
+    let count_lens = count_after shape view_shape fewer in
     let count_old : length old ≡ length (all_signed strides) = length-stretched_strides lens view_shape (all_signed strides) count_lens (counts ∙ sym count_strides) in
     let count_all : length (all_signed new) ≡ length (zeros ++ old) = omega (arith, length-append zeros old) in
     ext_get_or (pos 0) (all_signed new) (zeros ++ old) count_all (λ k l.
@@ -208,7 +208,7 @@ strides_by_axes shape view_shape strides new fewer counts count front behind =
           let here : get_or old i (pos 0) ≡ cond same one (pos 0) = stretched_at lens view_shape (all_signed strides) i count_lens (counts ∙ sym count_strides) inside ∙ ap (λ len. cond (eqb len (get_or view_shape i 0)) one (pos 0)) (get_or-drop n shape i 0) in
           get_or-map signed new k 0
           ∙ ap (λ j. signed (get_or new j 0)) at
-          ∙ ap signed (behind i inside)
+          ∙ ap signed (after i inside)
           ∙ signed_either same (get_or strides i 0)
           ∙ ap (λ s. cond same s (pos 0)) (sym (get_or-map signed strides i 0))
           ∙ sym here

@@ -48,10 +48,10 @@ size_replaced (n ∷ shape) zero len h = rw (by_factor len shape, by_factor n sh
     turned : (a b c : ℕ) → a * b * c ≡ c * b * a
     turned a b c = omega arith
 size_replaced (n ∷ shape) (suc axis) len h =
-    rw (by_factor n (set shape axis len), by_factor n shape) (behind (factor n) (nonzero_size (set shape axis len)) (factor (get_or shape axis 0)) (nonzero_size shape) (factor len) (size_replaced shape axis len (omega arith)))
+    rw (by_factor n (set shape axis len), by_factor n shape) (after (factor n) (nonzero_size (set shape axis len)) (factor (get_or shape axis 0)) (nonzero_size shape) (factor len) (size_replaced shape axis len (omega arith)))
   where
-    behind : (a x y z w : ℕ) → x * y ≡ z * w → a * x * y ≡ a * z * w
-    behind a x y z w e = omega (arith, ap (λ m. a * m) e)
+    after : (a x y z w : ℕ) → x * y ≡ z * w → a * x * y ≡ a * z * w
+    after a x y z w e = omega (arith, ap (λ m. a * m) e)
 
 -- an offset changes with the stride of that axis
 pub offset_by_stride : (strides : List ℤ) (index : List ℕ) (axis : ℕ) (stride : ℤ) → axis < length strides → length strides ≡ length index → offset_of (set strides axis stride) index +ℤ (pos (get_or index axis 0) *ℤ get_or strides axis (pos 0)) ≡ offset_of strides index +ℤ (pos (get_or index axis 0) *ℤ stride)

@@ -1,5 +1,8 @@
 -- What broadcasting to a shape makes of a view, and which shapes are refused.
-use Rattle.std.specs.Prelude.{◌≡◌, ℕ, ◌-◌, ◌≤◌, ◌==◌, ℤ, pos, negsuc, Bool, false, not, nat_lt, nat_eq, Option, Some, None, if◌then◌else◌, List, [], ◌∷◌, ◌++◌, length, drop, replicate, refl}
+use Rattle.std.specs.Prelude.{◌≡◌, ℕ, ◌-◌, ◌≤◌, ◌==◌, ℤ, pos, negsuc, Bool, false, not, nat_lt, nat_eq, Option, Some, None, if◌then◌else◌}
+use Rattle.std.specs.Prelude.{List, [], ◌∷◌, ◌++◌, length, drop, replicate, is_some, refl}
+use Rattle.std.proofs.Common.{ap}
+use Rattle.std.proofs.lemmas.Bool.{both_ways}
 use Rattle.std.specs.Option.{option_map_or}
 use Rattle.std.specs.Cmp.Lexicographic.{pointwise}
 use Rattle.nd_base.specs.declared.error.ErrorKind.{ErrorKind}
@@ -16,11 +19,13 @@ takes_in shape other = option_map_or (λ common. pointwise nat_eq common shape) 
 abbrev pub BroadcastFits : List ℕ → List ℕ → Type 0
 BroadcastFits shape view_shape = (common_shape view_shape shape ≡ Some shape) × (nonzero_size shape ≤ limit)
 
--- the fault of broadcasting a view of a shape to another one, told first: the shapes, and then the product of the lengths that are not 0
+-- the fault of broadcasting a view of a shape to another one that is reported: of the shapes first, and then of the product of the
+-- lengths that are not 0
 abbrev pub broadcast_fault : List ℕ → List ℕ → Option ErrorKind
-broadcast_fault shape view_shape = if not (takes_in shape view_shape) then Some IncompatibleShape else if nat_lt limit (nonzero_size shape) then Some Overflow else None
+broadcast_fault shape view_shape =
+    if not (takes_in shape view_shape) then Some IncompatibleShape else if nat_lt limit (nonzero_size shape) then Some Overflow else None
 
--- the strides of axes that were there: 0 where the length is another one now, so that all entries are the one of the view
+-- the strides of axes that the view has already: 0 where the length is another one now, so that all entries are the one of the view
 abbrev pub stretched_strides : List ℕ → List ℕ → List ℤ → List ℤ
 stretched_strides lens others [] = []
 stretched_strides [] others (stride ∷ strides) = []
@@ -31,9 +36,10 @@ stretched_strides (len ∷ lens) (other ∷ others) (stride ∷ strides) = (if l
 abbrev pub new_axes : List ℕ → List ℕ → ℕ
 new_axes shape view_shape = length shape - length view_shape
 
--- the strides of all axes: new ones come first, with a stride of 0
+-- the strides of all axes of a view read as one of a shape: new axes come first, with a stride of 0
 abbrev pub broadcast_strides : List ℕ → List ℕ → List ℤ → List ℤ
-broadcast_strides shape view_shape strides = replicate (new_axes shape view_shape) (pos 0) ++ stretched_strides (drop (new_axes shape view_shape) shape) view_shape strides
+broadcast_strides shape view_shape strides =
+    replicate (new_axes shape view_shape) (pos 0) ++ stretched_strides (drop (new_axes shape view_shape) shape) view_shape strides
 
 -- a view read as one of a shape that takes it in: its start stays
 abbrev pub broadcast_of : List ℕ → View → View
@@ -43,7 +49,7 @@ broadcast_of shape view = record {
   strides = broadcast_strides shape view.shape view.strides;
 }
 
--- the entries on axes that were there: an axis of one entry has only the first
+-- the entries on axes that the view has already: an axis of one entry has only the first
 abbrev pub entries_within : List ℕ → List ℕ → List ℕ
 entries_within [] entries = []
 entries_within (len ∷ lens) [] = []
@@ -54,7 +60,8 @@ abbrev pub broadcast_source : List ℕ → List ℕ → List ℕ
 broadcast_source view_shape entries = entries_within view_shape (drop (new_axes entries view_shape) entries)
 
 -- examples
-one_row_three_times : broadcast_of (2 ∷ 3 ∷ 4 ∷ []) (record { start = 5; shape = 1 ∷ 4 ∷ []; strides = pos 9 ∷ negsuc 0 ∷ [] }) ≡ record { start = 5; shape = 2 ∷ 3 ∷ 4 ∷ []; strides = pos 0 ∷ pos 0 ∷ negsuc 0 ∷ [] }
+one_row_three_times : broadcast_of (2 ∷ 3 ∷ 4 ∷ []) (record { start = 5; shape = 1 ∷ 4 ∷ []; strides = pos 9 ∷ negsuc 0 ∷ [] })
+    ≡ record { start = 5; shape = 2 ∷ 3 ∷ 4 ∷ []; strides = pos 0 ∷ pos 0 ∷ negsuc 0 ∷ [] }
 one_row_three_times = refl
 
 axis_that_stays_keeps_its_stride : broadcast_strides (1 ∷ 3 ∷ []) (1 ∷ 1 ∷ []) (pos 9 ∷ pos 7 ∷ []) ≡ pos 9 ∷ pos 0 ∷ []
@@ -90,5 +97,5 @@ one_entry_to_none = refl
 two_new_axes : broadcast_fault (2 ∷ 2 ∷ 3 ∷ []) (3 ∷ []) ≡ None
 two_new_axes = refl
 
-rows_of_no_common_shape : BroadcastFits (3 ∷ 4 ∷ []) (2 ∷ 4 ∷ []) → ◌≡◌ {A = Option (List ℕ)} None (Some (3 ∷ 4 ∷ []))
-rows_of_no_common_shape fits = fits.0
+rows_of_no_common_shape : BroadcastFits (3 ∷ 4 ∷ []) (2 ∷ 4 ∷ []) → ⊥
+rows_of_no_common_shape fits = both_ways false refl (ap is_some fits.0)

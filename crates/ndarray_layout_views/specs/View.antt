@@ -1,5 +1,8 @@
 -- A view: a shape with strides and a start, as a function from indices to places in the data.
-use Rattle.std.specs.Prelude.{◌≡◌, ℕ, ◌+◌, ◌≤◌, ℤ, pos, negsuc, Option, Some, None, if◌then◌else◌, List, [], ◌∷◌, refl}
+use Rattle.std.specs.Prelude.{◌≡◌, ℕ, ◌+◌, ◌≤◌, ℤ, pos, negsuc, Option, Some, None, if◌then◌else◌, List, [], ◌∷◌, nat_eq, refl}
+use Rattle.std.proofs.Common.{eq-eqb}
+use Rattle.std.proofs.Math.Arith.{le→nltb}
+use Rattle.std.proofs.lemmas.Bool.{both_ways}
 use Rattle.nd_base.specs.declared.order.Order.{Order}
 use Rattle.nd_base.specs.declared.order.Order.TheVariants.{RowMajor, ColumnMajor}
 use Rattle.nd_base.specs.Indices.{is_index}
@@ -10,13 +13,13 @@ use Rattle.nd_base.specs.ValidLayout.{IsValidLayout}
 use Rattle.nd_base.specs.Inside.{LiesInside}
 use Rattle.nd_base.specs.Place.{place, places}
 
--- start is the place of the first index
+-- a shape with strides, and the place of the first index, which is the start
 pub record View : Type 0 where
   pub start : ℕ
   pub shape : List ℕ
   pub strides : List ℤ
 
--- the same of strides as they are kept
+-- the view of strides that are kept as the `usize` of the same bits
 abbrev pub view_of : ℕ → List ℕ → List ℕ → View
 view_of start shape strides = record { start = start; shape = shape; strides = all_signed strides }
 
@@ -46,10 +49,12 @@ LiesWithin len view = LiesInside len view.start view.shape view.strides
 crossed : view_places RowMajor (record { start = 0; shape = 3 ∷ 2 ∷ []; strides = pos 2 ∷ pos 3 ∷ [] }) ≡ pos 0 ∷ pos 3 ∷ pos 2 ∷ pos 5 ∷ pos 4 ∷ pos 7 ∷ []
 crossed = refl
 
-both_backwards : view_places RowMajor (record { start = 5; shape = 2 ∷ 3 ∷ []; strides = negsuc 2 ∷ negsuc 0 ∷ [] }) ≡ pos 5 ∷ pos 4 ∷ pos 3 ∷ pos 2 ∷ pos 1 ∷ pos 0 ∷ []
+both_backwards : view_places RowMajor (record { start = 5; shape = 2 ∷ 3 ∷ []; strides = negsuc 2 ∷ negsuc 0 ∷ [] })
+    ≡ pos 5 ∷ pos 4 ∷ pos 3 ∷ pos 2 ∷ pos 1 ∷ pos 0 ∷ []
 both_backwards = refl
 
-both_backwards_by_columns : view_places ColumnMajor (record { start = 5; shape = 2 ∷ 3 ∷ []; strides = negsuc 2 ∷ negsuc 0 ∷ [] }) ≡ pos 5 ∷ pos 2 ∷ pos 4 ∷ pos 1 ∷ pos 3 ∷ pos 0 ∷ []
+both_backwards_by_columns : view_places ColumnMajor (record { start = 5; shape = 2 ∷ 3 ∷ []; strides = negsuc 2 ∷ negsuc 0 ∷ [] })
+    ≡ pos 5 ∷ pos 2 ∷ pos 4 ∷ pos 1 ∷ pos 3 ∷ pos 0 ∷ []
 both_backwards_by_columns = refl
 
 within : checked_place (record { start = 3; shape = 2 ∷ []; strides = negsuc 1 ∷ [] }) (1 ∷ []) ≡ Some (pos 1)
@@ -61,8 +66,8 @@ outside = refl
 place_below_the_data : LiesWithin 4 (record { start = 0; shape = 2 ∷ []; strides = negsuc 0 ∷ [] }) → ⊥
 place_below_the_data within = within (1 ∷ []) refl
 
-start_too_low : IsView (record { start = 1; shape = 3 ∷ []; strides = negsuc 0 ∷ [] }) → 2 ≤ 1
-start_too_low view = view.low
+start_too_low : IsView (record { start = 1; shape = 3 ∷ []; strides = negsuc 0 ∷ [] }) → ⊥
+start_too_low view = le→nltb 1 2 view.low
 
-one_stride_for_two_axes : IsView (record { start = 0; shape = 2 ∷ 3 ∷ []; strides = pos 1 ∷ [] }) → ◌≡◌ {A = ℕ} 2 1
-one_stride_for_two_axes view = view.valid.same_count
+one_stride_for_two_axes : IsView (record { start = 0; shape = 2 ∷ 3 ∷ []; strides = pos 1 ∷ [] }) → ⊥
+one_stride_for_two_axes view = both_ways (nat_eq 2 1) refl (eq-eqb 2 1 view.valid.same_count)

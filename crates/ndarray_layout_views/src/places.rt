@@ -62,7 +62,7 @@ fn push_entries(
     places
 }
 
-/// Appends the places of the entries of one axis. The list is passed by value: behind a reference
+/// Appends the places of the entries of one axis. The list is passed by value: through a reference
 /// its length would be written at each entry, and the loop would not become vector code.
 fn push_row(mut places: Vec<usize>, start: usize, len: usize, stride: usize) -> Vec<usize>
     requires view { IsView (row_view start len (signed_reading stride)) }
