@@ -85,7 +85,8 @@ pub(crate) fn holds(claim: Claim, alloc: Global, row: &Lists<'_>) -> bool {
     let ndim = row.first.as_slice().len();
     let holds_at_any_count = match claim {
         Claim::Built | Claim::Asked(_) => lengths_hold::<IxDyn>(claim, alloc, row),
-        Claim::Walked(Walk::All(order)) => lends(alloc, order, row),
+        Claim::Walked(Walk::All(order)) => lends(alloc, order, row, usize::MAX),
+        Claim::Walked(Walk::Starts(order)) => lends(alloc, order, row, 1),
         Claim::Walked(_) => true,
         _ => dimension_holds::<IxDyn>(claim, alloc, row),
     };

@@ -119,17 +119,21 @@ fn column_cursor(alloc: Global, dim: IxDyn) -> Result<IndexCursorF, AllocError> 
     IndexCursorF::new(alloc, sized(dim)?)
 }
 
-/// Whether the indices that a cursor lends are those of a row, and none follow.
-fn lends_all<C: LendingWalk + Drop>(
+/// Whether a cursor is to lend as many indices as a row says and the first ones are those of the row; and none
+/// follow where these are all.
+fn lends_first<C: LendingWalk + Drop>(
     alloc: Global,
     cursor: Result<C, AllocError>,
     row: &Lists<'_>,
+    first: usize,
 ) -> bool {
     let Ok(mut cursor) = cursor else {
         return false;
     };
+    let count = row.second.at(0);
     let mut indices = Row::new(row.answer);
-    for left in (0..row.second.at(0)).rev() {
+    let rest = count.saturating_sub(first);
+    for left in (rest..count).rev() {
         let item_is_next = match cursor.lend() {
             Some(index) => next_is(alloc, &mut indices, index),
             None => false,
@@ -138,7 +142,8 @@ fn lends_all<C: LendingWalk + Drop>(
             return false;
         }
     }
-    cursor.lend().is_none() && cursor.lend().is_none() && cursor.left() == 0
+    cursor.left() == rest
+        && (rest > 0 || cursor.lend().is_none() && cursor.lend().is_none() && cursor.left() == 0)
 }
 
 /// What a row says of the walks over a shape.
@@ -146,8 +151,8 @@ fn lends_all<C: LendingWalk + Drop>(
 pub(crate) enum Walk {
     /// How many indices it has, and these in an order.
     All(Order),
-    /// How many indices it has, and the first one.
-    Starts,
+    /// How many indices it has, and the first one in an order.
+    Starts(Order),
     /// That a loop over a copy of a walk comes to what is left, once so many indices are gone.
     Folds(usize),
     /// A factor, how many indices are gone, and what a fold over a copy of a walk in an order makes of the
@@ -167,7 +172,7 @@ fn walk_holds<T: IntoDimension, W: ExactSizeIterator<Item = T> + Clone + Drop>(
 {
     match claim {
         Walk::All(_) => yields(alloc, walk, row, usize::MAX),
-        Walk::Starts => yields(alloc, walk, row, 1),
+        Walk::Starts(_) => yields(alloc, walk, row, 1),
         Walk::Folds(gone) => folds(alloc, walk, gone, row.first),
         Walk::Folded(_) => is_folded(alloc, walk, row),
     }
@@ -187,7 +192,9 @@ where
     }
     let pattern = dim.into_pattern();
     match claim {
-        Walk::All(Order::ColumnMajor) | Walk::Folded(Order::ColumnMajor) => {
+        Walk::All(Order::ColumnMajor)
+        | Walk::Starts(Order::ColumnMajor)
+        | Walk::Folded(Order::ColumnMajor) => {
             match indices_iter_f(alloc, pattern) {
                 Ok(walk) => walk_holds(alloc, claim, walk, row),
                 Err(_) => false,
@@ -216,14 +223,15 @@ fn copies_are_walked<D: Dimension + Copy>(
         && walk_holds(alloc, claim, clone.into_iter(), row)
 }
 
-/// Whether a row says the indices of a shape in an order, as they are lent by its cursor.
-pub(crate) fn lends(alloc: Global, order: Order, row: &Lists<'_>) -> bool {
+/// Whether a row says how many indices a shape has and the first ones in an order, as they are lent by its
+/// cursor.
+pub(crate) fn lends(alloc: Global, order: Order, row: &Lists<'_>, first: usize) -> bool {
     let Ok(dim) = new_ixdyn(alloc, row.first.as_slice()) else {
         return false;
     };
     match order {
-        Order::RowMajor => lends_all(alloc, row_cursor(alloc, dim), row),
-        Order::ColumnMajor => lends_all(alloc, column_cursor(alloc, dim), row),
+        Order::RowMajor => lends_first(alloc, row_cursor(alloc, dim), row, first),
+        Order::ColumnMajor => lends_first(alloc, column_cursor(alloc, dim), row, first),
     }
 }
 
@@ -270,7 +278,13 @@ fn r7_rows_by_columns(rt: HostRuntime) {
 #[test]
 fn r7_rows_of_the_longest_shape(rt: HostRuntime) {
     let row = "18446744073709551615 18446744073709551615 => 0";
-    assert!(rt; row_holds(Claim::Walked(Walk::Starts), rt.alloc(), row));
+    assert!(rt;
+        row_holds(
+            Claim::Walked(Walk::Starts(Order::RowMajor)),
+            rt.alloc(),
+            row
+        )
+    );
 }
 
 // ---- folds

@@ -11,6 +11,8 @@ mod broadcast;
 #[cfg(test)]
 mod claim;
 #[cfg(test)]
+mod ends;
+#[cfg(test)]
 mod indexes;
 #[cfg(test)]
 mod indexing;
