@@ -11,6 +11,8 @@ mod broadcast;
 #[cfg(test)]
 mod claim;
 #[cfg(test)]
+mod contiguous;
+#[cfg(test)]
 mod indexes;
 #[cfg(test)]
 mod indexing;
