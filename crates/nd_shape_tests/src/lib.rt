@@ -11,6 +11,7 @@ mod broadcast;
 #[cfg(test)]
 mod claim;
 #[cfg(test)]
+mod contiguous;
 mod ends;
 #[cfg(test)]
 mod indexes;
