@@ -29,3 +29,5 @@ mod offsets;
 mod questions;
 #[cfg(test)]
 mod shapes;
+#[cfg(test)]
+mod small_layouts;
