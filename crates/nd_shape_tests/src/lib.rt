@@ -12,6 +12,7 @@ mod broadcast;
 mod claim;
 #[cfg(test)]
 mod contiguous;
+#[cfg(test)]
 mod ends;
 #[cfg(test)]
 mod indexes;
