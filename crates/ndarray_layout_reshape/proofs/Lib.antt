@@ -1,3 +1,4 @@
+pub mod Complete
 pub mod Joins
 pub mod Members
 pub mod Products
