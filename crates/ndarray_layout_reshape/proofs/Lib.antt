@@ -6,3 +6,4 @@ pub mod Ranks
 pub mod Splits
 pub mod Tails
 pub mod Values
+pub mod laws

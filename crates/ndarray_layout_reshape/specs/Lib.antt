@@ -1,1 +1,3 @@
 pub mod Joints
+pub mod Keeps
+pub mod Reading
