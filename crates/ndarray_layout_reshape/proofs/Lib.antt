@@ -1,4 +1,5 @@
 pub mod Complete
+pub mod Forced
 pub mod Joins
 pub mod Members
 pub mod Products

@@ -3,7 +3,7 @@ use Rattle.std.proofs.Common.{◌≡◌, ℕ, zero, suc, ◌+◌, ◌*◌, ◌%�
 use Rattle.std.specs.Prelude.{◌↔◌}
 use Rattle.std.proofs.lemmas.Int.{ints}
 use Rattle.std.proofs.lemmas.List.{get_or-map, length-map, length-reverse, reverse-reverse}
-use Rattle.std.proofs.lemmas.List.FromFn.{fill_by_all}
+use Rattle.std.proofs.lemmas.List.FromFn.{fill_by_all, length-map-range_with_len}
 use Rattle.nd_base.specs.declared.order.Order.{Order}
 use Rattle.nd_base.specs.declared.order.Order.TheVariants.{RowMajor, ColumnMajor}
 use Rattle.nd_base.specs.Indices.{below, indices_in}
@@ -14,10 +14,12 @@ use Rattle.nd_base.specs.Size.{size, is_empty}
 use Rattle.nd_base.proofs.laws.Indices.{get_or-indices_in, length-indices_in}
 use Rattle.nd_base.proofs.laws.Offset.{offset_of-reverse}
 use Rattle.nd_base.proofs.laws.Size.{size-reverse, is_empty-reverse}
+use Rattle.ndarray_layout_reshape.specs.ForcedStrides.{forced_strides, indices_after, offset_at_rank, stride_at}
 use Rattle.ndarray_layout_reshape.specs.Joints.{has_bad_joint}
 use Rattle.ndarray_layout_reshape.specs.Keeps.{Keeps}
 use Rattle.ndarray_layout_reshape.specs.Reading.{as_read}
 use Rattle.ndarray_layout_reshape.proofs.Complete.{PlacesAlike, good-of-alike, alike-of-good}
+use Rattle.ndarray_layout_reshape.proofs.Forced.{forced-of-alike, alike-forced}
 
 -- ---- reading
 pub length-as_read : {A : Type 0} (order : Order) (items : List A) → length (as_read order items) ≡ length items
@@ -108,3 +110,25 @@ keeps-exactly order from strides to some more e = (λ fits. make fits, λ k. fit
         let others = as_read order made.0 in
         let equal : length to ≡ length others = sym (length-as_read order to) ∙ made.1 ∙ sym (length-as_read order made.0) in
         (others, keeps-of-alike order from strides to others e equal fits.0 (subst (PlacesAlike (as_read order from) (as_read order strides) (as_read order to)) (sym (as_read-as_read order made.0)) made.2))
+
+-- ---- and then the strides of the definition do
+-- on each axis of more than one entry all strides that keep the places are those of the definition
+pub keeps-forced : (order : Order) (from : List ℕ) (strides : List ℤ) (to : List ℕ) (others : List ℤ) (axis : ℕ) → is_empty to ≡ false → length from ≡ length strides → Keeps order from strides to others →
+    axis < length to → 1 < get_or (as_read order to) axis 0 → get_or (as_read order others) axis (pos 0) ≡ offset_at_rank (as_read order from) (as_read order strides) (indices_after (as_read order to) axis)
+keeps-forced order from strides to others axis more e k l long =
+    let sizes = size-of-keeps order from strides to others k in
+    let equal : length (as_read order to) ≡ length (as_read order others) = length-as_read order to ∙ k.same_count ∙ sym (length-as_read order others) in
+    let count = length-as_read order to in
+    forced-of-alike (as_read order from) (as_read order strides) (as_read order to) (as_read order others) axis (is_empty-as_read order to ∙ more) (size-as_read order from ∙ sizes ∙ sym (size-as_read order to)) equal (alike-of-keeps order from strides to others e k) (omega arith) long
+
+pub forced-keeps : (order : Order) (from : List ℕ) (strides : List ℤ) (to : List ℕ) → is_empty from ≡ false → is_empty to ≡ false → length from ≡ length strides → Fits order from strides to → Keeps order from strides to (forced_strides order from strides to)
+forced-keeps order from strides to some more e fits =
+    let kept = (keeps-exactly order from strides to some more e).0 fits in
+    let others = kept.0 in
+    let sizes : size (as_read order from) ≡ size (as_read order to) = size-as_read order from ∙ fits.0 ∙ sym (size-as_read order to) in
+    let equal : length (as_read order to) ≡ length (as_read order others) = length-as_read order to ∙ kept.1.same_count ∙ sym (length-as_read order others) in
+    let at = stride_at (as_read order from) (as_read order strides) (as_read order to) in
+    let made : PlacesAlike (as_read order from) (as_read order strides) (as_read order to) (map at (below (length (as_read order to)))) = alike-forced (as_read order from) (as_read order strides) (as_read order to) (as_read order others) (is_empty-as_read order to ∙ more) sizes equal (alike-of-keeps order from strides to others e kept.1) in
+    let read : map at (below (length (as_read order to))) ≡ as_read order (forced_strides order from strides to) = ap (λ n. map at (below n)) (length-as_read order to) ∙ sym (as_read-as_read order (map at (below (length to)))) in
+    let counts : length to ≡ length (forced_strides order from strides to) = sym (length-map-range_with_len at 0 (length to)) ∙ sym (length-as_read order (map at (below (length to)))) in
+    keeps-of-alike order from strides to (forced_strides order from strides to) e counts fits.0 (subst (PlacesAlike (as_read order from) (as_read order strides) (as_read order to)) read made)
