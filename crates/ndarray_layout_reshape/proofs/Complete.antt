@@ -1,21 +1,21 @@
 -- Strides that keep the places of a layout, its axes read from the slowest on, are there exactly where no joint is bad.
-use Rattle.std.proofs.Common.{◌≡◌, ◌≢◌, ℕ, zero, suc, ◌+◌, ◌*◌, ◌<◌, ◌≤◌, Bool, true, false, ℤ, pos, ◌+ℤ◌, ◌*ℤ◌, List, [], ◌∷◌, ◌++◌, length, map, reverse, refl, sym, ap, ap₂, ◌∙◌, inl, inr, arith, subst}
-use Rattle.std.specs.Prelude.{nat_lt, not, ◌&&◌, ◌==◌, if◌then◌else◌}
+use Rattle.std.proofs.Common.{◌≡◌, ℕ, zero, suc, ◌+◌, ◌*◌, ◌<◌, ◌≤◌, true, false, ℤ, pos, List, [], ◌∷◌, ◌++◌, length, reverse, refl, sym, ap, ap₂, ◌∙◌, inl, inr, arith, subst}
+use Rattle.std.specs.Prelude.{nat_lt, not, ◌==◌}
 use Rattle.std.specs.List.{list_any}
-use Rattle.std.proofs.Math.Nat.{mul_comm, mul-one, mul-zero, mul-le-mul_left}
-use Rattle.std.proofs.lemmas.Bool.{cases_Bool, cases_eq, cond-true, both_ways, and_parts, and_from, lt-ltb, eqb-true, eq-eqb, cond-false, ltb-true, not-false, not-true, not_from_false}
+use Rattle.std.proofs.Math.Nat.{mul-le-mul_left}
+use Rattle.std.proofs.lemmas.Bool.{cases_Bool, cond-true, both_ways, and_parts, and_from, lt-ltb, eqb-true, eq-eqb, cond-false, ltb-true, not-true, not_from_false}
 use Rattle.std.proofs.lemmas.List.{map-append, reverse-append, reverse-reverse}
 use Rattle.nd_base.specs.Offset.{offset_of}
 use Rattle.nd_base.specs.Rank.{index_of_rank}
 use Rattle.nd_base.specs.Size.{size, is_empty}
 use Rattle.nd_base.proofs.laws.Size.{size_of_nonempty, size-reverse}
 use Rattle.ndarray_layout_reshape.specs.Joints.{loose_joints, cumulative_products, is_bad_joint, has_bad_joint}
-use Rattle.ndarray_layout_reshape.proofs.Joins.{long_axes, joints, joints-of-long, tail-of-joint, joint-of-tail, count-reverse, is_empty-rest}
+use Rattle.ndarray_layout_reshape.proofs.Joins.{long_axes, joints, joints-of-long, tail-of-joint, joint-of-tail, count-reverse}
 use Rattle.ndarray_layout_reshape.proofs.Members.{Member, member-of-any, any-of-member}
 use Rattle.ndarray_layout_reshape.proofs.Products.{long_lens, tail-of-product, product-of-tail, size-long_lens}
 use Rattle.ndarray_layout_reshape.proofs.Ranks.{long-long_axes, long-reverse, count-long_axes, lens-long_axes, offset-at-rank, long-kept, long-left}
-use Rattle.ndarray_layout_reshape.proofs.Splits.{TailsFit, HasAlike, AllLong, reaches}
-use Rattle.ndarray_layout_reshape.proofs.Tails.{IsLooseTail, IsTail, AreAlike, lens_of, tails_of_alike, count-pos}
+use Rattle.ndarray_layout_reshape.proofs.Splits.{TailsFit, AllLong, reaches}
+use Rattle.ndarray_layout_reshape.proofs.Tails.{IsLooseTail, IsTail, AreAlike, lens_of, tails_of_alike}
 use Rattle.ndarray_layout_reshape.proofs.Values.{Axes, value, count, AreLong}
 
 -- a loose tail is longer than one entry
@@ -85,8 +85,8 @@ product-of-good to j l good =
     let test = list_any (λ product. product == j) (cumulative_products to) in
     elim (cases_Bool test) [
       | inl found ↦
-        let m = member-of-any (λ product. product == j) (cumulative_products to) found in
-        subst (Member (cumulative_products to)) (eqb-true m.0 j m.2) m.1
+          let m = member-of-any (λ product. product == j) (cumulative_products to) found in
+          subst (Member (cumulative_products to)) (eqb-true m.0 j m.2) m.1
       | inr missing ↦ absurd (both_ways (is_bad_joint to j) good (and_from (nat_lt j (size to)) (not test) (lt-ltb j (size to) l) (not_from_false test missing)))
     ]
 
@@ -104,19 +104,19 @@ pub good-of-tails : (from : List ℕ) (strides : List ℤ) (to : List ℕ) → i
 good-of-tails from strides to some more same sizes fit =
     elim (cases_Bool (has_bad_joint from strides to)) [
       | inl bad ↦
-        let found = member-of-any (is_bad_joint to) (loose_joints from strides) bad in
-        let j = found.0 in
-        let rows = long_axes from strides in
-        let member : Member (joints rows) j = subst (λ js. Member js j) (joints-of-long from strides some) found.1 in
-        let at = tail-of-joint rows j member in
-        let p = at.0 in
-        let long = loose-more (reverse rows) p (long-reverse rows (long-long_axes from strides)) at.2 in
-        let whole : j * p ≡ size to = at.1 ∙ count-long_axes from strides some same ∙ sizes in
-        let product = product-of-tail to j p more (omega arith) (fit p at.2) whole in
-        let test = list_any (λ product. product == j) (cumulative_products to) in
-        let yes_product : test ≡ true = any-of-member (λ product. product == j) (cumulative_products to) j product (eq-eqb j j refl) in
-        let no_product : test ≡ false = not-true test (and_parts (nat_lt j (size to)) (not test) found.2).1 in
-        absurd (both_ways test no_product yes_product)
+          let found = member-of-any (is_bad_joint to) (loose_joints from strides) bad in
+          let j = found.0 in
+          let rows = long_axes from strides in
+          let member : Member (joints rows) j = subst (λ js. Member js j) (joints-of-long from strides some) found.1 in
+          let at = tail-of-joint rows j member in
+          let p = at.0 in
+          let long = loose-more (reverse rows) p (long-reverse rows (long-long_axes from strides)) at.2 in
+          let whole : j * p ≡ size to = at.1 ∙ count-long_axes from strides some same ∙ sizes in
+          let product = product-of-tail to j p more (omega arith) (fit p at.2) whole in
+          let test = list_any (λ product. product == j) (cumulative_products to) in
+          let yes_product : test ≡ true = any-of-member (λ product. product == j) (cumulative_products to) j product (eq-eqb j j refl) in
+          let no_product : test ≡ false = not-true test (and_parts (nat_lt j (size to)) (not test) found.2).1 in
+          absurd (both_ways test no_product yes_product)
       | inr good ↦ good
     ]
 
@@ -135,7 +135,7 @@ good-of-alike from strides to others some more same equal sizes alike =
     let lines_count : count (fast to others) ≡ size to = count-reverse lines ∙ count-long_axes to others more equal in
     let lens : lens_of (fast to others) ≡ fast_lens to = lens-reverse lines ∙ ap reverse (lens-long_axes to others equal) in
     let values : AreAlike (fast from strides) (fast to others) = λ r l.
-        sym (offset-at-rank from strides r some same (omega arith)) ∙ sym (alike r (omega arith)) ∙ offset-at-rank to others r more equal (omega arith) in
+    sym (offset-at-rank from strides r some same (omega arith)) ∙ sym (alike r (omega arith)) ∙ offset-at-rank to others r more equal (omega arith) in
     good-of-tails from strides to some more same sizes (λ p l. subst (λ ls. IsTail ls p) lens (tails_of_alike (length (fast from strides) + length (fast to others)) (fast from strides) (fast to others) (omega arith) rows_long lines_long (rows_count ∙ sizes ∙ sym lines_count) values p l))
 
 -- strides for the axes of more than one entry are strides for all
@@ -173,9 +173,12 @@ from-axes from strides to axes some more same sizes lens alike =
     let turned : lens_of (reverse axes) ≡ long_lens to = lens-reverse axes ∙ ap reverse lens ∙ reverse-reverse (long_lens to) in
     let made = strides-of to (reverse axes) turned in
     let back : fast to made.strides ≡ axes = ap reverse made.longer ∙ reverse-reverse axes in
-    let rows_count : count (fast from strides) ≡ size from = count-reverse (long_axes from strides) ∙ count-long_axes from strides some same in
-    (made.strides, made.same_count, λ r l.
-    offset-at-rank to made.strides r more made.same_count (omega arith) ∙ ap (λ xs. value xs r) back ∙ sym (alike r (omega arith)) ∙ sym (offset-at-rank from strides r some same l))
+    let rows_count : count (fast from strides) ≡ size from = count-reverse (long_axes from strides) ∙ count-long_axes from strides some same in (
+      made.strides,
+      made.same_count,
+      λ r l.
+          offset-at-rank to made.strides r more made.same_count (omega arith) ∙ ap (λ xs. value xs r) back ∙ sym (alike r (omega arith)) ∙ sym (offset-at-rank from strides r some same l),
+    )
 
 pub alike-of-good : (from : List ℕ) (strides : List ℤ) (to : List ℕ) → is_empty from ≡ false → is_empty to ≡ false → length from ≡ length strides → size from ≡ size to → has_bad_joint from strides to ≡ false → (others : List ℤ) × (length to ≡ length others) × PlacesAlike from strides to others
 alike-of-good from strides to some more same sizes good =

@@ -1,10 +1,9 @@
 -- The strides of a reshape are those of each one that keeps the places, on all axes of more than one entry.
-use Rattle.std.proofs.Common.{◌≡◌, ◌≢◌, ℕ, zero, suc, ◌+◌, ◌*◌, ◌/◌, ◌%◌, ◌<◌, ◌≤◌, Bool, true, false, ℤ, pos, ◌+ℤ◌, ◌*ℤ◌, List, [], ◌∷◌, ◌++◌, length, get_or, drop, map, reverse, refl, sym, ap, ap₂, ◌∙◌, inl, inr, arith, add-one}
-use Rattle.std.specs.Prelude.{nat_lt, ◌&&◌, if◌then◌else◌}
+use Rattle.std.proofs.Common.{◌≡◌, ℕ, zero, suc, ◌+◌, ◌*◌, ◌/◌, ◌%◌, ◌<◌, ◌≤◌, true, false, ℤ, pos, ◌+ℤ◌, ◌*ℤ◌, List, [], ◌∷◌, length, get_or, drop, map, refl, sym, ap, ap₂, ◌∙◌, inl, inr, arith, add-one}
+use Rattle.std.specs.Prelude.{nat_lt}
 use Rattle.std.proofs.Math.Nat.{div-eq_of_lt, div_self, mod-eq_of_lt, mod_self, mul-le-mul_left, mul_comm, zero-div}
-use Rattle.std.proofs.lemmas.Bool.{cases_Bool, cases_lt, cond-true, lt-ltb, ltb-true, ltb-false, and_parts}
+use Rattle.std.proofs.lemmas.Bool.{cases_lt, cond-true, lt-ltb, ltb-true, and_parts}
 use Rattle.std.proofs.lemmas.Int.{ints}
-use Rattle.std.proofs.lemmas.List.{length-map}
 use Rattle.std.proofs.lemmas.List.FromFn.{length-map-range_with_len, get_or-map-range_with_len}
 use Rattle.nd_base.specs.Indices.{below, is_index}
 use Rattle.nd_base.specs.Offset.{offset_of}
@@ -12,7 +11,7 @@ use Rattle.nd_base.specs.Rank.{index_of_rank}
 use Rattle.nd_base.specs.Size.{size, is_empty}
 use Rattle.nd_base.proofs.laws.Rank.{is_index-index_of_rank}
 use Rattle.nd_base.proofs.laws.Size.{size_of_nonempty, size_from, size_drop_le, drop_nonempty}
-use Rattle.ndarray_layout_reshape.specs.ForcedStrides.{indices_after, offset_at_rank, stride_of_axis, stride_of_one, stride_at}
+use Rattle.ndarray_layout_reshape.specs.ForcedStrides.{indices_after, offset_at_rank, stride_of_one, stride_at}
 use Rattle.ndarray_layout_reshape.proofs.Complete.{PlacesAlike}
 use Rattle.ndarray_layout_reshape.proofs.Joins.{is_empty-rest}
 
@@ -70,8 +69,8 @@ offset-agree (len ∷ lens) (stride ∷ strides) (other ∷ others) (i ∷ index
     elim (cases_lt 1 len) [
       | inl long ↦ ap₂ (λ s z. (pos i *ℤ s) +ℤ z) (agree 0 (omega arith) long) rest
       | inr short ↦
-        let first : i ≡ 0 = omega arith in
-        ap (λ n. (pos n *ℤ stride) +ℤ offset_of strides index) first ∙ omega (arith, ints, rest) ∙ sym (ap (λ n. (pos n *ℤ other) +ℤ offset_of others index) first)
+          let first : i ≡ 0 = omega arith in
+          ap (λ n. (pos n *ℤ stride) +ℤ offset_of strides index) first ∙ omega (arith, ints, rest) ∙ sym (ap (λ n. (pos n *ℤ other) +ℤ offset_of others index) first)
     ]
 
 -- ---- strides that keep the places

@@ -1,5 +1,5 @@
 -- A place where two longer axes don't step as one: by the product of the lengths before it, and by that of the others.
-use Rattle.std.proofs.Common.{◌≡◌, ◌≢◌, ℕ, zero, suc, ◌+◌, ◌*◌, ◌<◌, ◌≤◌, Bool, true, false, ℤ, pos, ◌*ℤ◌, List, [], ◌∷◌, ◌++◌, length, map, reverse, refl, sym, ap, ap₂, ◌∙◌, ◌⊎◌, inl, inr, arith, subst, append_assoc, Option, Some, None}
+use Rattle.std.proofs.Common.{◌≡◌, ◌≢◌, ℕ, ◌*◌, Bool, true, false, ℤ, pos, ◌*ℤ◌, List, [], ◌∷◌, ◌++◌, map, reverse, refl, sym, ap, ap₂, ◌∙◌, inl, inr, arith, subst, append_assoc, Option, Some, None}
 use Rattle.std.specs.Prelude.{nat_lt, if◌then◌else◌, ◌&&◌, ◌==◌}
 use Rattle.std.proofs.Math.Nat.{mul_assoc, mul_comm, mul-one, one-mul}
 use Rattle.std.proofs.lemmas.List.{reverse-append, reverse-reverse}
@@ -10,7 +10,7 @@ use Rattle.nd_base.specs.Size.{is_empty}
 use Rattle.ndarray_layout_reshape.specs.Joints.{first_longer, is_loose, loose_joints}
 use Rattle.ndarray_layout_reshape.proofs.Members.{Member, member-left, member-right, member-cases, member-times, times-member}
 use Rattle.ndarray_layout_reshape.proofs.Values.{Axes, count}
-use Rattle.ndarray_layout_reshape.proofs.Tails.{IsApart, IsLooseTail}
+use Rattle.ndarray_layout_reshape.proofs.Tails.{IsLooseTail}
 
 -- two axes that follow one another and don't step as one, the inner one first
 pub record Break (axes : Axes) : Type 0 where
@@ -31,9 +31,10 @@ break-of-tail (axis ∷ []) p (inl h) = absurd h.1
 break-of-tail (axis ∷ next ∷ axes) p (inl h) = (record { front = []; inner = axis; outer = next; back = axes; parts = refl; apart = h.1 }, omega (arith, h.0))
 break-of-tail (axis ∷ axes) p (inr h) =
     let rest = break-of-tail axes h.0 h.2 in
-    let at = rest.0 in
-    (record { front = axis ∷ at.front; inner = at.inner; outer = at.outer; back = at.back; parts = ap (λ xs. axis ∷ xs) at.parts; apart = at.apart },
-    h.1 ∙ ap (λ n. axis.0 * n) rest.1 ∙ sym (mul_assoc axis.0 (count at.front) at.inner.0))
+    let at = rest.0 in (
+      record { front = axis ∷ at.front; inner = at.inner; outer = at.outer; back = at.back; parts = ap (λ xs. axis ∷ xs) at.parts; apart = at.apart },
+      h.1 ∙ ap (λ n. axis.0 * n) rest.1 ∙ sym (mul_assoc axis.0 (count at.front) at.inner.0),
+    )
 
 pub tail-of-break : (front : Axes) (inner outer : ℕ × ℤ) (back : Axes) → outer.1 ≢ pos inner.0 *ℤ inner.1 → IsLooseTail (front ++ inner ∷ outer ∷ back) (count front * inner.0)
 tail-of-break [] inner outer back h = inl (omega arith, h)
@@ -143,11 +144,12 @@ joint-of-member (axis ∷ axes) j m =
     elim (member-cases (if is_loose axis.1 (head_of axes) then axis.0 ∷ [] else []) (map (λ joint. axis.0 * joint) (joints axes)) j m) [
       | inl h ↦ here axis axes (of-choice (is_loose axis.1 (head_of axes)) axis.0 j h)
       | inr h ↦
-        let t = times-member axis.0 (joints axes) j h in
-        let rest = joint-of-member axes t.0 t.2 in
-        let at = rest.0 in
-        (record { before = axis ∷ at.before; outer = at.outer; inner = at.inner; after = at.after; parts = ap (λ xs. axis ∷ xs) at.parts; apart = at.apart },
-        t.1 ∙ ap (λ n. axis.0 * n) rest.1 ∙ sym (mul_assoc axis.0 (count at.before) at.outer.0))
+          let t = times-member axis.0 (joints axes) j h in
+          let rest = joint-of-member axes t.0 t.2 in
+          let at = rest.0 in (
+            record { before = axis ∷ at.before; outer = at.outer; inner = at.inner; after = at.after; parts = ap (λ xs. axis ∷ xs) at.parts; apart = at.apart },
+            t.1 ∙ ap (λ n. axis.0 * n) rest.1 ∙ sym (mul_assoc axis.0 (count at.before) at.outer.0),
+          )
     ]
   where
     here : (first : ℕ × ℤ) (others : Axes) → (is_loose first.1 (head_of others) ≡ true) × (first.0 ≡ j) → (at : Joint (first ∷ others)) × (j ≡ joint_at at)
@@ -194,11 +196,12 @@ pub tail-of-joint : (axes : Axes) (j : ℕ) → Member (joints axes) j → (p : 
 tail-of-joint axes j m =
     let found = joint-of-member axes j m in
     let at = found.0 in
-    let p = count at.after * at.inner.0 in
-    (p,
-    ap (λ n. n * p) found.1 ∙ joint-and-tail at.before at.outer at.inner at.after ∙ sym (ap count at.parts),
-    subst (λ xs. IsLooseTail xs p) (sym (ap reverse at.parts ∙ reversed-parts at.before at.outer at.inner at.after))
-    (subst (λ n. IsLooseTail (reverse at.after ++ at.inner ∷ at.outer ∷ reverse at.before) (n * at.inner.0)) (count-reverse at.after) (tail-of-break (reverse at.after) at.inner at.outer (reverse at.before) at.apart)))
+    let p = count at.after * at.inner.0 in (
+      p,
+      ap (λ n. n * p) found.1 ∙ joint-and-tail at.before at.outer at.inner at.after ∙ sym (ap count at.parts),
+      subst (λ xs. IsLooseTail xs p) (sym (ap reverse at.parts ∙ reversed-parts at.before at.outer at.inner at.after))
+          (subst (λ n. IsLooseTail (reverse at.after ++ at.inner ∷ at.outer ∷ reverse at.before) (n * at.inner.0)) (count-reverse at.after) (tail-of-break (reverse at.after) at.inner at.outer (reverse at.before) at.apart)),
+    )
 
 pub joint-of-tail : (axes : Axes) (p : ℕ) → IsLooseTail (reverse axes) p → (j : ℕ) × (j * p ≡ count axes) × Member (joints axes) j
 joint-of-tail axes p l =
@@ -207,7 +210,8 @@ joint-of-tail axes p l =
     let before = reverse at.back in
     let after = reverse at.front in
     let parts : axes ≡ before ++ at.outer ∷ at.inner ∷ after = sym (reverse-reverse axes) ∙ ap reverse at.parts ∙ reversed-parts at.front at.inner at.outer at.back in
-    let j = count before * at.outer.0 in
-    (j,
-    ap (λ n. j * n) (found.1 ∙ ap (λ n. n * at.inner.0) (sym (count-reverse at.front))) ∙ joint-and-tail before at.outer at.inner after ∙ sym (ap count parts),
-    subst (λ xs. Member (joints xs) j) (sym parts) (member-of-joint before at.outer at.inner after at.apart))
+    let j = count before * at.outer.0 in (
+      j,
+      ap (λ n. j * n) (found.1 ∙ ap (λ n. n * at.inner.0) (sym (count-reverse at.front))) ∙ joint-and-tail before at.outer at.inner after ∙ sym (ap count parts),
+      subst (λ xs. Member (joints xs) j) (sym parts) (member-of-joint before at.outer at.inner after at.apart),
+    )

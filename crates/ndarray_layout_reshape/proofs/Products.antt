@@ -1,7 +1,7 @@
 -- The cumulative products of a shape, and the tails of its longer axes turned round, are two counts of one place.
-use Rattle.std.proofs.Common.{◌≡◌, ◌≢◌, ℕ, zero, suc, ◌+◌, ◌*◌, ◌<◌, ◌≤◌, Bool, true, false, List, [], ◌∷◌, ◌++◌, length, map, reverse, refl, sym, ap, ap₂, ◌∙◌, ◌⊎◌, inl, inr, arith, subst, append_assoc}
-use Rattle.std.specs.Prelude.{nat_lt, if◌then◌else◌, ◌&&◌, ◌==◌, ◌||◌}
-use Rattle.std.proofs.Math.Nat.{mul_assoc, mul_comm, mul-one, one-mul}
+use Rattle.std.proofs.Common.{◌≡◌, ℕ, ◌*◌, ◌<◌, true, false, List, [], ◌∷◌, ◌++◌, reverse, refl, sym, ap, ap₂, ◌∙◌, inl, inr, subst}
+use Rattle.std.specs.Prelude.{nat_lt, if◌then◌else◌, ◌==◌, ◌||◌}
+use Rattle.std.proofs.Math.Nat.{mul_comm, one-mul}
 use Rattle.std.proofs.lemmas.Bool.{cases_Bool, cond-true, cond-false, or_parts}
 use Rattle.std.proofs.lemmas.List.{reverse-append, reverse-reverse}
 use Rattle.nd_base.specs.Size.{size, is_empty}
@@ -106,8 +106,8 @@ long-cut (len ∷ lens) front back e =
     elim (cases_Bool (nat_lt 1 len)) [
       | inl long ↦ long-cut-kept len lens back (λ xs t. long-cut lens xs back t) long front (sym (long-kept len lens long) ∙ e)
       | inr short ↦
-        let rest = long-cut lens front back (sym (long-left len lens short) ∙ e) in
-        record { first = len ∷ rest.first; last = rest.last; parts = ap (λ xs. len ∷ xs) rest.parts; firsts = long-left len rest.first short ∙ rest.firsts; lasts = rest.lasts }
+          let rest = long-cut lens front back (sym (long-left len lens short) ∙ e) in
+          record { first = len ∷ rest.first; last = rest.last; parts = ap (λ xs. len ∷ xs) rest.parts; firsts = long-left len rest.first short ∙ rest.firsts; lasts = rest.lasts }
     ]
 
 -- ---- the two counts

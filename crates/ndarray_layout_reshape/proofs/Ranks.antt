@@ -1,8 +1,8 @@
 -- How far the index of a rank lies, by the longer axes of a layout, the fastest first.
-use Rattle.std.proofs.Common.{◌≡◌, ◌≢◌, ℕ, zero, suc, ◌+◌, ◌*◌, ◌/◌, ◌%◌, ◌<◌, ◌≤◌, true, false, ℤ, pos, ◌+ℤ◌, ◌*ℤ◌, List, [], ◌∷◌, ◌++◌, length, map, reverse, refl, sym, ap, ap₂, ◌∙◌, inl, inr, arith, subst}
-use Rattle.std.specs.Prelude.{nat_lt, if◌then◌else◌}
+use Rattle.std.proofs.Common.{◌≡◌, ℕ, ◌+◌, ◌*◌, ◌/◌, ◌%◌, ◌<◌, true, false, ℤ, pos, ◌+ℤ◌, ◌*ℤ◌, List, [], ◌∷◌, ◌++◌, length, reverse, refl, sym, ap, ap₂, ◌∙◌, inl, inr, arith, subst}
+use Rattle.std.specs.Prelude.{nat_lt}
 use Rattle.std.proofs.Math.Arith.{mod-mul}
-use Rattle.std.proofs.Math.Nat.{div-div-eq-div-mul, div-one, div-eq_of_lt, mod-eq_of_lt, mul_comm, mul-one, one-mul}
+use Rattle.std.proofs.Math.Nat.{div-div-eq-div-mul, div-one, div-eq_of_lt, mod-eq_of_lt, mul_comm, one-mul}
 use Rattle.std.proofs.lemmas.Bool.{cases_Bool, cond-true, cond-false, ltb-true}
 use Rattle.std.proofs.lemmas.Int.{ints}
 use Rattle.std.proofs.lemmas.List.{reverse-append}
@@ -12,7 +12,7 @@ use Rattle.nd_base.specs.Rank.{index_of_rank}
 use Rattle.nd_base.specs.Size.{size, is_empty}
 use Rattle.nd_base.proofs.laws.Size.{size_of_nonempty}
 use Rattle.ndarray_layout_reshape.proofs.Values.{Axes, value, count, AreLong}
-use Rattle.ndarray_layout_reshape.proofs.Joins.{long_axes, is_empty-rest, one-of-short, count-reverse, count-append}
+use Rattle.ndarray_layout_reshape.proofs.Joins.{long_axes, is_empty-rest, one-of-short, count-reverse}
 use Rattle.ndarray_layout_reshape.proofs.Products.{long_lens}
 use Rattle.ndarray_layout_reshape.proofs.Tails.{count-pos, lens_of}
 
@@ -96,19 +96,19 @@ offset-at-rank (len ∷ lens) (stride ∷ strides) r h e l =
     let rest = offset-at-rank lens strides (r % size lens) none (omega arith) (mod_below r (size lens) some) in
     elim (cases_Bool (nat_lt 1 len)) [
       | inl long ↦
-        let below : r / size lens < len = div_below r (size lens) len some l in
-        let again : value fast (r % size lens) ≡ value fast r = ap (λ n. value fast (r % n)) (sym whole) ∙ value-mod fast r (long-reverse rows (long-long_axes lens strides)) in
-        let turned : reverse (long_axes (len ∷ lens) (stride ∷ strides)) ≡ fast ++ (len, stride) ∷ [] = ap reverse (long-kept len lens stride strides long) ∙ reverse-append ((len, stride) ∷ []) rows in
-        let last : value ((len, stride) ∷ []) (r / size lens) ≡ pos (r / size lens) *ℤ stride = ap (λ i. (pos i *ℤ stride) +ℤ pos 0) (mod-eq_of_lt below) ∙ omega (arith, ints) in
-        let split : value (fast ++ (len, stride) ∷ []) r ≡ value fast r +ℤ value ((len, stride) ∷ []) (r / size lens) = value-append fast ((len, stride) ∷ []) r ∙ ap (λ n. value fast r +ℤ value ((len, stride) ∷ []) (r / n)) whole in
-        ap (λ z. (pos (r / size lens) *ℤ stride) +ℤ z) (rest ∙ again) ∙ omega (arith, ints, last, split) ∙ sym (ap (λ xs. value xs r) turned)
+          let below : r / size lens < len = div_below r (size lens) len some l in
+          let again : value fast (r % size lens) ≡ value fast r = ap (λ n. value fast (r % n)) (sym whole) ∙ value-mod fast r (long-reverse rows (long-long_axes lens strides)) in
+          let turned : reverse (long_axes (len ∷ lens) (stride ∷ strides)) ≡ fast ++ (len, stride) ∷ [] = ap reverse (long-kept len lens stride strides long) ∙ reverse-append ((len, stride) ∷ []) rows in
+          let last : value ((len, stride) ∷ []) (r / size lens) ≡ pos (r / size lens) *ℤ stride = ap (λ i. (pos i *ℤ stride) +ℤ pos 0) (mod-eq_of_lt below) ∙ omega (arith, ints) in
+          let split : value (fast ++ (len, stride) ∷ []) r ≡ value fast r +ℤ value ((len, stride) ∷ []) (r / size lens) = value-append fast ((len, stride) ∷ []) r ∙ ap (λ n. value fast r +ℤ value ((len, stride) ∷ []) (r / n)) whole in
+          ap (λ z. (pos (r / size lens) *ℤ stride) +ℤ z) (rest ∙ again) ∙ omega (arith, ints, last, split) ∙ sym (ap (λ xs. value xs r) turned)
       | inr short ↦
-        let one = one-of-short len lens h short in
-        let below : r < size lens = omega (arith, ap (λ n. n * size lens) one, one-mul (size lens)) in
-        let first : r / size lens ≡ 0 = div-eq_of_lt below in
-        let same : r % size lens ≡ r = mod-eq_of_lt below in
-        ap₂ (λ i q. (pos i *ℤ stride) +ℤ offset_of strides (index_of_rank lens q)) first same
-        ∙ omega (arith, ints)
-        ∙ sym (ap (λ q. offset_of strides (index_of_rank lens q)) same) ∙ rest ∙ ap (value fast) same
-        ∙ sym (ap (λ xs. value (reverse xs) r) (long-left len lens stride strides short))
+          let one = one-of-short len lens h short in
+          let below : r < size lens = omega (arith, ap (λ n. n * size lens) one, one-mul (size lens)) in
+          let first : r / size lens ≡ 0 = div-eq_of_lt below in
+          let same : r % size lens ≡ r = mod-eq_of_lt below in
+          ap₂ (λ i q. (pos i *ℤ stride) +ℤ offset_of strides (index_of_rank lens q)) first same
+          ∙ omega (arith, ints)
+          ∙ sym (ap (λ q. offset_of strides (index_of_rank lens q)) same) ∙ rest ∙ ap (value fast) same
+          ∙ sym (ap (λ xs. value (reverse xs) r) (long-left len lens stride strides short))
     ]

@@ -1,14 +1,13 @@
 -- Strides with which axes of other lengths have the places of a layout, where its loose tails are theirs.
-use Rattle.std.proofs.Common.{◌≡◌, ◌≢◌, ℕ, zero, suc, ◌+◌, ◌*◌, ◌/◌, ◌%◌, ◌<◌, ◌≤◌, ℤ, pos, ◌+ℤ◌, ◌*ℤ◌, List, [], ◌∷◌, length, map, All, refl, sym, ap, ◌∙◌, ◌⊎◌, inl, inr, arith, subst}
+use Rattle.std.proofs.Common.{◌≡◌, ◌≢◌, ℕ, zero, suc, ◌+◌, ◌*◌, ◌/◌, ◌%◌, ◌<◌, ◌≤◌, ℤ, pos, ◌+ℤ◌, ◌*ℤ◌, List, [], ◌∷◌, length, refl, sym, ap, ◌∙◌, ◌⊎◌, inl, inr, arith, subst}
 use Rattle.std.proofs.Math.Nat.{mul_assoc, mul_comm, mul-le-mul_left, mul-one, mul-zero}
 use Rattle.std.proofs.lemmas.Bool.{cases_eq, cases_Bool, both_ways}
 use Rattle.std.proofs.lemmas.Bool.Decides.{Decides-int_eq}
-use Rattle.std.proofs.lemmas.Int.{ints}
 use Rattle.std.proofs.lemmas.Nat.{div_below}
 use Rattle.std.specs.Ordering.{int_eq}
 use Rattle.nd_base.specs.Size.{size}
-use Rattle.ndarray_layout_reshape.proofs.Values.{Axes, value, count, AreLong, value-merged}
-use Rattle.ndarray_layout_reshape.proofs.Tails.{IsApart, IsLooseTail, IsTail, lens_of, IsMerge, merge, AreAlike, count-pos, cancel, none-left}
+use Rattle.ndarray_layout_reshape.proofs.Values.{Axes, count, AreLong}
+use Rattle.ndarray_layout_reshape.proofs.Tails.{IsApart, IsLooseTail, IsTail, lens_of, merge, AreAlike, cancel, none-left}
 
 pub int_cases : (x y : ℤ) → (x ≡ y) ⊎ (x ≢ y)
 int_cases x y =
@@ -121,16 +120,16 @@ by-first n reach axis axes len lens few small h g alone e fit =
     let fits : TailsFit ((len * q, axis.1) ∷ axes) (len ∷ lens) = subst (λ m. TailsFit ((m, axis.1) ∷ axes) (len ∷ lens)) part.1 fit in
     let made : HasAlike ((len * q, axis.1) ∷ axes) (len ∷ lens) = elim (cases_eq q 1) [
       | inl lone ↦
-        let whole : len * q ≡ len = ap (λ m. len * m) lone ∙ mul-one len in
-        subst (λ m. HasAlike ((m, axis.1) ∷ axes) (len ∷ lens)) (sym whole)
-        (by-whole n reach len axis.1 axes lens (omega arith) (g.0, h.1) g.1 (ap (λ m. m * count axes) (sym whole) ∙ given) (subst (λ m. TailsFit ((m, axis.1) ∷ axes) (len ∷ lens)) whole fits))
+          let whole : len * q ≡ len = ap (λ m. len * m) lone ∙ mul-one len in
+          subst (λ m. HasAlike ((m, axis.1) ∷ axes) (len ∷ lens)) (sym whole)
+          (by-whole n reach len axis.1 axes lens (omega arith) (g.0, h.1) g.1 (ap (λ m. m * count axes) (sym whole) ∙ given) (subst (λ m. TailsFit ((m, axis.1) ∷ axes) (len ∷ lens)) whole fits))
       | inr several ↦
-        elim (cases_eq q 0) [
-          | inl none ↦
-            let nothing : len * q ≡ 0 = ap (λ m. len * m) none ∙ mul-zero len in
-            absurd (omega (arith, part.1))
-          | inr some ↦ by-part n reach len q axis.1 axes lens small g.0 (omega arith) h.1 g.1 given fits
-        ]
+          elim (cases_eq q 0) [
+            | inl none ↦
+                let nothing : len * q ≡ 0 = ap (λ m. len * m) none ∙ mul-zero len in
+                absurd (omega (arith, part.1))
+            | inr some ↦ by-part n reach len q axis.1 axes lens small g.0 (omega arith) h.1 g.1 given fits
+          ]
     ] in
     subst (λ m. HasAlike ((m, axis.1) ∷ axes) (len ∷ lens)) (sym part.1) made
 
@@ -148,10 +147,10 @@ reaches (suc n) (axis ∷ []) (len ∷ lens) small h g e fit = by-first n (reach
 reaches (suc n) (axis ∷ next ∷ axes) (len ∷ lens) small h g e fit =
     elim (int_cases next.1 (pos axis.0 *ℤ axis.1)) [
       | inl same ↦
-        let m = merge axis.0 next.0 axis.1 next.1 axes h same in
-        let merged : Axes = (axis.0 * next.0, axis.1) ∷ axes in
-        let a : HasAlike merged (len ∷ lens) = reaches n merged (len ∷ lens) (omega arith) m.long g (m.entries ∙ e) (λ p l. fit p (m.loose_back p l)) in
-        let entries = m.entries in
-        (a.0, a.1, λ r l. sym (m.places r) ∙ a.2 r (omega arith))
+          let m = merge axis.0 next.0 axis.1 next.1 axes h same in
+          let merged : Axes = (axis.0 * next.0, axis.1) ∷ axes in
+          let a : HasAlike merged (len ∷ lens) = reaches n merged (len ∷ lens) (omega arith) m.long g (m.entries ∙ e) (λ p l. fit p (m.loose_back p l)) in
+          let entries = m.entries in
+          (a.0, a.1, λ r l. sym (m.places r) ∙ a.2 r (omega arith))
       | inr differ ↦ by-first n (reaches n) axis (next ∷ axes) len lens (omega arith) (omega arith) h g (inr differ) e fit
     ]

@@ -1,9 +1,9 @@
 -- A layout's list of places tells where its axes can't be walked as one.
-use Rattle.std.proofs.Common.{◌≡◌, ◌≢◌, ℕ, zero, suc, ◌+◌, ◌*◌, ◌<◌, ◌≤◌, ℤ, pos, ◌+ℤ◌, ◌*ℤ◌, List, [], ◌∷◌, length, map, refl, sym, ap, ◌∙◌, ◌⊎◌, inl, inr, arith, subst, ◌/◌}
+use Rattle.std.proofs.Common.{◌≡◌, ◌≢◌, ℕ, zero, suc, ◌+◌, ◌*◌, ◌<◌, ◌≤◌, ℤ, pos, ◌*ℤ◌, List, [], ◌∷◌, length, map, refl, sym, ap, ◌∙◌, ◌⊎◌, inl, inr, arith, subst, ◌/◌}
 use Rattle.std.proofs.Math.Nat.{mul_assoc, mul_comm, mul-le-mul_left, mul-one, mul-div_cancel_left}
 use Rattle.std.proofs.lemmas.Bool.{cases_order}
 use Rattle.std.proofs.lemmas.Int.{ints}
-use Rattle.ndarray_layout_reshape.proofs.Values.{Axes, value, count, AreLong, value-first, value-below, value-whole, value-merged, times_times}
+use Rattle.ndarray_layout_reshape.proofs.Values.{Axes, value, count, AreLong, value-below, value-whole, value-merged, times_times}
 
 -- the product of the lengths of the first axes, up to an axis after which the next one's stride isn't the whole of it
 abbrev pub IsApart : ℕ → ℤ → Axes → Type 0
@@ -172,18 +172,18 @@ tails_of_alike zero (axis ∷ axes) (other ∷ others) fits h g e alike p loose 
 tails_of_alike (suc n) (axis ∷ axes) (other ∷ others) fits h g e alike p loose =
     elim (cases_order axis.0 other.0) [
       | inl same ↦
-        let even : AreAlike (axis ∷ axes) ((axis.0, other.1) ∷ others) = subst (λ m. AreAlike (axis ∷ axes) ((m, other.1) ∷ others)) (sym same) alike in
-        let counts : count axes ≡ count others = cancel axis.0 (count axes) (count others) (let one = h.0 in omega arith) (e ∙ ap (λ m. m * count others) (sym same)) in
-        let rest = λ (q : ℕ) (l : IsLooseTail axes q). tails_of_alike n axes others (omega arith) h.1 g.1 counts (alike-rest axis.0 axis.1 axes other.1 others (let one = h.0 in omega arith) even) q l in
-        subst (λ m. IsTail (m ∷ lens_of others) p) same (tail-further axis.0 axis.1 axes (lens_of others) p rest loose)
+          let even : AreAlike (axis ∷ axes) ((axis.0, other.1) ∷ others) = subst (λ m. AreAlike (axis ∷ axes) ((m, other.1) ∷ others)) (sym same) alike in
+          let counts : count axes ≡ count others = cancel axis.0 (count axes) (count others) (let one = h.0 in omega arith) (e ∙ ap (λ m. m * count others) (sym same)) in
+          let rest = λ (q : ℕ) (l : IsLooseTail axes q). tails_of_alike n axes others (omega arith) h.1 g.1 counts (alike-rest axis.0 axis.1 axes other.1 others (let one = h.0 in omega arith) even) q l in
+          subst (λ m. IsTail (m ∷ lens_of others) p) same (tail-further axis.0 axis.1 axes (lens_of others) p rest loose)
       | inr (inl less) ↦
-        let m = merged-alike axes others axis other h g less e alike in
-        let fewer = m.1.shorter in
-        tails_of_alike n m.0 (other ∷ others) (omega arith) m.1.long g (m.1.entries ∙ e) (alike-merged (axis ∷ axes) m.0 (other ∷ others) m.1 alike) p (m.1.loose p loose)
+          let m = merged-alike axes others axis other h g less e alike in
+          let fewer = m.1.shorter in
+          tails_of_alike n m.0 (other ∷ others) (omega arith) m.1.long g (m.1.entries ∙ e) (alike-merged (axis ∷ axes) m.0 (other ∷ others) m.1 alike) p (m.1.loose p loose)
       | inr (inr more) ↦
-        let turned = alike-turned (axis ∷ axes) (other ∷ others) e alike in
-        let m = merged-alike others axes other axis g h more (sym e) turned in
-        let fewer = m.1.shorter in
-        let back = alike-turned m.0 (axis ∷ axes) (m.1.entries ∙ sym e) (alike-merged (other ∷ others) m.0 (axis ∷ axes) m.1 turned) in
-        m.1.tails p (tails_of_alike n (axis ∷ axes) m.0 (omega arith) h m.1.long (e ∙ sym m.1.entries) back p loose)
+          let turned = alike-turned (axis ∷ axes) (other ∷ others) e alike in
+          let m = merged-alike others axes other axis g h more (sym e) turned in
+          let fewer = m.1.shorter in
+          let back = alike-turned m.0 (axis ∷ axes) (m.1.entries ∙ sym e) (alike-merged (other ∷ others) m.0 (axis ∷ axes) m.1 turned) in
+          m.1.tails p (tails_of_alike n (axis ∷ axes) m.0 (omega arith) h m.1.long (e ∙ sym m.1.entries) back p loose)
     ]

@@ -1,9 +1,9 @@
 -- Layouts as lists of axes, a length with a stride each, of which the first moves fastest; and how far the index of a rank lies
 -- from the first one.
-use Rattle.std.proofs.Common.{◌≡◌, ◌≢◌, ℕ, zero, suc, ◌+◌, ◌*◌, ◌/◌, ◌%◌, ◌<◌, ◌≤◌, ℤ, pos, negsuc, ◌+ℤ◌, ◌*ℤ◌, List, [], ◌∷◌, ◌++◌, length, map, All, refl, sym, ap, ◌∙◌, ◌⊎◌, inl, inr, arith}
+use Rattle.std.proofs.Common.{◌≡◌, ℕ, zero, suc, ◌+◌, ◌*◌, ◌/◌, ◌%◌, ◌<◌, ℤ, pos, negsuc, ◌+ℤ◌, ◌*ℤ◌, List, [], ◌∷◌, refl, sym, ap, ◌∙◌, arith}
 use Rattle.std.proofs.Math.Arith.{mod-mul}
 use Rattle.std.proofs.Math.IntN.{neg_ℤ, *ℤ-zero, pos-*ℤ-pos, pos-*ℤ-negsuc}
-use Rattle.std.proofs.Math.Nat.{div-div-eq-div-mul, div-eq_of_lt, mod-eq_of_lt, zero-div, mul-zero, mul_assoc, mul-div_cancel_left, mul-mod_right, mul_comm, mul-le-mul_left}
+use Rattle.std.proofs.Math.Nat.{div-div-eq-div-mul, div-eq_of_lt, mod-eq_of_lt, zero-div, mul-zero, mul_assoc, mul-div_cancel_left, mul-mod_right, mul_comm}
 use Rattle.std.proofs.lemmas.Int.{ints}
 
 -- ---- axes
@@ -62,7 +62,7 @@ value-merged len next stride axes r h g =
     let parts : r % (next * len) ≡ (r / len % next) * len + r % len = mod-mul r g h in
     let turned : len * next ≡ next * len = mul_comm len next in
     let both : pos (r % (len * next)) *ℤ stride ≡ (pos ((r / len % next) * len) *ℤ stride) +ℤ (pos (r % len) *ℤ stride) =
-        ap (λ n. pos (r % n) *ℤ stride) turned ∙ ap (λ n. pos n *ℤ stride) parts ∙ times_sum ((r / len % next) * len) (r % len) stride in
+    ap (λ n. pos (r % n) *ℤ stride) turned ∙ ap (λ n. pos n *ℤ stride) parts ∙ times_sum ((r / len % next) * len) (r % len) stride in
     let whole = times_times (r / len % next) len stride in
     let rest : value axes (r / len / next) ≡ value axes (r / (len * next)) = ap (value axes) (div-div-eq-div-mul r len next) in
     omega (arith, ints, both, whole, rest)

@@ -1,5 +1,5 @@
 -- Laws of strides that keep the places of a layout: there are some exactly where the sizes agree and no joint is bad.
-use Rattle.std.proofs.Common.{◌≡◌, ℕ, zero, suc, ◌+◌, ◌*◌, ◌%◌, ◌<◌, ◌≤◌, false, ℤ, pos, ◌+ℤ◌, ◌*ℤ◌, List, [], ◌∷◌, ◌++◌, length, get_or, map, reverse, refl, sym, ap, ap₂, ◌∙◌, inl, inr, arith, subst}
+use Rattle.std.proofs.Common.{◌≡◌, ℕ, suc, ◌%◌, ◌<◌, false, ℤ, pos, List, [], ◌∷◌, length, get_or, map, reverse, refl, sym, ap, ◌∙◌, arith, subst}
 use Rattle.std.specs.Prelude.{◌↔◌}
 use Rattle.std.proofs.lemmas.Int.{ints}
 use Rattle.std.proofs.lemmas.List.{get_or-map, length-map, length-reverse, reverse-reverse}
@@ -95,15 +95,19 @@ keeps-exactly order from strides to some more e = (λ fits. make fits, λ k. fit
   where
     from_read : is_empty (as_read order from) ≡ false
     from_read = is_empty-as_read order from ∙ some
+
     to_read : is_empty (as_read order to) ≡ false
     to_read = is_empty-as_read order to ∙ more
+
     counts : length (as_read order from) ≡ length (as_read order strides)
     counts = length-as_read order from ∙ e ∙ sym (length-as_read order strides)
+
     fit : (others : List ℤ) × Keeps order from strides to others → Fits order from strides to
     fit k =
         let sizes = size-of-keeps order from strides to k.0 k.1 in
         let equal : length (as_read order to) ≡ length (as_read order k.0) = length-as_read order to ∙ k.1.same_count ∙ sym (length-as_read order k.0) in
         (sizes, good-of-alike (as_read order from) (as_read order strides) (as_read order to) (as_read order k.0) from_read to_read counts equal (size-as_read order from ∙ sizes ∙ sym (size-as_read order to)) (alike-of-keeps order from strides to k.0 e k.1))
+
     make : Fits order from strides to → (others : List ℤ) × Keeps order from strides to others
     make fits =
         let made = alike-of-good (as_read order from) (as_read order strides) (as_read order to) from_read to_read counts (size-as_read order from ∙ fits.0 ∙ sym (size-as_read order to)) fits.1 in
