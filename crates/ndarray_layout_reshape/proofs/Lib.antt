@@ -1,0 +1,10 @@
+pub mod Complete
+pub mod Forced
+pub mod Joins
+pub mod Members
+pub mod Products
+pub mod Ranks
+pub mod Splits
+pub mod Tails
+pub mod Values
+pub mod laws

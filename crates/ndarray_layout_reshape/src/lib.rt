@@ -1,0 +1,2 @@
+//! Reshapes: which strides keep the places of a layout under another shape.
+#![tactic(auto)]
