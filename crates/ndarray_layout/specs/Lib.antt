@@ -63,3 +63,5 @@ pub use Rattle.ndarray_layout_reshape.specs.ForcedStrides
 pub use Rattle.ndarray_layout_reshape.specs.Joints
 pub use Rattle.ndarray_layout_reshape.specs.Keeps
 pub use Rattle.ndarray_layout_reshape.specs.Reading
+pub use Rattle.ndarray_layout_reshape.specs.ReshapeFault
+pub use Rattle.ndarray_layout_reshape.specs.Walk as ReshapeWalk
