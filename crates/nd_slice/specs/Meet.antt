@@ -26,7 +26,7 @@ axis_picks fit [] (elem.Index index ∷ elems) = []
 axis_picks fit (len ∷ shape) (elem.Slice start end step ∷ elems) = elem_picks fit len (elem.Slice start end step) ∷ axis_picks fit shape elems
 axis_picks fit (len ∷ shape) (elem.Index index ∷ elems) = elem_picks fit len (elem.Index index) ∷ axis_picks fit shape elems
 
--- some index of the shape is, on every axis, among the picks of both arguments
+-- one index of the shape has, for each axis, an entry that both arguments pick
 abbrev pub Meet : Fit → List ℕ → List SliceInfoElem → List SliceInfoElem → Type 0
 Meet fit shape one other =
     (index : List ℕ) × IsTrue (is_index shape index)

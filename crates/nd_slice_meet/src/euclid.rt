@@ -84,9 +84,9 @@ pub fn extended_gcd(a: i128, b: i128) -> (i128, (i128, i128))
     ensures second_within { a ≢ pos 0 → b ≢ pos 0 → magnitude result.1.1 ≤ magnitude a / magnitude result.0 }
 {
     if a == 0 {
-        (b.abs(), (0, b.signum()))
+        (b.abs(), (0i128, b.signum()))
     } else if b == 0 {
-        (a.abs(), (a.signum(), 0))
+        (a.abs(), (a.signum(), 0i128))
     } else {
         let found = common_divisor(a.unsigned_abs() as usize, b.unsigned_abs() as usize);
         let x = with_sign(found.first, (a < 0) == found.first_is_greater);
