@@ -11,7 +11,8 @@ use Rattle.nd_base.specs.Size.{size, is_empty}
 use Rattle.nd_base.proofs.laws.Size.{size_of_nonempty, size-reverse}
 use Rattle.ndarray_layout_reshape.specs.Joints.{loose_joints, cumulative_products, is_bad_joint, has_bad_joint}
 use Rattle.ndarray_layout_reshape.proofs.Joins.{long_axes, joints, joints-of-long, tail-of-joint, joint-of-tail, count-reverse, is_empty-rest}
-use Rattle.ndarray_layout_reshape.proofs.Members.{Member, member-of-any, any-of-member}
+use Rattle.ndarray_layout_reshape.specs.Walk.{Member, PlacesAlike}
+use Rattle.ndarray_layout_reshape.proofs.Members.{member-of-any, any-of-member}
 use Rattle.ndarray_layout_reshape.proofs.Products.{long_lens, tail-of-product, product-of-tail, size-long_lens}
 use Rattle.ndarray_layout_reshape.proofs.Ranks.{long-long_axes, long-reverse, count-long_axes, lens-long_axes, offset-at-rank, long-kept, long-left}
 use Rattle.ndarray_layout_reshape.proofs.Splits.{TailsFit, HasAlike, AllLong, reaches}
@@ -121,10 +122,6 @@ good-of-tails from strides to some more same sizes fit =
     ]
 
 -- ---- strides that keep the places
--- as far as the ranks go, the index of a rank lies as far along the one layout as along the other
-abbrev pub PlacesAlike : List ℕ → List ℤ → List ℕ → List ℤ → Type 0
-PlacesAlike from strides to others = (r : ℕ) → r < size from → offset_of others (index_of_rank to r) ≡ offset_of strides (index_of_rank from r)
-
 pub good-of-alike : (from : List ℕ) (strides : List ℤ) (to : List ℕ) (others : List ℤ) → is_empty from ≡ false → is_empty to ≡ false → length from ≡ length strides → length to ≡ length others → size from ≡ size to → PlacesAlike from strides to others → has_bad_joint from strides to ≡ false
 good-of-alike from strides to others some more same equal sizes alike =
     let rows = long_axes from strides in

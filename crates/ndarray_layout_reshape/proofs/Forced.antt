@@ -13,7 +13,7 @@ use Rattle.nd_base.specs.Size.{size, is_empty}
 use Rattle.nd_base.proofs.laws.Rank.{is_index-index_of_rank}
 use Rattle.nd_base.proofs.laws.Size.{size_of_nonempty, size_from, size_drop_le, drop_nonempty}
 use Rattle.ndarray_layout_reshape.specs.ForcedStrides.{indices_after, offset_at_rank, stride_of_axis, stride_of_one, stride_at}
-use Rattle.ndarray_layout_reshape.proofs.Complete.{PlacesAlike}
+use Rattle.ndarray_layout_reshape.specs.Walk.{PlacesAlike}
 use Rattle.ndarray_layout_reshape.proofs.Joins.{is_empty-rest}
 
 -- the first index lies at the beginning

@@ -8,7 +8,8 @@ use Rattle.std.proofs.lemmas.Bool.Decides.{Decides-int_eq}
 use Rattle.std.specs.Ordering.{int_eq}
 use Rattle.nd_base.specs.Size.{is_empty}
 use Rattle.ndarray_layout_reshape.specs.Joints.{first_longer, is_loose, loose_joints}
-use Rattle.ndarray_layout_reshape.proofs.Members.{Member, member-left, member-right, member-cases, member-times, times-member}
+use Rattle.ndarray_layout_reshape.specs.Walk.{Member}
+use Rattle.ndarray_layout_reshape.proofs.Members.{member-left, member-right, member-cases, member-times, times-member}
 use Rattle.ndarray_layout_reshape.proofs.Values.{Axes, count}
 use Rattle.ndarray_layout_reshape.proofs.Tails.{IsApart, IsLooseTail}
 
@@ -118,19 +119,19 @@ joints-of-long (len ∷ lens) (stride ∷ strides) h =
     ]
 
 -- ---- a break is a loose joint
-of-choice : (b : Bool) (x j : ℕ) → Member (if b then x ∷ [] else []) j → (b ≡ true) × (x ≡ j)
+pub of-choice : (b : Bool) (x j : ℕ) → Member (if b then x ∷ [] else []) j → (b ≡ true) × (x ≡ j)
 of-choice true x j (inl e) = (refl, e)
 of-choice true x j (inr m) = absurd m
 of-choice false x j m = absurd m
 
-to-choice : (b : Bool) (x : ℕ) → b ≡ true → Member (if b then x ∷ [] else []) x
+pub to-choice : (b : Bool) (x : ℕ) → b ≡ true → Member (if b then x ∷ [] else []) x
 to-choice true x h = inl refl
 to-choice false x h = absurd (cc)
 
-loose-apart : (stride : ℤ) (next : ℕ × ℤ) → is_loose stride (Some next) ≡ true → stride ≢ pos next.0 *ℤ next.1
+pub loose-apart : (stride : ℤ) (next : ℕ × ℤ) → is_loose stride (Some next) ≡ true → stride ≢ pos next.0 *ℤ next.1
 loose-apart stride next h = λ e. both_ways (int_eq stride (pos next.0 *ℤ next.1)) (not-true (int_eq stride (pos next.0 *ℤ next.1)) h) ((Decides-int_eq stride (pos next.0 *ℤ next.1)).1 e)
 
-apart-loose : (stride : ℤ) (next : ℕ × ℤ) → stride ≢ pos next.0 *ℤ next.1 → is_loose stride (Some next) ≡ true
+pub apart-loose : (stride : ℤ) (next : ℕ × ℤ) → stride ≢ pos next.0 *ℤ next.1 → is_loose stride (Some next) ≡ true
 apart-loose stride next h =
     elim (cases_Bool (int_eq stride (pos next.0 *ℤ next.1))) [
       | inl same ↦ absurd (h ((Decides-int_eq stride (pos next.0 *ℤ next.1)).0 same))

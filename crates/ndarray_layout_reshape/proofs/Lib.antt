@@ -1,10 +1,16 @@
+pub mod Advance
+pub mod Blocks
 pub mod Complete
 pub mod Forced
+pub mod Halfway
 pub mod Joins
 pub mod Members
 pub mod Products
 pub mod Ranks
+pub mod Reached
+pub mod Runs
 pub mod Splits
+pub mod Steps
 pub mod Tails
 pub mod Values
 pub mod laws

@@ -3,10 +3,7 @@ use Rattle.std.proofs.Common.{◌≡◌, ℕ, ◌*◌, Bool, true, false, ◌||�
 use Rattle.std.specs.List.{list_any}
 use Rattle.std.proofs.lemmas.Bool.{or_cases}
 use Rattle.std.proofs.Math.Bool.{or-true, true-or}
-
-abbrev pub Member : List ℕ → ℕ → Type 0
-Member [] x = ⊥
-Member (y ∷ ys) x = (y ≡ x) ⊎ Member ys x
+use Rattle.ndarray_layout_reshape.specs.Walk.{Member}
 
 -- a test that some element passes
 pub member-of-any : (p : ℕ → Bool) (xs : List ℕ) → list_any p xs ≡ true → (x : ℕ) × Member xs x × (p x ≡ true)

@@ -8,7 +8,8 @@ use Rattle.nd_base.specs.Size.{size, is_empty}
 use Rattle.nd_base.proofs.laws.Size.{size-append, size-reverse, size_of_nonempty}
 use Rattle.ndarray_layout_reshape.specs.Joints.{cumulative_products}
 use Rattle.ndarray_layout_reshape.proofs.Joins.{is_empty-rest, one-of-short}
-use Rattle.ndarray_layout_reshape.proofs.Members.{Member, member-times, times-member}
+use Rattle.ndarray_layout_reshape.specs.Walk.{Member}
+use Rattle.ndarray_layout_reshape.proofs.Members.{member-times, times-member}
 use Rattle.ndarray_layout_reshape.proofs.Tails.{IsTail, tail-one, cancel}
 
 -- a list in two parts
@@ -111,7 +112,7 @@ long-cut (len ∷ lens) front back e =
     ]
 
 -- ---- the two counts
-nonempty-parts : (front back : List ℕ) → is_empty (front ++ back) ≡ false → (is_empty front ≡ false) × (is_empty back ≡ false)
+pub nonempty-parts : (front back : List ℕ) → is_empty (front ++ back) ≡ false → (is_empty front ≡ false) × (is_empty back ≡ false)
 nonempty-parts [] back h = (refl, h)
 nonempty-parts (len ∷ front) back h =
     let head = or_parts (len == 0) (is_empty (front ++ back)) h in

@@ -18,7 +18,8 @@ use Rattle.ndarray_layout_reshape.specs.ForcedStrides.{forced_strides, indices_a
 use Rattle.ndarray_layout_reshape.specs.Joints.{has_bad_joint}
 use Rattle.ndarray_layout_reshape.specs.Keeps.{Keeps}
 use Rattle.ndarray_layout_reshape.specs.Reading.{as_read}
-use Rattle.ndarray_layout_reshape.proofs.Complete.{PlacesAlike, good-of-alike, alike-of-good}
+use Rattle.ndarray_layout_reshape.specs.Walk.{PlacesAlike}
+use Rattle.ndarray_layout_reshape.proofs.Complete.{good-of-alike, alike-of-good}
 use Rattle.ndarray_layout_reshape.proofs.Forced.{forced-of-alike, alike-forced}
 
 -- ---- reading

@@ -1,0 +1,160 @@
+-- Both shapes are read for a part of a block.
+use Rattle.std.proofs.Common.{◌≡◌, ◌≢◌, ℕ, zero, suc, ◌+◌, ◌-◌, ◌*◌, ◌<◌, ◌≤◌, Bool, true, false, ℤ, pos, ◌+ℤ◌, ◌*ℤ◌, List, [], ◌∷◌, ◌++◌, length, get_or, take, drop, refl, sym, ap, ap₂, ◌∙◌, ◌⊎◌, inl, inr, arith, subst, Some}
+use Rattle.std.proofs.Math.Nat.{mul-le-mul_left, mul-one}
+use Rattle.std.proofs.lemmas.Bool.{cases_eq}
+use Rattle.std.proofs.lemmas.List.{take_all}
+use Rattle.nd_base.specs.declared.error.ErrorKind.{ErrorKind}
+use Rattle.nd_base.specs.declared.error.ErrorKind.TheVariants.{IncompatibleShape, IncompatibleLayout}
+use Rattle.nd_base.specs.Size.{size, is_empty, limit}
+use Rattle.nd_base.proofs.laws.Size.{size_take_more, size_take_le}
+use Rattle.ndarray_layout_reshape.specs.Joints.{cumulative_products}
+use Rattle.ndarray_layout_reshape.specs.ReshapeFault.{fault_as_read}
+use Rattle.ndarray_layout_reshape.specs.Walk.{Member, GoodBelow, CanWalk, IsReached, IsBlock}
+use Rattle.ndarray_layout_reshape.proofs.Blocks.{IsBetween, first-block, block-longer, block-one, longer-first, longer-one, between-first, between-to, between-from, between-none}
+use Rattle.ndarray_layout_reshape.proofs.Reached.{LastLonger, take-mono, member-product, good-more, joint-of-apart, no-joint, bad-joint-fault, sizes-fault}
+
+pub record IsHalfway (from : List ℕ) (strides : List ℤ) (to : List ℕ) (i k from_end to_end from_product to_product : ℕ) (step : ℤ) : Type 0 where
+  pub from_in : from_end ≤ length from
+  pub to_in : to_end ≤ length to
+  pub to_ahead : k < to_end
+  pub from_size : size (take from_end from) ≡ from_product
+  pub to_size : size (take to_end to) ≡ to_product
+  pub joints : GoodBelow from strides to from_product
+  pub block : IsBlock from strides i from_end step
+  pub between : from_product ≢ to_product → IsBetween from strides to from_end to_end step
+
+-- ---- products
+pub next-product : (lens : List ℕ) (k product len : ℕ) → k < length lens → size (take k lens) ≡ product → len ≡ get_or lens k 0 → size (take (k + 1) lens) ≡ product * len
+next-product lens k product len l e g = size_take_more lens k l ∙ ap₂ (λ x y. x * y) e (sym g)
+
+pub product-fits : (lens : List ℕ) (k product len : ℕ) → is_empty lens ≡ false → size lens ≤ limit → k < length lens → size (take k lens) ≡ product → len ≡ get_or lens k 0 → product * len ≤ limit
+product-fits lens k product len h f l e g =
+    let next = next-product lens k product len l e g in
+    let less = size_take_le lens (k + 1) h in
+    omega arith
+
+pub len-some : (lens : List ℕ) (k : ℕ) → is_empty lens ≡ false → k < length lens → 0 < get_or lens k 0
+len-some lens k h l =
+    let next = size_take_more lens k l in
+    let first = take-mono lens 0 (k + 1) h (omega arith) in
+    elim (cases_eq (get_or lens k 0) 0) [
+      | inl none ↦ absurd (omega (arith, ap (λ n. size (take k lens) * n) none))
+      | inr some ↦ omega arith
+    ]
+
+pub len-fits : (lens : List ℕ) (k : ℕ) → is_empty lens ≡ false → size lens ≤ limit → k < length lens → get_or lens k 0 ≤ limit
+len-fits lens k h f l =
+    let next = size_take_more lens k l in
+    let first = take-mono lens 0 k h (omega arith) in
+    let less = size_take_le lens (k + 1) h in
+    let more : get_or lens k 0 * 1 ≤ get_or lens k 0 * size (take k lens) = mul-le-mul_left (get_or lens k 0) first in
+    omega (arith, turned (get_or lens k 0) (size (take k lens)))
+  where
+    turned : (a b : ℕ) → a * b ≡ b * a
+    turned a b = omega arith
+
+-- ---- one more axis
+pub halfway-first : (from : List ℕ) (strides : List ℤ) (to : List ℕ) (i k product len other : ℕ) (step : ℤ) → CanWalk from strides to → IsReached from strides to i k product → i < length from → k < length to →
+    (get_or from i 0 ≡ get_or to k 0) ⊎ ((1 < get_or from i 0) × (1 < get_or to k 0)) → len ≡ get_or from i 0 → other ≡ get_or to k 0 → step ≡ get_or strides i (pos 0) → IsHalfway from strides to i k (i + 1) (k + 1) (product * len) (product * other) step
+halfway-first from strides to i k product len other step w at l g lens e f s =
+    let from_next = next-product from i product len l at.from_size e in
+    let to_next = next-product to k product other g at.to_size f in
+    let here : Member (cumulative_products to) (size (take i from)) = subst (Member (cumulative_products to)) (at.to_size ∙ sym at.from_size) (member-product to k (omega arith)) in
+    record {
+      from_in = omega arith;
+      to_in = omega arith;
+      to_ahead = omega arith;
+      from_size = from_next;
+      to_size = to_next;
+      joints = subst (GoodBelow from strides to) from_next (good-more from strides to i w.some (λ m. here) (subst (GoodBelow from strides to) (sym at.from_size) at.joints));
+      block = subst (IsBlock from strides i (i + 1)) (sym s) (first-block from strides i w.same_count l);
+      between = λ apart. elim lens [
+        | inl same ↦ absurd (apart (ap (λ n. product * n) (e ∙ same ∙ sym f)))
+        | inr long ↦ subst (IsBetween from strides to (i + 1) (k + 1)) (sym s) (between-first from strides to i k w.some w.more l g (at.from_size ∙ sym at.to_size) long.0 long.1)
+      ];
+    }
+
+pub halfway-to : (from : List ℕ) (strides : List ℤ) (to : List ℕ) (i k from_end to_end from_product to_product len : ℕ) (step : ℤ) → CanWalk from strides to → IsHalfway from strides to i k from_end to_end from_product to_product step →
+    to_product < from_product → to_end < length to → len ≡ get_or to to_end 0 → IsHalfway from strides to i k from_end (to_end + 1) from_product (to_product * len) step
+halfway-to from strides to i k from_end to_end from_product to_product len step w at less l e =
+    let before = at.between (omega arith) in
+    let ahead = at.to_ahead in
+    let from_size = at.from_size in
+    let to_size = at.to_size in
+    record {
+      from_in = at.from_in;
+      to_in = omega arith;
+      to_ahead = omega arith;
+      from_size = at.from_size;
+      to_size = next-product to to_end to_product len l at.to_size e;
+      joints = at.joints;
+      block = at.block;
+      between = λ apart. between-to from strides to from_end to_end step w.more l (omega arith) before;
+    }
+
+pub halfway-one : (from : List ℕ) (strides : List ℤ) (to : List ℕ) (i k from_end to_end from_product to_product len : ℕ) (step : ℤ) → CanWalk from strides to → IsHalfway from strides to i k from_end to_end from_product to_product step →
+    from_product < to_product → from_end < length from → len ≡ get_or from from_end 0 → len ≤ 1 → IsHalfway from strides to i k (from_end + 1) to_end (from_product * len) to_product step
+halfway-one from strides to i k from_end to_end from_product to_product len step w at less l e short =
+    let before = at.between (omega arith) in
+    let some = len-some from from_end w.some l in
+    let one : get_or from from_end 0 ≡ 1 = omega arith in
+    let same : from_product * len ≡ from_product = ap (λ n. from_product * n) (e ∙ one) ∙ mul-one from_product in
+    let from_size = at.from_size in
+    let to_size = at.to_size in
+    record {
+      from_in = omega arith;
+      to_in = at.to_in;
+      to_ahead = at.to_ahead;
+      from_size = next-product from from_end from_product len l at.from_size e;
+      to_size = at.to_size;
+      joints = subst (GoodBelow from strides to) (sym same) at.joints;
+      block = block-one from strides i from_end step w.same_count l one at.block;
+      between = λ apart. between-from from strides to from_end to_end step step w.some l (omega arith) (longer-one from strides from_end step one before.last) before;
+    }
+
+pub halfway-longer : (from : List ℕ) (strides : List ℤ) (to : List ℕ) (i k from_end to_end from_product to_product len : ℕ) (step next : ℤ) → CanWalk from strides to → IsHalfway from strides to i k from_end to_end from_product to_product step →
+    from_product < to_product → from_end < length from → len ≡ get_or from from_end 0 → 1 < len → next ≡ get_or strides from_end (pos 0) → step ≡ pos len *ℤ next → IsHalfway from strides to i k (from_end + 1) to_end (from_product * len) to_product next
+halfway-longer from strides to i k from_end to_end from_product to_product len step next w at less l e long s whole =
+    let before = at.between (omega arith) in
+    let from_next = next-product from from_end from_product len l at.from_size e in
+    let more : 1 < get_or from from_end 0 = omega arith in
+    let fits : step ≡ pos (get_or from from_end 0) *ℤ get_or strides from_end (pos 0) = whole ∙ ap₂ (λ n z. pos n *ℤ z) e s in
+    let from_size = at.from_size in
+    let to_size = at.to_size in
+    record {
+      from_in = omega arith;
+      to_in = at.to_in;
+      to_ahead = at.to_ahead;
+      from_size = from_next;
+      to_size = at.to_size;
+      joints = subst (GoodBelow from strides to) from_next (good-more from strides to from_end w.some (λ m. absurd (no-joint from strides from_end step w.some w.same_count l before.last more fits m)) (subst (GoodBelow from strides to) (sym at.from_size) at.joints));
+      block = subst (IsBlock from strides i (from_end + 1)) (sym s) (block-longer from strides i from_end step w.same_count l fits at.block);
+      between = λ apart. between-from from strides to from_end to_end step next w.some l (omega arith) (subst (LastLonger from strides (from_end + 1)) (sym s) (longer-first from strides from_end more)) before;
+    }
+
+-- ---- faults
+pub halfway-to-end : (from : List ℕ) (strides : List ℤ) (to : List ℕ) (i k from_end to_end from_product to_product : ℕ) (step : ℤ) → CanWalk from strides to → IsHalfway from strides to i k from_end to_end from_product to_product step →
+    to_product < from_product → to_end ≡ length to → fault_as_read from strides to ≡ Some IncompatibleShape
+halfway-to-end from strides to i k from_end to_end from_product to_product step w at less l =
+    let whole : size to ≡ to_product = sym (ap size (take_all to_end to (omega arith))) ∙ at.to_size in
+    let part = size_take_le from from_end w.some in
+    let from_size = at.from_size in
+    sizes-fault from strides to from_product w.some at.joints (inr (omega arith)) (λ same. omega arith)
+
+pub halfway-from-end : (from : List ℕ) (strides : List ℤ) (to : List ℕ) (i k from_end to_end from_product to_product : ℕ) (step : ℤ) → CanWalk from strides to → IsHalfway from strides to i k from_end to_end from_product to_product step →
+    from_product < to_product → from_end ≡ length from → fault_as_read from strides to ≡ Some IncompatibleShape
+halfway-from-end from strides to i k from_end to_end from_product to_product step w at less l =
+    let whole : size from ≡ from_product = sym (ap size (take_all from_end from (omega arith))) ∙ at.from_size in
+    let part = size_take_le to to_end w.more in
+    let to_size = at.to_size in
+    sizes-fault from strides to from_product w.some at.joints (inl (omega arith)) (λ same. omega arith)
+
+pub halfway-apart : (from : List ℕ) (strides : List ℤ) (to : List ℕ) (i k from_end to_end from_product to_product len : ℕ) (step next : ℤ) → CanWalk from strides to → IsHalfway from strides to i k from_end to_end from_product to_product step →
+    from_product < to_product → from_end < length from → len ≡ get_or from from_end 0 → 1 < len → next ≡ get_or strides from_end (pos 0) → step ≢ pos len *ℤ next → fault_as_read from strides to ≡ Some IncompatibleLayout
+halfway-apart from strides to i k from_end to_end from_product to_product len step next w at less l e long s apart =
+    let before = at.between (omega arith) in
+    let from_size = at.from_size in
+    let to_size = at.to_size in
+    let part = size_take_le to to_end w.more in
+    let joint = joint-of-apart from strides from_end step w.same_count l before.last (omega arith) (λ same. apart (same ∙ sym (ap₂ (λ n z. pos n *ℤ z) e s))) in
+    bad-joint-fault from strides to (size (take from_end from)) joint (omega arith) (between-none from strides to from_end to_end step w.more (omega arith) before)

@@ -1,0 +1,55 @@
+-- How far a reshape has read two shapes from the slowest axis on. All lists are in the order of reading.
+use Rattle.std.specs.Prelude.{◌≡◌, ℕ, ◌+◌, ◌-◌, ◌*◌, ◌<◌, ◌≤◌, Bool, false, ℤ, pos, ◌*ℤ◌, ◌⊎◌, List, [], ◌∷◌, length, take, drop, refl}
+use Rattle.nd_base.specs.Offset.{offset_of}
+use Rattle.nd_base.specs.Rank.{index_of_rank}
+use Rattle.nd_base.specs.Size.{size, is_empty, limit}
+use Rattle.nd_base.specs.Span.{span}
+use Rattle.ndarray_layout_reshape.specs.Joints.{loose_joints, cumulative_products}
+
+-- as far as the ranks go, the index of a rank lies as far along the one layout as along the other
+abbrev pub PlacesAlike : List ℕ → List ℤ → List ℕ → List ℤ → Type 0
+PlacesAlike from strides to others = (r : ℕ) → r < size from → offset_of others (index_of_rank to r) ≡ offset_of strides (index_of_rank from r)
+
+-- each longer axis steps as far as all later ones do together, where the last one steps so far
+abbrev pub IsDense : List ℕ → List ℤ → ℤ → Type 0
+IsDense [] strides step = Unit {0}
+IsDense (len ∷ lens) [] step = ⊥
+IsDense (len ∷ lens) (stride ∷ strides) step = (1 < len → stride ≡ pos (size lens) *ℤ step) × IsDense lens strides step
+
+-- the items from one place up to another
+abbrev pub segment : {A : Type 0} → ℕ → ℕ → List A → List A
+segment start end items = take (end - start) (drop start items)
+
+abbrev pub Member : List ℕ → ℕ → Type 0
+Member [] x = ⊥
+Member (y ∷ ys) x = (y ≡ x) ⊎ Member ys x
+
+-- no loose joint before this product is bad
+abbrev pub GoodBelow : List ℕ → List ℤ → List ℕ → ℕ → Type 0
+GoodBelow from strides to product = (j : ℕ) → Member (loose_joints from strides) j → j < product → Member (cumulative_products to) j
+
+-- a layout whose numbers fit, and a shape with an index each
+pub record CanWalk (from : List ℕ) (strides : List ℤ) (to : List ℕ) : Type 0 where
+  pub same_count : length from ≡ length strides
+  pub some : is_empty from ≡ false
+  pub more : is_empty to ≡ false
+  pub from_fits : size from ≤ limit
+  pub to_fits : size to ≤ limit
+  pub span_fits : span from strides ≤ limit
+
+-- so many axes of each shape are read, which have as many indices
+pub record IsReached (from : List ℕ) (strides : List ℤ) (to : List ℕ) (from_axes to_axes product : ℕ) : Type 0 where
+  pub from_in : from_axes ≤ length from
+  pub to_in : to_axes ≤ length to
+  pub from_size : size (take from_axes from) ≡ product
+  pub to_size : size (take to_axes to) ≡ product
+  pub joints : GoodBelow from strides to product
+
+-- the axes read next step as one
+pub record IsBlock (from : List ℕ) (strides : List ℤ) (from_axes from_end : ℕ) (step : ℤ) : Type 0 where
+  pub ahead : from_axes < from_end
+  pub dense : IsDense (segment from_axes from_end from) (segment from_axes from_end strides) step
+
+-- examples
+middle : segment {A = ℕ} 1 3 (5 ∷ 6 ∷ 7 ∷ 8 ∷ []) ≡ 6 ∷ 7 ∷ []
+middle = refl
