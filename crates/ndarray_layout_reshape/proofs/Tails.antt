@@ -135,7 +135,7 @@ alike-rest len stride axes step others h alike q l =
 pub cancel : (len a b : ℕ) → 0 < len → len * a ≡ len * b → a ≡ b
 cancel len a b h e = sym (mul-div_cancel_left a h) ∙ ap (λ n. n / len) e ∙ mul-div_cancel_left b h
 
--- a tail behind an axis that both begin with
+-- a tail after an axis that both begin with
 tail-further : (len : ℕ) (stride : ℤ) (axes : Axes) (lens : List ℕ) (p : ℕ) → ((q : ℕ) → IsLooseTail axes q → IsTail lens q) → IsLooseTail ((len, stride) ∷ axes) p → IsTail (len ∷ lens) p
 tail-further len stride axes lens p rest (inl h) = inr (1, h.0 ∙ sym (mul-one len), tail-one lens)
 tail-further len stride axes lens p rest (inr h) = inr (h.0, h.1, rest h.0 h.2)
