@@ -4,12 +4,11 @@ use Rattle.std.specs.List.{slice_get}
 use Rattle.std.specs.Prelude.{nat_lt, IsTrue}
 use Rattle.std.proofs.lemmas.Bool.{eqb-false, ltb-true, ltb-false}
 use Rattle.nd_base.specs.declared.order.Order.{Order}
-use Rattle.nd_base.specs.declared.order.Order.TheVariants.{RowMajor}
 use Rattle.nd_base.specs.Dim.{lengths, rewritten}
 use Rattle.nd_base.proofs.laws.Dim.{lengths_rewritten}
 use Rattle.nd_base.specs.declared.dim.Dim.{Dim}
 use Rattle.nd_base.specs.Indices.{is_index}
-use Rattle.nd_base.specs.Rank.{rank, rank_in, index_of_rank, index_of_rank_in}
+use Rattle.nd_base.specs.Rank.{rank_in, index_of_rank_in}
 use Rattle.nd_base.specs.Size.{size, is_empty}
 use Rattle.nd_base.proofs.laws.IsIndex.{is_index-zeros, length_of_index}
 use Rattle.nd_base.proofs.laws.Rank.{index_of_rank_in-rank_in, is_index-index_of_rank_in, rank_in-index_of_rank_in, rank_in-zeros}
@@ -130,14 +129,14 @@ lends_none order shape n left z is =
     (is ∙ none ∙ sym (ap (drop 1) none), sym (ap (λ xs. slice_get xs 0) none))
 
 -- where the step writes to a dimension, it keeps the count of its entries
-pub row_moved : (shape index : List ℕ) (kept : Dim (List ℕ)) (next : List ℕ) (n : ℕ) (more : Bool) → 0 < n → index ≡ lengths kept → StandsAt RowMajor shape (n + 1) index → (IsTrue more ↔ (rank shape index + 1 < size shape)) → next ≡ cond more (index_of_rank shape (rank shape index + 1)) (replicate (length shape) 0) → StandsAt RowMajor shape n (lengths (rewritten kept next))
-row_moved shape index kept next n more h e s is g =
-    let at = moves_on RowMajor shape index next n more s is g in
+pub moved_kept : (order : Order) (shape index : List ℕ) (kept : Dim (List ℕ)) (next : List ℕ) (n : ℕ) (more : Bool) → 0 < n → index ≡ lengths kept → StandsAt order shape (n + 1) index → (IsTrue more ↔ (rank_in order shape index + 1 < size shape)) → next ≡ cond more (index_of_rank_in order shape (rank_in order shape index + 1)) (replicate (length shape) 0) → StandsAt order shape n (lengths (rewritten kept next))
+moved_kept order shape index kept next n more h e s is g =
+    let at = moves_on order shape index next n more s is g in
     let count : length next ≡ length (lengths kept) =
-    length_of_index shape next (stands_at_index RowMajor shape next n h at)
-    ∙ sym (length_of_index shape index (stands_at_index RowMajor shape index (n + 1) (omega arith) s))
+    length_of_index shape next (stands_at_index order shape next n h at)
+    ∙ sym (length_of_index shape index (stands_at_index order shape index (n + 1) (omega arith) s))
     ∙ ap length e in
-    subst (λ xs. StandsAt RowMajor shape n xs) (sym (lengths_rewritten kept next count)) at
+    subst (λ xs. StandsAt order shape n xs) (sym (lengths_rewritten kept next count)) at
 
 -- no more are left than there are
 pub behind_within : (order : Order) (shape index : List ℕ) (is_lent : Bool) (n : ℕ) → StandsAfter order shape is_lent n index → n ≤ size shape

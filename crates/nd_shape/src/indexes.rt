@@ -5,15 +5,16 @@ ghost use Rattle.nd_base.specs.Indices.{indices_in};
 ghost use Rattle.nd_base.specs.Lengths.{NeedsNoMemory};
 ghost use Rattle.nd_base.specs.Size.{size};
 
-mod columns;
-mod cursors;
-mod rows;
+mod cursor;
+mod indices;
+mod order;
+mod walk;
 
-pub use columns::IndicesIterF;
-pub use cursors::{IndexCursor, IndexCursorF};
+pub use cursor::{IndexCursor, IndexCursorF};
+pub use indices::Indices;
 use nd_dim::{IntoDimension, Lengths};
-pub use rows::{Indices, IndicesIter};
 use std::alloc::{AllocError, Global};
+pub use walk::{IndicesIter, IndicesIterF};
 
 /// All indices of a shape, to be walked in row-major order, where the last axis moves fastest.
 /// ndarray's `indices`.
@@ -26,10 +27,10 @@ pub fn all_indices<D: Lengths, T: IntoDimension<Dim = D>>(
     shape: T,
 ) -> Result<Indices<D>, AllocError>
     requires { size (T.lens shape) < 2 ^ 64 }
-    ensures dim { IfOk result (λ indices. D.list indices.dim ≡ T.lens shape) }
+    ensures dim { IfOk result (λ indices. D.list indices ≡ T.lens shape) }
     ensures memory { NeedsNoMemory D.NDIM (length (T.lens shape)) → IsOk result }
 {
-    Indices::new(alloc, shape.into_dimension(alloc)?)
+    Ok(Indices::new(shape.into_dimension(alloc)?))
 }
 
 /// A walk over all indices of a shape in column-major order, where the first axis moves fastest.
@@ -46,5 +47,7 @@ pub fn indices_iter_f<D: Lengths, T: IntoDimension<Dim = D>>(
     ensures items { IfOk result (λ walk. walk ≡ indices_in ColumnMajor (T.lens shape)) }
     ensures memory { NeedsNoMemory D.NDIM (length (T.lens shape)) → IsOk result }
 {
-    IndicesIterF::new(alloc, shape.into_dimension(alloc)?)
+    let dim: D = shape.into_dimension(alloc)?;
+    let first = D::zeros(alloc, dim.ndim())?;
+    Ok(IndicesIterF::starting(dim, first))
 }

@@ -1,9 +1,0 @@
-use Rattle.std.proofs.Common.{cond, Some, None, length, ap, sym, ◌∙◌}
-use Rattle.nd_base.specs.declared.order.Order.TheVariants.{RowMajor}
-use Rattle.nd_shape.proofs.IndicesWalk.{within_shape}
-use Rattle.nd_shape.proofs.laws.IndicesLeft.{length-indices_left}
-use Rattle.nd_shape.proofs.indexes.rows.IndicesIterExactSizeIterator.len.Goals as goal
-
-pub returns-clause-value : goal.returns-clause-value
-returns-clause-value g c =
-    sym (length-indices_left RowMajor (g.D.Lengths.list c.self.inside.dim) c.self.inside.left (within_shape RowMajor (g.D.Lengths.list c.self.inside.dim) c.self.inside.left (cond c.self.inside.has_remaining (Some (g.D.Lengths.list c.self.inside.index)) None) c.self.invariant)) ∙ ap length c.self.view_is
