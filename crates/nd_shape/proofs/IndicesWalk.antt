@@ -41,7 +41,7 @@ pub stands_at_index : (order : Order) (shape index : List ℕ) (n : ℕ) → 0 <
 stands_at_index order shape index n h s =
     ap (is_index shape) (s.first h) ∙ is_index-index_of_rank_in order shape (size shape - n) (omega (arith, s.within))
 
--- whose rank tells how many came before
+-- whose rank is how many came before
 pub rank_here : (order : Order) (shape index : List ℕ) (n : ℕ) → 0 < n → StandsAt order shape n index → rank_in order shape index ≡ size shape - n
 rank_here order shape index n h s =
     ap (rank_in order shape) (s.first h) ∙ rank_in-index_of_rank_in order shape (size shape - n) (omega (arith, s.within))
@@ -55,15 +55,15 @@ gives order shape index item n left h s e is =
 pub gives_none : (order : Order) (shape : List ℕ) (n : ℕ) (left : List (List ℕ)) → n ≡ 0 → indices_left order shape n ≡ left → left ≡ []
 gives_none order shape n left z is = sym is ∙ ap (indices_left order shape) z ∙ indices_left-none order shape
 
--- behind it the walk stands at the index of the next rank, if there is one
+-- after it the walk stands at the index of the next rank, if there is one
 pub goes_on : (order : Order) (shape index next : List ℕ) (n : ℕ) → 0 < n → StandsAt order shape n index → (rank_in order shape index + 1 < size shape → next ≡ index_of_rank_in order shape (rank_in order shape index + 1)) → StandsAt order shape (n - 1) next
 goes_on order shape index next n h s e =
     let here = rank_here order shape index n h s in
     record {
       within = omega (arith, s.within);
       first = λ more.
-          let behind : rank_in order shape index + 1 ≡ size shape - (n - 1) = omega (arith, s.within) in
-          e (omega (arith, s.within)) ∙ ap (index_of_rank_in order shape) behind;
+          let after : rank_in order shape index + 1 ≡ size shape - (n - 1) = omega (arith, s.within) in
+          e (omega (arith, s.within)) ∙ ap (index_of_rank_in order shape) after;
     }
 
 -- ---- what a walk stands at, if anything
@@ -89,7 +89,7 @@ none_left order shape n (Some index) s e = absurd (cc)
 pub stands_at : (order : Order) (shape index : List ℕ) (n : ℕ) (first : Option (List ℕ)) → StandsAtFirst order shape n first → first ≡ Some index → (0 < n) × StandsAt order shape n index
 stands_at order shape index n first s e = subst (StandsAtFirst order shape n) e s
 
--- behind an index it stands at the one of the next rank, if a step says that there is one
+-- after an index it stands at the one of the next rank, if a step says that there is one
 pub goes_on_to : (order : Order) (shape index next : List ℕ) (n : ℕ) (more : Bool) → 0 < n → StandsAt order shape n index → (IsTrue more ↔ (rank_in order shape index + 1 < size shape)) → next ≡ cond more (index_of_rank_in order shape (rank_in order shape index + 1)) (replicate (length shape) 0) → StandsAtFirst order shape (n - 1) (cond more (Some next) None)
 goes_on_to order shape index next n true h s is e =
     let more : rank_in order shape index + 1 < size shape = is.0 refl in
@@ -107,7 +107,7 @@ goes_on_to order shape index next n false h s is e = ended n refl
         by false t = omega (arith, s.within, rank_here order shape index n h s, ltb-false (rank_in order shape index + 1) (size shape) t)
 
 -- ---- a cursor, which moves on before it lends
--- behind the index that was lent last it stands at the next one
+-- after the index that was lent last it stands at the next one
 pub moves_on : (order : Order) (shape index next : List ℕ) (n : ℕ) (more : Bool) → StandsAt order shape (n + 1) index → (IsTrue more ↔ (rank_in order shape index + 1 < size shape)) → next ≡ cond more (index_of_rank_in order shape (rank_in order shape index + 1)) (replicate (length shape) 0) → StandsAt order shape n next
 moves_on order shape index next n more s is e =
     let same : n + 1 - 1 ≡ n = omega arith in
@@ -139,6 +139,6 @@ moved_kept order shape index kept next n more h e s is g =
     subst (λ xs. StandsAt order shape n xs) (sym (lengths_rewritten kept next count)) at
 
 -- no more are left than there are
-pub behind_within : (order : Order) (shape index : List ℕ) (is_lent : Bool) (n : ℕ) → StandsAfter order shape is_lent n index → n ≤ size shape
-behind_within order shape index true n s = omega (arith, s.within)
-behind_within order shape index false n s = s.within
+pub after_within : (order : Order) (shape index : List ℕ) (is_lent : Bool) (n : ℕ) → StandsAfter order shape is_lent n index → n ≤ size shape
+after_within order shape index true n s = omega (arith, s.within)
+after_within order shape index false n s = s.within

@@ -32,7 +32,7 @@ invariant_of-self-then-self g c =
     let kept = g.met.D.Lengths.list_of_with_list c.self.inside.index next (c.step-self-inside.auto.index ∙ ap length c.slice_mut.ensures.list) in
     subst (λ xs. StandsAtFirst g.O.WalkOrder.order shape (c.self.inside.left - 1) (cond more (Some xs) None)) (sym kept) there
 
--- (behind the last index the flag says that there is no next one)
+-- (after the last index the flag says that there is no next one)
 pub invariant_of-self : goal.invariant_of-self
 invariant_of-self g c =
     let list = g.D.Lengths.list in
