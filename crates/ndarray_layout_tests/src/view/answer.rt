@@ -33,17 +33,35 @@ fn lists_places<D: Lengths>(
     lists(rt, alloc, row, places.as_slice())
 }
 
-/// Whether the next words of a row are all that a view tells: shape, strides, start, places by rows and by
+/// Whether the next words of a row are the shape and the strides of a view.
+fn is_laid<D: Lengths>(
+    rt: &impl Abort,
+    alloc: Global,
+    row: &mut Row<'_>,
+    view: &Strided<D>,
+) -> bool {
+    lists(rt, alloc, row, view.dim().slice()) && lists(rt, alloc, row, view.strides().slice())
+}
+
+/// Whether the next words of a row are the shape, the strides and the start of a view.
+fn has_start<D: Lengths>(
+    rt: &impl Abort,
+    alloc: Global,
+    row: &mut Row<'_>,
+    view: &Strided<D>,
+) -> bool {
+    is_laid(rt, alloc, row, view) && number(rt, row) == view.start()
+}
+
+/// Whether the next words of a row are all that a view answers: shape, strides, start, places by rows and by
 /// columns.
 fn shows<D: Lengths>(rt: &impl Abort, alloc: Global, row: &mut Row<'_>, view: &Strided<D>) -> bool {
-    lists(rt, alloc, row, view.dim().slice())
-        && lists(rt, alloc, row, view.strides().slice())
-        && number(rt, row) == view.start()
+    has_start(rt, alloc, row, view)
         && lists_places(rt, alloc, row, view, RowMajor)
         && lists_places(rt, alloc, row, view, ColumnMajor)
 }
 
-/// Whether the next words of a row are `is` and all that a view tells.
+/// Whether the next words of a row are `is` and all that a view answers.
 pub fn is_view<D: Lengths>(
     rt: &impl Abort,
     alloc: Global,
@@ -152,7 +170,7 @@ fn is_picked<D: Lengths>(
     }
 }
 
-/// What is left of a view by one entry of an axis.
+/// What is left of a view by one entry of an axis, or the fault and the view, which stays.
 fn is_collapsed<D: Lengths>(
     rt: &impl Abort,
     alloc: Global,
@@ -162,11 +180,12 @@ fn is_collapsed<D: Lengths>(
     let (axis, index) = (Axis(number(rt, row)), number(rt, row));
     match view.collapse(axis, index) {
         Ok(()) => is_view(rt, alloc, row, view),
-        Err(fault) => is_refused(rt, row, fault.kind()),
+        Err(fault) => is_refused(rt, row, fault.kind()) && has_start(rt, alloc, row, view),
     }
 }
 
-/// What is left of a view where an axis is merged into another, or the view where it isn't.
+/// What is left of a view where an axis is merged into another, or the view where it isn't, after the fault
+/// if there is one.
 fn is_merged<D: Lengths>(
     rt: &impl Abort,
     alloc: Global,
@@ -178,7 +197,7 @@ fn is_merged<D: Lengths>(
         Ok(merged) => {
             says(rt, row, if merged { "is" } else { "unmerged" }) && shows(rt, alloc, row, view)
         }
-        Err(fault) => is_refused(rt, row, fault.kind()),
+        Err(fault) => is_refused(rt, row, fault.kind()) && has_start(rt, alloc, row, view),
     }
 }
 
@@ -196,7 +215,7 @@ fn order_of<D: Lengths>(view: &Strided<D>) -> &'static str {
     }
 }
 
-/// The same of a slice of a view, of as many axes.
+/// The same of a slice of a view, of as many axes, and its shape and strides.
 fn slice_is_in_order<D: Lengths>(
     rt: &impl Abort,
     alloc: Global,
@@ -206,7 +225,8 @@ fn slice_is_in_order<D: Lengths>(
     let _ndim = fixed_count(rt, row);
     let elems = elems(rt, alloc, row);
     let slice: Result<Strided<D>, LayoutError> = view.slice(alloc, &elems, Fit::Strict);
-    says(rt, row, order_of(&slice.expect(rt, "refused")))
+    let slice = slice.expect(rt, "refused");
+    says(rt, row, order_of(&slice)) && is_laid(rt, alloc, row, &slice)
 }
 
 // ---- rows

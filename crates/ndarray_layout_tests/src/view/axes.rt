@@ -13,11 +13,12 @@ use test_tables::{grants, made};
 
 /// Merged axes: the view that is left, or that stays.
 const MERGED: &str = "\
-Ix2 1 6 owned 2,3 3,1 merge 0 0 Unsupported
-Ix2 1 6 owned 2,3 3,1 merge 1 1 Unsupported
-Ix2 1 6 owned 2,3 3,1 merge 0 5 OutOfBounds
-Ix2 1 6 owned 2,3 3,1 merge 2 0 OutOfBounds
-Ix2 1 6 owned 2,3 3,1 merge 5 5 OutOfBounds
+Ix2 1 6 owned 2,3 3,1 merge 0 0 Unsupported 2,3 3,1 0
+Ix2 1 6 owned 2,3 3,1 merge 1 1 Unsupported 2,3 3,1 0
+Ix2 1 6 owned 2,3 3,1 merge 0 5 OutOfBounds 2,3 3,1 0
+Ix2 1 6 owned 2,3 3,1 merge 2 0 OutOfBounds 2,3 3,1 0
+Ix2 1 6 owned 2,3 -3,-1 merge 2 0 OutOfBounds 2,3 -3,-1 5
+Ix2 1 6 owned 2,3 3,1 merge 5 5 OutOfBounds 2,3 3,1 0
 Ix2 1 6 owned 2,3 3,1 merge 1 0 unmerged 2,3 3,1 0 0,1,2,3,4,5 0,3,1,4,2,5
 Ix2 1 6 owned 2,3 3,1 merge 0 1 is 1,6 3,1 0 0,1,2,3,4,5 0,1,2,3,4,5
 Ix2 1 6 owned 3,2 2,1 merge 0 1 is 1,6 2,1 0 0,1,2,3,4,5 0,1,2,3,4,5
@@ -30,7 +31,7 @@ Ix3 1 24 owned 2,3,4 12,4,1 merge 0 1 is 1,6,4 12,4,1 0 0,1,2,3,4,5,6,7,8,9,10,1
 Ix3 1 24 owned 2,3,4 12,4,1 merge 0 2 unmerged 2,3,4 12,4,1 0 0,1,2,3,4,5,6,7,8,9,10,11,12,13,14,15,\
 16,17,18,19,20,21,22,23 0,12,4,16,8,20,1,13,5,17,9,21,2,14,6,18,10,22,3,15,7,19,11,23
 IxDyn 1 0 owned 1,0 0,0 merge 0 1 is 0,0 0,0 0 - -
-IxDyn 1 1 owned - - merge 0 1 OutOfBounds
+IxDyn 1 1 owned - - merge 0 1 OutOfBounds - - 0
 IxDyn 4 12 owned 2,1,3,1,2 6,9,1,9,3 merge 0 4 is 1,1,3,1,4 6,9,1,9,3 0 0,3,6,9,1,4,7,10,2,5,8,11 \
 0,1,2,3,4,5,6,7,8,9,10,11";
 
@@ -71,17 +72,17 @@ fn r5_rows_of_broadcast_views(rt: HostRuntime) {
     hold(&rt, rt.alloc(), Told::Views, BROADCAST);
 }
 
-/// Whether slices of a layout of five by five lie in order.
+/// Whether slices of a layout of five by five lie in order, and their shapes and strides.
 const IN_ORDER: &str = "\
-Ix2 1 25 owned 5,5 5,1 in_order Ix2 ..,.. by_rows
-Ix2 1 25 owned 5,5 1,5 in_order Ix2 ..,.. by_columns
-Ix2 1 25 owned 5,5 5,1 in_order Ix2 ..1,.. both_ways
-Ix2 1 25 owned 5,5 5,1 in_order Ix2 ..,..1 neither_way
-Ix2 1 25 owned 5,5 5,1 in_order Ix2 1..,.. by_rows
-Ix2 1 25 owned 5,5 5,1 in_order Ix2 ..,1.. neither_way
-Ix2 1 25 owned 5,5 1,5 in_order Ix2 ..,1.. by_columns
-Ix2 1 25 owned 5,5 5,1 in_order Ix2 ..;2,.. neither_way
-Ix2 1 25 owned 5,5 5,1 in_order Ix2 2..2,..;3 both_ways";
+Ix2 1 25 owned 5,5 5,1 in_order Ix2 ..,.. by_rows 5,5 5,1
+Ix2 1 25 owned 5,5 1,5 in_order Ix2 ..,.. by_columns 5,5 1,5
+Ix2 1 25 owned 5,5 5,1 in_order Ix2 ..1,.. both_ways 1,5 0,1
+Ix2 1 25 owned 5,5 5,1 in_order Ix2 ..,..1 neither_way 5,1 5,0
+Ix2 1 25 owned 5,5 5,1 in_order Ix2 1..,.. by_rows 4,5 5,1
+Ix2 1 25 owned 5,5 5,1 in_order Ix2 ..,1.. neither_way 5,4 5,1
+Ix2 1 25 owned 5,5 1,5 in_order Ix2 ..,1.. by_columns 5,4 1,5
+Ix2 1 25 owned 5,5 5,1 in_order Ix2 ..;2,.. neither_way 3,5 10,1
+Ix2 1 25 owned 5,5 5,1 in_order Ix2 2..2,..;3 both_ways 0,2 0,3";
 
 #[test]
 fn r5_rows_of_layouts(rt: HostRuntime) {
@@ -108,7 +109,7 @@ fn columns_are_read<E: Lengths>(alloc: Global, shape: &E) -> bool {
 }
 
 /// Whether two columns are read as a view of a shape of five axes twice, or once, where a request is refused.
-/// Each time takes two, behind the one of the shape.
+/// Each time takes two, after the one of the shape.
 fn one_is_read<E: Lengths>(alloc: Global, shape: &E) -> bool {
     let first = columns_are_read(alloc, shape);
     let second = columns_are_read(alloc, shape);

@@ -19,7 +19,7 @@ fn bound(rt: &impl Abort, word: &str) -> Option<isize> {
     Some(number(rt, word))
 }
 
-/// A range whose end and step stand behind its dots.
+/// A range whose end and step stand after its dots.
 fn range(rt: &impl Abort, start: &str, rest: &str) -> SliceInfoElem {
     let (end, step) = rest.split_once(";").unwrap_or((rest, "1"));
     Slice {
@@ -40,7 +40,7 @@ pub fn elem(rt: &impl Abort, word: &str) -> SliceInfoElem {
     }
 }
 
-/// The next word of a row as elements, parted by commas; `-` for none.
+/// The next word of a row as elements, separated by commas; `-` for none.
 pub fn elems(rt: &impl Abort, alloc: Global, row: &mut Row<'_>) -> Vec<SliceInfoElem> {
     let mut elems = Vec::new(alloc);
     let word = word(rt, row);

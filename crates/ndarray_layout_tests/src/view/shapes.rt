@@ -69,7 +69,7 @@ enum Asked<'a> {
     InTurn(&'a [Told]),
     /// That it is made, and once more.
     Made,
-    /// That it is made, or else refused for want of memory.
+    /// That it is made, or else that memory is refused.
     MadeOrRefused,
     /// Where the same once more starts, where a request for it may be refused.
     StartOrRefused(usize),
@@ -133,8 +133,8 @@ fn refusal_holds(rt: &impl Abort, fault: &ShapeError, asked: Asked<'_>) -> bool 
     }
 }
 
-/// Whether this holds where there was no memory for the view.
-fn want_of_memory_holds(alloc: Global, asked: Asked<'_>) -> bool {
+/// Whether this holds where memory is refused to the view.
+fn refused_memory_holds(alloc: Global, asked: Asked<'_>) -> bool {
     match asked {
         Asked::MadeOrRefused => grants(alloc),
         Asked::StartOrRefused(_) => true,
@@ -152,7 +152,7 @@ fn holds<D: Lengths>(
     match view {
         Ok(view) => made_holds(rt, alloc, &view, asked),
         Err(LayoutError::Shape(fault)) => refusal_holds(rt, &fault, asked),
-        Err(LayoutError::Memory(_error)) => want_of_memory_holds(alloc, asked),
+        Err(LayoutError::Memory(_error)) => refused_memory_holds(alloc, asked),
     }
 }
 
@@ -193,7 +193,7 @@ fn built_holds<D: Lengths, T: ShapeBuilder<Dim = D>>(
 ) -> bool {
     match shape(alloc, builder, strides) {
         Ok(shape) => holds(rt, alloc, along(alloc, shape, data), asked),
-        Err(_) => want_of_memory_holds(alloc, asked),
+        Err(_) => refused_memory_holds(alloc, asked),
     }
 }
 
@@ -266,7 +266,7 @@ fn r3_rows_along_given_strides(rt: HostRuntime) {
     assert!(rt; pair_holds(&rt, rt.alloc(), Some(strides), (4, 6), Asked::Row(row)));
 }
 
-/// The same of five axes, of which the first leads back.
+/// The same of five axes, of which the first stride is negative.
 fn five_given_hold(rt: &impl Abort, alloc: Global, asked: Asked<'_>) -> bool {
     let strides = [unsigned(-6), 9, 1, 9, 3];
     any_hold(rt, alloc, &FIVE, Some(strides.as_slice()), (4, 12), asked)

@@ -67,11 +67,12 @@ Ix2 1 6 owned 2,3 -3,1 slice Ix1 0,1.. is 2 1 4 4,5 4,5
 Ix2 1 6 owned 2,3 3,1 slice Ix2 1,NewAxis,.. is 1,3 0,1 3 3,4,5 3,4,5
 IxDyn 1 1 owned - - slice IxDyn - is - - 0 0 0
 Ix2 1 6 owned 2,3 3,1 collapse 0 1 is 1,3 3,1 3 3,4,5 3,4,5
-Ix2 1 6 owned 2,3 3,1 collapse 0 2 OutOfBounds
-Ix2 1 6 owned 2,3 3,1 collapse 1 3 OutOfBounds
-Ix2 1 6 owned 2,3 3,1 collapse 2 0 OutOfBounds
+Ix2 1 6 owned 2,3 3,1 collapse 0 2 OutOfBounds 2,3 3,1 0
+Ix2 1 6 owned 2,3 3,1 collapse 1 3 OutOfBounds 2,3 3,1 0
+Ix2 1 6 owned 2,3 3,1 collapse 2 0 OutOfBounds 2,3 3,1 0
+Ix2 1 6 owned 2,3 -3,-1 collapse 0 2 OutOfBounds 2,3 -3,-1 5
 Ix2 1 6 owned 2,3 -3,-1 collapse 1 2 is 2,1 -3,-1 3 3,0 3,0
-IxDyn 1 1 owned - - collapse 0 0 OutOfBounds
+IxDyn 1 1 owned - - collapse 0 0 OutOfBounds - - 0
 IxDyn 1 0 owned 0,2 0,0 collapse 1 1 is 0,1 0,0 0 - -
 IxDyn 4 99 view 2,1,3,1,2 -6,9,1,9,3 collapse 2 2 is 2,1,1,1,2 -6,9,1,9,3 8 8,11,2,5 8,2,11,5
 Ix2 1 6 owned 2,3 3,1 picked Ix1 0,.. 3

@@ -72,7 +72,7 @@ fn memory_of_slice(rt: HostRuntime) {
     assert!(rt; leaves(&rt, rt.alloc(), &[from(0), from(1)], left));
 }
 
-/// Whether these are the places of six elements, or the request of a small one behind them was granted.
+/// Whether these are the places of six elements, or the request of a small one after them was granted.
 fn lists_six(places: Result<Vec<usize>, AllocError>, granted: bool) -> bool {
     match places {
         Ok(places) => places.as_slice() == [0, 1, 2, 3, 4, 5].as_slice(),
