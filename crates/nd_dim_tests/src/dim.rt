@@ -8,6 +8,7 @@
 //! length of 0.
 mod checks;
 mod conversions;
+pub(crate) mod ends;
 mod lists;
 mod memory;
 mod operators;

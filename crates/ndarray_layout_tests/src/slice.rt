@@ -2,6 +2,7 @@
 pub mod arguments;
 pub mod axis_slice;
 mod builders;
+mod ends;
 mod equality;
 mod info;
 pub mod min_max;

@@ -5,6 +5,7 @@ use crate::dim::checks::{
     becomes, gives, handed_on, has_list, has_size, has_stride_axes, has_strides, is_equivalent,
     is_incompatible, narrows, stays, tries_to_narrow, widens, writes, writes_last,
 };
+use crate::dim::ends::has_next;
 use crate::dim::lists::dim_of;
 use crate::dim::memory::{Memory, asks, serves};
 use crate::dim::operators::{Operator, calculates, scales};
@@ -42,6 +43,8 @@ pub(crate) enum Question {
     Scaled,
     /// Lengths, how many indices there are, and these in an order.
     Indices(Order),
+    /// Lengths, an index, and the one after it in an order, if there is one.
+    Next(Order),
     /// Lengths, an axis, and the lengths with one more axis there.
     Inserted,
     /// Lengths, an axis, and the lengths without it.
@@ -120,6 +123,7 @@ fn dimension_answers<D: Dimension>(
         },
         Question::Scaled => scales::<D>(rt, alloc, dim.slice(), number, third),
         Question::Indices(order) => has_indices(alloc, order, dim, number, third),
+        Question::Next(order) => has_next(alloc, order, dim, second, third),
         Question::StrideAxes => has_stride_axes(rt, alloc, dim, second, third),
         Question::Order => gives(dim._fastest_varying_stride_order(alloc), second),
         _ => false,
