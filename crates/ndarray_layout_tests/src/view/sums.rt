@@ -18,7 +18,7 @@ fn indices_of<D: Dimension + Copy>(
 ) -> Result<Indices<D>, AllocError>
 where
     D::Pattern: IntoDimension<Dim = D>,
-    ensures { IfOk result (λ indices. D.list indices.dim ≡ view.now.shape) }
+    ensures { IfOk result (λ indices. D.list indices ≡ view.now.shape) }
 {
     let dim = *view.dim();
     all_indices(alloc, dim.into_pattern())
