@@ -45,6 +45,7 @@ pub use Rattle.ndarray_layout_views.proofs.laws.DistinctPlaces
 pub use Rattle.ndarray_layout_views.proofs.laws.KeepsPlaces
 pub use Rattle.ndarray_layout_views.proofs.laws.LongerAxes
 pub use Rattle.ndarray_layout_views.proofs.laws.MergedView
+pub use Rattle.ndarray_layout_views.proofs.laws.SharePlace
 pub use Rattle.ndarray_layout_views.proofs.laws.SlicedView
 pub use Rattle.ndarray_layout_views.proofs.laws.View
 pub use Rattle.ndarray_layout_views.proofs.laws.Walk

@@ -56,6 +56,7 @@ pub use Rattle.ndarray_layout_views.specs.DistinctPlaces
 pub use Rattle.ndarray_layout_views.specs.KeepsPlaces
 pub use Rattle.ndarray_layout_views.specs.LongerAxes
 pub use Rattle.ndarray_layout_views.specs.MergedView
+pub use Rattle.ndarray_layout_views.specs.SharePlace
 pub use Rattle.ndarray_layout_views.specs.SlicedView
 pub use Rattle.ndarray_layout_views.specs.View
 pub use Rattle.ndarray_layout_views.specs.Walk

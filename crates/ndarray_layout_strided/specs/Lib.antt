@@ -9,6 +9,7 @@ pub use Rattle.nd_shape.specs.Axes
 pub use Rattle.nd_shape.specs.ShapeBuilder
 pub use Rattle.nd_shape_rules.specs.Acceptance
 pub use Rattle.nd_slice.specs.ArgumentFault
+pub use Rattle.nd_slice.specs.Meet
 pub use Rattle.nd_slice.specs.Selected
 pub use Rattle.nd_slice.specs.Sliced
 pub use Rattle.ndarray_layout_views.specs.BroadcastView
@@ -16,5 +17,6 @@ pub use Rattle.ndarray_layout_views.specs.CollapsedView
 pub use Rattle.ndarray_layout_views.specs.DistinctPlaces
 pub use Rattle.ndarray_layout_views.specs.KeepsPlaces
 pub use Rattle.ndarray_layout_views.specs.MergedView
+pub use Rattle.ndarray_layout_views.specs.SharePlace
 pub use Rattle.ndarray_layout_views.specs.SlicedView
 pub use Rattle.ndarray_layout_views.specs.View

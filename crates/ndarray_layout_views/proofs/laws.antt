@@ -4,6 +4,7 @@ pub mod DistinctPlaces
 pub mod KeepsPlaces
 pub mod LongerAxes
 pub mod MergedView
+pub mod SharePlace
 pub mod SlicedView
 pub mod View
 pub mod Walk

@@ -1,5 +1,6 @@
--- Two slice arguments meet exactly where they share an entry on every axis.
-use Rattle.std.proofs.Common.{refl, ap, sym, subst, arith, get_or}
+-- Two slice arguments meet exactly where they share an entry on every axis, and exactly where an index of each slice stands for one
+-- index of the shape.
+use Rattle.std.proofs.Common.{refl, ap, sym, ◌∙◌, subst, arith, get_or}
 use Rattle.std.proofs.lemmas.Bool.{and_parts, and_from, lt-ltb}
 use Rattle.std.specs.Prelude.{◌≡◌, ℕ, zero, suc, ℤ, ◌<◌, ◌↔◌, IsTrue, nat_lt, Option, None, List, [], ◌∷◌, length}
 use Rattle.std.specs.List.{AllZip, Contains}
@@ -15,7 +16,10 @@ use Rattle.nd_slice.specs.declared.elem.SliceInfoElem.{SliceInfoElem}
 use Rattle.nd_slice.specs.declared.elem.SliceInfoElem.TheVariants as elem
 use Rattle.nd_slice.specs.ArgumentFault.{in_count, first_fault, argument_fault}
 use Rattle.nd_slice.specs.Meet.{axis_picks, Meet}
+use Rattle.nd_slice.specs.Selected.{selected}
+use Rattle.nd_slice.specs.Sliced.{sliced_shape}
 use Rattle.nd_slice.proofs.laws.ArgumentFault.{elements_of_no_fault, slice_of_no_fault, index_of_no_fault}
+use Rattle.nd_slice.proofs.laws.Selected.{selected_is_index, selected_is_picked, picked_is_selected}
 
 -- what lists pick of each axis is inside a shape
 abbrev pub AreInside : List ℕ → List (List ℕ) → Type 0
@@ -113,3 +117,25 @@ not_picked (xs ∷ lists) (i ∷ index) (suc axis) below nothing all = not_picke
 pub meet_empty : (fit : Fit) (shape : List ℕ) (one other : List SliceInfoElem) (axis : ℕ) → axis < length (axis_picks fit shape one)
     → get_or (axis_picks fit shape one) axis [] ≡ [] → Meet fit shape one other → ⊥
 meet_empty fit shape one other axis below nothing meet = not_picked (axis_picks fit shape one) meet.0 axis below nothing meet.2
+
+-- an index of each slice stands for one index of the shape
+pub record ShareSource (fit : Fit) (shape : List ℕ) (one other : List SliceInfoElem) : Type 0 where
+  pub index : List ℕ
+  pub within : IsTrue (is_index (sliced_shape fit one shape) index)
+  pub at : List ℕ
+  pub at_within : IsTrue (is_index (sliced_shape fit other shape) at)
+  pub same : selected fit one shape index ≡ selected fit other shape at
+
+pub meet_of_sources : (fit : Fit) (shape : List ℕ) (one other : List SliceInfoElem) → argument_fault fit shape one ≡ None → ShareSource fit shape one other → Meet fit shape one other
+meet_of_sources fit shape one other none share = (
+  selected fit one shape share.index,
+  selected_is_index fit one shape share.index none share.within,
+  selected_is_picked fit one shape share.index share.within,
+  subst (λ index. AllZip Contains (axis_picks fit shape other) index) (sym share.same) (selected_is_picked fit other shape share.at share.at_within),
+)
+
+pub sources_of_meet : (fit : Fit) (shape : List ℕ) (one other : List SliceInfoElem) → argument_fault fit shape one ≡ None → argument_fault fit shape other ≡ None → Meet fit shape one other → ShareSource fit shape one other
+sources_of_meet fit shape one other none also meet =
+    let first = picked_is_selected fit one shape meet.0 none meet.2 in
+    let second = picked_is_selected fit other shape meet.0 also meet.3 in
+    record { index = first.of_slice; within = first.within; at = second.of_slice; at_within = second.within; same = first.stands ∙ sym second.stands }

@@ -1,6 +1,10 @@
--- An index of a slice stands for an index of the old shape, and different ones for different ones.
-use Rattle.std.proofs.Common.{drop, refl, ap, arith}
+-- An index of a slice stands for an index of the old shape, whose entries are picks of its axes, and different ones for different
+-- ones; each index of such entries has one that stands for it.
+use Rattle.std.proofs.Common.{zero, suc, drop, refl, ap, sym, ◌∙◌, arith}
 use Rattle.std.proofs.lemmas.Bool.{and_parts, and_from, ltb-true, lt-ltb}
+use Rattle.std.proofs.lemmas.Grind.{get_or_default_zero}
+use Rattle.std.proofs.lemmas.List.Elements.{Contains-get_or}
+use Rattle.std.specs.List.{AllZip, Contains}
 use Rattle.std.specs.Prelude.{◌≡◌, ℕ, ◌<◌, IsTrue, nat_lt, None, List, [], ◌∷◌, length, slice_index}
 use Rattle.nd_base.specs.Indices.{is_index}
 use Rattle.nd_base.specs.Signed.{magnitude}
@@ -9,6 +13,7 @@ use Rattle.nd_slice.specs.declared.elem.SliceInfoElem.{SliceInfoElem}
 use Rattle.nd_slice.specs.declared.elem.SliceInfoElem.TheVariants as elem
 use Rattle.nd_slice_axis.specs.Picks.{slice_with, meaning, picks}
 use Rattle.nd_slice.specs.ArgumentFault.{in_count, first_fault, argument_fault}
+use Rattle.nd_slice.specs.Meet.{axis_picks}
 use Rattle.nd_slice.specs.Sliced.{sliced_shape}
 use Rattle.nd_slice.specs.Selected.{selected}
 use Rattle.nd_slice_axis.proofs.laws.Picks.{pick_below, picks_injective}
@@ -75,3 +80,60 @@ selected_injective fit (elem.Index i ∷ elems) [] [] [] here there same = refl
 selected_injective fit (elem.Index i ∷ elems) [] [] (k ∷ other) here there same = absurd (cc)
 selected_injective fit (elem.Index i ∷ elems) [] (j ∷ index) other here there same = absurd (cc)
 selected_injective fit (elem.Index i ∷ elems) (len ∷ shape) index other here there same = selected_injective fit elems shape index other here there (ap (drop 1) same)
+
+-- each entry of the index that an index of the slice stands for is among the picks of its axis
+pub selected_is_picked : (fit : Fit) (elems : List SliceInfoElem) (shape index : List ℕ) → IsTrue (is_index (sliced_shape fit elems shape) index) → AllZip Contains (axis_picks fit shape elems) (selected fit elems shape index)
+selected_is_picked fit [] shape index here = tt
+selected_is_picked fit (elem.NewAxis ∷ elems) shape [] here = absurd (cc)
+selected_is_picked fit (elem.NewAxis ∷ elems) shape (j ∷ index) here = selected_is_picked fit elems shape index (and_parts (nat_lt j 1) (is_index (sliced_shape fit elems shape) index) here).1
+selected_is_picked fit (elem.Slice start end step ∷ elems) [] index here = tt
+selected_is_picked fit (elem.Slice start end step ∷ elems) (len ∷ shape) [] here = absurd (cc)
+selected_is_picked fit (elem.Slice start end step ∷ elems) (len ∷ shape) (j ∷ index) here =
+    let slice = slice_with start end step in
+    let parts = and_parts (nat_lt j (length (picks fit len slice))) (is_index (sliced_shape fit elems shape) index) here in
+    (Contains-get_or (picks fit len slice) j 0 (ltb-true j (length (picks fit len slice)) parts.0), selected_is_picked fit elems shape index parts.1)
+selected_is_picked fit (elem.Index i ∷ elems) [] index here = tt
+selected_is_picked fit (elem.Index i ∷ elems) (len ∷ shape) index here =
+    (Contains-get_or (magnitude (meaning len i) ∷ []) 0 0 (omega arith), selected_is_picked fit elems shape index here)
+
+-- an index of the slice that stands for an index of the shape
+pub record StandsFor (fit : Fit) (elems : List SliceInfoElem) (shape index : List ℕ) : Type 0 where
+  pub of_slice : List ℕ
+  pub within : IsTrue (is_index (sliced_shape fit elems shape) of_slice)
+  pub stands : selected fit elems shape of_slice ≡ index
+
+lone : (entry i : ℕ) → Contains (entry ∷ []) i → entry ≡ i
+lone entry i (zero, below, at) = at
+lone entry i (suc k, below, at) = absurd (omega (arith, below))
+
+picked : (fit : Fit) (elems : List SliceInfoElem) (shape index : List ℕ) → in_count elems ≡ length shape → AllZip Contains (axis_picks fit shape elems) index → StandsFor fit elems shape index
+picked fit [] [] [] count all = record { of_slice = []; within = refl; stands = refl }
+picked fit [] [] (i ∷ index) count all = absurd all
+picked fit [] (len ∷ shape) index count all = absurd (omega arith)
+picked fit (elem.NewAxis ∷ elems) shape index count all =
+    let rest = picked fit elems shape index count all in
+    record { of_slice = 0 ∷ rest.of_slice; within = rest.within; stands = rest.stands }
+picked fit (elem.Slice start end step ∷ elems) [] index count all = absurd (omega arith)
+picked fit (elem.Slice start end step ∷ elems) (len ∷ shape) [] count all = absurd all
+picked fit (elem.Slice start end step ∷ elems) (len ∷ shape) (i ∷ index) count all =
+    let rest = picked fit elems shape index (omega arith) all.1 in
+    let xs = picks fit len (slice_with start end step) in
+    let j = (all.0).0 in
+    let at : slice_index xs j ≡ i = sym (get_or_default_zero xs j i (all.0).1) ∙ (all.0).2 in
+    let rest_at = rest.stands in
+    record {
+      of_slice = j ∷ rest.of_slice;
+      within = and_from (nat_lt j (length xs)) (is_index (sliced_shape fit elems shape) rest.of_slice) (lt-ltb j (length xs) (all.0).1) rest.within;
+      stands = cc;
+    }
+picked fit (elem.Index n ∷ elems) [] index count all = absurd (omega arith)
+picked fit (elem.Index n ∷ elems) (len ∷ shape) [] count all = absurd all
+picked fit (elem.Index n ∷ elems) (len ∷ shape) (i ∷ index) count all =
+    let rest = picked fit elems shape index (omega arith) all.1 in
+    let at = lone (magnitude (meaning len n)) i all.0 in
+    let rest_at = rest.stands in
+    record { of_slice = rest.of_slice; within = rest.within; stands = cc }
+
+-- an index whose entries are picks of an argument's axes has an index of the slice that stands for it
+pub picked_is_selected : (fit : Fit) (elems : List SliceInfoElem) (shape index : List ℕ) → argument_fault fit shape elems ≡ None → AllZip Contains (axis_picks fit shape elems) index → StandsFor fit elems shape index
+picked_is_selected fit elems shape index none all = picked fit elems shape index (elements_of_no_fault fit shape elems none).0 all

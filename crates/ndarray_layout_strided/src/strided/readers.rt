@@ -2,21 +2,25 @@
 ghost use Rattle.std.specs.Iterator.{YieldsFirst, YieldsLast};
 ghost use Rattle.std.specs.Iterator.Runs.{YieldsInOrder, YieldsInReverse};
 ghost use Rattle.std.specs.List.{All};
-ghost use Rattle.std.specs.Prelude.{◌≡◌, ℕ, ◌<◌, pos, None, map, vec_len, vec_capacity, IfOk, IsOk, Some, slice_get};
-ghost use Rattle.std.specs.Option.{option_map};
+ghost use Rattle.std.specs.Prelude.{◌≡◌, ℕ, ◌<◌, ◌↔◌, IsTrue, pos, None, map, vec_len, vec_capacity, IfOk, IsOk, Some, slice_get};
+ghost use Rattle.std.specs.Option.{option_map, option_or};
 ghost use Rattle.std.specs.Result.{result_err};
 ghost use Rattle.nd_base.specs.Signed.{all_signed};
 ghost use Rattle.nd_shape.specs.Axes.{axes, axes_left};
 ghost use Rattle.nd_base.specs.Rank.{index_of_rank_in};
 ghost use Rattle.nd_base.specs.Size.{size};
 ghost use Rattle.nd_slice.specs.ArgumentFault.{argument_fault};
+ghost use Rattle.nd_slice.specs.Meet.{Meet};
 ghost use Rattle.nd_slice.specs.Sliced.{sliced_shape};
+ghost use Rattle.ndarray_layout_views.specs.DistinctPlaces.{HasDistinctPlaces};
+ghost use Rattle.ndarray_layout_views.specs.SharePlace.{SharePlace};
+ghost use Rattle.ndarray_layout_views.specs.SlicedView.{slice_of};
 ghost use Rattle.ndarray_layout_views.specs.View.{IsView, LiesWithin, checked_place, place_at, view_places};
 
 use crate::strided::Strided;
 use nd_dim::{Lengths, Order, ShapeError, product};
 use nd_shape::{Axes, NdIndex, axes_of};
-use nd_slice::{Fit, SliceElems, check_elems};
+use nd_slice::{Fit, SliceElems, check_elems, slices_intersect};
 use ndarray_layout_views::{offset_place, picked_size, push_places};
 use std::alloc::{AllocError, Global};
 
@@ -97,5 +101,29 @@ impl<D: Lengths> Strided<D> {
         let (shape, elems) = (self.dim.slice(), slices.elems());
         check_elems(shape, elems, fit)?;
         Ok(picked_size(shape, elems, fit))
+    }
+    /// Whether two slices of the view share an index: one whose entry on every axis is among the picks of
+    /// both arguments. Before two parts of an array are written at once, this says whether they share an
+    /// element: where no two indices of the view have one place, the answer is true exactly where the two
+    /// slices have a place in common. On any other view, as one that is broadcast, slices that share no
+    /// index may still share a place. Without axes the answer is true; where either argument picks nothing
+    /// of an axis it is false. Takes no memory.
+    ///
+    /// Errors: those of `check_slice` on the shape for the first argument, then for the second. ndarray asks
+    /// `slices_intersect` before `multi_slice_mut` lends several parts.
+    pub fn meets<A: SliceElems, B: SliceElems>(
+        &self,
+        first: &A,
+        second: &B,
+        fit: Fit,
+    ) -> Result<bool, ShapeError>
+        ensures fault { result_err result ≡ option_or (argument_fault fit self.now.shape (A.list first.now))
+            (argument_fault fit self.now.shape (B.list second.now)) }
+        ensures meet { IfOk result (λ meet. IsTrue meet ↔
+            Meet fit self.now.shape (A.list first.now) (B.list second.now)) }
+        ensures places { IfOk result (λ meet. HasDistinctPlaces self.now → (IsTrue meet ↔
+            SharePlace (slice_of fit (A.list first.now) self.now) (slice_of fit (B.list second.now) self.now))) }
+    {
+        slices_intersect(&self.dim, first, second, fit)
     }
 }

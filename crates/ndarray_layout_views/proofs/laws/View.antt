@@ -3,6 +3,7 @@ use Rattle.std.proofs.Common.{◌≡◌, ℕ, ◌<◌, ◌^◌, ℤ, pos, ◌+�
 use Rattle.std.specs.Prelude.{slice_get}
 use Rattle.std.specs.Option.{option_map}
 use Rattle.std.specs.List.{All}
+use Rattle.std.proofs.lemmas.Grind.{get_or_default_zero}
 use Rattle.std.proofs.lemmas.Int.{ints}
 use Rattle.std.proofs.lemmas.List.{get_or-map, length-map}
 use Rattle.std.proofs.lemmas.List.Elements.{All-map, All-weaker}
@@ -15,7 +16,7 @@ use Rattle.nd_base.specs.Size.{size, limit}
 use Rattle.nd_base.specs.Span.{low_span}
 use Rattle.nd_base.specs.ValidLayout.{IsValidLayout}
 use Rattle.nd_base.proofs.laws.Indices.{length-indices_in, All-indices_in, indices_in_of_empty}
-use Rattle.nd_base.proofs.laws.NonzeroSize.{size_le_nonzero_size}
+use Rattle.nd_base.proofs.laws.NonzeroSize.{length_le_nonzero_size, size_le_nonzero_size}
 use Rattle.nd_base.proofs.laws.Rank.{slice_get-indices_in}
 use Rattle.nd_base.proofs.laws.Span.{low_high_span}
 use Rattle.nd_base.specs.Inside.{IsInside}
@@ -91,3 +92,8 @@ item_at_rank order view items r same below =
     ∙ ap (λ places. slice_get places r) same
     ∙ slice_get-map (place view.start view.strides) (indices_in order view.shape) r
     ∙ ap (option_map (place view.start view.strides)) (slice_get-indices_in order view.shape r below)
+
+-- each length of a view is below 2^63
+pub lens_fit : (view : View) → IsView view → All (λ len. len < 2 ^ 63) view.shape
+lens_fit view v = λ axis d below.
+    omega (arith, get_or_default_zero view.shape axis d below, length_le_nonzero_size view.shape axis below, v.valid.size_fits)
