@@ -2,6 +2,7 @@
 pub mod answer;
 mod axes;
 pub mod elems;
+mod meets;
 mod owned;
 pub mod question;
 mod runs;

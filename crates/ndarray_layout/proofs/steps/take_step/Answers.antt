@@ -5,7 +5,7 @@ use Rattle.std.proofs.lemmas.Bool.{ltb-false}
 use Rattle.nd_slice.specs.ArgumentFault.{out_count}
 use Rattle.nd_base.specs.declared.error.LayoutError.TheVariants.{Shape}
 use Rattle.ndarray_layout.specs.Run.{IsRefusedBy}
-use Rattle.ndarray_layout.specs.Step.{SliceBy, MergeInto, step_value}
+use Rattle.ndarray_layout.specs.Step.{SliceBy, MergeInto}
 use Rattle.ndarray_layout_views.specs.View.{View}
 use Rattle.ndarray_layout.proofs.Runs.{refused_of}
 use Rattle.ndarray_layout.proofs.steps.take_step.Goals as goal
