@@ -8,6 +8,8 @@ pub mod Offset
 pub mod Place
 pub mod Rank
 pub mod Reach
+pub mod Reading
 pub mod Size
 pub mod Span
+pub mod Times
 pub mod Turned

@@ -10,6 +10,7 @@ pub mod Order
 pub mod Place
 pub mod Rank
 pub mod Reach
+pub mod Reading
 pub mod ShapeFault
 pub mod Signed
 pub mod Size

@@ -104,11 +104,11 @@ rows_turned shape old index k h g last at =
 
 rows_stepped : (shape old index : List ℕ) (k : ℕ) → is_index shape old ≡ true → k < length shape → k < length old → get_or old k 0 + 1 < get_or shape k 0 → IsTurnedFrom (k + 1) shape old index → (rank shape old + 1 < size shape) × (set index k (get_or index k 0 + 1) ≡ index_of_rank shape (rank shape old + 1))
 rows_stepped shape old index k is h g more at =
-    let behind : length (drop (k + 1) shape) ≡ length shape - (k + 1) = length-drop (k + 1) shape in
+    let after : length (drop (k + 1) shape) ≡ length shape - (k + 1) = length-drop (k + 1) shape in
     let new : set index k (get_or index k 0 + 1) ≡ take k old ++ (get_or old k 0 + 1) ∷ replicate (length (drop (k + 1) shape)) 0 =
     ap (λ n. set index k (n + 1)) (rows_entry shape old index k g at)
     ∙ rows_write shape old index k (get_or old k 0 + 1) g at
-    ∙ ap (λ n. take k old ++ (get_or old k 0 + 1) ∷ replicate n 0) (sym behind) in
+    ∙ ap (λ n. take k old ++ (get_or old k 0 + 1) ∷ replicate n 0) (sym after) in
     let by = λ (s : List ℕ) (i : List ℕ). (is_index s i ≡ true) → IsStepped s i (take k old ++ (get_or old k 0 + 1) ∷ replicate (length (drop (k + 1) shape)) 0) in
     let split = stepped (take k shape) (get_or shape k 0) (drop (k + 1) shape) (take k old) (get_or old k 0) (drop (k + 1) old) (length-take-le k old (omega arith) ∙ sym (length-take-le k shape (omega arith))) in
     let step = subst (λ s. by s old) (sym (parts_of shape k h)) (subst (λ i. by (take k shape ++ get_or shape k 0 ∷ drop (k + 1) shape) i) (sym (parts_of old k g)) (λ e. split e at.ended more)) is in

@@ -48,8 +48,8 @@ front longer shorter k h =
     let n = length longer - length shorter in
     get_or_append_left (replicate n 1) shorter 0 k (omega (arith, length-replicate {A = ℕ} n 1)) ∙ get_or-replicate n k 1 0 h
 
-pub behind : (longer shorter : List ℕ) (k : ℕ) → get_or (padded (length longer) shorter) (length longer - length shorter + k) 0 ≡ get_or shorter k 0
-behind longer shorter k =
+pub after_front : (longer shorter : List ℕ) (k : ℕ) → get_or (padded (length longer) shorter) (length longer - length shorter + k) 0 ≡ get_or shorter k 0
+after_front longer shorter k =
     let n = length longer - length shorter in
     let ones : List ℕ = replicate n 1 in
     let count : length ones ≡ n = length-replicate {A = ℕ} n 1 in
@@ -81,7 +81,7 @@ common_shape_by_axes longer shorter common h e f g =
       | inr more ↦
           let at = beside longer shorter k h l more in
           ap (λ i. common_length (get_or longer i 0) (get_or other i 0)) at.2
-          ∙ ap (common_length (get_or longer (n + at.0) 0)) (behind longer shorter at.0)
+          ∙ ap (common_length (get_or longer (n + at.0) 0)) (after_front longer shorter at.0)
           ∙ g at.0 at.1
           ∙ ap (λ i. Some (get_or common i 0)) (sym at.2)
     ])
@@ -97,12 +97,12 @@ common_shape_where_all longer shorter h g =
       | inr more ↦
           let at = beside longer shorter k h l more in
           ap (λ i. is_some (common_length (get_or longer i 0) (get_or other i 0))) at.2
-          ∙ ap (λ o. is_some (common_length (get_or longer (n + at.0) 0) o)) (behind longer shorter at.0)
+          ∙ ap (λ o. is_some (common_length (get_or longer (n + at.0) 0) o)) (after_front longer shorter at.0)
           ∙ g at.0 at.1
     ])
 
 pub all_where_common_shape : (longer shorter : List ℕ) → length shorter ≤ length longer → is_some (common_shape longer shorter) ≡ true → (k : ℕ) → k < length shorter → is_some (common_length (get_or longer (length longer - length shorter + k) 0) (get_or shorter k 0)) ≡ true
 all_where_common_shape longer shorter h e k l =
     let n = length longer - length shorter in
-    sym (ap (λ o. is_some (common_length (get_or longer (n + k) 0) o)) (behind longer shorter k))
+    sym (ap (λ o. is_some (common_length (get_or longer (n + k) 0) o)) (after_front longer shorter k))
     ∙ all_where_some longer (padded (length longer) shorter) (sym (length-padded (length longer) shorter h)) (sym (ap is_some (common_shape_of_longer longer shorter h)) ∙ e) (n + k) (omega arith)

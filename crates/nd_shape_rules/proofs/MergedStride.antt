@@ -1,11 +1,11 @@
 -- Which stride has the entries of two axes, and which have one.
 use Rattle.std.proofs.Common.{◌≡◌, ◌≢◌, ℕ, zero, suc, ◌+◌, ◌*◌, ◌<◌, ◌≤◌, ◌/◌, ◌%◌, ℤ, pos, negsuc, ◌+ℤ◌, ◌*ℤ◌, List, [], ◌∷◌, length, get_or, inl, inr, refl, sym, ap, ◌∙◌, arith, mul-le-mul_left, pos_of_ne-zero, zero-mul}
-use Rattle.std.proofs.Math.IntN.{neg_ℤ, *ℤ-zero, pos-*ℤ-pos, pos-*ℤ-negsuc}
-use Rattle.std.proofs.Math.Nat.{div-add-mod, div-eq_of_lt, div-one, div_self, mod-eq_of_lt, mod-one, mod_self, mul-zero, mul_assoc}
+use Rattle.std.proofs.Math.Nat.{div-add-mod, div-eq_of_lt, div-one, div_self, mod-eq_of_lt, mod-one, mod_self, mul_comm}
 use Rattle.std.proofs.lemmas.Bool.{cases_eq}
 use Rattle.std.proofs.lemmas.Int.{ints}
 use Rattle.nd_base.specs.Size.{nonzero_size}
 use Rattle.nd_base.proofs.laws.NonzeroSize.{length_le_nonzero_size, nonzero_size_of_other, nonzero_size_of_zero}
+use Rattle.nd_base.proofs.laws.Times.{times_sum, times_times}
 use Rattle.nd_shape_rules.specs.Merge.{IsMergedStride, MergeFits}
 
 -- an axis of at most one entry adds nothing to the other
@@ -24,20 +24,8 @@ into_short take_len take_stride (suc n) into_stride h j l =
     let r : j % suc n ≡ 0 = ap (λ m. j % m) one ∙ mod-one j in
     rw (q, r) (omega (arith, ints))
 
-times_neg : (q m : ℕ) → pos q *ℤ neg_ℤ (pos m) ≡ neg_ℤ (pos (q * m))
-times_neg q zero = *ℤ-zero (pos q) ∙ sym (ap (λ n. neg_ℤ (pos n)) (mul-zero q))
-times_neg q (suc m) = pos-*ℤ-negsuc q m
-
-times_times : (q n : ℕ) (s : ℤ) → pos q *ℤ (pos n *ℤ s) ≡ pos (q * n) *ℤ s
-times_times q n (pos s) = ap (λ z. pos q *ℤ z) (pos-*ℤ-pos n s) ∙ pos-*ℤ-pos q (n * s) ∙ ap pos (sym (mul_assoc q n s)) ∙ sym (pos-*ℤ-pos (q * n) s)
-times_times q n (negsuc s) = ap (λ z. pos q *ℤ z) (pos-*ℤ-negsuc n s) ∙ times_neg q (n * suc s) ∙ ap (λ m. neg_ℤ (pos m)) (sym (mul_assoc q n (suc s))) ∙ sym (pos-*ℤ-negsuc (q * n) s)
-
 whole_steps : (q n r : ℕ) (s : ℤ) → pos (n * q + r) *ℤ s ≡ (pos q *ℤ (pos n *ℤ s)) +ℤ (pos r *ℤ s)
-whole_steps q n r s = rw (times_times q n s) (split s)
-  where
-    split : (z : ℤ) → pos (n * q + r) *ℤ z ≡ (pos (q * n) *ℤ z) +ℤ (pos r *ℤ z)
-    split (pos z) = omega (arith, ints)
-    split (negsuc z) = omega (arith, ints)
+whole_steps q n r s = times_sum (n * q) r s ∙ ap (λ m. (pos m *ℤ s) +ℤ (pos r *ℤ s)) (mul_comm n q) ∙ ap (λ z. z +ℤ (pos r *ℤ s)) (sym (times_times q n s))
 
 -- a stride as long as the other axis' entries goes on where that one ends
 pub steps_on : (take_len : ℕ) (take_stride : ℤ) (into_len : ℕ) (into_stride : ℤ) → take_stride ≡ pos into_len *ℤ into_stride → IsMergedStride take_len take_stride into_len into_stride into_stride

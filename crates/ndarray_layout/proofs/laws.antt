@@ -11,8 +11,10 @@ pub use Rattle.nd_base.proofs.laws.Offset
 pub use Rattle.nd_base.proofs.laws.Place
 pub use Rattle.nd_base.proofs.laws.Rank
 pub use Rattle.nd_base.proofs.laws.Reach
+pub use Rattle.nd_base.proofs.laws.Reading
 pub use Rattle.nd_base.proofs.laws.Size
 pub use Rattle.nd_base.proofs.laws.Span
+pub use Rattle.nd_base.proofs.laws.Times
 pub use Rattle.nd_base.proofs.laws.Turned
 pub use Rattle.nd_dim.proofs.laws.Contiguous
 pub use Rattle.nd_dim.proofs.laws.OneStretch

@@ -74,8 +74,8 @@ pub size_drop_more : (lens : List ℕ) (axis whole : ℕ) → 0 < axis → axis 
 size_drop_more lens axis whole h g e =
     let k = axis - 1 in
     let here : axis ≡ k + 1 = omega arith in
-    let behind : whole ≡ size (drop (k + 1) lens) = e ∙ ap (λ a. size (drop a lens)) here in
-    mul_comm whole (get_or lens k 0) ∙ ap (λ s. get_or lens k 0 * s) behind ∙ sym (size_from lens k (omega arith))
+    let after : whole ≡ size (drop (k + 1) lens) = e ∙ ap (λ a. size (drop a lens)) here in
+    mul_comm whole (get_or lens k 0) ∙ ap (λ s. get_or lens k 0 * s) after ∙ sym (size_from lens k (omega arith))
 
 -- no front of a shape without a zero length is of greater size
 pub size_take_le : (lens : List ℕ) (k : ℕ) → is_empty lens ≡ false → size (take k lens) ≤ size lens

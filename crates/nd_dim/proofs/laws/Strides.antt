@@ -100,11 +100,11 @@ fortran_by_default shape =
     elim (cases_Bool (is_empty shape)) [
       | inl none ↦ (zero_at shape k none within).1 ∙ sym (turned ∙ (zero_at (reverse shape) other (is_empty-reverse shape ∙ none) there).0)
       | inr some ↦
-          let behind : other + 1 ≡ length shape - k = omega (arith, count) in
+          let after : other + 1 ≡ length shape - k = omega (arith, count) in
           fortran_at shape k some within
           ∙ sym (turned
           ∙ default_at (reverse shape) other (is_empty-reverse shape ∙ some) there
-          ∙ ap (λ a. size (drop a (reverse shape))) behind
+          ∙ ap (λ a. size (drop a (reverse shape))) after
           ∙ ap size (drop-reverse k shape)
           ∙ size-reverse (take k shape))
     ])

@@ -20,7 +20,7 @@ use Rattle.nd_shape_rules.proofs.laws.OwnedRule.{reach_up_to, reach_up_to_le}
 use Rattle.nd_shape_rules.proofs.laws.DistinctOffsets.{distinct_from_rule}
 
 -- ---- the strides axis by axis
--- each axis moves by the size of the axes behind it
+-- each axis moves by the size of the axes after it
 abbrev by_rows : List ℕ → List ℕ
 by_rows [] = []
 by_rows (len ∷ lens) = size lens ∷ by_rows lens
@@ -112,7 +112,7 @@ over_rows (len ∷ lens) some (suc axis) h long =
 pub default_strides_meet_rule : (lens : List ℕ) → is_empty lens ≡ false → MeetsOwnedRule lens (map pos (default_strides lens))
 default_strides_meet_rule lens some = rw (default_by_rows lens some) (over_rows lens some)
 
--- and so they tell every two indices apart, of any shape, for a zero length leaves none
+-- and so they give every two indices two offsets, of any shape, for a zero length leaves none
 pub default_strides_distinct : (lens : List ℕ) → HasDistinctOffsets lens (map pos (default_strides lens))
 default_strides_distinct lens index other h g same =
     let some = nonempty_from_index lens index h in
@@ -154,7 +154,7 @@ over_columns step (len ∷ lens) (suc axis) moves some h long =
 pub fortran_strides_meet_rule : (lens : List ℕ) → is_empty lens ≡ false → MeetsOwnedRule lens (map pos (fortran_strides lens))
 fortran_strides_meet_rule lens some = rw (fortran_by_columns lens some) (λ axis h long. omega (arith, over_columns 1 lens axis (omega arith) some h long))
 
--- and tell every two indices apart
+-- and give every two indices two offsets
 pub fortran_strides_distinct : (lens : List ℕ) → HasDistinctOffsets lens (map pos (fortran_strides lens))
 fortran_strides_distinct lens index other h g same =
     let some = nonempty_from_index lens index h in

@@ -1,4 +1,4 @@
--- Laws of layouts whose indices lie one behind another: they are those that the rule on strides tells.
+-- Laws of layouts whose indices lie one after another: they are those of the rule on strides.
 use Rattle.std.proofs.Common.{◌≡◌, ◌≢◌, ℕ, zero, suc, ◌+◌, ◌<◌, ℤ, pos, ◌+ℤ◌, ◌*ℤ◌, true, false, eqb, List, [], ◌∷◌, length, get_or, map, replicate, inl, inr, refl, sym, ap, ◌∙◌, ◌↔◌, arith}
 use Rattle.std.specs.Prelude.{nat_lt}
 use Rattle.std.proofs.lemmas.Bool.{and_from, and_parts, cases_Bool, cases_eq, lt-ltb, ltb-true, or_parts, eqb-false}

@@ -9,7 +9,7 @@ ghost use Rattle.nd_base.specs.Indices.{indices_in};
 ghost use Rattle.nd_base.specs.Size.{size};
 
 use crate::indexes::order::{Columns, Rows, WalkOrder};
-use nd_dim::{IxDyn, Lengths, product};
+use nd_dim::{INLINE_AXES, IxDyn, Lengths, product};
 use std::alloc::{AllocError, Global};
 use std::marker::{Model, PhantomData};
 
@@ -56,7 +56,7 @@ impl<O: WalkOrder> Cursor<O> {
     pub fn new(alloc: Global, dim: IxDyn) -> Result<Self, AllocError>
         requires { size (lengths dim) < 2 ^ 64 }
         ensures items { IfOk result (λ cursor. cursor ≡ indices_in O.order (lengths dim)) }
-        ensures memory { length (lengths dim) ≤ 4 → IsOk result }
+        ensures memory { length (lengths dim) ≤ INLINE_AXES → IsOk result }
     {
         let index = IxDyn::zeros(alloc, dim.ndim())?;
         let left = product(dim.slice());

@@ -116,10 +116,10 @@ common_lengths-idempotent (len ∷ lens) =
     ∙ ap (joined (Some len)) (common_lengths-idempotent lens)
 
 -- a third list joins part by part, from either side
-third_behind : (o : Option ℕ) (p : Option (List ℕ)) (c : ℕ) (cs : List ℕ) → option_and_then (λ s. common_lengths s (c ∷ cs)) (joined o p) ≡ joined (option_and_then (λ n. common_length n c) o) (option_and_then (λ s. common_lengths s cs) p)
-third_behind None p c cs = refl
-third_behind (Some n) None c cs = sym (joined_to_none (common_length n c))
-third_behind (Some n) (Some s) c cs = refl
+third_after : (o : Option ℕ) (p : Option (List ℕ)) (c : ℕ) (cs : List ℕ) → option_and_then (λ s. common_lengths s (c ∷ cs)) (joined o p) ≡ joined (option_and_then (λ n. common_length n c) o) (option_and_then (λ s. common_lengths s cs) p)
+third_after None p c cs = refl
+third_after (Some n) None c cs = sym (joined_to_none (common_length n c))
+third_after (Some n) (Some s) c cs = refl
 
 third_before : (a : ℕ) (as' : List ℕ) (o : Option ℕ) (p : Option (List ℕ)) → option_and_then (λ s. common_lengths (a ∷ as') s) (joined o p) ≡ joined (option_and_then (λ n. common_length a n) o) (option_and_then (λ s. common_lengths as' s) p)
 third_before a as' None p = refl
@@ -133,7 +133,7 @@ common_lengths-associates [] (y ∷ ys) zs e f = absurd (omega arith)
 common_lengths-associates (x ∷ xs) [] zs e f = absurd (omega arith)
 common_lengths-associates (x ∷ xs) (y ∷ ys) [] e f = absurd (omega arith)
 common_lengths-associates (x ∷ xs) (y ∷ ys) (z ∷ zs) e f =
-    third_behind (common_length x y) (common_lengths xs ys) z zs
+    third_after (common_length x y) (common_lengths xs ys) z zs
     ∙ ap (λ o. joined o (option_and_then (λ s. common_lengths s zs) (common_lengths xs ys))) (common_length-associates x y z)
     ∙ ap (joined (option_and_then (λ n. common_length x n) (common_length y z))) (common_lengths-associates xs ys zs (omega arith) (omega arith))
     ∙ sym (third_before x xs (common_length y z) (common_lengths ys zs))
@@ -163,14 +163,14 @@ mapped_alike f g None h = refl
 mapped_alike f g (Some s) h = ap Some (h s refl)
 
 -- ones before both lists stay before what they have in common
-common_behind_ones : (n : ℕ) (lens others : List ℕ) → common_lengths (replicate n 1 ++ lens) (replicate n 1 ++ others) ≡ option_map (λ s. replicate n 1 ++ s) (common_lengths lens others)
-common_behind_ones zero lens others = by (common_lengths lens others)
+common_after_ones : (n : ℕ) (lens others : List ℕ) → common_lengths (replicate n 1 ++ lens) (replicate n 1 ++ others) ≡ option_map (λ s. replicate n 1 ++ s) (common_lengths lens others)
+common_after_ones zero lens others = by (common_lengths lens others)
   where
     by : (o : Option (List ℕ)) → o ≡ option_map (λ s. [] ++ s) o
     by None = refl
     by (Some s) = refl
-common_behind_ones (suc n) lens others =
-    ap (joined (Some 1)) (common_behind_ones n lens others)
+common_after_ones (suc n) lens others =
+    ap (joined (Some 1)) (common_after_ones n lens others)
     ∙ mapped_twice (λ s. 1 ∷ s) (λ s. replicate n 1 ++ s) (common_lengths lens others)
 
 -- with ones in front there are as many
@@ -200,7 +200,7 @@ common_shape_at n shape other h g =
     let m = max (length shape) (length other) in
     ap (λ xs. common_lengths xs (padded n other)) (padded_more m n shape (omega arith) (omega arith))
     ∙ ap (common_lengths (replicate (n - m) 1 ++ padded m shape)) (padded_more m n other (omega arith) (omega arith))
-    ∙ common_behind_ones (n - m) (padded m shape) (padded m other)
+    ∙ common_after_ones (n - m) (padded m shape) (padded m other)
     ∙ mapped_alike (λ s. replicate (n - m) 1 ++ s) (padded n) (common_shape shape other) (λ s e. ap (λ k. replicate (n - k) 1 ++ s) (sym (common_shape_count shape other s e)))
 
 -- ---- the laws

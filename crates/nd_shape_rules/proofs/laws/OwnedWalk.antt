@@ -89,7 +89,7 @@ place_of n order axis p l =
     let found = Contains-permutation (below n) order axis p (axis, within, same) in
     (found.0, found.1, get_or_default order found.0 0 axis found.1 ∙ found.2)
 
--- how far the others reach up to the stride of the axis at a place: those before it and those behind it
+-- how far the others reach up to the stride of the axis at a place: those before it and those after it
 others_by_place : (shape : List ℕ) (strides : List ℤ) (order : List ℕ) (place : ℕ) → length shape ≡ length strides → IsPermutation (below (length strides)) order → place < length order → span_of_others shape strides (get_or order place 0) ≡ sum_by (term_at (reach_up_to (magnitude_at strides (get_or order place 0))) shape strides) (take place order) + sum_by (term_at (reach_up_to (magnitude_at strides (get_or order place 0))) shape strides) (drop (place + 1) order)
 others_by_place shape strides order place count p l =
     let axis = get_or order place 0 in
@@ -166,7 +166,7 @@ reaches len stride h =
     let once : 1 * magnitude stride ≤ (len - 1) * magnitude stride = mul-le 1 (magnitude stride) (len - 1) (magnitude stride) (omega arith) (omega arith) in
     omega (arith, one-mul (magnitude stride))
 
--- behind an axis of more than one entry, only axes of at most one entry have a stride no longer
+-- after an axis of more than one entry, only axes of at most one entry have a stride no longer
 later_short : (shape : List ℕ) (strides : List ℤ) (order : List ℕ) (place later : ℕ) → WalkHolds 0 shape strides order → place < later → later < length order → 1 < get_or shape (get_or order place 0) 0 → magnitude_at strides (get_or order later 0) ≤ magnitude_at strides (get_or order place 0) → get_or shape (get_or order later 0) 0 ≤ 1
 later_short shape strides order place later walk before l long upto = elim (cases_lt 1 (get_or shape (get_or order later 0) 0)) [
   | inr short ↦ short

@@ -3,7 +3,7 @@ use Rattle.std.proofs.Common.{◌≡◌, ◌⊎◌, ℕ, zero, suc, ◌+◌, ◌
 use Rattle.std.specs.Option.{option_map, option_and_then}
 use Rattle.std.proofs.lemmas.Bool.{cases_eq}
 use Rattle.nd_shape_rules.specs.CommonShape.{common_length, common_lengths, padded, common_shape}
-use Rattle.nd_shape_rules.proofs.CommonShape.{behind, common_shape_by_axes, common_shape_of_longer}
+use Rattle.nd_shape_rules.proofs.CommonShape.{after_front, common_shape_by_axes, common_shape_of_longer}
 use Rattle.nd_shape_rules.proofs.laws.CommonShape.{common_of_others, common_shape-commutes, common_shape_count, common_from_one, common_with_one, common_with_same, length-padded}
 
 -- each axis has a length of 1, or that of the axis of the shape that lies as far from the last
@@ -65,7 +65,7 @@ stretches_to_common shape other h =
       λ k l.
           let i = length shape - length other + k in
           let here = axes_of_common shape (padded (length shape) other) shape as_many turned i (omega arith) in
-          stays_or_stretches (get_or shape i 0) (get_or other k 0) (ap (common_length (get_or shape i 0)) (sym (behind shape other k)) ∙ here),
+          stays_or_stretches (get_or shape i 0) (get_or other k 0) (ap (common_length (get_or shape i 0)) (sym (after_front shape other k)) ∙ here),
     )
 
 -- and where it has no fewer and the other stretches to it, it is the common one

@@ -1,4 +1,4 @@
--- Each fault is told where the rule has it, and none is where the rule accepts.
+-- Each fault is answered where the rule has it, and none where the rule accepts.
 use Rattle.std.proofs.Common.{rules}
 use Rattle.nd_shape_rules.proofs.checks.accept.Goals as goal
 

@@ -14,7 +14,7 @@ returns c =
     (search rules) (search rules) c.loop-len.yielded_by c.in-None.is c.next.ensures.steps in
     omega arith
 
--- the reach of this axis, and that of those behind it
+-- the reach of this axis, and that of those after it
 step : (c : In-Some) → sum_from reach_down c.args.shape.now c.args.strides.now (length c.loop-len.yielded) ≡ reach_down c.in-Some.len.now (signed c.in-Some.stride.now) + sum_from reach_down c.args.shape.now c.args.strides.now (length c.loop-len.yielded + 1)
 step c =
     sum_at_turn reach_down c.args.shape.now c.args.strides.now c.loop-len.yielded c.into_iter-len-iterator.result c.loop-len.len-iterator c.next.new.self c.next.result

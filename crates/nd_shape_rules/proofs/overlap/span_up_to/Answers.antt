@@ -16,13 +16,13 @@ returns c =
     (search rules) (search rules) c.loop-len.yielded_by c.in-None.is c.next.ensures.steps in
     omega (arith, end, c.loop-len.invariant.sum)
 
--- the reach of this axis, and that of those behind it
+-- the reach of this axis, and that of those after it
 step : (c : In-Some) → sum_from (reach_up_to c.args.magnitude) c.args.shape.now c.args.strides.now (length c.loop-len.yielded) ≡ reach_up_to c.args.magnitude c.in-Some.len.now (signed c.in-Some.stride.now) + sum_from (reach_up_to c.args.magnitude) c.args.shape.now c.args.strides.now (length c.loop-len.yielded + 1)
 step c =
     sum_at_turn (reach_up_to c.args.magnitude) c.args.shape.now c.args.strides.now c.loop-len.yielded c.into_iter-len-iterator.result c.loop-len.len-iterator c.next.new.self c.next.result
     (search rules) (search rules) c.loop-len.yielded_by (c.in-Some.len, c.in-Some.stride) c.in-Some.is c.next.ensures.steps
 
--- how far this axis reaches, and how far those behind it
+-- how far this axis reaches, and how far those after it
 reached : (c : In-Some) → sum_from reach c.args.shape.now c.args.strides.now (length c.loop-len.yielded) ≡ reach c.in-Some.len.now (signed c.in-Some.stride.now) + sum_from reach c.args.shape.now c.args.strides.now (length c.loop-len.yielded + 1)
 reached c =
     sum_at_turn reach c.args.shape.now c.args.strides.now c.loop-len.yielded c.into_iter-len-iterator.result c.loop-len.len-iterator c.next.new.self c.next.result
