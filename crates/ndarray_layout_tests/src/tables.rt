@@ -1,6 +1,8 @@
 //! Tables as text: a row is a line.
 use crate::slice::arguments::argument_holds;
 use crate::slice::axis_slice::slice_holds;
+use crate::slice::equations::{OfNumbers, numbers_hold};
+use crate::slice::meet::meeting_holds;
 use crate::slice::min_max::ends_hold;
 use crate::view::answer::view_holds;
 use nd_slice::Fit;
@@ -19,6 +21,10 @@ pub enum Told {
     Slices(Fit),
     /// A length, a slice, and the least and the greatest entry that it picks.
     Ends(Fit),
+    /// A shape at a dimension type, two arguments, and whether they meet or the fault of one.
+    Meeting(Fit),
+    /// Numbers, and a divisor, a solution or whether lists share one.
+    Numbers(OfNumbers),
 }
 
 /// A row holds.
@@ -28,6 +34,8 @@ fn holds(rt: &impl Abort, alloc: Global, told: Told, row: &mut Row<'_>) -> bool 
         Told::Arguments(fit) => argument_holds(rt, alloc, row, fit),
         Told::Slices(fit) => slice_holds(rt, row, fit),
         Told::Ends(fit) => ends_hold(rt, row, fit),
+        Told::Numbers(asked) => numbers_hold(rt, row, asked),
+        Told::Meeting(fit) => meeting_holds(rt, alloc, row, fit),
     }
 }
 

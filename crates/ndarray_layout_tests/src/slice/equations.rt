@@ -1,0 +1,247 @@
+//! The numbers under slices that meet: common divisors, equations in whole numbers, and lists of numbers that lie a
+//! step apart.
+ghost use Rattle.std.specs.Prelude.{◌≡◌, ◌≤◌, ◌^◌};
+ghost use Rattle.nd_base.specs.Signed.{magnitude};
+
+use crate::tables::{Told, hold};
+use crate::view::question::number;
+use crate::view::words::word;
+use nd_slice::{arith_seq_intersect, extended_gcd, solve_linear_diophantine_eq};
+use std::process::Abort;
+use test_tables::Row;
+
+/// A number of the type of the calls.
+fn wide(number: isize) -> i128
+    ensures same { result ≡ number }
+    ensures small { magnitude result ≤ 2 ^ 63 }
+{
+    number as i128
+}
+
+// ---- rows
+
+/// The next word of a row as a number.
+fn signed(rt: &impl Abort, row: &mut Row<'_>) -> isize {
+    row.number().expect(rt, "a number")
+}
+
+/// The next words of a row as two numbers.
+fn two(rt: &impl Abort, row: &mut Row<'_>) -> (isize, isize) {
+    (signed(rt, row), signed(rt, row))
+}
+
+/// The next words of a row as the first and the last number of a list, and its step.
+fn list(rt: &impl Abort, row: &mut Row<'_>) -> (isize, isize, isize) {
+    (signed(rt, row), signed(rt, row), signed(rt, row))
+}
+
+/// A row holds: two numbers, their greatest common divisor, and what each of them is multiplied by.
+fn divisor_holds(rt: &impl Abort, row: &mut Row<'_>) -> bool {
+    let (a, b) = two(rt, row);
+    let (gcd, (x, y)) = extended_gcd(wide(a), wide(b));
+    let due = list(rt, row);
+    (gcd, x, y) == (due.0 as i128, due.1 as i128, due.2 as i128)
+}
+
+/// A row holds: the three numbers of an equation, its least solution and how far apart solutions lie, or `none`.
+fn solution_holds(rt: &impl Abort, row: &mut Row<'_>) -> bool {
+    let (a, b) = two(rt, row);
+    let c = signed(rt, row);
+    if a == 0 || b == 0 {
+        return false;
+    }
+    match solve_linear_diophantine_eq(wide(a), wide(b), wide(c)) {
+        Some((least, apart)) => {
+            let due = (number(rt, row), number(rt, row));
+            (least, apart) == (due.0 as i128, due.1 as i128)
+        }
+        None => word(rt, row) == "none",
+    }
+}
+
+/// A row holds: two lists of numbers, and whether they share one.
+fn sequences_hold(rt: &impl Abort, row: &mut Row<'_>) -> bool {
+    let (first, second) = (list(rt, row), list(rt, row));
+    let due = word(rt, row) == "true";
+    first.2 != 0 && second.2 != 0 && arith_seq_intersect(first, second) == due
+}
+
+/// What a row tells of numbers.
+#[derive(Clone, Copy)]
+pub enum OfNumbers {
+    /// A common divisor.
+    Divisor,
+    /// The solution of an equation.
+    Solution,
+    /// Whether two lists share a number.
+    Sequences,
+}
+
+/// A row holds.
+pub fn numbers_hold(rt: &impl Abort, row: &mut Row<'_>, asked: OfNumbers) -> bool {
+    match asked {
+        OfNumbers::Divisor => divisor_holds(rt, row),
+        OfNumbers::Solution => solution_holds(rt, row),
+        OfNumbers::Sequences => sequences_hold(rt, row),
+    }
+}
+
+const DIVISORS: &str = "\
+0 0 0 0 0
+0 5 5 0 1
+5 0 5 1 0
+0 -5 5 0 -1
+-5 0 5 -1 0";
+
+const SOLUTIONS: &str = "\
+-6 9 3 1 3
+-9 6 3 1 2
+4 6 3 none
+-9223372036854775808 9223372036854775807 -1 1 9223372036854775807
+9223372036854775807 -9223372036854775808 9223372036854775807 1 9223372036854775808";
+
+const SEQUENCES: &str = "\
+0 9 9 3 9 6 true
+0 0 9 3 3 6 false
+-9223372036854775808 9223372036854775807 1 9223372036854775807 9223372036854775807 -9223372036854775808 true";
+
+#[test]
+fn r10_rows(rt: HostRuntime) {
+    let alloc = rt.alloc();
+    hold(&rt, alloc, Told::Numbers(OfNumbers::Divisor), DIVISORS);
+    hold(&rt, alloc, Told::Numbers(OfNumbers::Solution), SOLUTIONS);
+    hold(&rt, alloc, Told::Numbers(OfNumbers::Sequences), SEQUENCES);
+}
+
+// ---- whole ranges
+
+/// Whether a number divides another; 0 divides 0 alone.
+fn divides(number: i128, other: i128) -> bool {
+    match other.checked_rem(number) {
+        Some(rest) => rest == 0,
+        None => other == 0,
+    }
+}
+
+/// Whether the call gives the greatest divisor of two numbers of at most 20 in magnitude, and solves its equation.
+fn has_divisor(a: i128, b: i128, gcd: i128, x: i128, y: i128) -> bool {
+    let solves = a.wrapping_mul(x).wrapping_add(b.wrapping_mul(y)) == gcd;
+    for number in 1..=20isize {
+        let other = wide(number);
+        if divides(other, a) && divides(other, b) && !divides(other, gcd) {
+            return false;
+        }
+    }
+    solves && divides(gcd, a) && divides(gcd, b) && gcd >= 0
+}
+
+/// The first number from -20 to 20 with which another has a wrong divisor.
+fn first_wrong_divisor(a: isize) -> Option<isize> {
+    for b in -20..=20isize {
+        let (gcd, (x, y)) = extended_gcd(wide(a), wide(b));
+        if !has_divisor(wide(a), wide(b), gcd, x, y) {
+            return Some(b);
+        }
+    }
+    None
+}
+
+#[test]
+fn r10_rows_of_divisors(rt: HostRuntime) {
+    for a in -20..=20isize {
+        assert!(rt; first_wrong_divisor(a) == None, "{a}");
+    }
+}
+
+/// The least number from one to another whose multiple by `a` differs from `c` by a multiple of `b`.
+fn least_solution(a: i128, b: i128, c: i128, from: i128, to: i128) -> Option<i128> {
+    for x in from..to {
+        if divides(b, c.wrapping_sub(a.wrapping_mul(x))) {
+            return Some(x);
+        }
+    }
+    None
+}
+
+/// Whether these are the least solution that is not negative, and how far the next one lies from it.
+fn has_solutions(a: i128, b: i128, c: i128, found: Option<(i128, i128)>) -> bool {
+    match found {
+        Some((least, apart)) => {
+            let next = least.wrapping_add(apart);
+            least_solution(a, b, c, 0, 8) == Some(least)
+                && least_solution(a, b, c, least.wrapping_add(1), 17) == Some(next)
+        }
+        None => least_solution(a, b, c, 0, 8) == None,
+    }
+}
+
+/// The first number from -20 to 20 for which the equation of two others is solved wrongly.
+fn first_wrong_solution(a: isize, b: isize) -> Option<isize> {
+    if a == 0 || b == 0 {
+        return None;
+    }
+    for c in -20..=20isize {
+        let found = solve_linear_diophantine_eq(wide(a), wide(b), wide(c));
+        if !has_solutions(wide(a), wide(b), wide(c), found) {
+            return Some(c);
+        }
+    }
+    None
+}
+
+#[test]
+fn r10_rows_of_equations(rt: HostRuntime) {
+    for a in -8..=8isize {
+        for b in -8..=8isize {
+            assert!(rt; first_wrong_solution(a, b) == None, "{a} {b}");
+        }
+    }
+}
+
+/// How many lists of one to four numbers there are, with a first number from -4 to 4 and a step from -3 to 3.
+const LISTS: usize = 252;
+
+/// A list by its number: its first and its last number, and its step.
+fn numbered(number: usize) -> (isize, isize, isize) {
+    let first = (number % 9) as isize - 4;
+    let step = (number / 9 % 7) as isize - 3;
+    let steps = (number / 63 % 4) as isize;
+    (first, first + steps * step.abs(), step)
+}
+
+/// Whether a list has a number.
+fn has(list: (isize, isize, isize), number: isize) -> bool {
+    let ahead = number.wrapping_sub(list.0);
+    list.0 <= number && number <= list.1 && ahead.checked_rem(list.2) == Some(0)
+}
+
+/// Whether two lists share a number, of those from -4 to 13.
+fn share(first: (isize, isize, isize), second: (isize, isize, isize)) -> bool {
+    for number in -4..=13isize {
+        if has(first, number) && has(second, number) {
+            return true;
+        }
+    }
+    false
+}
+
+/// The first list of which something else is answered with this one.
+fn first_wrong_list(first: (isize, isize, isize)) -> Option<usize> {
+    for number in 0..LISTS {
+        let second = numbered(number);
+        if first.2 != 0
+            && second.2 != 0
+            && arith_seq_intersect(first, second) != share(first, second)
+        {
+            return Some(number);
+        }
+    }
+    None
+}
+
+#[test]
+fn r10_rows_of_sequences(rt: HostRuntime) {
+    for number in 0..LISTS {
+        assert!(rt; first_wrong_list(numbered(number)) == None, "{number}");
+    }
+}

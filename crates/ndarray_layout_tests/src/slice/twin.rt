@@ -1,0 +1,121 @@
+//! All slices of an axis of up to six entries with bounds from -6 to 6 or left out and steps from -4 to 4: two of them
+//! meet where an entry, of all those of the axis, is picked by both.
+use crate::slice::meet::meeting;
+use Fit::{Clamp, Strict};
+use nd_base::new_ix1;
+use nd_slice::{Fit, Slice, SliceInfoElem};
+
+/// How many slices there are.
+const COUNT: usize = 1638;
+
+/// A slice by its number.
+fn numbered(number: usize) -> Slice {
+    let end = match number / 13 % 14 {
+        13 => None,
+        place => Some(place as isize - 6),
+    };
+    Slice {
+        start: (number % 13) as isize - 6,
+        end,
+        step: (number / 182 % 9) as isize - 4,
+    }
+}
+
+/// A slice of an axis, with its bounds counted from the front.
+#[derive(Clone, Copy)]
+struct Bounds {
+    start: isize,
+    end: isize,
+    step: isize,
+}
+
+/// What a bound means on an axis of so many entries.
+fn counted_bound(len: isize, bound: isize, fit: Fit) -> isize {
+    let bound = if bound < 0 {
+        len.wrapping_add(bound)
+    } else {
+        bound
+    };
+    match fit {
+        Strict => bound,
+        Clamp => bound.max(0).min(len),
+    }
+}
+
+/// What a slice means there.
+fn counted(len: isize, slice: Slice, fit: Fit) -> Bounds {
+    Bounds {
+        start: counted_bound(len, slice.start, fit),
+        end: counted_bound(len, slice.end.unwrap_or(len), fit),
+        step: slice.step,
+    }
+}
+
+impl Bounds {
+    /// Whether the slice has no fault on an axis of so many entries.
+    fn fits(&self, len: isize) -> bool {
+        self.start.min(self.end) >= 0 && self.start.max(self.end) <= len && self.step != 0
+    }
+
+    /// Whether the slice picks an entry.
+    fn picks(&self, entry: isize) -> bool {
+        let ahead = if self.step > 0 {
+            entry.wrapping_sub(self.start)
+        } else {
+            self.end.wrapping_sub(1).wrapping_sub(entry)
+        };
+        self.start <= entry && entry < self.end && ahead.checked_rem(self.step) == Some(0)
+    }
+}
+
+/// What is to be answered of two slices of an axis of so many entries.
+fn answer(len: isize, first: Bounds, second: Bounds) -> &'static str {
+    for entry in 0..len {
+        if first.picks(entry) && second.picks(entry) {
+            return "meet";
+        }
+    }
+    "apart"
+}
+
+/// Whether that is answered of a slice and all others that have no fault there.
+fn is_answered(len: u8, first: Slice, fit: Fit) -> bool {
+    let (dim, lens) = (new_ix1(len as usize), len as isize);
+    let one = counted(lens, first, fit);
+    for number in 0..COUNT {
+        let second = numbered(number);
+        let other = counted(lens, second, fit);
+        if other.fits(lens) {
+            let (first, second) = ([SliceInfoElem::from(first)], [SliceInfoElem::from(second)]);
+            if meeting(&dim, &first, &second, fit) != answer(lens, one, other) {
+                return false;
+            }
+        }
+    }
+    true
+}
+
+/// The first slice without a fault of which something else is answered with another one, on an axis of so many entries.
+fn first_wrong(len: u8, fit: Fit) -> Option<usize> {
+    for number in 0..COUNT {
+        let slice = numbered(number);
+        if counted(len as isize, slice, fit).fits(len as isize) && !is_answered(len, slice, fit) {
+            return Some(number);
+        }
+    }
+    None
+}
+
+#[test]
+fn r10_rows_of_all_slices(rt: HostRuntime) {
+    for len in 0..7u8 {
+        assert!(rt; first_wrong(len, Strict) == None, "{len}");
+    }
+}
+
+#[test]
+fn r14_rows_of_all_slices(rt: HostRuntime) {
+    for len in 0..3u8 {
+        assert!(rt; first_wrong(len, Clamp) == None, "{len}");
+    }
+}
