@@ -1,7 +1,9 @@
 -- When two slice arguments on a shape share an index.
-use Rattle.std.specs.Prelude.{◌≡◌, ℕ, IsTrue, pos, negsuc, None, List, [], ◌∷◌, refl}
+use Rattle.std.specs.Prelude.{◌≡◌, ℕ, zero, suc, IsTrue, nat_eq, pos, negsuc, None, List, [], ◌∷◌, refl}
 use Rattle.std.specs.List.{AllZip, Contains}
-use Rattle.std.proofs.lemmas.Bool.{ltb-true}
+use Rattle.std.proofs.Common.{eq-eqb, sym, ◌∙◌}
+use Rattle.std.proofs.Math.Nat.{not-suc-le-zero, le_of_suc-le-suc}
+use Rattle.std.proofs.lemmas.Bool.{both_ways, ltb-true}
 use Rattle.nd_base.specs.Indices.{is_index}
 use Rattle.nd_base.specs.Signed.{magnitude}
 use Rattle.nd_slice_axis.specs.declared.fit.Fit.{Fit}
@@ -74,3 +76,16 @@ last_fits = refl
 
 no_axes : Meet Strict [] (elem.NewAxis ∷ []) []
 no_axes = ([], refl, tt, tt)
+
+new_axis_for_none : axis_picks Strict [] (elem.NewAxis ∷ elem.NewAxis ∷ []) ≡ []
+new_axis_for_none = refl
+
+other_entries : Meet Strict (2 ∷ []) (elem.Index (pos 0) ∷ []) (elem.Index (pos 1) ∷ []) → ⊥
+other_entries ([], is, one, other) = one
+other_entries (i ∷ index, is, ((zero, below, at), one), ((zero, under, same), other)) = both_ways (nat_eq 0 1) refl (eq-eqb 0 1 (at ∙ sym same))
+other_entries (i ∷ index, is, ((zero, below, at), one), ((suc k, under, same), other)) = not-suc-le-zero (le_of_suc-le-suc under)
+other_entries (i ∷ index, is, ((suc k, below, at), one), other) = not-suc-le-zero (le_of_suc-le-suc below)
+
+nothing_of_an_empty_axis : Meet Strict (0 ∷ []) (elem.Slice (pos 0) None (pos 1) ∷ []) (elem.Slice (pos 0) None (pos 1) ∷ []) → ⊥
+nothing_of_an_empty_axis ([], is, one, other) = one
+nothing_of_an_empty_axis (i ∷ index, is, ((k, below, at), one), other) = not-suc-le-zero below

@@ -1,6 +1,8 @@
 -- When two lists of entries share one.
-use Rattle.std.specs.Prelude.{ℕ, List, [], ◌∷◌, refl}
-use Rattle.std.proofs.lemmas.Bool.{ltb-true}
+use Rattle.std.specs.Prelude.{ℕ, zero, suc, List, [], ◌∷◌, nat_eq, refl}
+use Rattle.std.proofs.Common.{eq-eqb, sym, ◌∙◌}
+use Rattle.std.proofs.Math.Nat.{not-suc-le-zero, le_of_suc-le-suc}
+use Rattle.std.proofs.lemmas.Bool.{both_ways, ltb-true}
 use Rattle.std.specs.List.{Contains}
 
 -- some entry is in both
@@ -10,3 +12,11 @@ PicksMeet one other = (entry : ℕ) × Contains one entry × Contains other entr
 -- examples
 eight_in_both : PicksMeet (0 ∷ 4 ∷ 8 ∷ []) (2 ∷ 8 ∷ [])
 eight_in_both = (8, (2, ltb-true 2 3 refl, refl), (1, ltb-true 1 2 refl, refl))
+
+other_entry : PicksMeet (0 ∷ []) (1 ∷ []) → ⊥
+other_entry (entry, (zero, below, at), (zero, under, is)) = both_ways (nat_eq 0 1) refl (eq-eqb 0 1 (at ∙ sym is))
+other_entry (entry, (zero, below, at), (suc k, under, is)) = not-suc-le-zero (le_of_suc-le-suc under)
+other_entry (entry, (suc k, below, at), other) = not-suc-le-zero (le_of_suc-le-suc below)
+
+nothing_picked : PicksMeet (0 ∷ 4 ∷ []) [] → ⊥
+nothing_picked (entry, one, (k, below, at)) = not-suc-le-zero below

@@ -30,3 +30,7 @@ past_the_last within = within.not_after.le
 
 first_of_its_own : InSequence (pos 0) (pos 0) (pos 9) (pos 0)
 first_of_its_own = record { not_before = record { le = tt }; not_after = record { le = tt }; stepped = dvd-zero 9 }
+
+last_before_the_first : SequencesMeet (pos 0, negsuc 0, pos 9) (negsuc 8, pos 9, pos 9) → ⊥
+last_before_the_first (pos n, one, other) = one.not_after.le
+last_before_the_first (negsuc n, one, other) = one.not_before.le
