@@ -11,7 +11,8 @@ use Rattle.nd_base.specs.Place.{place}
 use Rattle.nd_base.specs.Signed.{signed, all_signed}
 use Rattle.nd_base.specs.Size.{size, nonzero_size, limit}
 use Rattle.ndarray_layout_views.specs.View.{IsView, view_places}
-use Rattle.ndarray_layout_views.specs.Walk.{nested, nested_view, row_view}
+use Rattle.nd_base.specs.Reading.{as_read}
+use Rattle.ndarray_layout_views.specs.Walk.{view_as_read, row_view}
 use Rattle.nd_base.proofs.laws.Indices.{indices_more}
 use Rattle.nd_base.proofs.laws.NonzeroSize.{nonzero_size_pos}
 use Rattle.ndarray_layout_views.proofs.OneAxis.{axis_within}
@@ -70,47 +71,47 @@ map_reverse f [] = refl
 map_reverse f (x ∷ xs) = ap (map f) (reverse-append (x ∷ []) xs) ∙ map-append f (reverse xs) (x ∷ []) ∙ ap (λ ys. ys ++ f x ∷ []) (map_reverse f xs) ∙ sym (reverse-append (f x ∷ []) (map f xs))
 
 -- reading strides as signed commutes with turning them round
-pub nested_signed : (order : Order) (strides : List ℕ) → nested order (all_signed strides) ≡ all_signed (nested order strides)
-nested_signed RowMajor strides = refl
-nested_signed ColumnMajor strides = sym (map_reverse signed strides)
+pub as_read_signed : (order : Order) (strides : List ℕ) → as_read order (all_signed strides) ≡ all_signed (as_read order strides)
+as_read_signed RowMajor strides = refl
+as_read_signed ColumnMajor strides = sym (map_reverse signed strides)
 
-nested_none : {A : Type 0} (order : Order) → nested {A = A} order [] ≡ []
-nested_none RowMajor = refl
-nested_none ColumnMajor = refl
+as_read_none : {A : Type 0} (order : Order) → as_read {A = A} order [] ≡ []
+as_read_none RowMajor = refl
+as_read_none ColumnMajor = refl
 
 -- the strides of a view by its slowest axis
-strides_split : (order : Order) (stride : ℕ) (strides rest : List ℕ) → nested order strides ≡ stride ∷ nested order rest → nested order (all_signed strides) ≡ signed stride ∷ all_signed (nested order rest)
-strides_split order stride strides rest e = nested_signed order strides ∙ ap all_signed e
+strides_split : (order : Order) (stride : ℕ) (strides rest : List ℕ) → as_read order strides ≡ stride ∷ as_read order rest → as_read order (all_signed strides) ≡ signed stride ∷ all_signed (as_read order rest)
+strides_split order stride strides rest e = as_read_signed order strides ∙ ap all_signed e
 
 -- the same of the view
-pub view_split : (order : Order) (start len stride : ℕ) (shape lens strides rest : List ℕ) → nested order shape ≡ len ∷ nested order lens → nested order strides ≡ stride ∷ nested order rest → nested_view order start shape (all_signed strides) ≡ record { start = start; shape = len ∷ nested order lens; strides = signed stride ∷ all_signed (nested order rest) }
+pub view_split : (order : Order) (start len stride : ℕ) (shape lens strides rest : List ℕ) → as_read order shape ≡ len ∷ as_read order lens → as_read order strides ≡ stride ∷ as_read order rest → view_as_read order start shape (all_signed strides) ≡ record { start = start; shape = len ∷ as_read order lens; strides = signed stride ∷ all_signed (as_read order rest) }
 view_split order start len stride shape lens strides rest e f = rw (e, strides_split order stride strides rest f) refl
 
-pub entry_of : (order : Order) (start len stride i : ℕ) (shape lens strides rest : List ℕ) → nested order shape ≡ len ∷ nested order lens → nested order strides ≡ stride ∷ nested order rest → IsView (nested_view order start shape (all_signed strides)) → i < len → IsEntry start len (nested order lens) (signed stride) (all_signed (nested order rest)) i
+pub entry_of : (order : Order) (start len stride i : ℕ) (shape lens strides rest : List ℕ) → as_read order shape ≡ len ∷ as_read order lens → as_read order strides ≡ stride ∷ as_read order rest → IsView (view_as_read order start shape (all_signed strides)) → i < len → IsEntry start len (as_read order lens) (signed stride) (all_signed (as_read order rest)) i
 entry_of order start len stride i shape lens strides rest e f view h =
-    entry_within start len (nested order lens) (signed stride) (all_signed (nested order rest)) i (subst IsView (view_split order start len stride shape lens strides rest e f) view) h
+    entry_within start len (as_read order lens) (signed stride) (all_signed (as_read order rest)) i (subst IsView (view_split order start len stride shape lens strides rest e f) view) h
 
 -- where one axis is left it is a row
-rest_of_row : (order : Order) (len : ℕ) (shape lens : List ℕ) → nested order shape ≡ len ∷ nested order lens → length lens ≡ 0 → nested order shape ≡ len ∷ []
-rest_of_row order len shape lens e none = e ∙ ap (λ xs. len ∷ nested order xs) (nil_from_length lens none) ∙ ap (λ xs. len ∷ xs) (nested_none order)
+rest_of_row : (order : Order) (len : ℕ) (shape lens : List ℕ) → as_read order shape ≡ len ∷ as_read order lens → length lens ≡ 0 → as_read order shape ≡ len ∷ []
+rest_of_row order len shape lens e none = e ∙ ap (λ xs. len ∷ as_read order xs) (nil_from_length lens none) ∙ ap (λ xs. len ∷ xs) (as_read_none order)
 
-pub size_of_row : (order : Order) (len : ℕ) (shape lens : List ℕ) → nested order shape ≡ len ∷ nested order lens → length lens ≡ 0 → size (nested order shape) ≡ len
+pub size_of_row : (order : Order) (len : ℕ) (shape lens : List ℕ) → as_read order shape ≡ len ∷ as_read order lens → length lens ≡ 0 → size (as_read order shape) ≡ len
 size_of_row order len shape lens e none =
     let one : size (len ∷ []) ≡ len = omega arith in
     ap size (rest_of_row order len shape lens e none) ∙ one
 
-pub view_of_row : (order : Order) (start len stride : ℕ) (shape lens strides rest : List ℕ) → nested order shape ≡ len ∷ nested order lens → nested order strides ≡ stride ∷ nested order rest → length lens ≡ 0 → IsView (nested_view order start shape (all_signed strides)) → nested_view order start shape (all_signed strides) ≡ row_view start len (signed stride)
+pub view_of_row : (order : Order) (start len stride : ℕ) (shape lens strides rest : List ℕ) → as_read order shape ≡ len ∷ as_read order lens → as_read order strides ≡ stride ∷ as_read order rest → length lens ≡ 0 → IsView (view_as_read order start shape (all_signed strides)) → view_as_read order start shape (all_signed strides) ≡ row_view start len (signed stride)
 view_of_row order start len stride shape lens strides rest e f none view =
     let row = rest_of_row order len shape lens e none in
     let split = strides_split order stride strides rest f in
-    let lengths : length (nested order shape) ≡ 1 = ap length row in
-    let alone : all_signed (nested order rest) ≡ [] = nil_from_length (all_signed (nested order rest)) (omega (arith, view.valid.same_count, lengths, ap length split)) in
+    let lengths : length (as_read order shape) ≡ 1 = ap length row in
+    let alone : all_signed (as_read order rest) ≡ [] = nil_from_length (all_signed (as_read order rest)) (omega (arith, view.valid.same_count, lengths, ap length split)) in
     rw (row, split, alone) refl
 
 -- the walk is whole at the last entry
-pub walk_whole : (order : Order) (start len stride i : ℕ) (shape lens strides rest : List ℕ) → nested order shape ≡ len ∷ nested order lens → nested order strides ≡ stride ∷ nested order rest → i ≡ len → view_places RowMajor (record { start = start; shape = i ∷ nested order lens; strides = signed stride ∷ all_signed (nested order rest) }) ≡ view_places RowMajor (nested_view order start shape (all_signed strides))
+pub walk_whole : (order : Order) (start len stride i : ℕ) (shape lens strides rest : List ℕ) → as_read order shape ≡ len ∷ as_read order lens → as_read order strides ≡ stride ∷ as_read order rest → i ≡ len → view_places RowMajor (record { start = start; shape = i ∷ as_read order lens; strides = signed stride ∷ all_signed (as_read order rest) }) ≡ view_places RowMajor (view_as_read order start shape (all_signed strides))
 walk_whole order start len stride i shape lens strides rest e f all =
-    ap (λ n. view_places RowMajor (record { start = start; shape = n ∷ nested order lens; strides = signed stride ∷ all_signed (nested order rest) })) all
+    ap (λ n. view_places RowMajor (record { start = start; shape = n ∷ as_read order lens; strides = signed stride ∷ all_signed (as_read order rest) })) all
     ∙ ap (view_places RowMajor) (sym (view_split order start len stride shape lens strides rest e f))
 
 -- one row more after the rows so far

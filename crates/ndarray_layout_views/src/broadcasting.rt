@@ -87,7 +87,7 @@ fn stretched<E: Lengths>(
 
 /// The lengths and the strides with which a view is read as one of a shape. Refused as `check_broadcast`
 /// refuses it, and then where memory is refused, but not where the type fixes the count or there are at
-/// most 4 axes.
+/// most 4 axes. The caller ensures that the view has a stride for each length.
 #[inline(always)]
 pub fn broadcast_axes<E: Lengths>(
     alloc: Global,

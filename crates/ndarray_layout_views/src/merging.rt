@@ -5,8 +5,8 @@ ghost use Rattle.ndarray_layout_views.specs.MergedView.{axes_fault};
 
 use nd_base::{Axis, ErrorKind, ShapeError, from_kind};
 
-/// Whether a shape has two axes, and they are not one: `OutOfBounds` for one that it has not, and then
-/// `Unsupported` for one axis twice.
+/// Checks that a shape has two axes, and that they are not one: refused with `OutOfBounds` where it lacks
+/// one of them, and then with `Unsupported` for one axis twice.
 #[inline(always)]
 pub fn check_axes(shape: &[usize], take: Axis, into: Axis) -> Result<(), ShapeError>
     ensures { result_err result ≡ axes_fault shape.now take.0 into.0 }

@@ -5,13 +5,16 @@ ghost use Rattle.nd_base.specs.Signed.{signed as signed_reading, all_signed};
 ghost use Rattle.nd_base.specs.Size.{size, limit};
 ghost use Rattle.nd_base.specs.declared.order.Order.TheVariants.{RowMajor};
 ghost use Rattle.ndarray_layout_views.specs.View.{IsView, view_of, view_places};
-ghost use Rattle.ndarray_layout_views.specs.Walk.{nested, nested_view, row_view};
+ghost use Rattle.nd_base.specs.Reading.{as_read};
+ghost use Rattle.ndarray_layout_views.specs.Walk.{view_as_read, row_view};
 
 use crate::longer::longer_axes;
 use nd_base::{Order, stride_offset};
 
 /// Appends the places of all indices, in an order, to a list with room for them. Axes of length 1 are left out
 /// first, so that no more calls nest than there are axes of two entries or more.
+///
+/// The caller ensures that these lists make a view, and that the list has room for all places.
 pub fn push_places(
     places: Vec<usize>,
     order: Order,
@@ -41,11 +44,11 @@ fn push_entries(
     start: usize,
 ) -> Vec<usize>
     requires few { length shape.now ≤ 62 }
-    requires view { IsView (nested_view order start shape.now (all_signed strides.now)) }
-    requires room { vec_len places + size (nested order shape.now) ≤ vec_capacity places }
+    requires view { IsView (view_as_read order start shape.now (all_signed strides.now)) }
+    requires room { vec_len places + size (as_read order shape.now) ≤ vec_capacity places }
     ensures items { map pos result.items ≡ map pos places.items ++
-        view_places RowMajor (nested_view order start shape.now (all_signed strides.now)) }
-    ensures len { vec_len result ≡ vec_len places + size (nested order shape.now) }
+        view_places RowMajor (view_as_read order start shape.now (all_signed strides.now)) }
+    ensures len { vec_len result ≡ vec_len places + size (as_read order shape.now) }
     ensures capacity { vec_capacity result ≡ vec_capacity places }
 {
     match (split_slowest(order, shape), split_slowest(order, strides)) {
@@ -81,7 +84,7 @@ fn push_row(mut places: Vec<usize>, start: usize, len: usize, stride: usize) -> 
 /// The item of the slowest axis, and the items of the others.
 fn split_slowest(order: Order, items: &[usize]) -> Option<(usize, &[usize])>
     ensures { MatchOption result (items.now ≡ [])
-        (λ p. (nested order items.now ≡ p.0 ∷ nested order p.1.now)
+        (λ p. (as_read order items.now ≡ p.0 ∷ as_read order p.1.now)
         × (length p.1.now + 1 ≡ length items.now)) }
 {
     let (slowest, others) = match order {
@@ -102,7 +105,8 @@ fn entry_place(start: usize, i: usize, stride: usize) -> usize
     offset_place(start, stride_offset(i, stride))
 }
 
-/// The place at an offset from another one.
+/// The place at an offset from another one. The caller ensures that neither is past the greatest `isize`, and
+/// that the new one is not below 0.
 pub fn offset_place(start: usize, offset: isize) -> usize
     requires first { start ≤ limit }
     requires low { pos 0 ≤ℤ (pos start +ℤ offset) }

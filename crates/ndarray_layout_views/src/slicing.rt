@@ -15,7 +15,7 @@ ghost use Rattle.nd_slice.specs.Counts.{HasCounts};
 ghost use Rattle.nd_slice.specs.Sliced.{sliced_shape, sliced_strides, sliced_offset};
 ghost use Rattle.ndarray_layout_views.specs.SlicedView.{slice_refusal};
 
-use nd_dim::{ErrorKind, LayoutError, Lengths, ShapeError, from_kind, stride_offset};
+use nd_dim::{ErrorKind, INLINE_AXES, LayoutError, Lengths, ShapeError, from_kind, stride_offset};
 use nd_slice::{
     Fit, Slice, SliceInfoElem, check_elems, do_slice, entry_of, in_ndim_of, out_ndim_of,
 };
@@ -36,7 +36,7 @@ fn has_counts(fixed: Option<usize>, shape: &[usize], elems: &[SliceInfoElem]) ->
 fn needs_memory(fixed: Option<usize>, ndim: usize) -> bool
     ensures { IsFalse result ↔ NeedsNoMemory fixed ndim }
 {
-    fixed.is_none() && ndim > 4
+    fixed.is_none() && ndim > INLINE_AXES
 }
 
 /// Slices one axis: the length and the stride that are left, and how many elements the first pick lies

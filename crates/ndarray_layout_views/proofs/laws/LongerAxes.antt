@@ -14,7 +14,7 @@ use Rattle.nd_base.specs.Size.{size, nonzero_size}
 use Rattle.nd_base.specs.Span.{reach, reach_down, reach_up, sum_over_axes}
 use Rattle.ndarray_layout_views.specs.LongerAxes.{of_longer, longer_view}
 use Rattle.ndarray_layout_views.specs.View.{View, IsView, view_places}
-use Rattle.ndarray_layout_views.proofs.laws.Walk.{places_nested}
+use Rattle.ndarray_layout_views.proofs.laws.Walk.{places-as_read}
 
 -- an axis of length 1 is left out, any other is kept
 of_longer_one : {A : Type 0} (len : ℕ) (lens : List ℕ) (item : A) (items : List A) → len ≡ 1 → of_longer (len ∷ lens) (item ∷ items) ≡ of_longer lens items
@@ -192,6 +192,6 @@ view_places-longer_view ColumnMajor view counts =
     let shape = view.shape in
     let strides = view.strides in
     let turned : length (reverse shape) ≡ length (reverse strides) = omega (arith, counts, length-reverse shape, length-reverse strides) in
-    sym (places_nested ColumnMajor view.start (of_longer shape shape) (of_longer shape strides) (length-of_longer shape shape strides refl counts))
+    sym (places-as_read ColumnMajor view.start (of_longer shape shape) (of_longer shape strides) (length-of_longer shape shape strides refl counts))
     ∙ rw (sym (of_longer-reverse shape shape refl), sym (of_longer-reverse shape strides counts)) (by_rows view.start (reverse shape) (reverse strides) turned)
-    ∙ places_nested ColumnMajor view.start shape strides counts
+    ∙ places-as_read ColumnMajor view.start shape strides counts

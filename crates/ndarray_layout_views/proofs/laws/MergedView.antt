@@ -61,7 +61,7 @@ can_merge take into view none =
 pub no_fault_where_it_can : (take into : ℕ) (view : View) → CanMerge take into view → merge_fault take into view ≡ None
 no_fault_where_it_can take into view can = rw (can.axes, can.stride) refl
 
--- so what a merge answers tells the fault where the axes have to be merged
+-- so a merge's answer says what its fault is, where the axes have to be merged
 pub merge_fault_of_answer : (take into : ℕ) (view : View) (merged : Bool) → axes_fault view.shape take into ≡ None → (merged ≡ true) ↔ HasMergedStride take into view → merge_fault take into view ≡ cond merged None (Some IncompatibleLayout)
 merge_fault_of_answer take into view merged none fits =
     let same : has_merged_stride take into view ≡ merged = same_from_decides (has_merged_stride take into view) merged (has_merged_stride-Decides take into view) fits in

@@ -6,38 +6,32 @@ use Rattle.nd_base.specs.declared.order.Order.TheVariants.{RowMajor, ColumnMajor
 use Rattle.nd_base.specs.Indices.{indices}
 use Rattle.nd_base.specs.Offset.{offset_of}
 use Rattle.nd_base.specs.Place.{place, places}
-use Rattle.nd_base.specs.Size.{size}
 use Rattle.nd_base.specs.Span.{reach, reach_down, reach_up}
 use Rattle.nd_base.proofs.laws.Indices.{map-indices_in}
 use Rattle.nd_base.proofs.laws.IsIndex.{length_of_index}
 use Rattle.nd_base.proofs.laws.NonzeroSize.{nonzero_size-reverse}
 use Rattle.nd_base.proofs.laws.Offset.{offset_of-reverse}
-use Rattle.nd_base.proofs.laws.Size.{size-reverse}
 use Rattle.nd_base.proofs.laws.Span.{sum_over_axes-reverse}
 use Rattle.ndarray_layout_views.specs.View.{IsView, view_places}
-use Rattle.ndarray_layout_views.specs.Walk.{nested, nested_view}
+use Rattle.ndarray_layout_views.specs.Walk.{view_as_read}
 
 map_after : {A B C : Type 0} (f : B → C) (g : A → B) (xs : List A) → map f (map g xs) ≡ map (λ x. f (g x)) xs
 map_after f g [] = refl
 map_after f g (x ∷ xs) = ap (λ ys. f (g x) ∷ ys) (map_after f g xs)
 
 -- the places in an order, with the axes turned where the first moves fastest
-pub places_nested : (order : Order) (start : ℕ) (shape : List ℕ) (strides : List ℤ) → length shape ≡ length strides → view_places RowMajor (nested_view order start shape strides) ≡ places order start shape strides
-places_nested RowMajor start shape strides e = refl
-places_nested ColumnMajor start shape strides e =
+pub places-as_read : (order : Order) (start : ℕ) (shape : List ℕ) (strides : List ℤ) → length shape ≡ length strides → view_places RowMajor (view_as_read order start shape strides) ≡ places order start shape strides
+places-as_read RowMajor start shape strides e = refl
+places-as_read ColumnMajor start shape strides e =
     let turned = reverse strides in
     map-indices_in RowMajor (place start turned) (λ x. place start strides (reverse x)) (reverse shape) (λ x h.
     let counts : length turned ≡ length x = omega (arith, length_of_index (reverse shape) x h, length-reverse shape, length-reverse strides) in
     ap (λ z. pos start +ℤ z) (sym (offset_of-reverse turned x counts) ∙ ap (λ s. offset_of s (reverse x)) (reverse-reverse strides)))
     ∙ sym (map_after (place start strides) reverse (indices (reverse shape)))
 
-pub size_nested : (order : Order) (shape : List ℕ) → size (nested order shape) ≡ size shape
-size_nested RowMajor shape = refl
-size_nested ColumnMajor shape = size-reverse shape
-
-pub view_nested : (order : Order) (start : ℕ) (shape : List ℕ) (strides : List ℤ) → IsView (record { start = start; shape = shape; strides = strides }) → IsView (nested_view order start shape strides)
-view_nested RowMajor start shape strides view = view
-view_nested ColumnMajor start shape strides view =
+pub IsView-as_read : (order : Order) (start : ℕ) (shape : List ℕ) (strides : List ℤ) → IsView (record { start = start; shape = shape; strides = strides }) → IsView (view_as_read order start shape strides)
+IsView-as_read RowMajor start shape strides view = view
+IsView-as_read ColumnMajor start shape strides view =
     let counts = view.valid.same_count in
     record {
       valid = record {

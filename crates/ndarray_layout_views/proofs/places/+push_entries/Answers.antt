@@ -7,11 +7,12 @@ use Rattle.std.proofs.lemmas.Grind.{common_steps}
 use Rattle.nd_base.specs.declared.order.Order.{Order}
 use Rattle.nd_base.specs.declared.order.Order.TheVariants.{RowMajor}
 use Rattle.ndarray_layout_views.specs.View.{IsView, view_places}
-use Rattle.ndarray_layout_views.specs.Walk.{nested, nested_view, row_view}
-use Rattle.ndarray_layout_views.proofs.Walks.{IsEntry, entry_of, nested_signed, places_more, row_after, view_of_row, size_of_row, walk_whole}
+use Rattle.nd_base.specs.Reading.{as_read}
+use Rattle.ndarray_layout_views.specs.Walk.{view_as_read, row_view}
+use Rattle.ndarray_layout_views.proofs.Walks.{IsEntry, entry_of, as_read_signed, places_more, row_after, view_of_row, size_of_row, walk_whole}
 use Rattle.ndarray_layout_views.proofs.places.+push_entries.Goals as goal
 
-entry : (t : ℕ) (c : goal.In-loop-i t) → IsEntry c.args.start c.in-Some-Some.len (nested c.args.order c.in-Some-Some.lens.now) (signed c.in-Some-Some.stride) (all_signed (nested c.args.order c.in-Some-Some.rest.now)) c.loop-i.i
+entry : (t : ℕ) (c : goal.In-loop-i t) → IsEntry c.args.start c.in-Some-Some.len (as_read c.args.order c.in-Some-Some.lens.now) (signed c.in-Some-Some.stride) (all_signed (as_read c.args.order c.in-Some-Some.rest.now)) c.loop-i.i
 entry t c = entry_of c.args.order c.args.start c.in-Some-Some.len c.in-Some-Some.stride c.loop-i.i c.args.shape.now c.in-Some-Some.lens.now c.args.strides.now c.in-Some-Some.rest.now c.in-Some-Some.ensures.0 c.in-Some-Some.ensures'.0 c.requires.view c.loop-i-test.true
 
 pub entry_place-requires-clause-small : goal.entry_place-requires-clause-small
@@ -31,13 +32,13 @@ pub push_entries-places-requires : goal.push_entries-places-requires
 push_entries-places-requires t c =
     let order = c.args.order in
     let known = entry_of order c.args.start c.in-Some-Some.len c.in-Some-Some.stride c.loop-i.i c.args.shape.now c.in-Some-Some.lens.now c.args.strides.now c.in-Some-Some.rest.now c.in-Some-Some.ensures.0 c.in-Some-Some.ensures'.0 c.requires.view c.loop-i-test.true in
-    let whole : size (nested order c.args.shape.now) ≡ c.in-Some-Some.len * size (nested order c.in-Some-Some.lens.now) = ap size c.in-Some-Some.ensures.0 in (
+    let whole : size (as_read order c.args.shape.now) ≡ c.in-Some-Some.len * size (as_read order c.in-Some-Some.lens.now) = ap size c.in-Some-Some.ensures.0 in (
       omega (arith, c.in-Some-Some.ensures.1),
       (
         omega (arith, c.in-Some-Some.ensures.1, c.requires.few),
         (
-          rw (nested_signed order c.in-Some-Some.rest.now) (known.inner c.entry_place.result c.entry_place.ensures),
-          omega (arith, room_for (vec_len c.args.places) c.loop-i.i c.in-Some-Some.len (size (nested order c.in-Some-Some.lens.now)) (vec_capacity c.args.places) (size (nested order c.args.shape.now)) c.loop-i-test.true whole c.requires.room),
+          rw (as_read_signed order c.in-Some-Some.rest.now) (known.inner c.entry_place.result c.entry_place.ensures),
+          omega (arith, room_for (vec_len c.args.places) c.loop-i.i c.in-Some-Some.len (size (as_read order c.in-Some-Some.lens.now)) (vec_capacity c.args.places) (size (as_read order c.args.shape.now)) c.loop-i-test.true whole c.requires.room),
         ),
       ),
     )
@@ -45,8 +46,8 @@ push_entries-places-requires t c =
 pub loop-i-preserved : goal.loop-i-preserved
 loop-i-preserved t c =
     let order = c.args.order in
-    let inner = rw (nested_signed order c.in-Some-Some.rest.now) at c.push_entries-places.ensures.items in
-    let more = places_more c.args.start c.loop-i.i c.entry_place.result (nested order c.in-Some-Some.lens.now) (signed c.in-Some-Some.stride) (all_signed (nested order c.in-Some-Some.rest.now)) c.entry_place.ensures in
+    let inner = rw (as_read_signed order c.in-Some-Some.rest.now) at c.push_entries-places.ensures.items in
+    let more = places_more c.args.start c.loop-i.i c.entry_place.result (as_read order c.in-Some-Some.lens.now) (signed c.in-Some-Some.stride) (all_signed (as_read order c.in-Some-Some.rest.now)) c.entry_place.ensures in
     record {
       items = row_after _ _ _ _ _ _ inner c.loop-i.invariant.items more;
       len = omega (arith, c.push_entries-places.ensures.len, c.loop-i.invariant.len);
@@ -60,7 +61,7 @@ returns-after-loop-i-clause-items t c =
     c.loop-i.invariant.items ∙ ap (λ xs. map pos c.args.places.items ++ xs) whole
 
 -- where one axis is left the whole view is one row
-row_of : (order : Order) (start len stride : ℕ) (shape lens strides rest : List ℕ) → nested order shape ≡ len ∷ nested order lens → nested order strides ≡ stride ∷ nested order rest → IsView (nested_view order start shape (all_signed strides)) → length lens ≡ 0 → (nested_view order start shape (all_signed strides) ≡ row_view start len (signed stride)) × (size (nested order shape) ≡ len)
+row_of : (order : Order) (start len stride : ℕ) (shape lens strides rest : List ℕ) → as_read order shape ≡ len ∷ as_read order lens → as_read order strides ≡ stride ∷ as_read order rest → IsView (view_as_read order start shape (all_signed strides)) → length lens ≡ 0 → (view_as_read order start shape (all_signed strides) ≡ row_view start len (signed stride)) × (size (as_read order shape) ≡ len)
 row_of order start len stride shape lens strides rest e f view none = (view_of_row order start len stride shape lens strides rest e f none view, size_of_row order len shape lens e none)
 
 pub push_row-requires : goal.push_row-requires

@@ -7,32 +7,34 @@ use Rattle.nd_base.specs.Signed.{all_signed}
 use Rattle.nd_base.specs.Size.{size}
 use Rattle.ndarray_layout_views.specs.LongerAxes.{of_longer}
 use Rattle.ndarray_layout_views.specs.View.{IsView, view_of, view_places}
-use Rattle.ndarray_layout_views.specs.Walk.{nested, nested_view}
+use Rattle.nd_base.specs.Reading.{as_read}
+use Rattle.ndarray_layout_views.specs.Walk.{view_as_read}
 use Rattle.ndarray_layout_views.proofs.laws.LongerAxes.{all_signed-of_longer, IsView-longer_view, size-of_longer, view_places-longer_view}
 use Rattle.ndarray_layout_views.proofs.laws.View.{no_places}
-use Rattle.ndarray_layout_views.proofs.laws.Walk.{places_nested, size_nested, view_nested}
+use Rattle.nd_base.proofs.laws.Reading.{size-as_read}
+use Rattle.ndarray_layout_views.proofs.laws.Walk.{places-as_read, IsView-as_read}
 use Rattle.ndarray_layout_views.proofs.places.push_places.Goals as goal
 
 -- what is walked is the view without its axes of length 1
 walked : (order : Order) (start : ℕ) (shape strides lens kept : List ℕ) → lens ≡ of_longer shape shape → kept ≡ of_longer shape strides
-    → nested_view order start lens (all_signed kept) ≡ nested_view order start (of_longer shape shape) (of_longer shape (all_signed strides))
+    → view_as_read order start lens (all_signed kept) ≡ view_as_read order start (of_longer shape shape) (of_longer shape (all_signed strides))
 walked order start shape strides lens kept e f = rw (e, f, all_signed-of_longer shape strides) refl
 
 walked_view : (order : Order) (start : ℕ) (shape strides lens kept : List ℕ) → lens ≡ of_longer shape shape → kept ≡ of_longer shape strides → IsView (view_of start shape strides)
-    → IsView (nested_view order start lens (all_signed kept))
+    → IsView (view_as_read order start lens (all_signed kept))
 walked_view order start shape strides lens kept e f view =
-    subst IsView (sym (walked order start shape strides lens kept e f)) (view_nested order start (of_longer shape shape) (of_longer shape (all_signed strides)) (IsView-longer_view (view_of start shape strides) view))
+    subst IsView (sym (walked order start shape strides lens kept e f)) (IsView-as_read order start (of_longer shape shape) (of_longer shape (all_signed strides)) (IsView-longer_view (view_of start shape strides) view))
 
 walked_places : (order : Order) (start : ℕ) (shape strides lens kept : List ℕ) → lens ≡ of_longer shape shape → kept ≡ of_longer shape strides → IsView (view_of start shape strides)
-    → view_places RowMajor (nested_view order start lens (all_signed kept)) ≡ view_places order (view_of start shape strides)
+    → view_places RowMajor (view_as_read order start lens (all_signed kept)) ≡ view_places order (view_of start shape strides)
 walked_places order start shape strides lens kept e f view =
     let left = IsView-longer_view (view_of start shape strides) view in
     ap (view_places RowMajor) (walked order start shape strides lens kept e f)
-    ∙ places_nested order start (of_longer shape shape) (of_longer shape (all_signed strides)) left.valid.same_count
+    ∙ places-as_read order start (of_longer shape shape) (of_longer shape (all_signed strides)) left.valid.same_count
     ∙ view_places-longer_view order (view_of start shape strides) view.valid.same_count
 
-walked_size : (order : Order) (shape lens : List ℕ) → lens ≡ of_longer shape shape → size (nested order lens) ≡ size shape
-walked_size order shape lens e = size_nested order lens ∙ ap size e ∙ size-of_longer shape
+walked_size : (order : Order) (shape lens : List ℕ) → lens ≡ of_longer shape shape → size (as_read order lens) ≡ size shape
+walked_size order shape lens e = size-as_read order lens ∙ ap size e ∙ size-of_longer shape
 
 pub push_entries-requires : goal.push_entries-requires
 push_entries-requires c =
