@@ -10,6 +10,7 @@ use crate::stride_axes::magnitude_at;
 use nd_base::signed;
 
 /// Whether the strides are those that the shape has by itself.
+#[inline(always)]
 fn has_default_strides(lens: &[usize], strides: &[usize]) -> bool
     requires same_count { length lens.now ≡ length strides.now }
     requires size_fits { nonzero_size lens.now ≤ limit }
@@ -30,6 +31,7 @@ fn has_default_strides(lens: &[usize], strides: &[usize]) -> bool
 
 /// Whether an axis has the lesser stride, whatever the signs, or an equal one and the lesser
 /// number.
+#[inline(always)]
 fn comes_before(strides: &[usize], axis: usize, other: usize) -> bool
     ensures { result ≡ comes_before_axis (all_signed strides.now) axis other }
 {
@@ -37,6 +39,7 @@ fn comes_before(strides: &[usize], axis: usize, other: usize) -> bool
 }
 
 /// The product of the lengths of the axes that come before an axis.
+#[inline(always)]
 fn size_before(lens: &[usize], strides: &[usize], axis: usize) -> usize
     requires { nonzero_size lens.now ≤ limit }
     ensures { result ≡ size (lens_before lens.now (all_signed strides.now) axis) }
@@ -51,6 +54,7 @@ fn size_before(lens: &[usize], strides: &[usize], axis: usize) -> usize
 }
 
 /// Whether each axis of other than one entry steps over just what the axes before it span.
+#[inline(always)]
 fn is_packed(lens: &[usize], strides: &[usize]) -> bool
     requires { nonzero_size lens.now ≤ limit }
     ensures { result ≡ is_packed_layout lens.now (all_signed strides.now) }
@@ -72,6 +76,7 @@ fn is_packed(lens: &[usize], strides: &[usize]) -> bool
 /// For a shape without a zero axis that is so exactly where the indices fill one stretch.
 ///
 /// Takes no memory. ndarray's `Dimension::is_contiguous`.
+#[inline(always)]
 pub(crate) fn is_contiguous(lens: &[usize], strides: &[usize]) -> bool
     requires same_count { length lens.now ≡ length strides.now }
     requires size_fits { nonzero_size lens.now ≤ limit }

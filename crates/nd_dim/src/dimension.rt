@@ -269,6 +269,7 @@ pub trait Dimension: Lengths + Arithmetic + Scale {
     /// The caller ensures that there is a stride for each axis and that the product of the lengths,
     /// zeros aside, is at most the greatest `isize`. Takes no memory. ndarray's
     /// `Dimension::is_contiguous`.
+    #[inline]
     final fn is_contiguous(dim: &Self, strides: &Self) -> bool
         requires same_count { length (Self.list dim.now) ≡ length (Self.list strides.now) }
         requires size_fits { nonzero_size (Self.list dim.now) ≤ limit }
@@ -300,6 +301,7 @@ pub trait Dimension: Lengths + Arithmetic + Scale {
     /// The axis whose stride is of least magnitude among those of more than one entry, and the last
     /// of these where several are; the last axis where none has more than one entry. The caller
     /// ensures that there is an axis, and a stride for each. ndarray's `min_stride_axis`.
+    #[inline]
     final fn min_stride_axis(&self, strides: &Self) -> Axis
         requires some_axis { 0 < length (Self.list self.now) }
         requires same_count { length (Self.list self.now) ≡ length (Self.list strides.now) }

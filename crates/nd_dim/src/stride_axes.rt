@@ -1,5 +1,5 @@
 //! The axes of least and of greatest stride.
-ghost use Rattle.std.specs.Prelude.{◌≡◌, ◌<◌, length};
+ghost use Rattle.std.specs.Prelude.{◌≡◌, ℕ, ◌<◌, ◌≤◌, length};
 ghost use Rattle.nd_base.specs.Signed.{all_signed};
 ghost use Rattle.nd_dim.specs.AxisOrder.{magnitude_at as magnitude_at_axis, IsLeastStrideAxis, IsGreatestStrideAxis};
 
@@ -15,10 +15,33 @@ pub fn magnitude_at(strides: &[usize], axis: usize) -> usize
         .map_or(0, |stride| signed(*stride).unsigned_abs())
 }
 
-/// The axis whose stride is of least magnitude among those of more than one entry, and the last
-/// of these where several are; the last axis where none has more than one entry. ndarray's
-/// `min_stride_axis`.
-pub(crate) fn min_stride_axis(lens: &[usize], strides: &[usize]) -> usize
+/// The axis whose stride is of least magnitude, and the last of these where several are.
+#[inline(always)]
+fn least_of_all(strides: &[usize]) -> usize
+    requires { 0 < length strides.now }
+    ensures exists { result < length strides.now }
+    ensures leading { (other : ℕ) → other < length strides.now →
+        magnitude_at_axis (all_signed strides.now) result
+        ≤ magnitude_at_axis (all_signed strides.now) other }
+    ensures of_equals { (other : ℕ) → other < length strides.now →
+        magnitude_at_axis (all_signed strides.now) result
+        ≡ magnitude_at_axis (all_signed strides.now) other
+        → other ≤ result }
+{
+    let mut least = 0;
+    let mut shortest = magnitude_at(strides, 0);
+    for axis in 0..strides.len() {
+        let magnitude = magnitude_at(strides, axis);
+        if magnitude <= shortest {
+            least = axis;
+            shortest = magnitude;
+        }
+    }
+    least
+}
+
+/// The same among the axes of more than one entry; the last axis where there is none.
+fn least_of_long(lens: &[usize], strides: &[usize]) -> usize
     requires some_axis { 0 < length lens.now }
     requires same_count { length lens.now ≡ length strides.now }
     ensures { IsLeastStrideAxis lens.now (all_signed strides.now) result }
@@ -32,6 +55,24 @@ pub(crate) fn min_stride_axis(lens: &[usize], strides: &[usize]) -> usize
         }
     }
     least
+}
+
+/// The axis whose stride is of least magnitude among those of more than one entry, and the last
+/// of these where several are; the last axis where none has more than one entry. ndarray's
+/// `min_stride_axis`.
+#[inline(always)]
+pub(crate) fn min_stride_axis(lens: &[usize], strides: &[usize]) -> usize
+    requires some_axis { 0 < length lens.now }
+    requires same_count { length lens.now ≡ length strides.now }
+    ensures { IsLeastStrideAxis lens.now (all_signed strides.now) result }
+{
+    // (where the axis of the least stride of all has several entries, no other length matters)
+    let least = least_of_all(strides);
+    if lens[least] > 1 {
+        least
+    } else {
+        least_of_long(lens, strides)
+    }
 }
 
 /// The axis whose stride is of greatest magnitude among those of more than one entry, and the

@@ -2,7 +2,7 @@
 use Rattle.std.proofs.Common.{◌≤◌, ◌-◌, length}
 use Rattle.nd_base.specs.Signed.{all_signed}
 use Rattle.nd_dim.proofs.StrideAxes.{LeadsBelow}
-use Rattle.nd_dim.proofs.stride_axes.min_stride_axis.Given as goal
+use Rattle.nd_dim.proofs.stride_axes.least_of_long.Given as goal
 
 abbrev pub invariant-loop-axis : goal.invariant-loop-axis
 invariant-loop-axis l = LeadsBelow (λ m n. m ≤ n) (length l.lens - 1) l.lens (all_signed l.strides) l.axis l.least
