@@ -3,8 +3,10 @@ pub mod Blocks
 pub mod Complete
 pub mod Forced
 pub mod Halfway
+pub mod Inside
 pub mod Joins
 pub mod Members
+pub mod Ones
 pub mod Products
 pub mod Ranks
 pub mod Reached
