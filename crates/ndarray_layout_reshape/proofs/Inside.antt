@@ -39,11 +39,11 @@ inside-to from to k from_end to_end h f less inside =
       to_below = omega arith;
       apart = λ axis above under m within same. elim (cases_eq axis to_end) [
         | inl last ↦
-          let there = ap (λ n. size (take n to)) last in
-          elim (cases_lt m from_end) [
-            | inl sooner ↦ let most = take-mono from m (from_end - 1) h (omega arith) in omega arith
-            | inr later ↦ let most = take-mono from from_end m h later in omega arith
-          ]
+            let there = ap (λ n. size (take n to)) last in
+            elim (cases_lt m from_end) [
+              | inl sooner ↦ let most = take-mono from m (from_end - 1) h (omega arith) in omega arith
+              | inr later ↦ let most = take-mono from from_end m h later in omega arith
+            ]
         | inr other ↦ inside.apart axis above (omega arith) m within same
       ];
     }

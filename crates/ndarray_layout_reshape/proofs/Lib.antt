@@ -14,5 +14,6 @@ pub mod Runs
 pub mod Splits
 pub mod Steps
 pub mod Tails
+pub mod Turned
 pub mod Values
 pub mod laws

@@ -32,13 +32,13 @@ hits-more p s zero i e h = let same : s ≡ i = omega arith in ap length (filter
 hits-more p s (suc n) i e h =
     elim (cases_Bool (p s)) [
       | inl hit ↦
-        ap length (filter-yes p s (range_with_len (s + 1) (suc n)) hit)
-        ∙ ap suc (hits-more p (s + 1) n i (omega arith) h)
-        ∙ sym (ap (λ xs. suc (length xs)) (filter-yes p s (range_with_len (s + 1) n) hit))
+          ap length (filter-yes p s (range_with_len (s + 1) (suc n)) hit)
+          ∙ ap suc (hits-more p (s + 1) n i (omega arith) h)
+          ∙ sym (ap (λ xs. suc (length xs)) (filter-yes p s (range_with_len (s + 1) n) hit))
       | inr miss ↦
-        ap length (filter-no p s (range_with_len (s + 1) (suc n)) miss)
-        ∙ hits-more p (s + 1) n i (omega arith) h
-        ∙ sym (ap (λ xs. suc (length xs)) (filter-no p s (range_with_len (s + 1) n) miss))
+          ap length (filter-no p s (range_with_len (s + 1) (suc n)) miss)
+          ∙ hits-more p (s + 1) n i (omega arith) h
+          ∙ sym (ap (λ xs. suc (length xs)) (filter-no p s (range_with_len (s + 1) n) miss))
     ]
 
 hits-same : (p : ℕ → Bool) (s n i : ℕ) → s + n ≡ i → p i ≡ false → hits p s (suc n) ≡ hits p s n
@@ -46,13 +46,13 @@ hits-same p s zero i e h = let same : s ≡ i = omega arith in ap length (filter
 hits-same p s (suc n) i e h =
     elim (cases_Bool (p s)) [
       | inl hit ↦
-        ap length (filter-yes p s (range_with_len (s + 1) (suc n)) hit)
-        ∙ ap suc (hits-same p (s + 1) n i (omega arith) h)
-        ∙ sym (ap length (filter-yes p s (range_with_len (s + 1) n) hit))
+          ap length (filter-yes p s (range_with_len (s + 1) (suc n)) hit)
+          ∙ ap suc (hits-same p (s + 1) n i (omega arith) h)
+          ∙ sym (ap length (filter-yes p s (range_with_len (s + 1) n) hit))
       | inr miss ↦
-        ap length (filter-no p s (range_with_len (s + 1) (suc n)) miss)
-        ∙ hits-same p (s + 1) n i (omega arith) h
-        ∙ sym (ap length (filter-no p s (range_with_len (s + 1) n) miss))
+          ap length (filter-no p s (range_with_len (s + 1) (suc n)) miss)
+          ∙ hits-same p (s + 1) n i (omega arith) h
+          ∙ sym (ap length (filter-no p s (range_with_len (s + 1) n) miss))
     ]
 
 hits-none : (p : ℕ → Bool) (m n : ℕ) → m ≤ n → ((j : ℕ) → m ≤ j → j < n → p j ≡ false) → hits p 0 n ≡ hits p 0 m
@@ -71,11 +71,11 @@ hit-read p f s zero (suc n) i d e l h =
 hit-read p f s (suc m) (suc n) i d e l h =
     elim (cases_Bool (p s)) [
       | inl hit ↦
-        ap₂ (λ xs k. get_or (map f xs) k d) (filter-yes p s (range_with_len (s + 1) n) hit) (ap length (filter-yes p s (range_with_len (s + 1) m) hit))
-        ∙ hit-read p f (s + 1) m n i d (omega arith) (omega arith) h
+          ap₂ (λ xs k. get_or (map f xs) k d) (filter-yes p s (range_with_len (s + 1) n) hit) (ap length (filter-yes p s (range_with_len (s + 1) m) hit))
+          ∙ hit-read p f (s + 1) m n i d (omega arith) (omega arith) h
       | inr miss ↦
-        ap₂ (λ xs k. get_or (map f xs) k d) (filter-no p s (range_with_len (s + 1) n) miss) (ap length (filter-no p s (range_with_len (s + 1) m) miss))
-        ∙ hit-read p f (s + 1) m n i d (omega arith) (omega arith) h
+          ap₂ (λ xs k. get_or (map f xs) k d) (filter-no p s (range_with_len (s + 1) n) miss) (ap length (filter-no p s (range_with_len (s + 1) m) miss))
+          ∙ hit-read p f (s + 1) m n i d (omega arith) (omega arith) h
     ]
 
 -- ---- axes of one entry at a product
@@ -86,8 +86,8 @@ none-at : (lens : List ℕ) (product axis : ℕ) → (get_or lens axis 0 ≡ 1 �
 none-at lens product axis h =
     elim (cases_Bool (is_one_at lens product axis)) [
       | inl hit ↦
-        let parts = and_parts (get_or lens axis 0 == 1) (size (take axis lens) == product) hit in
-        absurd (h (eqb-true (get_or lens axis 0) 1 parts.0) (eqb-true (size (take axis lens)) product parts.1))
+          let parts = and_parts (get_or lens axis 0 == 1) (size (take axis lens) == product) hit in
+          absurd (h (eqb-true (get_or lens axis 0) 1 parts.0) (eqb-true (size (take axis lens)) product parts.1))
       | inr miss ↦ miss
     ]
 
@@ -124,9 +124,9 @@ past-ones lens strides axis n h l other few =
     elim (cases_eq j axis) [
       | inl here ↦ absurd (other (sym (ap (λ a. get_or lens a 0) here) ∙ one))
       | inr later ↦
-        let more = grows lens axis h (omega arith) other in
-        let most = take-mono lens (axis + 1) j h (omega arith) in
-        absurd (omega arith)
+          let more = grows lens axis h (omega arith) other in
+          let most = take-mono lens (axis + 1) j h (omega arith) in
+          absurd (omega arith)
     ])) in
     get_or_past (strides_of_ones lens strides product) n (pos 1) (omega arith)
 
@@ -142,9 +142,9 @@ off-product from strides to k before none =
     let test = list_any (λ product. product == size (take k to)) (cumulative_products from) in
     elim (cases_Bool test) [
       | inl found ↦
-        let m = member-of-any (λ product. product == size (take k to)) (cumulative_products from) found in
-        let at = product-member from m.0 m.1 in
-        absurd (none at.0 at.1 (sym at.2 ∙ eqb-true m.0 (size (take k to)) m.2))
+          let m = member-of-any (λ product. product == size (take k to)) (cumulative_products from) found in
+          let at = product-member from m.0 m.1 in
+          absurd (none at.0 at.1 (sym at.2 ∙ eqb-true m.0 (size (take k to)) m.2))
       | inr missing ↦ cond-false test (get_or (strides_of_ones from strides (size (take k to))) (ones_before to (size (take k to)) k) (pos 1)) before missing
     ]
 
@@ -185,8 +185,8 @@ ones-to from strides to out news i k h l g e other one kept here ones =
     let same = stays to k g one in
     let more : ones_before to (size (take (k + 1) to)) (k + 1) ≡ ones_before to (size (take k to)) k + 1 = ap (λ n. ones_before to n (k + 1)) same ∙ ones-next to (size (take k to)) k one refl in
     let read : stride_of_one from strides to k (previous news k) ≡ pos 1 = at-product from strides to i k (previous news k) l e
-        ∙ ap (λ n. get_or (strides_of_ones from strides n) (ones_before to (size (take k to)) k) (pos 1)) (sym e)
-        ∙ past-ones from strides i (ones_before to (size (take k to)) k) h l other few in
+    ∙ ap (λ n. get_or (strides_of_ones from strides n) (ones_before to (size (take k to)) k) (pos 1)) (sym e)
+    ∙ past-ones from strides i (ones_before to (size (take k to)) k) h l other few in
     record {
       written = λ j under entry. elim (cases_eq j k) [
         | inl last ↦ ap (λ n. get_or news n (pos 0)) last ∙ here ∙ sym read ∙ sym (ap (λ n. stride_of_one from strides to n (previous news n)) last)
@@ -204,35 +204,35 @@ ones-both from strides to out news i k h f l g e lens kept here ones =
     let to_next = size_take_more to k g in
     elim (cases_eq (get_or to k 0) 1) [
       | inl one ↦
-        let first : get_or from i 0 ≡ 1 = lens ∙ one in
-        let few = ones.from_first first in
-        let most = ones.to_first one in
-        let equal : ones_before to product k ≡ ones_before from (size (take i from)) i = omega arith in
-        let from_more : ones_before from (size (take (i + 1) from)) (i + 1) ≡ ones_before from (size (take i from)) i + 1 = ap (λ n. ones_before from n (i + 1)) (stays from i l first) ∙ ones-next from (size (take i from)) i first refl in
-        let to_more : ones_before to (size (take (k + 1) to)) (k + 1) ≡ ones_before to product k + 1 = ap (λ n. ones_before to n (k + 1)) (stays to k g one) ∙ ones-next to product k one refl in
-        let read : stride_of_one from strides to k (previous news k) ≡ get_or strides i (pos 0) = at-product from strides to i k (previous news k) (omega arith) e
-            ∙ ap₂ (λ n m. get_or (strides_of_ones from strides n) m (pos 1)) (sym e) equal
-            ∙ nth-one from strides (size (take i from)) i l first refl in
-        record {
-          written = λ j under entry. elim (cases_eq j k) [
-            | inl last ↦ ap (λ n. get_or news n (pos 0)) last ∙ here ∙ sym read ∙ sym (ap (λ n. stride_of_one from strides to n (previous news n)) last)
-            | inr before ↦ written-kept from strides to out news i k kept ones j (omega arith) entry
-          ];
-          from_first = λ entry. omega arith;
-          to_first = λ entry. omega arith;
-        }
+          let first : get_or from i 0 ≡ 1 = lens ∙ one in
+          let few = ones.from_first first in
+          let most = ones.to_first one in
+          let equal : ones_before to product k ≡ ones_before from (size (take i from)) i = omega arith in
+          let from_more : ones_before from (size (take (i + 1) from)) (i + 1) ≡ ones_before from (size (take i from)) i + 1 = ap (λ n. ones_before from n (i + 1)) (stays from i l first) ∙ ones-next from (size (take i from)) i first refl in
+          let to_more : ones_before to (size (take (k + 1) to)) (k + 1) ≡ ones_before to product k + 1 = ap (λ n. ones_before to n (k + 1)) (stays to k g one) ∙ ones-next to product k one refl in
+          let read : stride_of_one from strides to k (previous news k) ≡ get_or strides i (pos 0) = at-product from strides to i k (previous news k) (omega arith) e
+          ∙ ap₂ (λ n m. get_or (strides_of_ones from strides n) m (pos 1)) (sym e) equal
+          ∙ nth-one from strides (size (take i from)) i l first refl in
+          record {
+            written = λ j under entry. elim (cases_eq j k) [
+              | inl last ↦ ap (λ n. get_or news n (pos 0)) last ∙ here ∙ sym read ∙ sym (ap (λ n. stride_of_one from strides to n (previous news n)) last)
+              | inr before ↦ written-kept from strides to out news i k kept ones j (omega arith) entry
+            ];
+            from_first = λ entry. omega arith;
+            to_first = λ entry. omega arith;
+          }
       | inr other ↦
-        let longer : get_or from i 0 ≢ 1 = λ z. other (sym lens ∙ z) in
-        let from_none = ones-none from (i + 1) i (size (take (i + 1) from)) h (omega arith) (grows from i h l longer) in
-        let to_none = ones-none to (k + 1) k (size (take (k + 1) to)) f (omega arith) (grows to k f g other) in
-        record {
-          written = λ j under entry. elim (cases_eq j k) [
-            | inl last ↦ absurd (other (sym (ap (λ n. get_or to n 0) last) ∙ entry))
-            | inr before ↦ written-kept from strides to out news i k kept ones j (omega arith) entry
-          ];
-          from_first = λ entry. omega arith;
-          to_first = λ entry. omega arith;
-        }
+          let longer : get_or from i 0 ≢ 1 = λ z. other (sym lens ∙ z) in
+          let from_none = ones-none from (i + 1) i (size (take (i + 1) from)) h (omega arith) (grows from i h l longer) in
+          let to_none = ones-none to (k + 1) k (size (take (k + 1) to)) f (omega arith) (grows to k f g other) in
+          record {
+            written = λ j under entry. elim (cases_eq j k) [
+              | inl last ↦ absurd (other (sym (ap (λ n. get_or to n 0) last) ∙ entry))
+              | inr before ↦ written-kept from strides to out news i k kept ones j (omega arith) entry
+            ];
+            from_first = λ entry. omega arith;
+            to_first = λ entry. omega arith;
+          }
     ]
 
 -- within a block each axis of one entry has the stride of the one before it
@@ -272,8 +272,8 @@ ones-block from strides to out news i i_end k k_end step h f ahead within e long
         elim (cases_eq k (suc j)) [
           | inl first ↦ let same = ap (λ n. get_or to n 0) first in absurd (omega arith)
           | inr later ↦
-            block-before to news k k_end j step within (omega arith) under entry written
-            ∙ sym (off-product from strides to (suc j) (get_or news j (pos 0)) (inside.apart (suc j) (omega arith) under))
+              block-before to news k k_end j step within (omega arith) under entry written
+              ∙ sym (off-product from strides to (suc j) (get_or news j (pos 0)) (inside.apart (suc j) (omega arith) under))
         ]
 
 -- ---- the whole walk
@@ -298,9 +298,9 @@ strides-forced from strides to news i k more sizes e end alike ones = fill_by_al
         elim (cases_Bool (nat_lt 1 (get_or to (suc j) 0))) [
           | inl long ↦ forced-of-alike from strides to news (suc j) more sizes e alike l (ltb-true 1 (get_or to (suc j) 0) long) ∙ sym (stride_at-long from strides to (suc j) (ltb-true 1 (get_or to (suc j) 0) long))
           | inr short ↦
-            ones.written (suc j) (omega arith) (at_one (suc j) l short)
-            ∙ ap (stride_of_one from strides to (suc j)) (at_axis j (omega arith))
-            ∙ sym (cond-false (nat_lt 1 (get_or to (suc j) 0)) (offset_at_rank from strides (indices_after to (suc j))) (stride_of_one from strides to (suc j) (stride_at from strides to j)) short)
+              ones.written (suc j) (omega arith) (at_one (suc j) l short)
+              ∙ ap (stride_of_one from strides to (suc j)) (at_axis j (omega arith))
+              ∙ sym (cond-false (nat_lt 1 (get_or to (suc j) 0)) (offset_at_rank from strides (indices_after to (suc j))) (stride_of_one from strides to (suc j) (stride_at from strides to j)) short)
         ]
 
 -- both shapes are read whole

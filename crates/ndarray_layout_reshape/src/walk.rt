@@ -1,13 +1,14 @@
 //! One walk over the axes of two shapes, in the order of reading, that finds the strides of a reshape.
-ghost use Rattle.std.specs.Prelude.{◌≡◌, ◌≢◌, ◌⊎◌, ◌↔◌, ◌+◌, ◌-◌, ◌*◌, ◌<◌, ◌≤◌, ℕ, Some, pos, ◌*ℤ◌, IsTrue, IfOk, IfErr, length, take, drop, map, slice_index};
+ghost use Rattle.std.specs.Prelude.{◌≡◌, ◌≢◌, ◌⊎◌, ◌↔◌, ◌+◌, ◌-◌, ◌*◌, ◌<◌, ◌≤◌, ℕ, Some, None, false, pos, ◌*ℤ◌, IsTrue, IfOk, IfErr, OnOk, length, take, drop, map, slice_index};
 ghost use Rattle.std.specs.Int.{w64};
 ghost use Rattle.std.specs.Int.RustNames.{FitsSigned};
 ghost use Rattle.nd_base.specs.Indices.{below};
 ghost use Rattle.nd_base.specs.Signed.{signed as signed_reading, all_signed};
-ghost use Rattle.nd_base.specs.Size.{size, limit};
-ghost use Rattle.ndarray_layout_reshape.specs.ForcedStrides.{stride_at};
+ghost use Rattle.nd_base.specs.Size.{size, nonzero_size, is_empty, limit};
+ghost use Rattle.nd_base.specs.ValidLayout.{IsValidLayout};
+ghost use Rattle.ndarray_layout_reshape.specs.ForcedStrides.{forced_strides, stride_at};
 ghost use Rattle.ndarray_layout_reshape.specs.Reading.{as_read};
-ghost use Rattle.ndarray_layout_reshape.specs.ReshapeFault.{fault_as_read};
+ghost use Rattle.ndarray_layout_reshape.specs.ReshapeFault.{reshape_fault, fault_as_read};
 ghost use Rattle.ndarray_layout_reshape.specs.Walk.{CanWalk, IsReached, IsBlock, IsInside, OnesAlike, PlacesAlike};
 
 use nd_base::{ErrorKind, Order, ShapeError, from_kind, signed, unsigned};
@@ -101,7 +102,11 @@ fn next_block(
         from_product *= len;
         from_end += 1;
     }
-    let end = Reached { from_axes: from_end, to_axes: to_end, product: from_product };
+    let end = Reached {
+        from_axes: from_end,
+        to_axes: to_end,
+        product: from_product,
+    };
     Ok(Block { end, step })
 }
 
@@ -162,11 +167,19 @@ fn advance(
         });
     }
     if from_len == 1 {
-        return Ok(Reached { from_axes: at.from_axes + 1, to_axes: at.to_axes, product: at.product });
+        return Ok(Reached {
+            from_axes: at.from_axes + 1,
+            to_axes: at.to_axes,
+            product: at.product,
+        });
     }
     if to_len == 1 {
         out[at.to_axes] = 1;
-        return Ok(Reached { from_axes: at.from_axes, to_axes: at.to_axes + 1, product: at.product });
+        return Ok(Reached {
+            from_axes: at.from_axes,
+            to_axes: at.to_axes + 1,
+            product: at.product,
+        });
     }
     if from_len == 0 || to_len == 0 {
         return Err(from_kind(ErrorKind::IncompatibleShape));
@@ -180,7 +193,7 @@ fn advance(
 ///
 /// Errors: `IncompatibleLayout` where a joint is bad, and then `IncompatibleShape` where the sizes differ.
 #[inline(always)]
-pub(crate) fn walk(
+fn walk(
     order: Order,
     from: &[usize],
     strides: &[usize],
@@ -194,9 +207,49 @@ pub(crate) fn walk(
     ensures alike { IfOk result (λ done. PlacesAlike (as_read order from.now) (all_signed (as_read order strides.now)) (as_read order to.now) (all_signed out.new)) }
     ensures strides { IfOk result (λ done. all_signed out.new ≡ map (stride_at (as_read order from.now) (all_signed (as_read order strides.now)) (as_read order to.now)) (below (length out.new))) }
 {
-    let mut at = Reached { from_axes: 0, to_axes: 0, product: 1 };
+    let mut at = Reached {
+        from_axes: 0,
+        to_axes: 0,
+        product: 1,
+    };
     while at.from_axes < from.len() || at.to_axes < to.len() {
         at = advance(order, from, strides, to, out, at)?;
     }
+    Ok(())
+}
+
+/// Turns a list with an item for each axis between the order of the axes and that of reading.
+#[inline(always)]
+fn turn(order: Order, items: &mut [usize])
+    ensures { items.new ≡ as_read order items.old }
+{
+    match order {
+        Order::RowMajor => {},
+        Order::ColumnMajor => items.reverse(),
+    }
+}
+
+/// Writes the strides of a reshape.
+///
+/// Errors: `IncompatibleLayout` where a joint is bad, and then `IncompatibleShape` where the sizes differ.
+#[inline(always)]
+pub(crate) fn fill_reshaped(
+    order: Order,
+    from: &[usize],
+    strides: &[usize],
+    to: &[usize],
+    out: &mut [usize],
+) -> Result<(), ShapeError>
+    requires valid { IsValidLayout from.now (all_signed strides.now) }
+    requires from_some { is_empty from.now ≡ false }
+    requires to_some { is_empty to.now ≡ false }
+    requires to_fits { nonzero_size to.now ≤ limit }
+    requires room { length out.old ≡ length to.now }
+    ensures fault { IfErr result (λ kind. reshape_fault order from.now (all_signed strides.now) to.now ≡ Some kind) }
+    ensures fits { OnOk result (reshape_fault order from.now (all_signed strides.now) to.now ≡ None) }
+    ensures strides { OnOk result (all_signed out.new ≡ forced_strides order from.now (all_signed strides.now) to.now) }
+{
+    walk(order, from, strides, to, out)?;
+    turn(order, out);
     Ok(())
 }

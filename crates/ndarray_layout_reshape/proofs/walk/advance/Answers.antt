@@ -14,7 +14,7 @@ bounds-out-at c =
     let from_count = length-as_read c.args.order c.args.from.now in
     let to_count = length-as_read c.args.order c.args.to.now in
     let there = both-left (as_read c.args.order c.args.from.now) (as_read c.args.order c.args.to.now) c.args.at.from_axes c.args.at.to_axes c.requires.can_walk.some c.requires.can_walk.more
-        (elim c.requires.left [ inl l ↦ inl (omega arith) | inr l ↦ inr (omega arith) ]) (sym c.item-from_len.ensures ∙ c.if-from_len-to_len.true ∙ c.item-to_len.ensures) in
+    (elim c.requires.left [ inl l ↦ inl (omega arith) | inr l ↦ inr (omega arith) ]) (sym c.item-from_len.ensures ∙ c.if-from_len-to_len.true ∙ c.item-to_len.ensures) in
     let inside = there.1 in
     omega (arith, c.requires.room)
 
@@ -23,7 +23,7 @@ returns-then-from_len-to_len-clause-reached c =
     let from_count = length-as_read c.args.order c.args.from.now in
     let to_count = length-as_read c.args.order c.args.to.now in
     let there = both-left (as_read c.args.order c.args.from.now) (as_read c.args.order c.args.to.now) c.args.at.from_axes c.args.at.to_axes c.requires.can_walk.some c.requires.can_walk.more
-        (elim c.requires.left [ inl l ↦ inl (omega arith) | inr l ↦ inr (omega arith) ]) (sym c.item-from_len.ensures ∙ c.if-from_len-to_len.true ∙ c.item-to_len.ensures) in
+    (elim c.requires.left [ inl l ↦ inl (omega arith) | inr l ↦ inr (omega arith) ]) (sym c.item-from_len.ensures ∙ c.if-from_len-to_len.true ∙ c.item-to_len.ensures) in
     reached-both (as_read c.args.order c.args.from.now) (all_signed (as_read c.args.order c.args.strides.now)) (as_read c.args.order c.args.to.now) c.args.at.from_axes c.args.at.to_axes c.args.at.product c.item-from_len.result c.requires.can_walk c.requires.reached there.0 there.1 c.item-from_len.ensures (c.if-from_len-to_len.true ∙ c.item-to_len.ensures)
 
 pub overflow_mul-result : goal.overflow_mul-result
@@ -31,7 +31,7 @@ overflow_mul-result c =
     let from_count = length-as_read c.args.order c.args.from.now in
     let to_count = length-as_read c.args.order c.args.to.now in
     let there = both-left (as_read c.args.order c.args.from.now) (as_read c.args.order c.args.to.now) c.args.at.from_axes c.args.at.to_axes c.requires.can_walk.some c.requires.can_walk.more
-        (elim c.requires.left [ inl l ↦ inl (omega arith) | inr l ↦ inr (omega arith) ]) (sym c.item-from_len.ensures ∙ c.if-from_len-to_len.true ∙ c.item-to_len.ensures) in
+    (elim c.requires.left [ inl l ↦ inl (omega arith) | inr l ↦ inr (omega arith) ]) (sym c.item-from_len.ensures ∙ c.if-from_len-to_len.true ∙ c.item-to_len.ensures) in
     let fits = product-fits (as_read c.args.order c.args.from.now) c.args.at.from_axes c.args.at.product c.item-from_len.result c.requires.can_walk.some c.requires.can_walk.from_fits there.0 c.requires.reached.from_size c.item-from_len.ensures in
     omega (arith, fits)
 
@@ -40,7 +40,7 @@ returns-then-from_len-to_len-clause-alike c =
     let from_count = length-as_read c.args.order c.args.from.now in
     let to_count = length-as_read c.args.order c.args.to.now in
     let there = both-left (as_read c.args.order c.args.from.now) (as_read c.args.order c.args.to.now) c.args.at.from_axes c.args.at.to_axes c.requires.can_walk.some c.requires.can_walk.more
-        (elim c.requires.left [ inl l ↦ inl (omega arith) | inr l ↦ inr (omega arith) ]) (sym c.item-from_len.ensures ∙ c.if-from_len-to_len.true ∙ c.item-to_len.ensures) in
+    (elim c.requires.left [ inl l ↦ inl (omega arith) | inr l ↦ inr (omega arith) ]) (sym c.item-from_len.ensures ∙ c.if-from_len-to_len.true ∙ c.item-to_len.ensures) in
     let inside = there.1 in
     let k = c.args.at.to_axes in
     let further = reached-both (as_read c.args.order c.args.from.now) (all_signed (as_read c.args.order c.args.strides.now)) (as_read c.args.order c.args.to.now) c.args.at.from_axes c.args.at.to_axes c.args.at.product c.item-from_len.result c.requires.can_walk c.requires.reached there.0 there.1 c.item-from_len.ensures (c.if-from_len-to_len.true ∙ c.item-to_len.ensures) in
@@ -156,7 +156,7 @@ returns-then-from_len-to_len-clause-ones c =
     let to_count = length-as_read c.args.order c.args.to.now in
     let lens = sym c.item-from_len.ensures ∙ c.if-from_len-to_len.true ∙ c.item-to_len.ensures in
     let there = both-left (as_read c.args.order c.args.from.now) (as_read c.args.order c.args.to.now) c.args.at.from_axes c.args.at.to_axes c.requires.can_walk.some c.requires.can_walk.more
-        (elim c.requires.left [ inl l ↦ inl (omega arith) | inr l ↦ inr (omega arith) ]) lens in
+    (elim c.requires.left [ inl l ↦ inl (omega arith) | inr l ↦ inr (omega arith) ]) lens in
     let inside = there.1 in
     let k = c.args.at.to_axes in
     let out = c.args.out.now in

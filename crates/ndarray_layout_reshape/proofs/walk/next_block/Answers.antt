@@ -35,7 +35,7 @@ loop-from_product-init c =
     let to_left = c.requires.to_left in
     record {
       half = halfway-first (as_read c.args.order c.args.from.now) (all_signed (as_read c.args.order c.args.strides.now)) (as_read c.args.order c.args.to.now) c.args.start.from_axes c.args.start.to_axes c.args.start.product c.item.result c.item-2.result (signed c.item-step.result) c.requires.can_walk c.requires.reached (omega arith) (omega arith) (inr (c.requires.from_longer, c.requires.to_longer)) c.item.ensures c.item-2.ensures
-    (stride-read (as_read c.args.order c.args.strides.now) c.args.start.from_axes c.item-step.result c.item-step.ensures);
+          (stride-read (as_read c.args.order c.args.strides.now) c.args.start.from_axes c.item-step.result c.item-step.ensures);
       inside = inside-first (as_read c.args.order c.args.from.now) (as_read c.args.order c.args.to.now) c.args.start.from_axes c.args.start.to_axes c.requires.can_walk.some c.requires.can_walk.more (omega arith) (omega arith) (c.requires.reached.from_size ∙ sym c.requires.reached.to_size) c.requires.from_longer c.requires.to_longer;
     }
 
@@ -130,14 +130,14 @@ loop-from_product-preserved c =
     let to_size = l.invariant.half.to_size in
     record {
       half = elim c.if-len-gt1.branch [
-      | then-len-gt1+else-not-is_whole w ↦
-        subst (λ s. IsHalfway from strides to c.args.start.from_axes c.args.start.to_axes (l.from_end + 1) l.to_end (l.from_product * c.item-len.result) l.to_product (signed s)) (sym w.step-is)
-        (halfway-longer from strides to c.args.start.from_axes c.args.start.to_axes l.from_end l.to_end l.from_product l.to_product c.item-len.result (signed l.step) (signed w.item-next.result) c.requires.can_walk l.invariant.half below left c.item-len.ensures w.if-len-gt1.true
-        (stride-read (as_read c.args.order c.args.strides.now) l.from_end w.item-next.result w.item-next.ensures)
-        (w.is_whole.ensures.0 w.if-not-is_whole.false))
-      | else-len-gt1 w ↦
-        subst (λ s. IsHalfway from strides to c.args.start.from_axes c.args.start.to_axes (l.from_end + 1) l.to_end (l.from_product * c.item-len.result) l.to_product (signed s)) (sym w.step-is)
-        (halfway-one from strides to c.args.start.from_axes c.args.start.to_axes l.from_end l.to_end l.from_product l.to_product c.item-len.result (signed l.step) c.requires.can_walk l.invariant.half below left c.item-len.ensures w.if-len-gt1.false)
-    ];
+        | then-len-gt1+else-not-is_whole w ↦
+            subst (λ s. IsHalfway from strides to c.args.start.from_axes c.args.start.to_axes (l.from_end + 1) l.to_end (l.from_product * c.item-len.result) l.to_product (signed s)) (sym w.step-is)
+            (halfway-longer from strides to c.args.start.from_axes c.args.start.to_axes l.from_end l.to_end l.from_product l.to_product c.item-len.result (signed l.step) (signed w.item-next.result) c.requires.can_walk l.invariant.half below left c.item-len.ensures w.if-len-gt1.true
+            (stride-read (as_read c.args.order c.args.strides.now) l.from_end w.item-next.result w.item-next.ensures)
+            (w.is_whole.ensures.0 w.if-not-is_whole.false))
+        | else-len-gt1 w ↦
+            subst (λ s. IsHalfway from strides to c.args.start.from_axes c.args.start.to_axes (l.from_end + 1) l.to_end (l.from_product * c.item-len.result) l.to_product (signed s)) (sym w.step-is)
+            (halfway-one from strides to c.args.start.from_axes c.args.start.to_axes l.from_end l.to_end l.from_product l.to_product c.item-len.result (signed l.step) c.requires.can_walk l.invariant.half below left c.item-len.ensures w.if-len-gt1.false)
+      ];
       inside = inside-from from to c.args.start.to_axes l.from_end l.to_end c.requires.can_walk.some (omega arith) l.invariant.inside;
     }

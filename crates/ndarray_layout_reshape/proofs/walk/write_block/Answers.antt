@@ -73,12 +73,12 @@ loop-k-preserved c =
       product = ap (λ n. c.loop-k.rest * n) c.item-rest.ensures ∙ more lens c.args.end k c.loop-k.rest (omega (arith, c.requires.within)) (omega arith) v.high v.product;
       written = λ j above below. elim (cases_eq j (k - 1)) [
         | inl here ↦
-          ap (λ n. signed (get_or (set c.loop-k.out (k - 1) c.unsigned.result) n 0)) here
-          ∙ ap signed (get_or-set_same c.loop-k.out (k - 1) c.unsigned.result 0 room)
-          ∙ value
-          ∙ ap (λ n. pos n *ℤ signed c.args.step) (v.product ∙ ap (λ n. size (drop n (take c.args.end lens))) (sym next ∙ ap (λ n. n + 1) (sym here)))
+            ap (λ n. signed (get_or (set c.loop-k.out (k - 1) c.unsigned.result) n 0)) here
+            ∙ ap signed (get_or-set_same c.loop-k.out (k - 1) c.unsigned.result 0 room)
+            ∙ value
+            ∙ ap (λ n. pos n *ℤ signed c.args.step) (v.product ∙ ap (λ n. size (drop n (take c.args.end lens))) (sym next ∙ ap (λ n. n + 1) (sym here)))
         | inr other ↦
-          ap signed (get_or-set_other c.loop-k.out (k - 1) j c.unsigned.result 0 other) ∙ v.written j (omega arith) below
+            ap signed (get_or-set_other c.loop-k.out (k - 1) j c.unsigned.result 0 other) ∙ v.written j (omega arith) below
       ];
       kept = λ j before. get_or-set_other c.loop-k.out (k - 1) j c.unsigned.result 0 (λ e. omega arith) ∙ v.kept j before;
     }
