@@ -2,6 +2,8 @@
 use Rattle.std.specs.Prelude.{◌≡◌, ℕ, ◌==◌, ℤ, pos, negsuc, if◌then◌else◌, Option, Some, None, List, [], ◌∷◌, refl}
 use Rattle.nd_base.specs.declared.error.ErrorKind.{ErrorKind}
 use Rattle.nd_base.specs.declared.error.ErrorKind.TheVariants.{IncompatibleShape, IncompatibleLayout}
+use Rattle.nd_base.specs.declared.error.LayoutError.{LayoutError}
+use Rattle.nd_base.specs.declared.error.LayoutError.TheVariants.{Shape, Memory}
 use Rattle.nd_base.specs.declared.order.Order.{Order}
 use Rattle.nd_base.specs.declared.order.Order.TheVariants.{RowMajor, ColumnMajor}
 use Rattle.nd_base.specs.Size.{size}
@@ -18,6 +20,16 @@ fault_as_read from strides to =
 abbrev pub reshape_fault : Order → List ℕ → List ℤ → List ℕ → Option ErrorKind
 reshape_fault order from strides to = fault_as_read (as_read order from) (as_read order strides) (as_read order to)
 
+-- a refusal of a shape is the fault that there is; a refusal of memory comes first, whatever the fault
+abbrev pub IsRefusedFor : Option ErrorKind → LayoutError → Type 0
+IsRefusedFor fault (Shape kind) = fault ≡ Some kind
+IsRefusedFor fault (Memory e) = Unit {0}
+
+-- a refusal that is none of memory
+abbrev pub IsOfShape : LayoutError → Type 0
+IsOfShape (Shape kind) = Unit {0}
+IsOfShape (Memory e) = ⊥
+
 -- examples
 rows_as_columns : reshape_fault ColumnMajor (2 ∷ 3 ∷ []) (pos 3 ∷ pos 1 ∷ []) (3 ∷ 2 ∷ []) ≡ Some IncompatibleLayout
 rows_as_columns = refl
@@ -30,3 +42,9 @@ bad_joint_and_other_size = refl
 
 each_second_back : reshape_fault RowMajor (4 ∷ []) (negsuc 1 ∷ []) (2 ∷ 2 ∷ []) ≡ None
 each_second_back = refl
+
+of_a_layout : IsRefusedFor (Some IncompatibleLayout) (Shape IncompatibleLayout)
+of_a_layout = refl
+
+of_shapes : IsOfShape (Shape IncompatibleShape)
+of_shapes = tt
