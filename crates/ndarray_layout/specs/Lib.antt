@@ -63,6 +63,6 @@ pub use Rattle.ndarray_layout_views.specs.Walk
 pub use Rattle.ndarray_layout_reshape.specs.ForcedStrides
 pub use Rattle.ndarray_layout_reshape.specs.Joints
 pub use Rattle.ndarray_layout_reshape.specs.Keeps
-pub use Rattle.ndarray_layout_reshape.specs.Reading
+pub use Rattle.nd_base.specs.Reading
 pub use Rattle.ndarray_layout_reshape.specs.ReshapeFault
 pub use Rattle.ndarray_layout_reshape.specs.Walk as ReshapeWalk

@@ -14,7 +14,7 @@ use Rattle.nd_base.proofs.laws.Span.{sum_over_axes-reverse}
 use Rattle.ndarray_layout_reshape.specs.ForcedStrides.{forced_strides, stride_at}
 use Rattle.ndarray_layout_reshape.specs.Joints.{has_bad_joint}
 use Rattle.ndarray_layout_reshape.specs.Keeps.{Keeps}
-use Rattle.ndarray_layout_reshape.specs.Reading.{as_read}
+use Rattle.nd_base.specs.Reading.{as_read}
 use Rattle.ndarray_layout_reshape.specs.ReshapeFault.{reshape_fault, fault_as_read}
 use Rattle.ndarray_layout_reshape.specs.Walk.{CanWalk, PlacesAlike}
 use Rattle.ndarray_layout_reshape.proofs.Complete.{good-of-alike}

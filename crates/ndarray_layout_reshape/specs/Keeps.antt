@@ -7,7 +7,7 @@ use Rattle.nd_base.specs.declared.order.Order.{Order}
 use Rattle.nd_base.specs.declared.order.Order.TheVariants.{RowMajor, ColumnMajor}
 use Rattle.nd_base.specs.Place.{places}
 use Rattle.nd_base.specs.Signed.{magnitude}
-use Rattle.ndarray_layout_reshape.specs.Reading.{as_read}
+use Rattle.nd_base.specs.Reading.{as_read}
 
 -- one stride for each axis, and in the order the same list of places from 0 on
 pub record Keeps (order : Order) (from : List ℕ) (strides : List ℤ) (to : List ℕ) (others : List ℤ) : Type 0 where

@@ -7,7 +7,7 @@ ghost use Rattle.nd_base.specs.Signed.{signed as signed_reading, all_signed};
 ghost use Rattle.nd_base.specs.Size.{size, nonzero_size, is_empty, limit};
 ghost use Rattle.nd_base.specs.ValidLayout.{IsValidLayout};
 ghost use Rattle.ndarray_layout_reshape.specs.ForcedStrides.{forced_strides, stride_at};
-ghost use Rattle.ndarray_layout_reshape.specs.Reading.{as_read};
+ghost use Rattle.nd_base.specs.Reading.{as_read};
 ghost use Rattle.ndarray_layout_reshape.specs.ReshapeFault.{reshape_fault, fault_as_read};
 ghost use Rattle.ndarray_layout_reshape.specs.Walk.{CanWalk, IsReached, IsBlock, IsInside, OnesAlike, PlacesAlike};
 

@@ -1,7 +1,7 @@
 use Rattle.std.proofs.Common.{rules, ◌≡◌, ◌≢◌, ◌+◌, ◌*◌, ◌<◌, ◌≤◌, ℕ, ◌⊎◌, Some, pos, ◌*ℤ◌, List, length, get_or, set, Fits, w64, arith, sym, ap, ◌∙◌, inl, inr, get_or-set_other, get_or-set_same, length-set}
 use Rattle.std.proofs.Math.ListN.{get_or-map}
 use Rattle.nd_base.specs.Signed.{signed, all_signed}
-use Rattle.ndarray_layout_reshape.specs.Reading.{as_read}
+use Rattle.nd_base.specs.Reading.{as_read}
 use Rattle.ndarray_layout_reshape.proofs.Advance.{in-of-len, both-left, reached-both, alike-both, reached-from, alike-from, reached-to, alike-to, ends-fault, sizes-fit, steps-fit, alike-block}
 use Rattle.ndarray_layout_reshape.proofs.Halfway.{product-fits}
 use Rattle.ndarray_layout_reshape.proofs.Ones.{ones-from, ones-to, ones-both, ones-block}

@@ -1,7 +1,7 @@
 -- A part of the block is read.
 use Rattle.std.proofs.Common.{◌+◌, ◌-◌, length}
 use Rattle.nd_base.specs.Signed.{all_signed, signed}
-use Rattle.ndarray_layout_reshape.specs.Reading.{as_read}
+use Rattle.nd_base.specs.Reading.{as_read}
 use Rattle.ndarray_layout_reshape.specs.Walk.{IsInside}
 use Rattle.ndarray_layout_reshape.proofs.Halfway.{IsHalfway}
 use Rattle.ndarray_layout_reshape.proofs.walk.next_block.Given as goal

@@ -3,7 +3,7 @@ use Rattle.std.proofs.lemmas.List.{length-map}
 use Rattle.nd_base.specs.Indices.{below}
 use Rattle.nd_base.specs.Signed.{signed, all_signed}
 use Rattle.ndarray_layout_reshape.specs.ForcedStrides.{stride_at}
-use Rattle.ndarray_layout_reshape.specs.Reading.{as_read}
+use Rattle.nd_base.specs.Reading.{as_read}
 use Rattle.ndarray_layout_reshape.proofs.Ones.{ones-first, strides-whole}
 use Rattle.ndarray_layout_reshape.proofs.Reached.{joint-product}
 use Rattle.ndarray_layout_reshape.proofs.laws.Keeps.{length-as_read}

@@ -1,7 +1,7 @@
 -- Both shapes are read so far, and the axes that are read have their places.
 use Rattle.std.proofs.Common.{◌≡◌, ◌+◌, ◌-◌, length, take}
 use Rattle.nd_base.specs.Signed.{all_signed}
-use Rattle.ndarray_layout_reshape.specs.Reading.{as_read}
+use Rattle.nd_base.specs.Reading.{as_read}
 use Rattle.ndarray_layout_reshape.specs.Walk.{IsReached, OnesAlike, PlacesAlike}
 use Rattle.ndarray_layout_reshape.proofs.walk.walk.Given as goal
 

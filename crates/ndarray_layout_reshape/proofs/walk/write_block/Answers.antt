@@ -8,7 +8,7 @@ use Rattle.std.proofs.lemmas.Int.{to_z-of_z, to_z_pos}
 use Rattle.nd_base.specs.Size.{size, limit}
 use Rattle.nd_base.specs.Signed.{signed}
 use Rattle.nd_base.proofs.laws.Size.{size_from}
-use Rattle.ndarray_layout_reshape.specs.Reading.{as_read}
+use Rattle.nd_base.specs.Reading.{as_read}
 use Rattle.ndarray_layout_reshape.proofs.laws.Keeps.{length-as_read}
 use Rattle.ndarray_layout_reshape.proofs.walk.write_block.Goals as goal
 

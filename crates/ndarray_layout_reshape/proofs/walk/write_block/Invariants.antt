@@ -2,7 +2,7 @@
 use Rattle.std.proofs.Common.{◌≡◌, ℕ, ◌+◌, ◌≤◌, ◌<◌, pos, ◌*ℤ◌, length, take, drop, get_or}
 use Rattle.nd_base.specs.Signed.{signed}
 use Rattle.nd_base.specs.Size.{size}
-use Rattle.ndarray_layout_reshape.specs.Reading.{as_read}
+use Rattle.nd_base.specs.Reading.{as_read}
 use Rattle.ndarray_layout_reshape.proofs.walk.write_block.Given as goal
 
 abbrev pub invariant-loop-k : goal.invariant-loop-k
