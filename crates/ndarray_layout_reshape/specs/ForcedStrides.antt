@@ -8,7 +8,7 @@ use Rattle.nd_base.specs.Offset.{offset_of}
 use Rattle.nd_base.specs.Rank.{index_of_rank}
 use Rattle.nd_base.specs.Size.{size}
 use Rattle.ndarray_layout_reshape.specs.Joints.{cumulative_products}
-use Rattle.ndarray_layout_reshape.specs.Reading.{as_read}
+use Rattle.nd_base.specs.Reading.{as_read}
 
 -- how many indices come before the second entry of an axis: the product of the lengths read after it
 abbrev pub indices_after : List ℕ → ℕ → ℕ

@@ -6,7 +6,7 @@ use Rattle.nd_base.specs.declared.order.Order.{Order}
 use Rattle.nd_base.specs.declared.order.Order.TheVariants.{RowMajor, ColumnMajor}
 use Rattle.nd_base.specs.Size.{size}
 use Rattle.ndarray_layout_reshape.specs.Joints.{has_bad_joint}
-use Rattle.ndarray_layout_reshape.specs.Reading.{as_read}
+use Rattle.nd_base.specs.Reading.{as_read}
 
 -- the axes as they are read: a bad joint first, and then sizes that differ
 abbrev pub fault_as_read : List ℕ → List ℤ → List ℕ → Option ErrorKind

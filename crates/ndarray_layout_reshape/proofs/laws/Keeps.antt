@@ -17,7 +17,7 @@ use Rattle.nd_base.proofs.laws.Size.{size-reverse, is_empty-reverse}
 use Rattle.ndarray_layout_reshape.specs.ForcedStrides.{forced_strides, indices_after, offset_at_rank, stride_at}
 use Rattle.ndarray_layout_reshape.specs.Joints.{has_bad_joint}
 use Rattle.ndarray_layout_reshape.specs.Keeps.{Keeps}
-use Rattle.ndarray_layout_reshape.specs.Reading.{as_read}
+use Rattle.nd_base.specs.Reading.{as_read}
 use Rattle.ndarray_layout_reshape.specs.Walk.{PlacesAlike}
 use Rattle.ndarray_layout_reshape.proofs.Complete.{good-of-alike, alike-of-good}
 use Rattle.ndarray_layout_reshape.proofs.Forced.{forced-of-alike, alike-forced}
