@@ -5,6 +5,7 @@ use Rattle.std.proofs.Math.Seq.{take-suc, drop-cons}
 use Rattle.std.proofs.lemmas.List.{length-take-le, take-append-drop}
 use Rattle.std.proofs.lemmas.Option.{get_or_from_slice_get, slice_get_within}
 use Rattle.nd_base.specs.declared.error.ErrorKind.{ErrorKind}
+use Rattle.nd_base.specs.declared.lengths.TheConstants.{INLINE_AXES}
 use Rattle.std.proofs.lemmas.Bool.{both_ways, lt-ltb, ltb-true, true_from_ne_false}
 use Rattle.nd_slice.specs.ArgumentFault.{out_count}
 use Rattle.ndarray_layout.specs.Step.{StepValue, SliceBy, CollapseTo, MergeInto, BroadcastTo, may_want_memory, step_fault, view_after}
@@ -105,21 +106,21 @@ refused_of X view step (Memory e) refused memory = wanted view step (sym refused
     cc)
   where
     wanted : (view : View) (step : StepValue) → step_fault view step ≡ None → (may_want_memory step ≡ false → ⊥) → MayRefuseMemory view step
-    wanted view (SliceBy elems fit) none wants = (fits_of_no_fault_of_step view (SliceBy elems fit) none, ltb-true 4 (out_count elems) (true_from_ne_false (nat_lt 4 (out_count elems)) wants))
+    wanted view (SliceBy elems fit) none wants = (fits_of_no_fault_of_step view (SliceBy elems fit) none, ltb-true INLINE_AXES (out_count elems) (true_from_ne_false (nat_lt INLINE_AXES (out_count elems)) wants))
     wanted view (CollapseTo axis index) none wants = wants refl
     wanted view (MergeInto take into) none wants = wants refl
-    wanted view (BroadcastTo shape) none wants = (fits_of_no_fault_of_step view (BroadcastTo shape) none, ltb-true 4 (length shape) (true_from_ne_false (nat_lt 4 (length shape)) wants))
+    wanted view (BroadcastTo shape) none wants = (fits_of_no_fault_of_step view (BroadcastTo shape) none, ltb-true INLINE_AXES (length shape) (true_from_ne_false (nat_lt INLINE_AXES (length shape)) wants))
 
--- a count above four is not at most four
-above_four : (n : ℕ) → 4 < n → nat_lt 4 n ≡ false → ⊥
-above_four n above few = both_ways (nat_lt 4 n) few (lt-ltb 4 n above)
+-- a count above `INLINE_AXES` is not at most that
+above_inline : (n : ℕ) → INLINE_AXES < n → nat_lt INLINE_AXES n ≡ false → ⊥
+above_inline n above few = both_ways (nat_lt INLINE_AXES n) few (lt-ltb INLINE_AXES n above)
 
 -- memory is not refused to a step that wants none
 not_refused : (view : View) (step : StepValue) → MayRefuseMemory view step → may_want_memory step ≡ false → ⊥
-not_refused view (SliceBy elems fit) refused few = above_four (out_count elems) refused.1 few
+not_refused view (SliceBy elems fit) refused few = above_inline (out_count elems) refused.1 few
 not_refused view (CollapseTo axis index) refused few = refused
 not_refused view (MergeInto take into) refused few = refused
-not_refused view (BroadcastTo shape) refused few = above_four (length shape) refused.1 few
+not_refused view (BroadcastTo shape) refused few = above_inline (length shape) refused.1 few
 
 -- a run without fault whose steps want no memory is not stopped
 pub not_stopped : (steps : List StepValue) (at : ℕ) (step : StepValue) (start left : View) (fault : LayoutError) → slice_get steps at ≡ Some step → (run_of (take at steps) start).fault ≡ None → (run_of (take at steps) start).view ≡ left → IsRefusedBy left fault step

@@ -13,6 +13,7 @@ pub use Rattle.nd_base.specs.Order
 pub use Rattle.nd_base.specs.Place
 pub use Rattle.nd_base.specs.Rank
 pub use Rattle.nd_base.specs.Reach
+pub use Rattle.nd_base.specs.Reading
 pub use Rattle.nd_base.specs.ShapeFault
 pub use Rattle.nd_base.specs.Signed
 pub use Rattle.nd_base.specs.Size
@@ -63,6 +64,5 @@ pub use Rattle.ndarray_layout_views.specs.Walk
 pub use Rattle.ndarray_layout_reshape.specs.ForcedStrides
 pub use Rattle.ndarray_layout_reshape.specs.Joints
 pub use Rattle.ndarray_layout_reshape.specs.Keeps
-pub use Rattle.nd_base.specs.Reading
 pub use Rattle.ndarray_layout_reshape.specs.ReshapeFault
 pub use Rattle.ndarray_layout_reshape.specs.Walk as ReshapeWalk

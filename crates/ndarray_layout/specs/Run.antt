@@ -108,9 +108,6 @@ and_left_a_row = refl
 second_entry_of_one : AllFit (CollapseTo 0 1 ∷ CollapseTo 0 1 ∷ []) two_by_three → ⊥
 second_entry_of_one fits = lt→ltb 1 1 fits.1.0.1
 
-four_axes_need_no_memory : may_want_memory (BroadcastTo (2 ∷ 1 ∷ 2 ∷ 3 ∷ [])) ≡ false
-four_axes_need_no_memory = refl
-
 five_axes_may_need_memory : NeedNoMemory (CollapseTo 0 1 ∷ BroadcastTo (2 ∷ 1 ∷ 1 ∷ 2 ∷ 3 ∷ []) ∷ []) → ⊥
 five_axes_may_need_memory none = both_ways true (none 1 (CollapseTo 0 0) (lit< tt)) refl
 

@@ -3,6 +3,7 @@ use Rattle.std.specs.Prelude.{◌≡◌, ℕ, pos, negsuc, Bool, true, false, na
 use Rattle.nd_base.specs.declared.error.ErrorKind.{ErrorKind}
 use Rattle.nd_base.specs.declared.error.ErrorKind.TheVariants.{IncompatibleLayout, OutOfBounds, Unsupported}
 use Rattle.nd_base.specs.Dim.{lengths}
+use Rattle.nd_base.specs.declared.lengths.TheConstants.{INLINE_AXES}
 use Rattle.nd_slice_axis.specs.declared.fit.Fit.{Fit}
 use Rattle.nd_slice_axis.specs.declared.fit.Fit.TheVariants.{Strict}
 use Rattle.nd_slice.specs.declared.elem.SliceInfoElem.{SliceInfoElem}
@@ -51,12 +52,12 @@ source_index view (CollapseTo axis index) = collapse_source axis index
 source_index view (MergeInto take into) = merge_source take into view.shape
 source_index view (BroadcastTo shape) = broadcast_source view.shape
 
--- memory may be wanted where a step makes a list of more than four lengths
+-- memory may be wanted where a step makes a list of more than four lengths (`INLINE_AXES`)
 abbrev pub may_want_memory : StepValue → Bool
-may_want_memory (SliceBy elems fit) = nat_lt 4 (out_count elems)
+may_want_memory (SliceBy elems fit) = nat_lt INLINE_AXES (out_count elems)
 may_want_memory (CollapseTo axis index) = false
 may_want_memory (MergeInto take into) = false
-may_want_memory (BroadcastTo shape) = nat_lt 4 (length shape)
+may_want_memory (BroadcastTo shape) = nat_lt INLINE_AXES (length shape)
 
 -- entries may stand for one and the same entry after a broadcast, and after no other step
 abbrev pub is_broadcast : StepValue → Bool
@@ -91,3 +92,9 @@ axis_into_itself = refl
 
 in_stretched_axes : source_index two_by_three (BroadcastTo (4 ∷ 2 ∷ 3 ∷ [])) (3 ∷ 1 ∷ 2 ∷ []) ≡ 1 ∷ 2 ∷ []
 in_stretched_axes = refl
+
+four_axes_need_no_memory : may_want_memory (BroadcastTo (2 ∷ 1 ∷ 2 ∷ 3 ∷ [])) ≡ false
+four_axes_need_no_memory = refl
+
+five_axes_may_want_some : may_want_memory (SliceBy (elem.NewAxis ∷ elem.NewAxis ∷ elem.NewAxis ∷ elem.NewAxis ∷ elem.NewAxis ∷ []) Strict) ≡ true
+five_axes_may_want_some = refl

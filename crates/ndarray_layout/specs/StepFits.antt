@@ -3,6 +3,7 @@ use Rattle.std.specs.Prelude.{◌≡◌, ◌≢◌, ℕ, ◌<◌, pos, negsuc, L
 use Rattle.std.proofs.Common.{eq-eqb}
 use Rattle.std.proofs.Math.Dec.{lit<, lt→ltb}
 use Rattle.std.proofs.lemmas.Bool.{both_ways}
+use Rattle.nd_base.specs.declared.lengths.TheConstants.{INLINE_AXES}
 use Rattle.nd_slice_axis.specs.declared.fit.Fit.{Fit}
 use Rattle.nd_slice_axis.specs.declared.fit.Fit.TheVariants.{Strict}
 use Rattle.nd_slice_axis.specs.Picks.{slice_with}
@@ -35,10 +36,10 @@ StepFits view (BroadcastTo shape) = BroadcastFits shape view.shape
 
 -- what is known where memory was refused to a step: a slice or a broadcast fits and leaves more than four axes; the others want none
 abbrev pub MayRefuseMemory : View → StepValue → Type 0
-MayRefuseMemory view (SliceBy elems fit) = StepFits view (SliceBy elems fit) × (4 < out_count elems)
+MayRefuseMemory view (SliceBy elems fit) = StepFits view (SliceBy elems fit) × (INLINE_AXES < out_count elems)
 MayRefuseMemory view (CollapseTo axis index) = ⊥
 MayRefuseMemory view (MergeInto take into) = ⊥
-MayRefuseMemory view (BroadcastTo shape) = StepFits view (BroadcastTo shape) × (4 < length shape)
+MayRefuseMemory view (BroadcastTo shape) = StepFits view (BroadcastTo shape) × (INLINE_AXES < length shape)
 
 -- examples
 abbrev two_by_three : View

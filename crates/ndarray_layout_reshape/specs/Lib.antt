@@ -3,3 +3,4 @@ pub mod Joints
 pub mod Keeps
 pub mod ReshapeFault
 pub mod Walk
+pub use Rattle.nd_base.specs.Reading

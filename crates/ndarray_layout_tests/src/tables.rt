@@ -10,7 +10,7 @@ use std::alloc::Global;
 use std::process::Abort;
 use test_tables::{Row, rows};
 
-/// What the rows of a table tell, and what becomes there of bounds that lie outside their axis.
+/// What the rows of a table say, and what becomes there of bounds that lie outside their axis.
 #[derive(Clone, Copy)]
 pub enum Told {
     /// A layout over data at a dimension type, a question and its answer.

@@ -156,7 +156,7 @@ pub(crate) fn asks<D: RemoveAxis + IntoDimension<Dim = D>>(
     }
 }
 
-/// The rows of a table, which tell how calls go about memory at the type of any number of axes.
+/// The rows of a table, which say how calls go about memory at the type of any number of axes.
 fn table_at_any_count(rt: &impl Abort, alloc: Global, memory: Memory, rows: &str) {
     table(rt, alloc, Question::Memory(memory), Types::AnyCount, rows);
 }

@@ -1,4 +1,4 @@
-//! Whether rows tell what views answer, at any dimension type.
+//! Whether views answer as rows say, at any dimension type.
 use crate::types::{AtType, at_type};
 use crate::view::elems::elems;
 use crate::view::question::{
@@ -14,7 +14,7 @@ use std::alloc::Global;
 use std::process::Abort;
 use test_tables::Row;
 
-// ---- views as rows tell them
+// ---- views as rows write them
 
 /// Whether the next word of a row lists these lengths, strides or places.
 fn lists(rt: &impl Abort, alloc: Global, row: &mut Row<'_>, list: &[usize]) -> bool {
@@ -71,7 +71,7 @@ pub fn is_view<D: Lengths>(
     says(rt, row, "is") && shows(rt, alloc, row, view)
 }
 
-/// Whether the next words of a row tell the view that a call makes, or the rule that refuses it.
+/// Whether the next words of a row write the view that a call makes, or the rule that refuses it.
 pub fn is_told<D: Lengths>(
     rt: &impl Abort,
     alloc: Global,
@@ -231,7 +231,7 @@ fn slice_is_in_order<D: Lengths>(
 
 // ---- rows
 
-/// A row tells what a view answers.
+/// A row says what a view answers.
 fn view_answers<D: Lengths>(
     rt: &impl Abort,
     alloc: Global,
@@ -269,7 +269,7 @@ fn span<D: Lengths>(asked: &Asked<D>) -> Option<usize> {
     max_abs_offset_check_overflow(asked.elem_size, &asked.shape, &asked.strides).ok()
 }
 
-/// A row tells what the view of a layout answers.
+/// A row says what the view of a layout answers.
 fn viewed_answers<D: Lengths>(
     rt: &impl Abort,
     alloc: Global,
