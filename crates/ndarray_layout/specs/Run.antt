@@ -1,5 +1,5 @@
 -- What a list of steps makes of a view: what its steps make of it, one after another.
-use Rattle.std.specs.Prelude.{◌≡◌, ℕ, ◌+◌, ◌<◌, pos, true, false, Option, Some, None, IsSomeAnd, List, [], ◌∷◌, take, slice_get, refl}
+use Rattle.std.specs.Prelude.{◌≡◌, ℕ, ◌+◌, pos, true, false, Option, Some, None, IsSomeAnd, List, [], ◌∷◌, take, slice_get, refl}
 use Rattle.std.specs.List.{All}
 use Rattle.std.proofs.Math.Dec.{lit<, lt→ltb}
 use Rattle.std.proofs.lemmas.Bool.{both_ways}

@@ -1,5 +1,5 @@
 -- Which steps fit a view, and which may be refused for memory.
-use Rattle.std.specs.Prelude.{◌≡◌, ◌≢◌, ℕ, ◌<◌, ℤ, pos, negsuc, List, [], ◌∷◌, length, slice_index, nat_eq, refl}
+use Rattle.std.specs.Prelude.{◌≡◌, ◌≢◌, ℕ, ◌<◌, pos, negsuc, List, [], ◌∷◌, length, slice_index, nat_eq, refl}
 use Rattle.std.proofs.Common.{eq-eqb}
 use Rattle.std.proofs.Math.Dec.{lit<, lit≤, lt→ltb}
 use Rattle.std.proofs.lemmas.Bool.{both_ways}

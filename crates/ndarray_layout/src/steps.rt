@@ -66,7 +66,7 @@ fn step_to(view: &mut Strided<IxDyn>, next: Strided<IxDyn>)
 /// Errors: why the step is refused; memory is not where it leaves at most four axes. The view given is
 /// one.
 fn take_step(alloc: Global, view: &mut Strided<IxDyn>, step: &Step) -> Result<(), LayoutError>
-    requires view { IsView view.old }
+    requires { IsView view.old }
     ensures fits { OnOk result (step_fault view.old (step_value step.now) ≡ None) }
     ensures refused { IfErr result (λ e. IsRefusedBy view.old e (step_value step.now)) }
     ensures refusal { OnErr result (view.new ≡ view.old) }
