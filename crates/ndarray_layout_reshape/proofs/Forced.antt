@@ -81,7 +81,7 @@ forced-of-alike from strides to others axis more sizes e alike l long =
     sym (offset-of-axis to others axis more e l long) ∙ alike (indices_after to axis) (omega arith)
 
 -- and the strides of the definition keep the places wherever some do
-stride_at-long : (from : List ℕ) (strides : List ℤ) (to : List ℕ) (axis : ℕ) → 1 < get_or to axis 0 → stride_at from strides to axis ≡ offset_at_rank from strides (indices_after to axis)
+pub stride_at-long : (from : List ℕ) (strides : List ℤ) (to : List ℕ) (axis : ℕ) → 1 < get_or to axis 0 → stride_at from strides to axis ≡ offset_at_rank from strides (indices_after to axis)
 stride_at-long from strides to zero h = cond-true (nat_lt 1 (get_or to 0 0)) (offset_at_rank from strides (indices_after to 0)) (stride_of_one from strides to 0 (pos 1)) (lt-ltb 1 (get_or to 0 0) h)
 stride_at-long from strides to (suc axis) h = cond-true (nat_lt 1 (get_or to (suc axis) 0)) (offset_at_rank from strides (indices_after to (suc axis))) (stride_of_one from strides to (suc axis) (stride_at from strides to axis)) (lt-ltb 1 (get_or to (suc axis) 0) h)
 

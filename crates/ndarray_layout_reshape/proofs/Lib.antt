@@ -3,8 +3,10 @@ pub mod Blocks
 pub mod Complete
 pub mod Forced
 pub mod Halfway
+pub mod Inside
 pub mod Joins
 pub mod Members
+pub mod Ones
 pub mod Products
 pub mod Ranks
 pub mod Reached
@@ -12,5 +14,6 @@ pub mod Runs
 pub mod Splits
 pub mod Steps
 pub mod Tails
+pub mod Turned
 pub mod Values
 pub mod laws

@@ -3,6 +3,7 @@
 
 mod reshape;
 mod sequence;
+mod walk;
 
 pub use reshape::reshape_dim;
 pub use sequence::{Forward, Reverse, Sequence};

@@ -8,7 +8,8 @@ ghost use Rattle.ndarray_layout_reshape.specs.ForcedStrides.{forced_strides};
 ghost use Rattle.ndarray_layout_reshape.specs.Keeps.{Keeps, AgreeOnLonger};
 ghost use Rattle.ndarray_layout_reshape.specs.ReshapeFault.{reshape_fault, IsRefusedFor, IsOfShape};
 
-use nd_base::{ErrorKind, LayoutError, Lengths, Order, from_kind};
+use crate::walk::fill_reshaped;
+use nd_base::{LayoutError, Lengths, Order};
 use std::alloc::Global;
 
 /// The strides by which a layout is one of another shape: its elements, read in the order, are the same, one
@@ -49,12 +50,19 @@ pub fn reshape_dim<D: Lengths, E: Lengths>(
     ensures complete { (reshape_fault order
         (D.list from.now) (all_signed (D.list strides.now)) (E.list to.now) ≡ None)
         ↔ ((others : List ℤ) × Keeps order
-            (D.list from.now) (all_signed (D.list strides.now)) (E.list to.now) others) }
+        (D.list from.now) (all_signed (D.list strides.now)) (E.list to.now) others) }
     ensures forced { (others : List ℤ) →
         Keeps order (D.list from.now) (all_signed (D.list strides.now)) (E.list to.now) others →
         AgreeOnLonger order (E.list to.now) others
-            (forced_strides order (D.list from.now) (all_signed (D.list strides.now)) (E.list to.now)) }
+        (forced_strides order (D.list from.now) (all_signed (D.list strides.now)) (E.list to.now)) }
 {
-    let _strides = E::zeros(alloc, to.ndim())?;
-    Err(from_kind(ErrorKind::IncompatibleLayout).into())
+    let mut others = E::zeros(alloc, to.ndim())?;
+    fill_reshaped(
+        order,
+        from.slice(),
+        strides.slice(),
+        to.slice(),
+        others.slice_mut(),
+    )?;
+    Ok(others)
 }

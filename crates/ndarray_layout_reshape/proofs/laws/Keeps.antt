@@ -1,9 +1,11 @@
 -- Laws of strides that keep the places of a layout: there are some exactly where the sizes agree and no joint is bad.
-use Rattle.std.proofs.Common.{◌≡◌, ℕ, suc, ◌%◌, ◌<◌, false, ℤ, pos, List, [], ◌∷◌, length, get_or, map, reverse, refl, sym, ap, ◌∙◌, arith, subst}
-use Rattle.std.specs.Prelude.{◌↔◌}
+use Rattle.std.proofs.Common.{◌≡◌, ℕ, suc, ◌%◌, ◌<◌, false, ℤ, pos, List, [], ◌∷◌, length, get_or, map, reverse, refl, sym, ap, ◌∙◌, inl, inr, arith, subst}
+use Rattle.std.specs.Prelude.{◌↔◌, ◌==◌, Bool, Some, None, if◌then◌else◌}
+use Rattle.std.proofs.lemmas.Bool.{cases_Bool, cond-true, cond-false, eq-eqb, eqb-true}
 use Rattle.std.proofs.lemmas.Int.{ints}
 use Rattle.std.proofs.lemmas.List.{get_or-map, length-map, length-reverse, reverse-reverse}
 use Rattle.std.proofs.lemmas.List.FromFn.{fill_by_all, length-map-range_with_len}
+use Rattle.nd_base.specs.declared.error.ErrorKind.TheVariants.{IncompatibleShape, IncompatibleLayout}
 use Rattle.nd_base.specs.declared.order.Order.{Order}
 use Rattle.nd_base.specs.declared.order.Order.TheVariants.{RowMajor, ColumnMajor}
 use Rattle.nd_base.specs.Indices.{below, indices_in}
@@ -16,8 +18,9 @@ use Rattle.nd_base.proofs.laws.Offset.{offset_of-reverse}
 use Rattle.nd_base.proofs.laws.Size.{size-reverse, is_empty-reverse}
 use Rattle.ndarray_layout_reshape.specs.ForcedStrides.{forced_strides, indices_after, offset_at_rank, stride_at}
 use Rattle.ndarray_layout_reshape.specs.Joints.{has_bad_joint}
-use Rattle.ndarray_layout_reshape.specs.Keeps.{Keeps}
+use Rattle.ndarray_layout_reshape.specs.Keeps.{Keeps, AgreeOnLonger}
 use Rattle.ndarray_layout_reshape.specs.Reading.{as_read}
+use Rattle.ndarray_layout_reshape.specs.ReshapeFault.{reshape_fault}
 use Rattle.ndarray_layout_reshape.specs.Walk.{PlacesAlike}
 use Rattle.ndarray_layout_reshape.proofs.Complete.{good-of-alike, alike-of-good}
 use Rattle.ndarray_layout_reshape.proofs.Forced.{forced-of-alike, alike-forced}
@@ -137,3 +140,48 @@ forced-keeps order from strides to some more e fits =
     let read : map at (below (length (as_read order to))) ≡ as_read order (forced_strides order from strides to) = ap (λ n. map at (below n)) (length-as_read order to) ∙ sym (as_read-as_read order (map at (below (length to)))) in
     let counts : length to ≡ length (forced_strides order from strides to) = sym (length-map-range_with_len at 0 (length to)) ∙ sym (length-as_read order (map at (below (length to)))) in
     keeps-of-alike order from strides to (forced_strides order from strides to) e counts fits.0 (subst (PlacesAlike (as_read order from) (as_read order strides) (as_read order to)) read made)
+
+-- ---- the fault of a reshape
+-- there is none exactly where the sizes agree and no joint is bad
+pub fault-exactly : (order : Order) (from : List ℕ) (strides : List ℤ) (to : List ℕ) → (reshape_fault order from strides to ≡ None) ↔ Fits order from strides to
+fault-exactly order from strides to = (λ none. fit none, λ fits. fault fits)
+  where
+    bad : Bool
+    bad = has_bad_joint (as_read order from) (as_read order strides) (as_read order to)
+
+    same : Bool
+    same = size (as_read order from) == size (as_read order to)
+
+    fault : Fits order from strides to → reshape_fault order from strides to ≡ None
+    fault fits = cond-false bad (Some IncompatibleLayout) (if same then None else Some IncompatibleShape) fits.1
+        ∙ cond-true same None (Some IncompatibleShape) (eq-eqb (size (as_read order from)) (size (as_read order to)) (size-as_read order from ∙ fits.0 ∙ sym (size-as_read order to)))
+
+    sizes : bad ≡ false → reshape_fault order from strides to ≡ None → size from ≡ size to
+    sizes good none = elim (cases_Bool same) [
+      | inl equal ↦ sym (size-as_read order from) ∙ eqb-true (size (as_read order from)) (size (as_read order to)) equal ∙ size-as_read order to
+      | inr apart ↦
+          let is_shape = sym (cond-false same None (Some IncompatibleShape) apart) ∙ sym (cond-false bad (Some IncompatibleLayout) (if same then None else Some IncompatibleShape) good) ∙ none in
+          absurd (cc)
+    ]
+
+    fit : reshape_fault order from strides to ≡ None → Fits order from strides to
+    fit none = elim (cases_Bool bad) [
+      | inl bad_one ↦
+          let is_layout = sym (cond-true bad (Some IncompatibleLayout) (if same then None else Some IncompatibleShape) bad_one) ∙ none in
+          absurd (cc)
+      | inr good ↦ (sizes good none, good)
+    ]
+
+-- and exactly where some strides keep the places
+pub fault-complete : (order : Order) (from : List ℕ) (strides : List ℤ) (to : List ℕ) → is_empty from ≡ false → is_empty to ≡ false → length from ≡ length strides → (reshape_fault order from strides to ≡ None) ↔ ((others : List ℤ) × Keeps order from strides to others)
+fault-complete order from strides to some more e =
+    let fits = fault-exactly order from strides to in
+    let kept = keeps-exactly order from strides to some more e in
+    (λ none. kept.0 (fits.0 none), λ k. fits.1 (kept.1 k))
+
+-- all strides that do agree with those of the definition on each axis of more than one entry
+pub keeps-agree : (order : Order) (from : List ℕ) (strides : List ℤ) (to : List ℕ) (others : List ℤ) → is_empty from ≡ false → is_empty to ≡ false → length from ≡ length strides → Keeps order from strides to others → AgreeOnLonger order to others (forced_strides order from strides to)
+keeps-agree order from strides to others some more e k axis l long =
+    let fits = (keeps-exactly order from strides to some more e).1 (others, k) in
+    keeps-forced order from strides to others axis more e k l long
+    ∙ sym (keeps-forced order from strides to (forced_strides order from strides to) axis more e (forced-keeps order from strides to some more e fits) l long)
