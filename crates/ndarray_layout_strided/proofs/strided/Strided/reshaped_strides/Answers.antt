@@ -1,14 +1,14 @@
 -- Which shapes have an index says what is left to refuse.
 use Rattle.std.proofs.Common.{◌≡◌, ◌≤◌, true, false, Result, Ok, Err, sym, ap, subst, ◌∙◌}
-use Rattle.std.specs.Prelude.{IfErr, IfOk}
+use Rattle.std.specs.Prelude.{None, IfErr, IfOk, OnOk}
 use Rattle.std.proofs.lemmas.Bool.{false≢true}
 use Rattle.std.specs.Result.{IsErrAnd}
 use Rattle.nd_base.specs.declared.error.LayoutError.TheVariants.{Memory}
 use Rattle.nd_base.specs.Signed.{all_signed}
 use Rattle.nd_base.specs.Size.{is_empty, nonzero_size, limit}
-use Rattle.ndarray_layout_strided.specs.ReshapedView.{IsReshapeRefusal, reshaped_strides as strides_of}
+use Rattle.ndarray_layout_strided.specs.ReshapedView.{IsReshapeRefusal, reshape_refusal, reshaped_strides as strides_of}
 use Rattle.ndarray_layout_views.specs.View.{View, view_of}
-use Rattle.ndarray_layout_strided.proofs.Reshapes.{refused_between, same_bits, strides_between, strides_of_none, within_limit}
+use Rattle.ndarray_layout_strided.proofs.Reshapes.{refusal_between, refused_between, same_bits, strides_between, strides_of_none, within_limit}
 use Rattle.ndarray_layout_strided.proofs.strided.Strided.reshaped_strides.Goals as goal
 
 -- what holds of an error holds of the one that is handed on
@@ -31,6 +31,17 @@ returns-then-is_empty-clause-strides g c =
     let to = g.E.Lengths.list c.args.shape.now in
     let to_none : is_empty to ≡ true = rw c.slice-new_lens.ensures.list at (sym c.contains.ensures.value ∙ sym (same_bits c.contains-is_empty.result c.contains.result c.if-is_empty-contains.false) ∙ c.if-is_empty.true) in
     ap all_signed (c.in_ok-zeros.ensures.list) ∙ rw c.ndim.ensures.count (strides_of_none c.args.order to c.args.self.now to_none)
+
+pub returns-clause-fits : goal.returns-clause-fits
+returns-clause-fits g c =
+    let to = g.E.Lengths.list c.args.shape.now in
+    let dim = g.D.Lengths.list c.self.inside.dim in
+    let view = view_of c.self.inside.start dim (g.D.Lengths.list c.self.inside.strides) in
+    let fits : nonzero_size to ≤ limit = within_limit (nonzero_size to) (rw c.slice-new_lens.ensures.list at c.in_ok-size_of_lengths.ensures.fault) in
+    let from_some : is_empty dim ≡ false = rw c.slice-lens.ensures.list at (sym c.contains-is_empty.ensures.value ∙ c.if-is_empty.false) in
+    let to_some : is_empty to ≡ false = rw c.slice-new_lens.ensures.list at (sym c.contains.ensures.value ∙ sym (same_bits c.contains-is_empty.result c.contains.result c.if-is_empty-contains.false) ∙ c.if-is_empty.false) in
+    subst (λ (v : View). OnOk c.reshape_dim.result (reshape_refusal c.args.order to v ≡ None)) c.self.view_is
+    (subst (λ fault. OnOk c.reshape_dim.result (fault ≡ None)) (sym (refusal_between c.args.order to view fits from_some to_some)) c.reshape_dim.ensures.fits)
 
 pub returns-clause-refused : goal.returns-clause-refused
 returns-clause-refused g c =
