@@ -8,14 +8,18 @@ use Rattle.nd_base.specs.declared.error.ErrorKind.{ErrorKind}
 use Rattle.nd_base.specs.declared.lengths.TheConstants.{INLINE_AXES}
 use Rattle.std.proofs.lemmas.Bool.{both_ways, lt-ltb, ltb-true, true_from_ne_false}
 use Rattle.nd_slice.specs.ArgumentFault.{out_count}
-use Rattle.ndarray_layout.specs.Step.{StepValue, SliceBy, CollapseTo, MergeInto, BroadcastTo, may_want_memory, step_fault, view_after}
+use Rattle.ndarray_layout.specs.Step.{StepValue, SliceBy, CollapseTo, MergeInto, ReshapeTo, BroadcastTo, may_want_memory, step_fault, view_after}
 use Rattle.ndarray_layout.specs.StepFits.{MayRefuseMemory}
+use Rattle.ndarray_layout.proofs.laws.Step.{IsView-view_after}
 use Rattle.ndarray_layout.proofs.laws.StepFits.{fits_of_no_fault_of_step, no_fault_of_fitting_step}
 use Rattle.nd_base.specs.declared.error.LayoutError.{LayoutError}
 use Rattle.nd_base.specs.declared.error.LayoutError.TheVariants.{Shape, Memory}
+use Rattle.nd_base.specs.declared.order.Order.{Order}
+use Rattle.nd_base.specs.Lengths.{NeedsNoMemory}
 use Rattle.nd_base.specs.ShapeFault.{shape_fault}
+use Rattle.ndarray_layout_strided.specs.ReshapedView.{IsReshapeRefusal}
 use Rattle.ndarray_layout.specs.Run.{AllFit, IsEndedBy, IsRefusedBy, NeedNoMemory, Outcome, stayed, stepped, unless_fault, run_of_step, joined, in_turn, run_of}
-use Rattle.ndarray_layout_views.specs.View.{View}
+use Rattle.ndarray_layout_views.specs.View.{View, IsView}
 
 -- a run after no steps
 after_none : (second : Outcome) (view : View) → second ≡ joined None (stayed None view) second
@@ -92,24 +96,48 @@ ended_by steps at step start left (Shape kind) there before same refused =
     let count = taken_of_no_fault (take at steps) start before ∙ length-take-le at steps (omega (arith, within)) in
     rw (run_of_ended steps at step start left kind there before same refused.0) (refl, omega (arith, count), refl)
 
--- what is known of a step that is not taken
-pub refused_of : (X : Type 0) (view : View) (step : StepValue) (fault : LayoutError) → shape_fault {X = X} (Err fault) ≡ step_fault view step → (step_fault view step ≡ None → may_want_memory step ≡ false → IsOk {T = X} {E = LayoutError} (Err fault)) → IsRefusedBy view fault step
-refused_of X view step (Shape kind) refused memory = (
+-- a kind of step to which memory is refused only where it fits
+abbrev pub WantsMemoryLast : StepValue → Type 0
+WantsMemoryLast (SliceBy elems fit) = Unit {0}
+WantsMemoryLast (CollapseTo axis index) = Unit {0}
+WantsMemoryLast (MergeInto take into) = Unit {0}
+WantsMemoryLast (ReshapeTo shape order) = ⊥
+WantsMemoryLast (BroadcastTo shape) = Unit {0}
+
+-- what is known of a step that is not taken, where memory comes after the fault of a shape
+pub refused_of : (X : Type 0) (view : View) (step : StepValue) (fault : LayoutError) → IsView view → WantsMemoryLast step → shape_fault {X = X} (Err fault) ≡ step_fault view step → (step_fault view step ≡ None → may_want_memory step ≡ false → IsOk {T = X} {E = LayoutError} (Err fault)) → IsRefusedBy view fault step
+refused_of X view step (Shape kind) v last refused memory = (
   sym refused,
   λ fits.
-      let none = no_fault_of_fitting_step view step fits in
+      let none = no_fault_of_fitting_step view step v fits in
       let e : Some kind ≡ None = refused ∙ none in
       cc,
 )
-refused_of X view step (Memory e) refused memory = wanted view step (sym refused) (λ few.
+refused_of X view step (Memory e) v last refused memory = wanted view step v last (sym refused) (λ few.
     let ok = memory (sym refused) few in
     cc)
   where
-    wanted : (view : View) (step : StepValue) → step_fault view step ≡ None → (may_want_memory step ≡ false → ⊥) → MayRefuseMemory view step
-    wanted view (SliceBy elems fit) none wants = (fits_of_no_fault_of_step view (SliceBy elems fit) none, ltb-true INLINE_AXES (out_count elems) (true_from_ne_false (nat_lt INLINE_AXES (out_count elems)) wants))
-    wanted view (CollapseTo axis index) none wants = wants refl
-    wanted view (MergeInto take into) none wants = wants refl
-    wanted view (BroadcastTo shape) none wants = (fits_of_no_fault_of_step view (BroadcastTo shape) none, ltb-true INLINE_AXES (length shape) (true_from_ne_false (nat_lt INLINE_AXES (length shape)) wants))
+    wanted : (view : View) (step : StepValue) → IsView view → WantsMemoryLast step → step_fault view step ≡ None → (may_want_memory step ≡ false → ⊥) → MayRefuseMemory view step
+    wanted view (SliceBy elems fit) v last none wants = (fits_of_no_fault_of_step view (SliceBy elems fit) v none, ltb-true INLINE_AXES (out_count elems) (true_from_ne_false (nat_lt INLINE_AXES (out_count elems)) wants))
+    wanted view (CollapseTo axis index) v last none wants = wants refl
+    wanted view (MergeInto take into) v last none wants = wants refl
+    wanted view (ReshapeTo shape order) v last none wants = absurd last
+    wanted view (BroadcastTo shape) v last none wants = (fits_of_no_fault_of_step view (BroadcastTo shape) v none, ltb-true INLINE_AXES (length shape) (true_from_ne_false (nat_lt INLINE_AXES (length shape)) wants))
+
+-- a count that wants memory is above four
+past_inline : (n : ℕ) → ¬ NeedsNoMemory None n → INLINE_AXES < n
+past_inline n many = omega arith
+
+-- and of a reshape, where it may come before it
+pub reshape_refused_of : (view : View) (shape : List ℕ) (order : Order) (fault : LayoutError) → IsView view → IsReshapeRefusal None order shape view fault → IsRefusedBy view fault (ReshapeTo shape order)
+reshape_refused_of view shape order (Shape kind) v refused = (
+  refused,
+  λ fits.
+      let none = no_fault_of_fitting_step view (ReshapeTo shape order) v fits in
+      let e : Some kind ≡ None = sym refused ∙ none in
+      cc,
+)
+reshape_refused_of view shape order (Memory e) v refused = (refused.0, past_inline (length shape) refused.1)
 
 -- a count above `INLINE_AXES` is not at most that
 above_inline : (n : ℕ) → INLINE_AXES < n → nat_lt INLINE_AXES n ≡ false → ⊥
@@ -120,6 +148,7 @@ not_refused : (view : View) (step : StepValue) → MayRefuseMemory view step →
 not_refused view (SliceBy elems fit) refused few = above_inline (out_count elems) refused.1 few
 not_refused view (CollapseTo axis index) refused few = refused
 not_refused view (MergeInto take into) refused few = refused
+not_refused view (ReshapeTo shape order) refused few = above_inline (length shape) refused.1 few
 not_refused view (BroadcastTo shape) refused few = above_inline (length shape) refused.1 few
 
 -- a run without fault whose steps want no memory is not stopped
@@ -135,10 +164,10 @@ not_stopped steps at step start left (Memory e) there before same refused none f
     not_refused left step refused here
 
 -- where a run has no fault, each step fits
-pub all_fit : (steps : List StepValue) (view : View) → (run_of steps view).fault ≡ None → AllFit steps view
-all_fit [] view none = tt
-all_fit (step ∷ steps) view none = by (step_fault view step) refl (all_fit steps (view_after view step)) none
+pub all_fit : (steps : List StepValue) (view : View) → IsView view → (run_of steps view).fault ≡ None → AllFit steps view
+all_fit [] view v none = tt
+all_fit (step ∷ steps) view v none = by (step_fault view step) refl (all_fit steps (view_after view step)) none
   where
-    by : (fault : Option ErrorKind) → step_fault view step ≡ fault → ((run_of steps (view_after view step)).fault ≡ None → AllFit steps (view_after view step)) → (joined (unless_fault fault view step).fault (unless_fault fault view step) (run_of steps (unless_fault fault view step).view)).fault ≡ None → AllFit (step ∷ steps) view
-    by None e rest none = (fits_of_no_fault_of_step view step e, rest none)
+    by : (fault : Option ErrorKind) → step_fault view step ≡ fault → (IsView (view_after view step) → (run_of steps (view_after view step)).fault ≡ None → AllFit steps (view_after view step)) → (joined (unless_fault fault view step).fault (unless_fault fault view step) (run_of steps (unless_fault fault view step).view)).fault ≡ None → AllFit (step ∷ steps) view
+    by None e rest none = (fits_of_no_fault_of_step view step v e, rest (IsView-view_after view step v e) none)
     by (Some kind) e rest none = absurd (cc)

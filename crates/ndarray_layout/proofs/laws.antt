@@ -51,4 +51,5 @@ pub use Rattle.ndarray_layout_views.proofs.laws.SharePlace
 pub use Rattle.ndarray_layout_views.proofs.laws.SlicedView
 pub use Rattle.ndarray_layout_views.proofs.laws.View
 pub use Rattle.ndarray_layout_views.proofs.laws.Walk
+pub use Rattle.ndarray_layout_strided.proofs.laws.ReshapedView
 pub use Rattle.ndarray_layout_reshape.proofs.laws.Keeps

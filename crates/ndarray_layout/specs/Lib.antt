@@ -61,6 +61,7 @@ pub use Rattle.ndarray_layout_views.specs.SharePlace
 pub use Rattle.ndarray_layout_views.specs.SlicedView
 pub use Rattle.ndarray_layout_views.specs.View
 pub use Rattle.ndarray_layout_views.specs.Walk
+pub use Rattle.ndarray_layout_strided.specs.ReshapedView
 pub use Rattle.ndarray_layout_reshape.specs.ForcedStrides
 pub use Rattle.ndarray_layout_reshape.specs.Joints
 pub use Rattle.ndarray_layout_reshape.specs.Keeps

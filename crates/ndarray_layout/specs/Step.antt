@@ -2,6 +2,8 @@
 use Rattle.std.specs.Prelude.{◌≡◌, ℕ, pos, negsuc, Bool, true, false, nat_lt, Option, Some, None, List, [], ◌∷◌, length, refl}
 use Rattle.nd_base.specs.declared.error.ErrorKind.{ErrorKind}
 use Rattle.nd_base.specs.declared.error.ErrorKind.TheVariants.{IncompatibleLayout, OutOfBounds, Unsupported}
+use Rattle.nd_base.specs.declared.order.Order.{Order}
+use Rattle.nd_base.specs.declared.order.Order.TheVariants.{RowMajor, ColumnMajor}
 use Rattle.nd_base.specs.Dim.{lengths}
 use Rattle.nd_base.specs.declared.lengths.TheConstants.{INLINE_AXES}
 use Rattle.nd_slice_axis.specs.declared.fit.Fit.{Fit}
@@ -13,6 +15,7 @@ use Rattle.nd_slice.specs.ArgumentFault.{out_count}
 use Rattle.ndarray_layout.specs.declared.steps.Step.{Step}
 use Rattle.ndarray_layout.specs.declared.steps.Step.TheVariants as step
 use Rattle.ndarray_layout_views.specs.BroadcastView.{broadcast_fault, broadcast_of, broadcast_source}
+use Rattle.ndarray_layout_strided.specs.ReshapedView.{reshape_of, reshape_refusal, reshape_source}
 use Rattle.ndarray_layout_views.specs.CollapsedView.{collapse_fault, collapse_of, collapse_source}
 use Rattle.ndarray_layout_views.specs.MergedView.{merge_fault, merge_of, merge_source}
 use Rattle.ndarray_layout_views.specs.SlicedView.{slice_of, slice_refusal}
@@ -23,12 +26,14 @@ pub data StepValue : Type 0 where
   SliceBy : (elems : List SliceInfoElem) → (fit : Fit) → StepValue
   CollapseTo : (axis : ℕ) → (index : ℕ) → StepValue
   MergeInto : (take : ℕ) → (into : ℕ) → StepValue
+  ReshapeTo : (shape : List ℕ) → (order : Order) → StepValue
   BroadcastTo : (shape : List ℕ) → StepValue
 
 abbrev pub step_value : Step → StepValue
 step_value (step.Slice elems fit) = SliceBy elems.items fit
 step_value (step.Collapse axis index) = CollapseTo axis.0 index
 step_value (step.Merge take into) = MergeInto take.0 into.0
+step_value (step.Reshape dim order) = ReshapeTo (lengths dim) order
 step_value (step.Broadcast dim) = BroadcastTo (lengths dim)
 
 -- the fault of a step that doesn't fit a view
@@ -36,6 +41,7 @@ abbrev pub step_fault : View → StepValue → Option ErrorKind
 step_fault view (SliceBy elems fit) = slice_refusal fit None view.shape elems
 step_fault view (CollapseTo axis index) = collapse_fault view.shape axis index
 step_fault view (MergeInto take into) = merge_fault take into view
+step_fault view (ReshapeTo shape order) = reshape_refusal order shape view
 step_fault view (BroadcastTo shape) = broadcast_fault shape view.shape
 
 -- what a step that fits makes of a view
@@ -43,6 +49,7 @@ abbrev pub view_after : View → StepValue → View
 view_after view (SliceBy elems fit) = slice_of fit elems view
 view_after view (CollapseTo axis index) = collapse_of axis index view
 view_after view (MergeInto take into) = merge_of take into view
+view_after view (ReshapeTo shape order) = reshape_of order shape view
 view_after view (BroadcastTo shape) = broadcast_of shape view
 
 -- which index of the view an index after the step stands for
@@ -50,6 +57,7 @@ abbrev pub source_index : View → StepValue → List ℕ → List ℕ
 source_index view (SliceBy elems fit) = selected fit elems view.shape
 source_index view (CollapseTo axis index) = collapse_source axis index
 source_index view (MergeInto take into) = merge_source take into view.shape
+source_index view (ReshapeTo shape order) = reshape_source order view.shape shape
 source_index view (BroadcastTo shape) = broadcast_source view.shape
 
 -- memory may be wanted where a step makes a list of more than four lengths (`INLINE_AXES`)
@@ -57,6 +65,7 @@ abbrev pub may_want_memory : StepValue → Bool
 may_want_memory (SliceBy elems fit) = nat_lt INLINE_AXES (out_count elems)
 may_want_memory (CollapseTo axis index) = false
 may_want_memory (MergeInto take into) = false
+may_want_memory (ReshapeTo shape order) = nat_lt INLINE_AXES (length shape)
 may_want_memory (BroadcastTo shape) = nat_lt INLINE_AXES (length shape)
 
 -- entries may stand for one and the same entry after a broadcast, and after no other step
@@ -64,6 +73,7 @@ abbrev pub is_broadcast : StepValue → Bool
 is_broadcast (SliceBy elems fit) = false
 is_broadcast (CollapseTo axis index) = false
 is_broadcast (MergeInto take into) = false
+is_broadcast (ReshapeTo shape order) = false
 is_broadcast (BroadcastTo shape) = true
 
 -- examples
@@ -89,6 +99,15 @@ no_third_column_more = refl
 
 axis_into_itself : step_fault two_by_three (MergeInto 0 0) ≡ Some Unsupported
 axis_into_itself = refl
+
+three_rows_of_two : view_after two_by_three (ReshapeTo (3 ∷ 2 ∷ []) RowMajor) ≡ record { start = 0; shape = 3 ∷ 2 ∷ []; strides = pos 2 ∷ pos 1 ∷ [] }
+three_rows_of_two = refl
+
+no_three_rows_by_columns : step_fault two_by_three (ReshapeTo (3 ∷ 2 ∷ []) ColumnMajor) ≡ Some IncompatibleLayout
+no_three_rows_by_columns = refl
+
+in_three_rows : source_index two_by_three (ReshapeTo (3 ∷ 2 ∷ []) RowMajor) (2 ∷ 0 ∷ []) ≡ 1 ∷ 1 ∷ []
+in_three_rows = refl
 
 in_stretched_axes : source_index two_by_three (BroadcastTo (4 ∷ 2 ∷ 3 ∷ [])) (3 ∷ 1 ∷ 2 ∷ []) ≡ 1 ∷ 2 ∷ []
 in_stretched_axes = refl

@@ -1,9 +1,10 @@
 -- Which steps fit a view, and which may be refused for memory.
 use Rattle.std.specs.Prelude.{◌≡◌, ◌≢◌, ℕ, ◌<◌, pos, negsuc, List, [], ◌∷◌, length, slice_index, nat_eq, refl}
 use Rattle.std.proofs.Common.{eq-eqb}
-use Rattle.std.proofs.Math.Dec.{lit<, lt→ltb}
+use Rattle.std.proofs.Math.Dec.{lit<, lit≤, lt→ltb}
 use Rattle.std.proofs.lemmas.Bool.{both_ways}
 use Rattle.nd_base.specs.declared.lengths.TheConstants.{INLINE_AXES}
+use Rattle.nd_base.specs.declared.order.Order.TheVariants.{RowMajor}
 use Rattle.nd_slice_axis.specs.declared.fit.Fit.{Fit}
 use Rattle.nd_slice_axis.specs.declared.fit.Fit.TheVariants.{Strict}
 use Rattle.nd_slice_axis.specs.Picks.{slice_with}
@@ -11,7 +12,8 @@ use Rattle.nd_slice_axis.specs.SliceFault.{SliceFits, IndexFits}
 use Rattle.nd_slice.specs.declared.elem.SliceInfoElem.{SliceInfoElem}
 use Rattle.nd_slice.specs.declared.elem.SliceInfoElem.TheVariants as elem
 use Rattle.nd_slice.specs.ArgumentFault.{in_count, out_count}
-use Rattle.ndarray_layout.specs.Step.{StepValue, SliceBy, CollapseTo, MergeInto, BroadcastTo}
+use Rattle.ndarray_layout.specs.Step.{StepValue, SliceBy, CollapseTo, MergeInto, ReshapeTo, BroadcastTo}
+use Rattle.ndarray_layout_strided.specs.ReshapedView.{MayAskForMemory, ReshapeFits}
 use Rattle.ndarray_layout_views.specs.BroadcastView.{BroadcastFits}
 use Rattle.ndarray_layout_views.specs.MergedView.{HasMergedStride}
 use Rattle.ndarray_layout_views.specs.View.{View}
@@ -26,19 +28,23 @@ ElementsFit fit (len ∷ shape) (elem.Slice start end step ∷ elems) = SliceFit
 ElementsFit fit (len ∷ shape) (elem.Index index ∷ elems) = IndexFits len index × ElementsFit fit shape elems
 
 -- a step fits a view. A slice has an element for each axis, and each fits; an entry that is taken is one of an axis that there is; two different
--- axes that there are can be merged where some stride has every entry of both; a view can be read as one of a shape
--- that it and the view's own have in common, with a size within the limit
+-- axes that there are can be merged where some stride has every entry of both; places can be read along another shape where some
+-- strides keep their list; a view can be read as one of a shape that it and the view's own have in common. The size of either shape
+-- is within the limit
 abbrev pub StepFits : View → StepValue → Type 0
 StepFits view (SliceBy elems fit) = (in_count elems ≡ length view.shape) × ElementsFit fit view.shape elems
 StepFits view (CollapseTo axis index) = (axis < length view.shape) × (index < slice_index view.shape axis)
 StepFits view (MergeInto take into) = (take < length view.shape) × (into < length view.shape) × (take ≢ into) × HasMergedStride take into view
+StepFits view (ReshapeTo shape order) = ReshapeFits order shape view
 StepFits view (BroadcastTo shape) = BroadcastFits shape view.shape
 
--- what is known where memory was refused to a step: a slice or a broadcast fits and leaves more than four axes; the others want none
+-- what is known where memory was refused to a step: a slice or a broadcast fits and leaves more than four axes; a reshape, whether
+-- it fits or not, leaves more than four, with a size within the limit, and no shape alone has no index; the others want none
 abbrev pub MayRefuseMemory : View → StepValue → Type 0
 MayRefuseMemory view (SliceBy elems fit) = StepFits view (SliceBy elems fit) × (INLINE_AXES < out_count elems)
 MayRefuseMemory view (CollapseTo axis index) = ⊥
 MayRefuseMemory view (MergeInto take into) = ⊥
+MayRefuseMemory view (ReshapeTo shape order) = MayAskForMemory shape view × (INLINE_AXES < length shape)
 MayRefuseMemory view (BroadcastTo shape) = StepFits view (BroadcastTo shape) × (INLINE_AXES < length shape)
 
 -- examples
@@ -59,3 +65,9 @@ one_element_for_two_axes fits = both_ways (nat_eq 1 2) refl (eq-eqb 1 2 fits.0)
 
 no_memory_for_one_entry : MayRefuseMemory two_by_three (CollapseTo 0 1) → ⊥
 no_memory_for_one_entry refused = refused
+
+six_axes_of_another_size : MayRefuseMemory two_by_three (ReshapeTo (1 ∷ 1 ∷ 1 ∷ 1 ∷ 2 ∷ 4 ∷ []) RowMajor)
+six_axes_of_another_size = ((lit≤ tt, refl), lit< tt)
+
+no_memory_for_one_axis : MayRefuseMemory two_by_three (ReshapeTo (6 ∷ []) RowMajor) → ⊥
+no_memory_for_one_axis refused = lt→ltb 4 1 refused.1

@@ -8,7 +8,7 @@ ghost use Rattle.ndarray_layout.specs.Run.{run_of, AllFit, StopsAt, IsEndedBy, I
 ghost use Rattle.ndarray_layout.specs.Step.{may_want_memory, step_fault, step_value, view_after};
 ghost use Rattle.ndarray_layout_views.specs.View.{IsView, LiesWithin};
 
-use nd_dim::{Axis, ErrorKind, IxDyn, LayoutError, ShapeError, from_kind};
+use nd_dim::{Axis, ErrorKind, IxDyn, LayoutError, Order, ShapeError, from_kind};
 use nd_slice::{Fit, SliceInfoElem};
 use ndarray_layout_strided::Strided;
 use std::alloc::Global;
@@ -22,6 +22,8 @@ pub enum Step {
     Collapse(Axis, usize),
     /// The first axis merged into the second: `Strided::merge`.
     Merge(Axis, Axis),
+    /// The places of the view in an order, along another shape: `Strided::reshape`.
+    Reshape(IxDyn, Order),
     /// The view as one of a shape: `Strided::broadcast`.
     Broadcast(IxDyn),
 }
@@ -61,8 +63,10 @@ fn step_to(view: &mut Strided<IxDyn>, next: Strided<IxDyn>)
 
 /// Takes one step. A refusal leaves the view.
 ///
-/// Errors: why the step is refused; memory is not where it leaves at most four axes.
+/// Errors: why the step is refused; memory is not where it leaves at most four axes. The view given is
+/// one.
 fn take_step(alloc: Global, view: &mut Strided<IxDyn>, step: &Step) -> Result<(), LayoutError>
+    requires { IsView view.old }
     ensures fits { OnOk result (step_fault view.old (step_value step.now) ≡ None) }
     ensures refused { IfErr result (λ e. IsRefusedBy view.old e (step_value step.now)) }
     ensures refusal { OnErr result (view.new ≡ view.old) }
@@ -77,6 +81,10 @@ fn take_step(alloc: Global, view: &mut Strided<IxDyn>, step: &Step) -> Result<()
         },
         Step::Collapse(axis, index) => view.collapse(*axis, *index)?,
         Step::Merge(take, into) => merge_axes_of(view, *take, *into)?,
+        Step::Reshape(dim, order) => {
+            let reshaped = view.reshape(alloc, dim, *order)?;
+            step_to(view, reshaped);
+        },
         Step::Broadcast(dim) => {
             let stretched = view.broadcast(alloc, dim)?;
             step_to(view, stretched);
@@ -90,8 +98,9 @@ fn take_step(alloc: Global, view: &mut Strided<IxDyn>, step: &Step) -> Result<()
 ///
 /// Errors of a step: those of `Strided::slice`; `OutOfBounds` for a collapse of no such axis or
 /// entry; for a merge `OutOfBounds` where an axis is missing, then `Unsupported` for one axis twice,
-/// then `IncompatibleLayout` where no stride has the entries of both; those of `Strided::broadcast`.
-/// That memory is refused comes last, and not where the step leaves at most 4 axes. The project's own.
+/// then `IncompatibleLayout` where no stride has the entries of both; those of `Strided::reshape` and
+/// `Strided::broadcast`. That memory is refused comes last, in a reshape before the fault of its strides,
+/// and not where the step leaves at most 4 axes. The project's own.
 pub fn run(alloc: Global, view: Strided<IxDyn>, steps: &[Step]) -> Result<Strided<IxDyn>, Stopped>
     ensures fits { IfOk result (λ v. (run_of (map step_value steps.now) view).fault ≡ None) }
     ensures each_fits { IsOk result → AllFit (map step_value steps.now) view }

@@ -1,3 +1,4 @@
+pub mod ReshapedView
 pub use Rattle.nd_base.specs.Lengths
 pub use Rattle.nd_base.specs.Rank
 pub use Rattle.nd_base.specs.ShapeFault
@@ -20,3 +21,6 @@ pub use Rattle.ndarray_layout_views.specs.MergedView
 pub use Rattle.ndarray_layout_views.specs.SharePlace
 pub use Rattle.ndarray_layout_views.specs.SlicedView
 pub use Rattle.ndarray_layout_views.specs.View
+pub use Rattle.ndarray_layout_reshape.specs.ForcedStrides
+pub use Rattle.ndarray_layout_reshape.specs.Keeps
+pub use Rattle.ndarray_layout_reshape.specs.ReshapeFault

@@ -1,6 +1,7 @@
 //! Views of data: a shape and strides that were accepted, with the place of the first index.
 mod makers;
 mod readers;
+mod reshaping;
 mod steps;
 
 use nd_dim::Lengths;

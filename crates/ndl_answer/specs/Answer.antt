@@ -129,6 +129,16 @@ collapsed_merged_and_broadcast : answer_of (codes "data 6 owned 2,3 3,1\ncollaps
 unfolding digits
 collapsed_merged_and_broadcast = refl
 
+reshaped : answer_of (codes "data 6 owned 2,3 3,1\nreshape C 3,2\n")
+    ≡ record { text = codes "shape 3,2\nstrides 2,1\nplaces 0 1 2 3 4 5\n"; status = 0 }
+unfolding digits
+reshaped = refl
+
+reshaped_by_columns : answer_of (codes "data 6 owned 2,3 3,1\nreshape F 3,2\n")
+    ≡ record { text = codes "step 1: ShapeError/IncompatibleLayout: incompatible memory layout\n"; status = 1 }
+unfolding digits
+reshaped_by_columns = refl
+
 columns_into_rows : answer_of (codes "data 6 owned 2,3 3,1\nslice ..,..\nmerge 1 0\ncollapse 9 9\n")
     ≡ record { text = codes "step 2: ShapeError/IncompatibleLayout: incompatible memory layout\n"; status = 1 }
 unfolding digits

@@ -4,8 +4,10 @@ use Rattle.std.specs.Option.{option_map}
 use Rattle.std.specs.Str.{bytes_eq}
 use Rattle.ndarray_layout.specs.declared.Fit.{Fit}
 use Rattle.ndarray_layout.specs.declared.Fit.TheVariants.{Strict, Clamp}
+use Rattle.ndarray_layout.specs.declared.Order.{Order}
+use Rattle.ndarray_layout.specs.declared.Order.TheVariants.{RowMajor, ColumnMajor}
 use Rattle.ndarray_layout.specs.declared.SliceInfoElem.TheVariants as elem
-use Rattle.ndarray_layout.specs.Step.{StepValue, SliceBy, CollapseTo, MergeInto, BroadcastTo}
+use Rattle.ndarray_layout.specs.Step.{StepValue, SliceBy, CollapseTo, MergeInto, ReshapeTo, BroadcastTo}
 use Rattle.ndl_text.specs.Lines.{words_of}
 use Rattle.ndl_text.specs.Numbers.{number_of}
 use Rattle.ndl_answer.specs.Elements.{elements_of}
@@ -41,10 +43,25 @@ step_of_numbers keyword first second = do
   second ← number_of second
   step_of_keyword keyword first second
 
+-- the order that a word names: `C` by rows, `F` by columns
+abbrev pub order_of_word : List ℕ → Option Order
+order_of_word word = if bytes_eq word (codes "C") then Some RowMajor else if bytes_eq word (codes "F") then Some ColumnMajor else None
+
+-- the reshape by a word that names an order and one that lists lengths
+abbrev pub reshape_of_words : List ℕ → List ℕ → Option StepValue
+reshape_of_words order word = do
+  order ← order_of_word order
+  shape ← lengths_of word
+  Some (ReshapeTo shape order)
+
+-- the step by a keyword and two words: a reshape, or one of two numbers
+abbrev pub step_of_two_words : List ℕ → List ℕ → List ℕ → Option StepValue
+step_of_two_words keyword first second = if bytes_eq keyword (codes "reshape") then reshape_of_words first second else step_of_numbers keyword first second
+
 -- the step that the words of a line ask for
 abbrev pub step_of : List (List ℕ) → Option StepValue
 step_of (keyword ∷ word ∷ []) = step_of_list keyword word
-step_of (keyword ∷ first ∷ second ∷ []) = step_of_numbers keyword first second
+step_of (keyword ∷ first ∷ second ∷ []) = step_of_two_words keyword first second
 step_of _ = None
 
 -- examples
@@ -71,6 +88,24 @@ a_broadcast = refl
 
 to_no_axes : step_of (words_of (codes "broadcast -")) ≡ Some (BroadcastTo [])
 to_no_axes = refl
+
+by_columns : order_of_word (codes "F") ≡ Some ColumnMajor
+by_columns = refl
+
+a_reshape : step_of (words_of (codes "reshape C 3,02")) ≡ Some (ReshapeTo (3 ∷ 2 ∷ []) RowMajor)
+a_reshape = refl
+
+to_no_axes_by_columns : step_of (words_of (codes "reshape F -")) ≡ Some (ReshapeTo [] ColumnMajor)
+to_no_axes_by_columns = refl
+
+an_order_in_small : step_of (words_of (codes "reshape c 4")) ≡ None
+an_order_in_small = refl
+
+without_an_order : step_of (words_of (codes "reshape 3,2")) ≡ None
+without_an_order = refl
+
+a_length_too_large : reshape_of_words (codes "C") (codes "18446744073709551616") ≡ None
+a_length_too_large = refl
 
 without_elements : step_of (words_of (codes "clamp")) ≡ None
 without_elements = refl

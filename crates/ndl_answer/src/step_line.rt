@@ -2,10 +2,10 @@
 ghost use Rattle.std.specs.Prelude.{◌≡◌, map, IfOk};
 ghost use Rattle.std.specs.Option.{option_map};
 ghost use Rattle.ndarray_layout.specs.Step.{step_value};
-ghost use Rattle.ndl_answer.specs.StepLine.{fit_of, step_of, step_of_list, step_of_numbers};
+ghost use Rattle.ndl_answer.specs.StepLine.{fit_of, order_of_word, reshape_of_words, step_of, step_of_list, step_of_numbers, step_of_two_words};
 
 use crate::lists::list;
-use ndarray_layout::{Axis, Fit, Step, new_ixdyn};
+use ndarray_layout::{Axis, Fit, Order, Step, new_ixdyn};
 use ndl_text::number;
 use std::alloc::{AllocError, Global};
 
@@ -62,6 +62,54 @@ fn step_with_numbers(keyword: &[u8], first: &[u8], second: &[u8]) -> Option<Step
     }
 }
 
+/// The order of a name; `None` where it is neither `C` nor `F`.
+fn order(name: &[u8]) -> Option<Order>
+    ensures { result ≡ order_of_word name.now }
+{
+    if name == b"C".as_slice() {
+        Some(Order::RowMajor)
+    } else if name == b"F".as_slice() {
+        Some(Order::ColumnMajor)
+    } else {
+        None
+    }
+}
+
+/// The reshape in an order to the shape that a word lists; `None` where the words aren't of the grammar.
+///
+/// Errors: out of memory.
+fn reshape(alloc: Global, name: &[u8], word: &[u8]) -> Result<Option<Step>, AllocError>
+    ensures { IfOk result (λ found. option_map step_value found
+        ≡ reshape_of_words name.now word.now) }
+{
+    let Some(order) = order(name) else {
+        return Ok(None);
+    };
+    let Some(shape) = list(alloc, word)? else {
+        return Ok(None);
+    };
+    Ok(Some(Step::Reshape(new_ixdyn(alloc, &shape)?, order)))
+}
+
+/// The reshape by an order and a list, or the step of two numbers; `None` where the words aren't of the
+/// grammar.
+///
+/// Errors: out of memory.
+fn step_with_two_words(
+    alloc: Global,
+    keyword: &[u8],
+    first: &[u8],
+    second: &[u8],
+) -> Result<Option<Step>, AllocError>
+    ensures { IfOk result (λ found. option_map step_value found
+        ≡ step_of_two_words keyword.now first.now second.now) }
+{
+    if keyword == b"reshape".as_slice() {
+        return reshape(alloc, first, second);
+    }
+    Ok(step_with_numbers(keyword, first, second))
+}
+
 /// The step that the words of a line ask for; `None` where they aren't of the grammar.
 ///
 /// Errors: out of memory.
@@ -71,7 +119,7 @@ pub(crate) fn read_step(alloc: Global, words: &[&[u8]]) -> Result<Option<Step>, 
 {
     match words {
         [keyword, word] => step_with_list(alloc, keyword, word),
-        [keyword, first, second] => Ok(step_with_numbers(keyword, first, second)),
+        [keyword, first, second] => step_with_two_words(alloc, keyword, first, second),
         _ => Ok(None),
     }
 }

@@ -4,6 +4,8 @@
 #[cfg(test)]
 mod fakes;
 #[cfg(test)]
+mod reshapes;
+#[cfg(test)]
 mod script;
 #[cfg(test)]
 mod session;

@@ -106,7 +106,6 @@ clamp ..|data 4 owned 4 1| => line 1: unreadable|
 data 4 owned 4 1|slice 1...2| => line 2: unreadable|
 data 4 owned 4 1|slice .. .. .. .. .. ..| => line 2: unreadable|
 data 4 owned 4 1|merge 0| => line 2: unreadable|
-data 4 owned 4 1|reshape C 4| => line 2: unreadable|
 data 4 owned 4 1|reshape c 4| => line 2: unreadable|
 data 4 owned 4 1|reshape C 18446744073709551616| => line 2: unreadable|
 data 4 owned 4 1|data 4 owned 4 1| => line 2: unreadable|

@@ -64,7 +64,7 @@ data 4 owned 4 1|broadcast -,4| => line 2: unreadable|
 data 4 owned 4 1|broadcast -2,4| => line 2: unreadable|
 data 4 owned 4 1|broadcast 18446744073709551616| => line 2: unreadable|
 data 4 owned 4 1|slice 0 1| => line 2: unreadable|
-data 4 owned 4 1|broadcast 4|reshape C 4| => line 3: unreadable|
+data 4 owned 4 1|broadcast 4|reshape C| => line 3: unreadable|
 data 4 owned 4 1|collapse 9 9||merge 0| => line 4: unreadable|
 merge 0 1|data 4 owned 4 1| => line 1: unreadable|
 ";

@@ -19,6 +19,10 @@ use Rattle.ndarray_layout.proofs.steps.run.Goals as goal
 next : (steps : List Step) (at : ℕ) (step : Step) → at < length steps → step ≡ get_or steps at step → slice_get (map step_value steps) at ≡ Some (step_value step)
 next steps at step within is = slice_get-map step_value steps at ∙ ap (option_map step_value) (slice_get-get_or steps at step within ∙ ap Some (sym is))
 
+-- the view so far is one
+pub take_step-requires : goal.take_step-requires
+take_step-requires c = subst IsView c.loop-at.invariant.left (run_sound (take c.loop-at.at (map step_value c.args.steps.now)) c.args.view c.start-start.ensures.is_view).is_view
+
 -- the step that is taken next is refused
 refused : (c : goal.In-Err) → IsRefusedBy c.loop-at.view c.in-Err.fault (step_value c.index-steps-at.result)
 refused c = c.in-Err.ensures.refused
@@ -78,7 +82,7 @@ none c =
     subst (λ part. (run_of part c.args.view).fault ≡ None) all c.loop-at.invariant.fits
 
 pub returns-clause-each_fits : goal.returns-clause-each_fits
-returns-clause-each_fits c = λ ok. all_fit (map step_value c.args.steps.now) c.args.view (none c)
+returns-clause-each_fits c = λ ok. all_fit (map step_value c.args.steps.now) c.args.view c.start-start.ensures.is_view (none c)
 
 pub returns-clause-is_view : goal.returns-clause-is_view
 returns-clause-is_view c = subst IsView (whole c) (run_sound (map step_value c.args.steps.now) c.args.view c.start-start.ensures.is_view).is_view

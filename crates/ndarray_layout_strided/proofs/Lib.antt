@@ -1,0 +1,2 @@
+pub mod Reshapes
+pub mod laws
