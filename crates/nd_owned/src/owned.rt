@@ -1,7 +1,7 @@
 //! An array that owns its items.
 ghost use Rattle.std.specs.List.{All};
 ghost use Rattle.std.specs.Option.{IsSome};
-ghost use Rattle.std.specs.Prelude.{◌≡◌, ◌<◌, Some, None, IfErr, IfOk, IsOk, length, map, slice_get, vec_len};
+ghost use Rattle.std.specs.Prelude.{◌≡◌, ◌<◌, ◌↔◌, IsTrue, Some, None, IfErr, IfOk, IsOk, length, map, slice_get, vec_len};
 ghost use Rattle.ndarray_layout.specs.declared.CanIndexCheckMode.TheVariants.{OwnedMutable};
 ghost use Rattle.ndarray_layout.specs.declared.Fit.TheVariants.{Strict};
 ghost use Rattle.ndarray_layout.specs.declared.Order.TheVariants.{RowMajor};
@@ -15,7 +15,7 @@ ghost use Rattle.ndarray_layout.specs.Signed.{all_signed};
 ghost use Rattle.ndarray_layout.specs.SlicedView.{slice_of};
 ghost use Rattle.ndarray_layout.specs.Span.{low_span};
 ghost use Rattle.ndarray_layout.specs.View.{view_of, view_places};
-ghost use Rattle.nd_owned.specs.Owned.{item_at, item_at_place, shape_fault_of, with_item};
+ghost use Rattle.nd_owned.specs.Owned.{IsOwned, item_at, item_at_place, shape_fault_of, with_item};
 
 use ndarray_layout::{
     CanIndexCheckMode, Fit, IxDyn, LayoutError, Lengths, NdIndex, Order, SliceElems, StrideShape,
@@ -79,6 +79,7 @@ impl<T: Copy, D: Lengths> OwnedArray<T, D> {
             (all_signed (strides_list D.list (D.list shape.dim) shape.strides)))
             (D.list shape.dim)
             (strides_list D.list (D.list shape.dim) shape.strides)) }
+        ensures owned { IfOk result (λ a. IsOwned (length a.items) a.view) }
         ensures handed_back { IfErr result (λ refusal. refusal.1 ≡ items) }
     {
         let len = items.len();
@@ -92,14 +93,16 @@ impl<T: Copy, D: Lengths> OwnedArray<T, D> {
     /// gives them away.
     #[inline]
     pub fn stored(&self) -> &[T]
-        ensures { result.now ≡ self.now.items }
+        ensures items { result.now ≡ self.now.items }
+        ensures owned { IsOwned (length self.now.items) self.now.view }
     {
         self.items.as_slice()
     }
 
     /// A copy of the item of an index; `None` where it is no index of the shape. ndarray's `get`.
     pub fn get<I: NdIndex<D>>(&self, index: &I) -> Option<T>
-        ensures { result ≡ item_at self.now (I.index_list index.now) }
+        ensures found { IsSome result ↔ IsTrue (is_index self.now.view.shape (I.index_list index.now)) }
+        ensures item { result ≡ item_at self.now (I.index_list index.now) }
     {
         let place = self.view.place(index)?;
         Some(self.items[place])
