@@ -1,0 +1,54 @@
+-- What an owned array holds: its items, and a view by which each index of its shape has one of them to itself.
+use Rattle.std.specs.Prelude.{◌≡◌, ℕ, ℤ, negsuc, Option, Some, None, Result, Ok, Err, if◌then◌else◌, List, [], ◌∷◌, slice_get, slice_set, refl}
+use Rattle.ndarray_layout.specs.declared.ErrorKind.{ErrorKind}
+use Rattle.ndarray_layout.specs.declared.LayoutError.{LayoutError}
+use Rattle.ndarray_layout.specs.declared.LayoutError.TheVariants.{Shape, Memory}
+use Rattle.ndarray_layout.specs.Indices.{is_index}
+use Rattle.ndarray_layout.specs.Signed.{magnitude}
+use Rattle.ndarray_layout.specs.DistinctPlaces.{HasDistinctPlaces}
+use Rattle.ndarray_layout.specs.View.{View, IsView, LiesWithin, place_at}
+
+-- the items, and the view that has places among them; items at no place are spare ones
+pub record Owned (T : Type 0) : Type 0 where
+  pub items : List T
+  pub view : View
+
+-- each index has an item, and no two of them the same one
+pub record IsOwned (count : ℕ) (view : View) : Type 0 where
+  pub is_view : IsView view
+  pub within : LiesWithin count view
+  pub distinct : HasDistinctPlaces view
+
+-- the item at a place
+abbrev pub item_at_place : {T : Type 0} → List T → ℤ → Option T
+item_at_place items place = slice_get items (magnitude place)
+
+-- the item of an index of the shape
+abbrev pub item_at : {T : Type 0} → Owned T → List ℕ → Option T
+item_at array index = if is_index array.view.shape index then item_at_place array.items (place_at array.view index) else None
+
+-- the array with another item at an index of the shape
+abbrev pub with_item : {T : Type 0} → Owned T → List ℕ → T → Owned T
+with_item array index item =
+    (if is_index array.view.shape index
+    then record { items = slice_set array.items (magnitude (place_at array.view index)) item; view = array.view }
+    else array)
+
+-- the fault of a shape by which a call is refused that hands something back
+abbrev pub shape_fault_of : {X Y : Type 0} → Result X (LayoutError × Y) → Option ErrorKind
+shape_fault_of (Ok x) = None
+shape_fault_of (Err (Shape kind, y)) = Some kind
+shape_fault_of (Err (Memory e, y)) = None
+
+-- examples
+abbrev back_to_front : Owned ℕ
+back_to_front = record { items = 7 ∷ 8 ∷ 9 ∷ []; view = record { start = 1; shape = 2 ∷ []; strides = negsuc 0 ∷ [] } }
+
+first_is_the_second : item_at back_to_front (0 ∷ []) ≡ Some 8
+first_is_the_second = refl
+
+no_third : item_at back_to_front (2 ∷ []) ≡ None
+no_third = refl
+
+last_replaced : (with_item back_to_front (1 ∷ []) 5).items ≡ 5 ∷ 8 ∷ 9 ∷ []
+last_replaced = refl

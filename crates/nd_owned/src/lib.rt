@@ -1,0 +1,7 @@
+//! Arrays that own their items, over the layout layer: parts of one array, picked by slices, are read and written by the
+//! places of its layout.
+#![tactic(auto)]
+
+mod owned;
+
+pub use owned::OwnedArray;

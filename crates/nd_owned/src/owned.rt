@@ -1,0 +1,138 @@
+//! An array that owns its items.
+ghost use Rattle.std.specs.List.{All};
+ghost use Rattle.std.specs.Option.{IsSome};
+ghost use Rattle.std.specs.Prelude.{◌≡◌, ◌<◌, ◌↔◌, IsTrue, Some, None, IfErr, IfOk, IsOk, length, map, slice_get, vec_len};
+ghost use Rattle.ndarray_layout.specs.declared.CanIndexCheckMode.TheVariants.{OwnedMutable};
+ghost use Rattle.ndarray_layout.specs.declared.Fit.TheVariants.{Strict};
+ghost use Rattle.ndarray_layout.specs.declared.Order.TheVariants.{RowMajor};
+ghost use Rattle.ndarray_layout.specs.AcceptanceByStrides.{acceptance_by_strides};
+ghost use Rattle.ndarray_layout.specs.ArgumentFault.{argument_fault};
+ghost use Rattle.ndarray_layout.specs.Indices.{is_index};
+ghost use Rattle.ndarray_layout.specs.Lengths.{NeedsNoMemory};
+ghost use Rattle.ndarray_layout.specs.ShapeBuilder.{custom_strides, strides_list};
+ghost use Rattle.ndarray_layout.specs.ShapeFault.{shape_fault};
+ghost use Rattle.ndarray_layout.specs.Signed.{all_signed};
+ghost use Rattle.ndarray_layout.specs.SlicedView.{slice_of};
+ghost use Rattle.ndarray_layout.specs.Span.{low_span};
+ghost use Rattle.ndarray_layout.specs.View.{view_of, view_places};
+ghost use Rattle.nd_owned.specs.Owned.{IsOwned, item_at, item_at_place, shape_fault_of, with_item};
+
+use ndarray_layout::{
+    CanIndexCheckMode, Fit, IxDyn, LayoutError, Lengths, NdIndex, Order, SliceElems, StrideShape,
+    Strided,
+};
+use std::alloc::{AllocError, Global};
+use std::marker::Model;
+
+/// An array that owns its items: each index of its shape has one of them to itself, at its place in the
+/// list of the items. Items at no place of the layout are kept as they are.
+#[derive(Drop)]
+pub struct OwnedArray<T: Copy, D: Lengths> {
+    items: Vec<T>,
+    view: Strided<D>,
+}
+
+impl<T: Copy, D: Lengths> Model for OwnedArray<T, D> {
+    ghost use Rattle.std.specs.Prelude.{length};
+    ghost use Rattle.nd_owned.specs.Owned.{Owned, IsOwned};
+
+    ghost Value = { Owned T };
+
+    ghost view = { λ a. record { items = a.items.items; view = a.view } };
+
+    ghost invariant = { λ a. IsOwned (length a.items.items) a.view };
+}
+
+/// The items at places of a list, in the order of the places.
+fn items_at<T: Copy>(alloc: Global, stored: &[T], places: &[usize]) -> Result<Vec<T>, AllocError>
+    requires { All (λ place. place < length stored.now) places.now }
+    ensures { IfOk result (λ v. map Some v.items ≡ map (slice_get stored.now) places.now) }
+{
+    let mut items = Vec::with_capacity(alloc, places.len())?;
+    for place in places {
+        items.push_reserved(stored[*place]);
+    }
+    Ok(items)
+}
+
+impl<T: Copy, D: Lengths> OwnedArray<T, D> {
+    /// The array of a shape, by its own strides or by given ones, over a list of items, with the lowest
+    /// place of the layout first in the list. Items past the layout, or between its places, stay.
+    ///
+    /// Errors: those of `Strided::from_shape` for data of as many elements of one byte, to be written; the list is
+    /// handed back. ndarray's `from_shape_vec`.
+    pub fn from_shape_vec(
+        alloc: Global,
+        shape: StrideShape<D>,
+        items: Vec<T>,
+    ) -> Result<Self, (LayoutError, Vec<T>)>
+        ensures fault { shape_fault_of result ≡
+            acceptance_by_strides D.list 1 (vec_len items) OwnedMutable (D.list shape.dim) shape.strides }
+        ensures given { shape_fault_of result ≡ None → IsSome (custom_strides shape.strides) → IsOk result }
+        ensures memory { shape_fault_of result ≡ None →
+            NeedsNoMemory D.NDIM (length (D.list shape.dim)) → IsOk result }
+        ensures stored { IfOk result (λ a. a.items ≡ items.items) }
+        ensures view { IfOk result (λ a. a.view ≡
+            view_of
+            (low_span
+            (D.list shape.dim)
+            (all_signed (strides_list D.list (D.list shape.dim) shape.strides)))
+            (D.list shape.dim)
+            (strides_list D.list (D.list shape.dim) shape.strides)) }
+        ensures owned { IfOk result (λ a. IsOwned (length a.items) a.view) }
+        ensures handed_back { IfErr result (λ refusal. refusal.1 ≡ items) }
+    {
+        let len = items.len();
+        match Strided::from_shape(alloc, shape, 1, len, CanIndexCheckMode::OwnedMutable) {
+            Ok(view) => Ok(OwnedArray { items, view }),
+            Err(fault) => Err((fault, items)),
+        }
+    }
+
+    /// All items as they are stored, with those at no place of the layout. ndarray's `into_raw_vec_and_offset`
+    /// gives them away.
+    #[inline]
+    pub fn stored(&self) -> &[T]
+        ensures items { result.now ≡ self.now.items }
+        ensures owned { IsOwned (length self.now.items) self.now.view }
+    {
+        self.items.as_slice()
+    }
+
+    /// A copy of the item of an index; `None` where it is no index of the shape. ndarray's `get`.
+    pub fn get<I: NdIndex<D>>(&self, index: &I) -> Option<T>
+        ensures found { IsSome result ↔ IsTrue (is_index self.now.view.shape (I.index_list index.now)) }
+        ensures item { result ≡ item_at self.now (I.index_list index.now) }
+    {
+        let place = self.view.place(index)?;
+        Some(self.items[place])
+    }
+
+    /// Puts an item in the place of that of an index, and answers whether it is an index of the shape; where it
+    /// is none nothing changes. ndarray's `get_mut`, with the write.
+    pub fn set<I: NdIndex<D>>(&mut self, index: &I, item: T) -> bool
+        ensures is_index { result ≡ is_index self.old.view.shape (I.index_list index.now) }
+        ensures written { self.new ≡ with_item self.old (I.index_list index.now) item }
+    {
+        match self.view.place(index) {
+            Some(place) => {
+                self.items[place] = item;
+                true
+            }
+            None => false,
+        }
+    }
+
+    /// Copies of the items that a slice picks, the first axis moving slowest.
+    ///
+    /// Errors: those of `check_slice` on the shape, then that memory is refused.
+    pub fn items<S: SliceElems>(&self, alloc: Global, slices: &S) -> Result<Vec<T>, LayoutError>
+        ensures fault { shape_fault result ≡ argument_fault Strict self.now.view.shape (S.list slices.now) }
+        ensures items { IfOk result (λ v. map Some v.items ≡ map (item_at_place self.now.items)
+            (view_places RowMajor (slice_of Strict (S.list slices.now) self.now.view))) }
+    {
+        let slice: Strided<IxDyn> = self.view.slice(alloc, slices, Fit::Strict)?;
+        let places = slice.places(alloc, Order::RowMajor)?;
+        Ok(items_at(alloc, self.items.as_slice(), places.as_slice())?)
+    }
+}
