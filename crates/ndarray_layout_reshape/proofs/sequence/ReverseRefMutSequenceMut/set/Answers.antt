@@ -13,17 +13,17 @@ reverse-set xs k x l =
     let count = length-set (reverse xs) k x in
     ext_get_or 0 (reverse (set xs m x)) (set (reverse xs) k x) (omega arith) (λ i h. elim (cases_eq i k) [
       | inl same ↦
-        let place : length (set xs m x) - 1 - i ≡ m = omega arith in
-        get_or-reverse (set xs m x) i 0 (omega arith)
-        ∙ ap (λ n. get_or (set xs m x) n 0) place
-        ∙ get_or-set_same xs m x 0 (omega arith)
-        ∙ sym (ap (λ n. get_or (set (reverse xs) k x) n 0) same ∙ get_or-set_same (reverse xs) k x 0 (omega arith))
+          let place : length (set xs m x) - 1 - i ≡ m = omega arith in
+          get_or-reverse (set xs m x) i 0 (omega arith)
+          ∙ ap (λ n. get_or (set xs m x) n 0) place
+          ∙ get_or-set_same xs m x 0 (omega arith)
+          ∙ sym (ap (λ n. get_or (set (reverse xs) k x) n 0) same ∙ get_or-set_same (reverse xs) k x 0 (omega arith))
       | inr other ↦
-        let place : length (set xs m x) - 1 - i ≡ length xs - 1 - i = omega arith in
-        get_or-reverse (set xs m x) i 0 (omega arith)
-        ∙ ap (λ n. get_or (set xs m x) n 0) place
-        ∙ get_or-set_other xs m (length xs - 1 - i) x 0 (λ e. other (omega arith))
-        ∙ sym (get_or-set_other (reverse xs) k i x 0 other ∙ get_or-reverse xs i 0 (omega arith))
+          let place : length (set xs m x) - 1 - i ≡ length xs - 1 - i = omega arith in
+          get_or-reverse (set xs m x) i 0 (omega arith)
+          ∙ ap (λ n. get_or (set xs m x) n 0) place
+          ∙ get_or-set_other xs m (length xs - 1 - i) x 0 (λ e. other (omega arith))
+          ∙ sym (get_or-set_other (reverse xs) k i x 0 other ∙ get_or-reverse xs i 0 (omega arith))
     ])
 
 pub returns-clause-items : goal.returns-clause-items
