@@ -65,7 +65,7 @@ previous strides zero = pos 1
 previous strides (suc axis) = slice_index_or strides axis (pos 0)
 
 -- the new axes of length 1 that are read have their strides; of those that stand where the reading is, a shape that has more left
--- has no more after it
+-- has had no more there than the other one
 pub record OnesAlike (from : List ℕ) (strides : List ℤ) (to : List ℕ) (news : List ℤ) (from_axes to_axes : ℕ) : Type 0 where
   pub written : (axis : ℕ) → axis < to_axes → slice_index to axis ≡ 1 → slice_index_or news axis (pos 0) ≡ stride_of_one from strides to axis (previous news axis)
   pub from_first : slice_index from from_axes ≡ 1 → ones_before to (size (take to_axes to)) to_axes ≤ ones_before from (size (take from_axes from)) from_axes
