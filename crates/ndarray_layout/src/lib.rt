@@ -33,6 +33,9 @@ pub use nd_slice::{
     slices_intersect, solve_linear_diophantine_eq, to_abs_slice,
 };
 
+// Reshapes that move no element.
+pub use ndarray_layout_reshape::{Forward, Reverse, Sequence, SequenceMut, reshape_dim};
+
 // Views, and steps from one to the next.
 pub use ndarray_layout_strided::Strided;
 pub use steps::{Step, Stopped, run};

@@ -6,4 +6,4 @@ mod sequence;
 mod walk;
 
 pub use reshape::reshape_dim;
-pub use sequence::{Forward, Reverse, Sequence};
+pub use sequence::{Forward, Reverse, Sequence, SequenceMut};

@@ -4,11 +4,11 @@ ghost use Rattle.std.specs.Prelude.{◌≡◌, ℕ, ◌<◌, List, length, rever
 use nd_base::Lengths;
 use std::ops::{Index, IndexMut};
 
-/// The numbers of a dimension, the first axis first. ndarray's `Forward`.
+/// The numbers of a dimension, that of the first axis first. ndarray's `Forward`.
 #[derive(Drop)]
 pub struct Forward<D>(pub D);
 
-/// The numbers of a dimension, the last axis first. ndarray's `Reverse`.
+/// The numbers of a dimension, that of the last axis first. ndarray's `Reverse`.
 #[derive(Drop)]
 pub struct Reverse<D>(pub D);
 
@@ -25,7 +25,21 @@ pub trait Sequence: Index<usize, Output = usize> {
     ghost can_index_below: { (s : Self) (k : ℕ) → k < length (items s) → Self.can_index s k };
 
     // and shows its number.
-    ghost index_is: { (s : Self) (k item : ℕ) → Self.index_gives s k item → slice_get (items s) k ≡ Some item };
+    ghost index_is: { (s : Self) (k item : ℕ) → Self.index_gives s k item →
+        slice_get (items s) k ≡ Some item };
+}
+
+/// A list of numbers that are read and written by their place. ndarray's `SequenceMut`.
+pub trait SequenceMut: Sequence + IndexMut<usize> {
+    // The later value writes to what the earlier one does.
+    ghost same_target: { Self → Self → Type 0 };
+
+    /// Writes the number at a place. The caller ensures that there is one. A write by index does so as
+    /// well, but no contract says of it what is left.
+    fn set(&mut self, k: usize, item: usize)
+        requires { k < length (Self.items self.old) }
+        ensures items { Self.items self.new ≡ slice_set (Self.items self.old) k item }
+        ensures target { same_target self.old self.new };
 }
 
 impl<D: Lengths> Index<usize> for Forward<&D> {
@@ -54,6 +68,48 @@ impl<D: Lengths> Sequence for Forward<&D> {
     ghost index_is = { λ s k item h. h };
 }
 
+impl<D: Lengths> Index<usize> for Forward<&mut D> {
+    type Output = usize;
+
+    ghost can_index = { λ s k. k < length (D.list s.0.now) };
+
+    ghost index_gives = { λ s k item. slice_get (D.list s.0.now) k ≡ Some item };
+
+    #[inline(always)]
+    fn index(&self, k: usize) -> &usize {
+        &self.0.slice()[k]
+    }
+}
+
+impl<D: Lengths> IndexMut<usize> for Forward<&mut D> {
+    #[inline(always)]
+    fn index_mut(&mut self, k: usize) -> &mut usize {
+        &mut self.0.slice_mut()[k]
+    }
+}
+
+impl<D: Lengths> Sequence for Forward<&mut D> {
+    ghost items = { λ s. D.list s.0.now };
+
+    #[inline(always)]
+    fn len(&self) -> usize {
+        self.0.ndim()
+    }
+
+    ghost can_index_below = { λ s k h. h };
+
+    ghost index_is = { λ s k item h. h };
+}
+
+impl<D: Lengths> SequenceMut for Forward<&mut D> {
+    ghost same_target = { λ s t. t.0.ghost_name ≡ s.0.ghost_name };
+
+    #[inline(always)]
+    fn set(&mut self, k: usize, item: usize) {
+        self.0.slice_mut()[k] = item;
+    }
+}
+
 impl<D: Lengths> Index<usize> for Reverse<&D> {
     type Output = usize;
 
@@ -65,5 +121,69 @@ impl<D: Lengths> Index<usize> for Reverse<&D> {
     fn index(&self, k: usize) -> &usize {
         let items = self.0.slice();
         &items[items.len() - 1 - k]
+    }
+}
+
+impl<D: Lengths> Sequence for Reverse<&D> {
+    ghost use Rattle.std.proofs.Common.{◌∙◌, subst, sym};
+    ghost use Rattle.std.proofs.lemmas.List.{length-reverse};
+
+    ghost items = { λ s. reverse (D.list s.0.now) };
+
+    #[inline(always)]
+    fn len(&self) -> usize {
+        self.0.ndim()
+    }
+
+    ghost can_index_below = { λ s k h. subst (λ n. k < n) (length-reverse (D.list s.0.now)) h };
+
+    ghost index_is = { λ s k item h. h };
+}
+
+impl<D: Lengths> Index<usize> for Reverse<&mut D> {
+    type Output = usize;
+
+    ghost can_index = { λ s k. k < length (D.list s.0.now) };
+
+    ghost index_gives = { λ s k item. slice_get (reverse (D.list s.0.now)) k ≡ Some item };
+
+    #[inline(always)]
+    fn index(&self, k: usize) -> &usize {
+        let items = self.0.slice();
+        &items[items.len() - 1 - k]
+    }
+}
+
+impl<D: Lengths> IndexMut<usize> for Reverse<&mut D> {
+    #[inline(always)]
+    fn index_mut(&mut self, k: usize) -> &mut usize {
+        let items = self.0.slice_mut();
+        &mut items[items.len() - 1 - k]
+    }
+}
+
+impl<D: Lengths> Sequence for Reverse<&mut D> {
+    ghost use Rattle.std.proofs.Common.{subst};
+    ghost use Rattle.std.proofs.lemmas.List.{length-reverse};
+
+    ghost items = { λ s. reverse (D.list s.0.now) };
+
+    #[inline(always)]
+    fn len(&self) -> usize {
+        self.0.ndim()
+    }
+
+    ghost can_index_below = { λ s k h. subst (λ n. k < n) (length-reverse (D.list s.0.now)) h };
+
+    ghost index_is = { λ s k item h. h };
+}
+
+impl<D: Lengths> SequenceMut for Reverse<&mut D> {
+    ghost same_target = { λ s t. t.0.ghost_name ≡ s.0.ghost_name };
+
+    #[inline(always)]
+    fn set(&mut self, k: usize, item: usize) {
+        let items = self.0.slice_mut();
+        items[items.len() - 1 - k] = item;
     }
 }
