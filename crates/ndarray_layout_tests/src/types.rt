@@ -1,7 +1,7 @@
-//! Questions that are asked at a dimension type of as many axes as a row tells.
+//! Questions that are asked at a dimension type of as many axes as a row names.
 //!
 //! Each type is named in this one place, since the check takes seconds for each function that names one.
-use nd_dim::{Ix0, Ix1, Ix2, Ix3, Ix4, Ix5, Ix6, IxDyn, Lengths};
+use ndarray_layout::{Ix0, Ix1, Ix2, Ix3, Ix4, Ix5, Ix6, IxDyn, Lengths};
 use std::alloc::Global;
 use std::process::Abort;
 

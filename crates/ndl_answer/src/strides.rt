@@ -3,7 +3,7 @@ ghost use Rattle.std.specs.Prelude.{◌≡◌, ◌≤◌, map, length, IfOk, IsO
 ghost use Rattle.ndarray_layout.specs.Dim.{lengths};
 ghost use Rattle.ndarray_layout.specs.Signed.{all_signed, unsigned as unsigned_bits};
 
-use ndarray_layout::{IxDyn, Lengths, unsigned};
+use ndarray_layout::{INLINE_AXES, IxDyn, Lengths, unsigned};
 use std::alloc::{AllocError, Global};
 
 /// Writes signed strides as a view keeps them.
@@ -23,7 +23,7 @@ fn keep_strides(kept: &mut [usize], strides: &[isize])
 pub(crate) fn kept_strides(alloc: Global, strides: &[isize]) -> Result<IxDyn, AllocError>
     ensures bits { IfOk result (λ kept. lengths kept ≡ map unsigned_bits strides.now) }
     ensures back { IfOk result (λ kept. all_signed (lengths kept) ≡ strides.now) }
-    ensures memory { length strides.now ≤ 4 → IsOk result }
+    ensures memory { length strides.now ≤ INLINE_AXES → IsOk result }
 {
     let mut kept = IxDyn::zeros(alloc, strides.len())?;
     keep_strides(kept.slice_mut(), strides);

@@ -1,13 +1,13 @@
 //! What a caller of a walk over a view's indices can prove from its contracts alone.
 ghost use Rattle.std.specs.Prelude.{◌≡◌, ◌<◌, ◌^◌, true, map, nat_abs, sum, IfOk};
-ghost use Rattle.nd_base.specs.declared.order.Order.TheVariants.{RowMajor};
-ghost use Rattle.nd_base.specs.Indices.{is_index};
-ghost use Rattle.ndarray_layout_views.specs.View.{place_at, view_places};
+ghost use Rattle.ndarray_layout.specs.declared.Order.TheVariants.{RowMajor};
+ghost use Rattle.ndarray_layout.specs.Indices.{is_index};
+ghost use Rattle.ndarray_layout.specs.View.{place_at, view_places};
 
 use CanIndexCheckMode::OwnedMutable;
-use nd_dim::{Dimension, IntoDimension, new_ix2};
-use nd_shape::{Indices, all_indices};
-use ndarray_layout::{CanIndexCheckMode, Strided};
+use ndarray_layout::{
+    CanIndexCheckMode, Dimension, Indices, IntoDimension, Strided, all_indices, new_ix2,
+};
 use std::alloc::{AllocError, Global};
 
 /// The walk over all indices of a view.

@@ -3,10 +3,10 @@ use Rattle.std.proofs.Common.{◌≡◌, ◌+◌, ℕ, List, ◌∷◌, true, ma
 use Rattle.std.specs.List.{All}
 use Rattle.std.proofs.lemmas.List.Elements.{All-tail}
 use Rattle.std.proofs.lemmas.List.Sums.{sum_by-cons}
-use Rattle.nd_base.specs.declared.order.Order.TheVariants.{RowMajor}
-use Rattle.nd_base.specs.Indices.{indices_in, is_index}
-use Rattle.nd_base.proofs.laws.Indices.{All-indices_in}
-use Rattle.ndarray_layout_views.specs.View.{View, place_at, view_places}
+use Rattle.ndarray_layout.specs.declared.Order.TheVariants.{RowMajor}
+use Rattle.ndarray_layout.specs.Indices.{indices_in, is_index}
+use Rattle.ndarray_layout.proofs.laws.Indices.{All-indices_in}
+use Rattle.ndarray_layout.specs.View.{View, place_at, view_places}
 use Rattle.ndarray_layout_tests.proofs.view.sums.sum_of_places.Goals as goal
 
 -- the places of these indices together
