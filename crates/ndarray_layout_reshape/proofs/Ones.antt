@@ -8,10 +8,10 @@ use Rattle.std.proofs.lemmas.List.{take_all, get_or_past, get_or-take, length-ma
 use Rattle.std.proofs.lemmas.List.FromFn.{fill_by_all}
 use Rattle.nd_base.specs.Indices.{below}
 use Rattle.nd_base.specs.Size.{size, is_empty}
-use Rattle.nd_base.proofs.laws.Size.{size_of_nonempty, size_take_more, size_from}
+use Rattle.nd_base.proofs.laws.Size.{size_take_more, size_from}
 use Rattle.ndarray_layout_reshape.specs.ForcedStrides.{is_one_at, ones_before, strides_of_ones, stride_of_one, stride_at, offset_at_rank, indices_after}
 use Rattle.ndarray_layout_reshape.specs.Joints.{cumulative_products}
-use Rattle.ndarray_layout_reshape.specs.Walk.{CanWalk, IsReached, Member, IsInside, OnesAlike, PlacesAlike, previous}
+use Rattle.ndarray_layout_reshape.specs.Walk.{CanWalk, IsReached, IsInside, OnesAlike, PlacesAlike, previous}
 use Rattle.ndarray_layout_reshape.proofs.Forced.{forced-of-alike, stride_at-long}
 use Rattle.ndarray_layout_reshape.proofs.Halfway.{len-some}
 use Rattle.ndarray_layout_reshape.proofs.Members.{member-of-any, any-of-member}

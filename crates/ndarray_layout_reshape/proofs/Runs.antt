@@ -11,7 +11,7 @@ use Rattle.nd_base.specs.Size.{size, is_empty}
 use Rattle.nd_base.proofs.laws.Size.{size_of_nonempty, size-append, size-push}
 use Rattle.ndarray_layout_reshape.specs.Walk.{PlacesAlike, IsDense}
 use Rattle.ndarray_layout_reshape.proofs.Joins.{is_empty-rest}
-use Rattle.ndarray_layout_reshape.proofs.Values.{times_times, times_sum}
+use Rattle.nd_base.proofs.laws.Times.{times_times, times_sum}
 
 -- so the index of a rank lies that many steps from the first one
 pub run-of-dense : (lens : List ℕ) (strides : List ℤ) (step : ℤ) (r : ℕ) → is_empty lens ≡ false → IsDense lens strides step → r < size lens → offset_of strides (index_of_rank lens r) ≡ pos r *ℤ step

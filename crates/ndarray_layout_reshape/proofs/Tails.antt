@@ -3,7 +3,8 @@ use Rattle.std.proofs.Common.{◌≡◌, ◌≢◌, ℕ, zero, suc, ◌+◌, ◌
 use Rattle.std.proofs.Math.Nat.{mul_assoc, mul_comm, mul-le-mul_left, mul-one, mul-div_cancel_left}
 use Rattle.std.proofs.lemmas.Bool.{cases_order}
 use Rattle.std.proofs.lemmas.Int.{ints}
-use Rattle.ndarray_layout_reshape.proofs.Values.{Axes, value, count, AreLong, value-below, value-whole, value-merged, times_times}
+use Rattle.ndarray_layout_reshape.proofs.Values.{Axes, value, count, AreLong, value-below, value-whole, value-merged}
+use Rattle.nd_base.proofs.laws.Times.{times_times}
 
 -- the product of the lengths of the first axes, up to an axis after which the next one's stride isn't the whole of it
 abbrev pub IsApart : ℕ → ℤ → Axes → Type 0

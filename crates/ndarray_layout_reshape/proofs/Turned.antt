@@ -18,7 +18,8 @@ use Rattle.nd_base.specs.Reading.{as_read}
 use Rattle.ndarray_layout_reshape.specs.ReshapeFault.{reshape_fault, fault_as_read}
 use Rattle.ndarray_layout_reshape.specs.Walk.{CanWalk, PlacesAlike}
 use Rattle.ndarray_layout_reshape.proofs.Complete.{good-of-alike}
-use Rattle.ndarray_layout_reshape.proofs.laws.Keeps.{length-as_read, size-as_read, is_empty-as_read, fault-exactly, forced-keeps}
+use Rattle.nd_base.proofs.laws.Reading.{length-as_read, size-as_read, is_empty-as_read}
+use Rattle.ndarray_layout_reshape.proofs.laws.Keeps.{fault-exactly, forced-keeps}
 
 signed-reverse : (items : List ℕ) → all_signed (reverse items) ≡ reverse (all_signed items)
 signed-reverse [] = refl

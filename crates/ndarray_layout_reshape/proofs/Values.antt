@@ -1,10 +1,10 @@
 -- Layouts as lists of axes, a length with a stride each, of which the first moves fastest; and how far the index of a rank lies
 -- from the first one.
-use Rattle.std.proofs.Common.{◌≡◌, ℕ, zero, suc, ◌+◌, ◌*◌, ◌/◌, ◌%◌, ◌<◌, ℤ, pos, negsuc, ◌+ℤ◌, ◌*ℤ◌, List, [], ◌∷◌, refl, sym, ap, ◌∙◌, arith}
+use Rattle.std.proofs.Common.{◌≡◌, ℕ, ◌+◌, ◌*◌, ◌/◌, ◌%◌, ◌<◌, ℤ, pos, ◌+ℤ◌, ◌*ℤ◌, List, [], ◌∷◌, refl, ap, ◌∙◌, arith}
 use Rattle.std.proofs.Math.Arith.{mod-mul}
-use Rattle.std.proofs.Math.IntN.{neg_ℤ, *ℤ-zero, pos-*ℤ-pos, pos-*ℤ-negsuc}
-use Rattle.std.proofs.Math.Nat.{div-div-eq-div-mul, div-eq_of_lt, mod-eq_of_lt, zero-div, mul-zero, mul_assoc, mul-div_cancel_left, mul-mod_right, mul_comm}
+use Rattle.std.proofs.Math.Nat.{div-div-eq-div-mul, div-eq_of_lt, mod-eq_of_lt, zero-div, mul-div_cancel_left, mul-mod_right, mul_comm}
 use Rattle.std.proofs.lemmas.Int.{ints}
+use Rattle.nd_base.proofs.laws.Times.{times_times, times_sum}
 
 -- ---- axes
 abbrev pub Axes : Type 0
@@ -24,19 +24,6 @@ count (axis ∷ axes) = axis.0 * count axes
 abbrev pub AreLong : Axes → Type 0
 AreLong [] = Unit {0}
 AreLong (axis ∷ axes) = (1 < axis.0) × AreLong axes
-
--- ---- products with a signed number
-times_neg : (q m : ℕ) → pos q *ℤ neg_ℤ (pos m) ≡ neg_ℤ (pos (q * m))
-times_neg q zero = *ℤ-zero (pos q) ∙ sym (ap (λ n. neg_ℤ (pos n)) (mul-zero q))
-times_neg q (suc m) = pos-*ℤ-negsuc q m
-
-pub times_times : (q n : ℕ) (s : ℤ) → pos q *ℤ (pos n *ℤ s) ≡ pos (q * n) *ℤ s
-times_times q n (pos s) = ap (λ z. pos q *ℤ z) (pos-*ℤ-pos n s) ∙ pos-*ℤ-pos q (n * s) ∙ ap pos (sym (mul_assoc q n s)) ∙ sym (pos-*ℤ-pos (q * n) s)
-times_times q n (negsuc s) = ap (λ z. pos q *ℤ z) (pos-*ℤ-negsuc n s) ∙ times_neg q (n * suc s) ∙ ap (λ m. neg_ℤ (pos m)) (sym (mul_assoc q n (suc s))) ∙ sym (pos-*ℤ-negsuc (q * n) s)
-
-pub times_sum : (a b : ℕ) (s : ℤ) → pos (a + b) *ℤ s ≡ (pos a *ℤ s) +ℤ (pos b *ℤ s)
-times_sum a b (pos s) = omega (arith, ints)
-times_sum a b (negsuc s) = omega (arith, ints)
 
 -- ---- values at certain ranks
 pub value-first : (axes : Axes) → value axes 0 ≡ pos 0

@@ -15,7 +15,7 @@ use Rattle.nd_base.specs.Rank.{index_of_rank, index_of_rank_in}
 use Rattle.nd_base.specs.Size.{size, is_empty}
 use Rattle.nd_base.proofs.laws.Indices.{get_or-indices_in, length-indices_in}
 use Rattle.nd_base.proofs.laws.Offset.{offset_of-reverse}
-use Rattle.nd_base.proofs.laws.Size.{size-reverse, is_empty-reverse}
+use Rattle.nd_base.proofs.laws.Reading.{length-as_read, as_read-as_read, size-as_read, is_empty-as_read}
 use Rattle.ndarray_layout_reshape.specs.ForcedStrides.{forced_strides, indices_after, offset_at_rank, stride_at}
 use Rattle.ndarray_layout_reshape.specs.Joints.{has_bad_joint}
 use Rattle.ndarray_layout_reshape.specs.Keeps.{Keeps, AgreeOnLonger}
@@ -24,23 +24,6 @@ use Rattle.ndarray_layout_reshape.specs.ReshapeFault.{reshape_fault}
 use Rattle.ndarray_layout_reshape.specs.Walk.{PlacesAlike}
 use Rattle.ndarray_layout_reshape.proofs.Complete.{good-of-alike, alike-of-good}
 use Rattle.ndarray_layout_reshape.proofs.Forced.{forced-of-alike, alike-forced}
-
--- ---- reading
-pub length-as_read : {A : Type 0} (order : Order) (items : List A) → length (as_read order items) ≡ length items
-length-as_read RowMajor items = refl
-length-as_read ColumnMajor items = length-reverse items
-
-pub as_read-as_read : {A : Type 0} (order : Order) (items : List A) → as_read order (as_read order items) ≡ items
-as_read-as_read RowMajor items = refl
-as_read-as_read ColumnMajor items = reverse-reverse items
-
-pub size-as_read : (order : Order) (shape : List ℕ) → size (as_read order shape) ≡ size shape
-size-as_read RowMajor shape = refl
-size-as_read ColumnMajor shape = size-reverse shape
-
-pub is_empty-as_read : (order : Order) (shape : List ℕ) → is_empty (as_read order shape) ≡ is_empty shape
-is_empty-as_read RowMajor shape = refl
-is_empty-as_read ColumnMajor shape = is_empty-reverse shape
 
 length-index_of_rank : (shape : List ℕ) (r : ℕ) → length (index_of_rank shape r) ≡ length shape
 length-index_of_rank [] r = refl

@@ -24,7 +24,8 @@ use Rattle.ndarray_layout_reshape.specs.ForcedStrides.{forced_strides}
 use Rattle.ndarray_layout_reshape.specs.Keeps.{Keeps}
 use Rattle.ndarray_layout_reshape.specs.Reading.{as_read}
 use Rattle.ndarray_layout_reshape.specs.ReshapeFault.{reshape_fault}
-use Rattle.ndarray_layout_reshape.proofs.laws.Keeps.{Fits, alike-of-keeps, forced-keeps, keeps-exactly, offset-as_read, size-as_read, size-of-keeps}
+use Rattle.nd_base.proofs.laws.Reading.{size-as_read}
+use Rattle.ndarray_layout_reshape.proofs.laws.Keeps.{Fits, alike-of-keeps, forced-keeps, keeps-exactly, offset-as_read, size-of-keeps}
 use Rattle.ndarray_layout_views.specs.DistinctPlaces.{HasDistinctPlaces}
 use Rattle.ndarray_layout_views.specs.KeepsPlaces.{KeepsPlaces}
 use Rattle.ndarray_layout_views.specs.View.{View, IsView, LiesWithin, view_places}

@@ -1,11 +1,11 @@
-use Rattle.std.proofs.Common.{rules, ◌≡◌, ◌≢◌, ◌+◌, ◌*◌, ◌<◌, ◌≤◌, ℕ, ◌⊎◌, Some, pos, ◌*ℤ◌, List, length, get_or, set, Fits, w64, arith, sym, ap, ◌∙◌, inl, inr, get_or-set_other, get_or-set_same, length-set}
+use Rattle.std.proofs.Common.{◌≡◌, ◌*◌, ◌<◌, ℕ, ◌⊎◌, Some, pos, List, length, get_or, set, arith, sym, ap, ◌∙◌, inl, inr, get_or-set_other, get_or-set_same, length-set}
 use Rattle.std.proofs.Math.ListN.{get_or-map}
 use Rattle.nd_base.specs.Signed.{signed, all_signed}
 use Rattle.nd_base.specs.Reading.{as_read}
 use Rattle.ndarray_layout_reshape.proofs.Advance.{in-of-len, both-left, reached-both, alike-both, reached-from, alike-from, reached-to, alike-to, ends-fault, sizes-fit, steps-fit, alike-block}
 use Rattle.ndarray_layout_reshape.proofs.Halfway.{product-fits}
 use Rattle.ndarray_layout_reshape.proofs.Ones.{ones-from, ones-to, ones-both, ones-block}
-use Rattle.ndarray_layout_reshape.proofs.laws.Keeps.{length-as_read}
+use Rattle.nd_base.proofs.laws.Reading.{length-as_read}
 use Rattle.ndarray_layout_reshape.proofs.walk.advance.Goals as goal
 use Rattle.ndarray_layout_reshape.proofs.walk.advance.Goals.{then-from_len-eq0-via-then-from_len-eq0, then-from_len-eq0-via-else-from_len-eq0+then-to_len-eq0}
 

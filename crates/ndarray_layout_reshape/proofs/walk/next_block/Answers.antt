@@ -1,11 +1,10 @@
-use Rattle.std.proofs.Common.{◌≡◌, ◌≢◌, ◌+◌, ◌*◌, ◌<◌, ◌≤◌, ℕ, Some, pos, ◌*ℤ◌, List, length, get_or, Fits, w64, arith, sym, ap, ◌∙◌, subst, inr}
+use Rattle.std.proofs.Common.{◌≡◌, ◌+◌, ◌*◌, ◌<◌, ℕ, Some, pos, List, length, get_or, arith, sym, ap, ◌∙◌, subst, inr}
 use Rattle.std.proofs.lemmas.Bool.{both_ways}
 use Rattle.std.proofs.Math.ListN.{get_or-map}
 use Rattle.nd_base.specs.Signed.{signed, all_signed}
-use Rattle.nd_base.specs.Size.{size, limit}
 use Rattle.nd_base.specs.Reading.{as_read}
 use Rattle.ndarray_layout_reshape.proofs.Inside.{inside-first, inside-to, inside-from}
-use Rattle.ndarray_layout_reshape.proofs.laws.Keeps.{length-as_read}
+use Rattle.nd_base.proofs.laws.Reading.{length-as_read}
 use Rattle.ndarray_layout_reshape.proofs.Halfway.{IsHalfway, product-fits, len-fits, halfway-first, halfway-to, halfway-one, halfway-longer, halfway-to-end, halfway-from-end, halfway-apart}
 use Rattle.ndarray_layout_reshape.proofs.walk.next_block.Goals as goal
 use Rattle.ndarray_layout_reshape.proofs.walk.next_block.Goals.{then-len-gt1+else-not-is_whole, else-len-gt1}

@@ -1,4 +1,4 @@
-use Rattle.std.proofs.Common.{◌≡◌, ℕ, ◌<◌, List, length, map, refl, sym, ap, ◌∙◌, arith}
+use Rattle.std.proofs.Common.{map, refl, sym, ap, ◌∙◌, arith}
 use Rattle.std.proofs.lemmas.List.{length-map}
 use Rattle.nd_base.specs.Indices.{below}
 use Rattle.nd_base.specs.Signed.{signed, all_signed}
@@ -6,7 +6,7 @@ use Rattle.ndarray_layout_reshape.specs.ForcedStrides.{stride_at}
 use Rattle.nd_base.specs.Reading.{as_read}
 use Rattle.ndarray_layout_reshape.proofs.Ones.{ones-first, strides-whole}
 use Rattle.ndarray_layout_reshape.proofs.Reached.{joint-product}
-use Rattle.ndarray_layout_reshape.proofs.laws.Keeps.{length-as_read}
+use Rattle.nd_base.proofs.laws.Reading.{length-as_read}
 use Rattle.ndarray_layout_reshape.proofs.walk.walk.Goals as goal
 
 pub loop-at-init : goal.loop-at-init

@@ -1,4 +1,4 @@
-use Rattle.std.proofs.Common.{set, ap₂, to_z, of_z, ℤ, ◌^◌, length-set, ◌≡◌, ◌<◌, ◌≤◌, ◌+◌, ◌-◌, ◌*◌, pos, ◌*ℤ◌, ℕ, List, length, drop, take, get_or, Fits, w64, arith, sym, ap, ◌∙◌, subst, get_or-set_other, get_or-set_same, ◌≢◌, inl, inr}
+use Rattle.std.proofs.Common.{set, ap₂, to_z, of_z, ℤ, ◌^◌, length-set, ◌≡◌, ◌<◌, ◌≤◌, ◌+◌, ◌-◌, ◌*◌, pos, ◌*ℤ◌, ℕ, List, length, drop, take, get_or, Fits, w64, arith, sym, ap, ◌∙◌, subst, get_or-set_other, get_or-set_same, inl, inr}
 use Rattle.std.specs.Int.RustNames.{FitsSigned}
 use Rattle.std.proofs.Math.Nat.{mul_comm}
 use Rattle.std.proofs.lemmas.Bool.{cases_eq}
@@ -9,7 +9,7 @@ use Rattle.nd_base.specs.Size.{size, limit}
 use Rattle.nd_base.specs.Signed.{signed}
 use Rattle.nd_base.proofs.laws.Size.{size_from}
 use Rattle.nd_base.specs.Reading.{as_read}
-use Rattle.ndarray_layout_reshape.proofs.laws.Keeps.{length-as_read}
+use Rattle.nd_base.proofs.laws.Reading.{length-as_read}
 use Rattle.ndarray_layout_reshape.proofs.walk.write_block.Goals as goal
 
 -- the product from an axis on is its length times the product of the later ones
