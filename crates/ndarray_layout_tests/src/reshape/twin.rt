@@ -284,7 +284,7 @@ fn how_many(base: usize, count: usize) -> usize {
     }
 }
 
-/// Each so-manieth layout of so many axes, as they are read in an order.
+/// The layouts of so many axes whose number is a multiple of `apart`, as they are read in an order.
 #[derive(Clone, Copy)]
 struct Each {
     count: usize,
@@ -327,7 +327,7 @@ impl AtType for Each {
     }
 }
 
-/// The layouts are answered as they are to, all or each so-manieth.
+/// All reshapes of the layouts of so many axes whose number is a multiple of `apart` answer what they are to.
 fn hold_all(rt: &impl Abort, alloc: Global, count: usize, order: Order, apart: usize) {
     let each = Each {
         count,
