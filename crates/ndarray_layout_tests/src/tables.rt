@@ -1,4 +1,5 @@
 //! Tables as text: a row is a line.
+use crate::reshape::asked::{Asked, reshape_holds};
 use crate::slice::arguments::argument_holds;
 use crate::slice::axis_slice::slice_holds;
 use crate::slice::equations::{OfNumbers, numbers_hold};
@@ -25,10 +26,13 @@ pub enum Told {
     Meeting(Fit),
     /// Numbers, and a divisor, a solution or whether lists share one.
     Numbers(OfNumbers),
+    /// A layout, a shape, and the strides along which it has the same places, or the fault.
+    Reshapes(Asked),
 }
 
 /// A row holds.
-fn holds(rt: &impl Abort, alloc: Global, told: Told, row: &mut Row<'_>) -> bool {
+fn holds(rt: &impl Abort, alloc: Global, told: Told, line: &str) -> bool {
+    let row = &mut Row::new(line);
     match told {
         Told::Views => view_holds(rt, alloc, row),
         Told::Arguments(fit) => argument_holds(rt, alloc, row, fit),
@@ -36,12 +40,13 @@ fn holds(rt: &impl Abort, alloc: Global, told: Told, row: &mut Row<'_>) -> bool 
         Told::Ends(fit) => ends_hold(rt, row, fit),
         Told::Numbers(asked) => numbers_hold(rt, row, asked),
         Told::Meeting(fit) => meeting_holds(rt, alloc, row, fit),
+        Told::Reshapes(asked) => reshape_holds(rt, alloc, line, asked),
     }
 }
 
 /// All rows of a table hold.
 pub fn hold(rt: &impl Abort, alloc: Global, told: Told, table: &str) {
     for line in rows(table) {
-        assert!(rt; holds(rt, alloc, told, &mut Row::new(line)), "{line}");
+        assert!(rt; holds(rt, alloc, told, line), "{line}");
     }
 }

@@ -1,0 +1,119 @@
+//! Memory that a reshape asks for: past four axes, at the type of any number, and none elsewhere.
+use crate::reshape::asked::Asked::{Answer, Memory, OfAny, OfFixed};
+use crate::reshape::asked::reshaped;
+use crate::tables::{Told, hold};
+use crate::types::{AtType, at_type};
+use Order::{ColumnMajor, RowMajor};
+use ndarray_layout::{Lengths, Order, unsigned};
+use std::alloc::Global;
+use std::process::Abort;
+use test_tables::made;
+
+/// Shapes of up to four axes, whatever is answered.
+const SMALL: &str = "\
+2,2 2,1 2,1,2,1 2,1,1,1
+2,2 2,1 4 1
+- - 1,1,1,1 1,1,1,1
+2,2 2,1 3,1,1,1 => IncompatibleShape
+2,2 3,1 4 => IncompatibleLayout
+2,2 3,1 3,1,1,1 => IncompatibleLayout";
+
+#[test]
+fn memory_of_reshapes_to_four(rt: HostRuntime) {
+    hold(&rt, rt.alloc(), Told::Reshapes(Answer(RowMajor)), SMALL);
+}
+
+/// Shapes of five axes, whatever is answered.
+const FIVE: [&str; 4] = [
+    "2,2 2,1 2,1,2,1,1 2,1,1,1,1",
+    "2,2 2,1 3,1,1,1,1 => IncompatibleShape",
+    "2,2 3,1 1,1,1,1,4 => IncompatibleLayout",
+    "2,2 3,1 3,1,1,1,1 => IncompatibleLayout",
+];
+
+#[test]
+fn memory_of_a_reshape_to_five(rt: HostRuntime) {
+    hold(&rt, rt.alloc(), Told::Reshapes(Memory(RowMajor)), FIVE[0]);
+}
+
+#[test]
+fn memory_of_a_reshape_to_another_size(rt: HostRuntime) {
+    hold(&rt, rt.alloc(), Told::Reshapes(Memory(RowMajor)), FIVE[1]);
+}
+
+#[test]
+fn memory_of_a_reshape_across_a_joint(rt: HostRuntime) {
+    hold(&rt, rt.alloc(), Told::Reshapes(Memory(RowMajor)), FIVE[2]);
+}
+
+#[test]
+fn memory_of_a_reshape_with_both_faults(rt: HostRuntime) {
+    hold(&rt, rt.alloc(), Told::Reshapes(Memory(RowMajor)), FIVE[3]);
+}
+
+/// The same at types that fix both counts, where none asks for memory.
+#[test]
+fn memory_of_reshapes_at_fixed_types(rt: HostRuntime) {
+    for row in FIVE {
+        hold(&rt, rt.alloc(), Told::Reshapes(OfFixed(RowMajor)), row);
+    }
+}
+
+// The old shape and its strides take the first two requests, and the new one takes none.
+#[test]
+fn late_memory_of_a_reshape_from_five(rt: HostRuntime) {
+    hold(
+        &rt,
+        rt.alloc(),
+        Told::Reshapes(OfAny(RowMajor)),
+        "2,1,1,1,2 -2,9,9,9,-1 1,4,1 1,-1,1",
+    );
+}
+
+// ---- many axes
+
+/// Six entries from the last one back, as a shape with one axis of six entries among many of length 1.
+struct Many<'a> {
+    to: &'a [usize],
+    order: Order,
+}
+
+/// Whether each axis of length 1 has stride 1, and each other one the stride of the six entries.
+fn are_forced(to: &[usize], strides: &[usize]) -> bool {
+    for (len, stride) in to.iter().zip(strides) {
+        if *stride != if *len == 1 { 1 } else { unsigned(-2) } {
+            return false;
+        }
+    }
+    to.len() == strides.len()
+}
+
+impl AtType for Many<'_> {
+    fn at<D: Lengths>(self, rt: &impl Abort, alloc: Global) -> bool {
+        let Many { to, order } = self;
+        let from: D = made(alloc, &[6]).expect(rt, "a shape");
+        let strides: D = made(alloc, &[unsigned(-2)]).expect(rt, "strides");
+        let dim: D = made(alloc, to).expect(rt, "memory");
+        match reshaped(alloc, &from, &strides, &dim, order) {
+            Ok(others) => are_forced(to, others.slice()),
+            Err(_) => false,
+        }
+    }
+}
+
+#[test]
+fn ample_memory_for_a_reshape(rt: HostRuntime) {
+    let mut to = [1; 1100];
+    to[700] = 6;
+    for order in [RowMajor, ColumnMajor] {
+        let (many, few) = (
+            Many { to: &to, order },
+            Many {
+                to: &to[650..750],
+                order,
+            },
+        );
+        assert!(rt; at_type(&rt, rt.alloc(), None, many));
+        assert!(rt; at_type(&rt, rt.alloc(), None, few));
+    }
+}
