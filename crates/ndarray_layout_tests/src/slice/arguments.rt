@@ -13,7 +13,7 @@ use std::process::Abort;
 use test_tables::{Row, fault_of, name_of};
 
 /// The whole of an axis.
-const ALL: SliceInfoElem = SliceInfoElem::Slice {
+pub const ALL: SliceInfoElem = SliceInfoElem::Slice {
     start: 0,
     end: None,
     step: 1,

@@ -4,14 +4,17 @@
 ghost use Rattle.std.specs.Prelude.{◌<◌, ◌^◌, IsTrue};
 ghost use Rattle.std.specs.List.{All};
 
+use crate::slice::arguments::ALL;
 use crate::tables::{Told, hold};
 use crate::types::{AtType, at_type};
 use crate::view::elems::elems;
 use crate::view::question::{dim, fixed_count};
 use crate::view::words::word;
 use Fit::{Clamp, Strict};
+use SliceInfoElem::{Index, NewAxis};
+use nd_base::new_ix2;
 use nd_dim::Lengths;
-use nd_slice::{Fit, SliceElems, slices_intersect};
+use nd_slice::{Fit, SliceElems, SliceInfoElem, slices_intersect};
 use std::alloc::Global;
 use std::process::Abort;
 use test_tables::{Row, name_of};
@@ -197,4 +200,12 @@ Ix4 4,8,8,8 -4,0..3,NewAxis,-2,NewAxis,7 ..3;3,0..4;-1,7..-1;2,-3..6 apart";
 #[test]
 fn answers_of_ndarray(rt: HostRuntime) {
     hold(&rt, rt.alloc(), Told::Meeting(Strict), ANSWERED);
+}
+
+// An answer and a fault each stay as they are where the first request for memory, or the second, is refused.
+#[test]
+fn memory_of_meeting(rt: HostRuntime) {
+    let (dim, last, whole) = (new_ix2(4, 5), [Index(-1), NewAxis, Index(0)], [ALL; 2]);
+    assert!(rt; meeting(&dim, &last, &whole, Strict) == "meet");
+    assert!(rt; meeting(&dim, &whole, &[ALL], Strict) == "IncompatibleShape");
 }
