@@ -1,6 +1,6 @@
-//! All shapes of up to three axes with lengths 1 to 4 and strides from -4 to 4, against all shapes of up to three axes with
-//! such lengths: the strides are the differences of places by rank, and are compared with them at every rank; where the
-//! sizes differ, joints are looked at one by one.
+//! Layouts of no more than three axes, each of at most 4 entries with a stride of at most 4 in magnitude, under every shape
+//! of as many such axes: the strides are the differences of places by rank, and are compared with them at every rank; where
+//! the sizes differ, joints are looked at one by one. Of three axes one layout in 37 is taken.
 //!
 //! Axes stand in the order in which they are read, so that of one shape in both orders two lists are made.
 use crate::reshape::asked::reshaped;
