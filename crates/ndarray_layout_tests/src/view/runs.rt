@@ -91,7 +91,7 @@ fn every_other(alloc: Global) -> Result<Vec<SliceInfoElem>, AllocError> {
 /// A step of each kind, where no view has more than four axes: once the elements of the slice are
 /// made, nothing is asked for.
 #[test]
-fn r9_rows_of_runs(rt: HostRuntime) {
+fn r9_rows_of_memory_in_runs(rt: HostRuntime) {
     let Ok(elems) = every_other(rt.alloc()) else {
         return;
     };
