@@ -1,7 +1,6 @@
 //! Tests of `ndarray_layout`, by its public calls.
 pub mod answer;
 mod axes;
-pub mod elems;
 mod meets;
 mod owned;
 pub mod question;

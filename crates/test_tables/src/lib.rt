@@ -1,5 +1,5 @@
 //! What the tests of several crates share: the names of faults, which values are equal, refused requests for
-//! memory, and tables as text.
+//! memory, tables as text, and questions asked at a type that a row names.
 #![tactic(auto)]
 
 mod equality;
@@ -7,9 +7,11 @@ mod faults;
 mod lists;
 mod memory;
 mod table;
+mod types;
 
 pub use equality::{are_distinct, hash_of};
 pub use faults::{fault_of, layout_fault_name, name_of, or_fault};
 pub use lists::{List, Lists, made};
 pub use memory::{asked, grants};
 pub use table::{Row, TableError, rows};
+pub use types::{AtType, at_type};

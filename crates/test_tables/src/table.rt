@@ -1,6 +1,7 @@
 //! Tables as text: a row is a line of words, a list is a word of numbers separated by commas, `-` is the
 //! empty list.
-use nd_base::unsigned;
+use crate::lists::made;
+use nd_base::{Lengths, unsigned};
 use std::alloc::{AllocError, Global};
 use std::str::{Lines, SplitWhitespace};
 
@@ -11,6 +12,8 @@ pub enum TableError {
     MissingWord,
     /// A word is no number, or not a list of numbers.
     NotANumber,
+    /// A list has another count of axes than its type, or memory for a value of it was refused.
+    NotMade,
     /// Memory for a list was refused.
     Memory(AllocError),
 }
@@ -73,6 +76,24 @@ impl<'a> Row<'a> {
             }
         }
         Ok(lengths)
+    }
+
+    /// The next word as a value of a dimension type.
+    ///
+    /// Errors: those of `lengths`, then `NotMade`.
+    pub fn dim<D: Lengths>(&mut self, alloc: Global) -> Result<D, TableError> {
+        let lengths = self.lengths(alloc)?;
+        made(alloc, lengths.as_slice()).ok_or(TableError::NotMade)
+    }
+
+    /// The count of axes that the next word fixes, the name of a dimension type.
+    ///
+    /// Errors: `MissingWord`.
+    pub fn fixed_count(&mut self) -> Result<Option<usize>, TableError> {
+        match self.word()?.strip_prefix("Ix") {
+            Some(count) => Ok(count.parse().ok()),
+            None => Ok(None),
+        }
     }
 }
 

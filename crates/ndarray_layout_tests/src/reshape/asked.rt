@@ -1,14 +1,13 @@
 //! Reshapes, at each dimension type that has as many axes.
 //!
 //! A row is a shape, its strides, another shape, and the strides that this one is given, or after an arrow the fault.
-use crate::types::{AtType, at_type};
 use Asked::{Answer, Memory, OfAny, OfFixed};
 use ndarray_layout::{
     Lengths, Order, max_abs_offset_check_overflow, reshape_dim, size_of_shape_checked,
 };
 use std::alloc::Global;
 use std::process::Abort;
-use test_tables::{Lists, grants, layout_fault_name, made};
+use test_tables::{AtType, Lists, at_type, grants, layout_fault_name, made};
 
 /// What is asked of a reshape in an order.
 #[derive(Clone, Copy)]
@@ -76,8 +75,8 @@ impl<D: Lengths> OfLayout<'_, '_, D> {
     }
 }
 
-impl<D: Lengths> AtType for OfLayout<'_, '_, D> {
-    fn at<E: Lengths>(self, rt: &impl Abort, alloc: Global) -> bool {
+impl<R: Abort, D: Lengths> AtType<R> for OfLayout<'_, '_, D> {
+    fn at<E: Lengths>(self, rt: &R, alloc: Global) -> bool {
         let _rt = rt;
         match made::<E>(alloc, self.row.third.as_slice()) {
             Some(to) => match self.asked {
@@ -97,8 +96,8 @@ struct OfRow<'a, 'b> {
     asked: Asked,
 }
 
-impl AtType for OfRow<'_, '_> {
-    fn at<D: Lengths>(self, rt: &impl Abort, alloc: Global) -> bool {
+impl<R: Abort> AtType<R> for OfRow<'_, '_> {
+    fn at<D: Lengths>(self, rt: &R, alloc: Global) -> bool {
         let OfRow {
             row,
             to_ndim,

@@ -2,12 +2,11 @@
 use crate::reshape::asked::Asked::{Answer, Memory, OfAny, OfFixed};
 use crate::reshape::asked::reshaped;
 use crate::tables::{Told, hold};
-use crate::types::{AtType, at_type};
 use Order::{ColumnMajor, RowMajor};
 use ndarray_layout::{Lengths, Order, unsigned};
 use std::alloc::Global;
 use std::process::Abort;
-use test_tables::made;
+use test_tables::{AtType, at_type, made};
 
 /// Shapes of up to four axes, whatever is answered.
 const SMALL: &str = "\
@@ -88,8 +87,8 @@ fn are_forced(to: &[usize], strides: &[usize]) -> bool {
     to.len() == strides.len()
 }
 
-impl AtType for Many<'_> {
-    fn at<D: Lengths>(self, rt: &impl Abort, alloc: Global) -> bool {
+impl<R: Abort> AtType<R> for Many<'_> {
+    fn at<D: Lengths>(self, rt: &R, alloc: Global) -> bool {
         let Many { to, order } = self;
         let from: D = made(alloc, &[6]).expect(rt, "a shape");
         let strides: D = made(alloc, &[unsigned(-2)]).expect(rt, "strides");

@@ -4,12 +4,11 @@
 //!
 //! Axes stand in the order in which they are read, so that of one shape in both orders two lists are made.
 use crate::reshape::asked::reshaped;
-use crate::types::{AtType, at_type};
 use Order::{ColumnMajor, RowMajor};
 use ndarray_layout::{Lengths, Order, unsigned};
 use std::alloc::Global;
 use std::process::Abort;
-use test_tables::made;
+use test_tables::{AtType, at_type, made};
 
 /// An axis.
 #[derive(Clone, Copy)]
@@ -316,8 +315,8 @@ impl Each {
     }
 }
 
-impl AtType for Each {
-    fn at<D: Lengths>(self, rt: &impl Abort, alloc: Global) -> bool {
+impl<R: Abort> AtType<R> for Each {
+    fn at<D: Lengths>(self, rt: &R, alloc: Global) -> bool {
         for number in 0..how_many(36, self.count) {
             if number.checked_rem(self.apart) == Some(0) {
                 assert!(rt; self.are_answered::<D>(alloc, number), "{number}");

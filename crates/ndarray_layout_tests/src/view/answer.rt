@@ -1,8 +1,6 @@
 //! Whether views answer as rows say, at any dimension type.
-use crate::types::{AtType, at_type};
-use crate::view::elems::elems;
 use crate::view::question::{
-    Asked, Made, OfView, Question, dim, fixed_count, lens, number, read_layout, read_question,
+    Asked, Made, OfView, Question, dim, lens, number, read_layout, read_question,
 };
 use crate::view::words::{is_number, is_refused, says};
 use Order::{ColumnMajor, RowMajor};
@@ -12,7 +10,8 @@ use ndarray_layout::{
 };
 use std::alloc::Global;
 use std::process::Abort;
-use test_tables::Row;
+use test_slices::elems;
+use test_tables::{AtType, Row, at_type};
 
 // ---- views as rows write them
 
@@ -95,7 +94,7 @@ fn is_sliced<D: Lengths, E: Lengths>(
     view: &Strided<D>,
     fit: Fit,
 ) -> bool {
-    let elems = elems(rt, alloc, row);
+    let elems = elems(alloc, row).expect(rt, "an argument");
     is_told::<E>(rt, alloc, row, view.slice(alloc, &elems, fit))
 }
 
@@ -117,8 +116,8 @@ struct OfMade<'a, 'b, D: Lengths> {
     row: &'a mut Row<'b>,
 }
 
-impl<D: Lengths> AtType for OfMade<'_, '_, D> {
-    fn at<E: Lengths>(self, rt: &impl Abort, alloc: Global) -> bool {
+impl<R: Abort, D: Lengths> AtType<R> for OfMade<'_, '_, D> {
+    fn at<E: Lengths>(self, rt: &R, alloc: Global) -> bool {
         let OfMade { view, made, row } = self;
         match made {
             Made::Slice(fit) => is_sliced::<D, E>(rt, alloc, row, view, fit),
@@ -135,7 +134,7 @@ fn is_made<D: Lengths>(
     view: &Strided<D>,
     made: Made,
 ) -> bool {
-    let ndim = fixed_count(rt, row);
+    let ndim = row.fixed_count().expect(rt, "a type");
     at_type(rt, alloc, ndim, OfMade { view, made, row })
 }
 
@@ -162,8 +161,8 @@ fn is_picked<D: Lengths>(
     view: &Strided<D>,
     fit: Fit,
 ) -> bool {
-    let _ndim = fixed_count(rt, row);
-    let elems = elems(rt, alloc, row);
+    let _ndim = row.fixed_count().expect(rt, "a type");
+    let elems = elems(alloc, row).expect(rt, "an argument");
     match view.picked(&elems, fit) {
         Ok(count) => is_number(rt, row, Some(count)),
         Err(fault) => is_refused(rt, row, fault.kind()),
@@ -222,8 +221,8 @@ fn slice_is_in_order<D: Lengths>(
     row: &mut Row<'_>,
     view: &Strided<D>,
 ) -> bool {
-    let _ndim = fixed_count(rt, row);
-    let elems = elems(rt, alloc, row);
+    let _ndim = row.fixed_count().expect(rt, "a type");
+    let elems = elems(alloc, row).expect(rt, "an argument");
     let slice: Result<Strided<D>, LayoutError> = view.slice(alloc, &elems, Fit::Strict);
     let slice = slice.expect(rt, "refused");
     says(rt, row, order_of(&slice)) && is_laid(rt, alloc, row, &slice)
@@ -296,8 +295,8 @@ struct OfRow<'a, 'b> {
     row: &'a mut Row<'b>,
 }
 
-impl AtType for OfRow<'_, '_> {
-    fn at<D: Lengths>(self, rt: &impl Abort, alloc: Global) -> bool {
+impl<R: Abort> AtType<R> for OfRow<'_, '_> {
+    fn at<D: Lengths>(self, rt: &R, alloc: Global) -> bool {
         let OfRow { row } = self;
         answers::<D>(rt, alloc, row)
     }
@@ -305,6 +304,6 @@ impl AtType for OfRow<'_, '_> {
 
 /// A row holds: a dimension type, a layout over data, a question and its answer.
 pub fn view_holds(rt: &impl Abort, alloc: Global, row: &mut Row<'_>) -> bool {
-    let ndim = fixed_count(rt, row);
+    let ndim = row.fixed_count().expect(rt, "a type");
     at_type(rt, alloc, ndim, OfRow { row })
 }

@@ -4,12 +4,11 @@
 //! strides), a question and its answer. After `merge` stand the axis to take and the one to merge into,
 //! after `broadcast` the dimension type of the shape, and the shape.
 use crate::tables::{Told, hold};
-use crate::types::{AtType, at_type};
 use crate::view::owned::owned;
 use ndarray_layout::{Lengths, new_ix2};
 use std::alloc::Global;
 use std::process::Abort;
-use test_tables::{grants, made};
+use test_tables::{AtType, at_type, grants, made};
 
 /// Merged axes: the view that is left, or that stays.
 const MERGED: &str = "\
@@ -130,8 +129,8 @@ struct Columns<'a> {
     times: Times,
 }
 
-impl AtType for Columns<'_> {
-    fn at<E: Lengths>(self, _rt: &impl Abort, alloc: Global) -> bool {
+impl<R: Abort> AtType<R> for Columns<'_> {
+    fn at<E: Lengths>(self, _rt: &R, alloc: Global) -> bool {
         let Some(shape) = made::<E>(alloc, self.shape) else {
             return E::NDIM.is_none() && matches!(self.times, Times::TwiceOrRefused);
         };

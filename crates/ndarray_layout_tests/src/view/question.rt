@@ -5,7 +5,7 @@ use Fit::{Clamp, Strict};
 use ndarray_layout::{CanIndexCheckMode, Fit, Lengths};
 use std::alloc::Global;
 use std::process::Abort;
-use test_tables::{Row, made};
+use test_tables::Row;
 
 /// A layout over some data.
 #[derive(Drop)]
@@ -63,7 +63,7 @@ pub fn lens(rt: &impl Abort, alloc: Global, row: &mut Row<'_>) -> Vec<usize> {
 
 /// The next word of a row as a value of a dimension type.
 pub fn dim<D: Lengths>(rt: &impl Abort, alloc: Global, row: &mut Row<'_>) -> D {
-    made(alloc, lens(rt, alloc, row).as_slice()).expect(rt, "a list of as many axes")
+    row.dim(alloc).expect(rt, "a list of as many axes")
 }
 
 /// The use of the data that a word names.
@@ -89,11 +89,6 @@ pub fn read_layout<D: Lengths>(rt: &impl Abort, alloc: Global, row: &mut Row<'_>
         shape: dim(rt, alloc, row),
         strides: dim(rt, alloc, row),
     }
-}
-
-/// The count of axes that the next word fixes, the name of a dimension type.
-pub fn fixed_count(rt: &impl Abort, row: &mut Row<'_>) -> Option<usize> {
-    word(rt, row).strip_prefix("Ix")?.parse().ok()
 }
 
 /// The next word of a row as a question.

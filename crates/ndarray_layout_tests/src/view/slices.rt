@@ -3,6 +3,8 @@
 //! A row is a dimension type, a layout (size of an element, length and use of the data, shape,
 //! strides), the dimension type of the slice, its argument, and the answer.
 use crate::tables::{Told, hold};
+use SliceInfoElem::{Index, Slice};
+use ndarray_layout::{SliceInfoElem, in_ndim_of, out_ndim_of};
 
 /// What slices leave: shape, strides, start, places by rows and by columns.
 const SLICES: &str = "\
@@ -105,4 +107,15 @@ Ix2 1 6 owned 2,3 3,1 clamp_picked Ix2 .. IncompatibleShape";
 #[test]
 fn r14_rows(rt: HostRuntime) {
     hold(&rt, rt.alloc(), Told::Views, CLAMPED);
+}
+
+#[test]
+fn counts_of_axes(rt: HostRuntime) {
+    let all = Slice {
+        start: 0,
+        end: None,
+        step: 1,
+    };
+    let elems = [Index(1), all];
+    assert_eq!(rt; (in_ndim_of(&elems), out_ndim_of(&elems)), (2, 1));
 }

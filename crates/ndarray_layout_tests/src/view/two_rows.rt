@@ -1,7 +1,6 @@
 //! Two rows of three elements: slices as values of their type, and refused memory.
 //!
 //! Each test passes plain, and with the first or the second request of its run refused.
-use crate::types::{AtType, at_type};
 use crate::view::owned::{Left, is_left, owned};
 use Fit::Strict;
 use Order::RowMajor;
@@ -9,7 +8,7 @@ use SliceInfoElem::{Index, NewAxis, Slice};
 use ndarray_layout::{Fit, LayoutError, Lengths, Order, SliceInfoElem, Strided};
 use std::alloc::{AllocError, Global};
 use std::process::Abort;
-use test_tables::{grants, made};
+use test_tables::{AtType, at_type, grants, made};
 
 /// A list of two axes, as a value of a type that fixes their count.
 fn pair<D: Lengths>(rt: &impl Abort, alloc: Global, list: [usize; 2]) -> D {
@@ -46,8 +45,8 @@ struct SliceOfRows<'a> {
     left: Left<'a>,
 }
 
-impl AtType for SliceOfRows<'_> {
-    fn at<D: Lengths>(self, rt: &impl Abort, alloc: Global) -> bool {
+impl<R: Abort> AtType<R> for SliceOfRows<'_> {
+    fn at<D: Lengths>(self, rt: &R, alloc: Global) -> bool {
         let view = two_rows::<D>(rt, alloc);
         let slice: Result<Strided<D>, LayoutError> = view.slice(alloc, &self.elems, Strict);
         let slice = slice.expect(rt, "refused");
@@ -84,8 +83,8 @@ fn lists_six(places: Result<Vec<usize>, AllocError>, granted: bool) -> bool {
 #[derive(Clone, Copy)]
 struct PlacesOfRows;
 
-impl AtType for PlacesOfRows {
-    fn at<D: Lengths>(self, rt: &impl Abort, alloc: Global) -> bool {
+impl<R: Abort> AtType<R> for PlacesOfRows {
+    fn at<D: Lengths>(self, rt: &R, alloc: Global) -> bool {
         let places = two_rows::<D>(rt, alloc).places(alloc, RowMajor);
         lists_six(places, grants(alloc))
     }

@@ -4,11 +4,8 @@ ghost use Rattle.std.specs.Prelude.{◌≡◌, ◌≤◌, ◌^◌};
 ghost use Rattle.nd_base.specs.Signed.{magnitude};
 
 use crate::tables::{Told, hold};
-use crate::view::question::number;
-use crate::view::words::word;
 use nd_slice::{arith_seq_intersect, extended_gcd, solve_linear_diophantine_eq};
-use std::process::Abort;
-use test_tables::Row;
+use test_tables::{Row, TableError};
 
 /// A number of the type of the calls.
 fn wide(number: isize) -> i128
@@ -20,50 +17,43 @@ fn wide(number: isize) -> i128
 
 // ---- rows
 
-/// The next word of a row as a number.
-fn signed(rt: &impl Abort, row: &mut Row<'_>) -> isize {
-    row.number().expect(rt, "a number")
-}
-
 /// The next words of a row as two numbers.
-fn two(rt: &impl Abort, row: &mut Row<'_>) -> (isize, isize) {
-    (signed(rt, row), signed(rt, row))
+fn two(row: &mut Row<'_>) -> Result<(isize, isize), TableError> {
+    Ok((row.number()?, row.number()?))
 }
 
-/// The next words of a row as the first and the last number of a list, and its step.
-fn list(rt: &impl Abort, row: &mut Row<'_>) -> (isize, isize, isize) {
-    (signed(rt, row), signed(rt, row), signed(rt, row))
+/// The next words of a row as three numbers: of a list the first and the last one, and its step.
+fn list(row: &mut Row<'_>) -> Result<(isize, isize, isize), TableError> {
+    Ok((row.number()?, row.number()?, row.number()?))
 }
 
 /// A row holds: two numbers, their greatest common divisor, and what each of them is multiplied by.
-fn divisor_holds(rt: &impl Abort, row: &mut Row<'_>) -> bool {
-    let (a, b) = two(rt, row);
+fn divisor_holds(row: &mut Row<'_>) -> Result<bool, TableError> {
+    let ((a, b), due) = (two(row)?, list(row)?);
     let (gcd, (x, y)) = extended_gcd(wide(a), wide(b));
-    let due = list(rt, row);
-    (gcd, x, y) == (due.0 as i128, due.1 as i128, due.2 as i128)
+    Ok((gcd, x, y) == (due.0 as i128, due.1 as i128, due.2 as i128))
 }
 
 /// A row holds: the three numbers of an equation, its least solution and how far apart solutions lie, or `none`.
-fn solution_holds(rt: &impl Abort, row: &mut Row<'_>) -> bool {
-    let (a, b) = two(rt, row);
-    let c = signed(rt, row);
+fn solution_holds(row: &mut Row<'_>) -> Result<bool, TableError> {
+    let (a, b, c) = list(row)?;
     if a == 0 || b == 0 {
-        return false;
+        return Ok(false);
     }
     match solve_linear_diophantine_eq(wide(a), wide(b), wide(c)) {
         Some((least, apart)) => {
-            let due = (number(rt, row), number(rt, row));
-            (least, apart) == (due.0 as i128, due.1 as i128)
+            let due = (row.length()?, row.length()?);
+            Ok((least, apart) == (due.0 as i128, due.1 as i128))
         }
-        None => word(rt, row) == "none",
+        None => Ok(row.word()? == "none"),
     }
 }
 
 /// A row holds: two lists of numbers, and whether they share one.
-fn sequences_hold(rt: &impl Abort, row: &mut Row<'_>) -> bool {
-    let (first, second) = (list(rt, row), list(rt, row));
-    let due = word(rt, row) == "true";
-    first.2 != 0 && second.2 != 0 && arith_seq_intersect(first, second) == due
+fn sequences_hold(row: &mut Row<'_>) -> Result<bool, TableError> {
+    let (first, second) = (list(row)?, list(row)?);
+    let due = row.word()? == "true";
+    Ok(first.2 != 0 && second.2 != 0 && arith_seq_intersect(first, second) == due)
 }
 
 /// What a row tells of numbers.
@@ -78,11 +68,11 @@ pub enum OfNumbers {
 }
 
 /// A row holds.
-pub fn numbers_hold(rt: &impl Abort, row: &mut Row<'_>, asked: OfNumbers) -> bool {
+pub fn numbers_hold(row: &mut Row<'_>, asked: OfNumbers) -> Result<bool, TableError> {
     match asked {
-        OfNumbers::Divisor => divisor_holds(rt, row),
-        OfNumbers::Solution => solution_holds(rt, row),
-        OfNumbers::Sequences => sequences_hold(rt, row),
+        OfNumbers::Divisor => divisor_holds(row),
+        OfNumbers::Solution => solution_holds(row),
+        OfNumbers::Sequences => sequences_hold(row),
     }
 }
 

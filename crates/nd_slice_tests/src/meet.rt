@@ -4,20 +4,16 @@
 ghost use Rattle.std.specs.Prelude.{◌<◌, ◌^◌, IsTrue};
 ghost use Rattle.std.specs.List.{All};
 
-use crate::slice::arguments::ALL;
+use crate::arguments::ALL;
 use crate::tables::{Told, hold};
-use crate::types::{AtType, at_type};
-use crate::view::elems::elems;
-use crate::view::question::{dim, fixed_count};
-use crate::view::words::word;
 use Fit::{Clamp, Strict};
 use SliceInfoElem::{Index, NewAxis};
-use nd_base::new_ix2;
-use nd_dim::Lengths;
+use nd_base::{Lengths, new_ix2};
 use nd_slice::{Fit, SliceElems, SliceInfoElem, slices_intersect};
 use std::alloc::Global;
 use std::process::Abort;
-use test_tables::{Row, name_of};
+use test_slices::elems;
+use test_tables::{AtType, Row, TableError, at_type, name_of};
 
 /// Whether each length is at most the greatest `isize`.
 fn are_short(shape: &[usize]) -> bool
@@ -49,19 +45,25 @@ struct Arguments<'a, 'b> {
     fit: Fit,
 }
 
-impl AtType for Arguments<'_, '_> {
-    fn at<D: Lengths>(self, rt: &impl Abort, alloc: Global) -> bool {
+impl<R: Abort> AtType<R> for Arguments<'_, '_> {
+    fn at<D: Lengths>(self, rt: &R, alloc: Global) -> bool {
         let Arguments { row, fit } = self;
-        let dim: D = dim(rt, alloc, row);
-        let (first, second) = (elems(rt, alloc, row), elems(rt, alloc, row));
-        meeting(&dim, &first, &second, fit) == word(rt, row)
+        let dim: D = row.dim(alloc).expect(rt, "a shape");
+        let first = elems(alloc, row).expect(rt, "an argument");
+        let second = elems(alloc, row).expect(rt, "an argument");
+        meeting(&dim, &first, &second, fit) == row.word().expect(rt, "an answer")
     }
 }
 
 /// A row holds, at the type that it names first.
-pub fn meeting_holds(rt: &impl Abort, alloc: Global, row: &mut Row<'_>, fit: Fit) -> bool {
-    let ndim = fixed_count(rt, row);
-    at_type(rt, alloc, ndim, Arguments { row, fit })
+pub fn meeting_holds(
+    rt: &impl Abort,
+    alloc: Global,
+    row: &mut Row<'_>,
+    fit: Fit,
+) -> Result<bool, TableError> {
+    let ndim = row.fixed_count()?;
+    Ok(at_type(rt, alloc, ndim, Arguments { row, fit }))
 }
 
 /// Whole arguments: new axes, steps, indices, no axes and no entries.

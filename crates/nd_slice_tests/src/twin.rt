@@ -1,6 +1,6 @@
 //! All slices of an axis of up to six entries with bounds from -6 to 6 or left out and steps from -4 to 4: two of them
 //! meet where an entry, of all those of the axis, is picked by both.
-use crate::slice::meet::meeting;
+use crate::meet::meeting;
 use Fit::{Clamp, Strict};
 use nd_base::new_ix1;
 use nd_slice::{Fit, Slice, SliceInfoElem};

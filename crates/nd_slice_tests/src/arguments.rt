@@ -1,16 +1,13 @@
 //! Which slice arguments fit a shape, and the first fault of any other, however the elements are kept.
 use crate::tables::{Told, hold};
-use crate::types::{AtType, at_type};
-use crate::view::elems::elems;
-use crate::view::question::{dim, fixed_count};
 use Fit::{Clamp, Strict};
 use SliceInfoElem::{Index, NewAxis};
-use nd_base::{ErrorKind, ShapeError};
-use nd_dim::Lengths;
+use nd_base::{ErrorKind, Lengths, ShapeError};
 use nd_slice::{Fit, SliceInfoElem, check_elems, check_slice, in_ndim_of, out_ndim_of};
 use std::alloc::Global;
 use std::process::Abort;
-use test_tables::{Row, fault_of, name_of};
+use test_slices::elems;
+use test_tables::{AtType, Row, TableError, at_type, fault_of, name_of};
 
 /// The whole of an axis.
 pub const ALL: SliceInfoElem = SliceInfoElem::Slice {
@@ -93,20 +90,25 @@ struct Checked<'a, 'b> {
     fit: Fit,
 }
 
-impl AtType for Checked<'_, '_> {
-    fn at<D: Lengths>(self, rt: &impl Abort, alloc: Global) -> bool {
+impl<R: Abort> AtType<R> for Checked<'_, '_> {
+    fn at<D: Lengths>(self, rt: &R, alloc: Global) -> bool {
         let Checked { row, fit } = self;
-        let dim: D = dim(rt, alloc, row);
-        let elems = elems(rt, alloc, row);
+        let dim: D = row.dim(alloc).expect(rt, "a shape");
+        let elems = elems(alloc, row).expect(rt, "an argument");
         let fault = row.word().expect(rt, "an answer");
         has_fault(alloc, &dim, elems.as_slice(), fault, fit) && whole_axes_fit(alloc, &dim, fit)
     }
 }
 
 /// A row holds, at the type that it names first.
-pub fn argument_holds(rt: &impl Abort, alloc: Global, row: &mut Row<'_>, fit: Fit) -> bool {
-    let ndim = fixed_count(rt, row);
-    at_type(rt, alloc, ndim, Checked { row, fit })
+pub fn argument_holds(
+    rt: &impl Abort,
+    alloc: Global,
+    row: &mut Row<'_>,
+    fit: Fit,
+) -> Result<bool, TableError> {
+    let ndim = row.fixed_count()?;
+    Ok(at_type(rt, alloc, ndim, Checked { row, fit }))
 }
 
 /// One axis.

@@ -3,15 +3,12 @@ ghost use Rattle.std.specs.Prelude.{◌<◌, ◌≤◌, ◌^◌, IsTrue};
 ghost use Rattle.nd_base.specs.Size.{limit};
 ghost use Rattle.nd_base.specs.Span.{reach};
 
-use crate::slice::min_max::slice;
+use crate::min_max::slice;
 use crate::tables::{Told, hold};
-use crate::view::question::number;
-use crate::view::words::is_refused;
 use Fit::{Clamp, Strict};
 use nd_base::{ErrorKind, new_ix2, signed, unsigned};
 use nd_slice::{Fit, Slice, abs_index, do_collapse_axis, do_slice, entry_of, to_abs_slice};
-use std::process::Abort;
-use test_tables::{Row, or_fault};
+use test_tables::{Row, TableError, name_of, or_fault};
 
 /// Whether a length and a stride can be those of an axis.
 fn is_axis(len: usize, stride: isize) -> bool
@@ -21,31 +18,28 @@ fn is_axis(len: usize, stride: isize) -> bool
     len <= isize::MAX as usize && reach <= isize::MAX as u128
 }
 
-/// A signed number, the next word of a row.
-fn signed_number(rt: &impl Abort, row: &mut Row<'_>) -> isize {
-    row.number().expect(rt, "a number")
-}
-
 /// Whether the next words of a row are what the slice of an axis answers, and the length and the stride that
 /// the axis has afterwards.
-fn gives(rt: &impl Abort, row: &mut Row<'_>, len: usize, stride: isize, fit: Fit) -> bool
+fn gives(row: &mut Row<'_>, len: usize, stride: isize, fit: Fit) -> Result<bool, TableError>
     requires len_fits { len < 2 ^ 63 }
     requires span_fits { reach len stride ≤ limit }
 {
     let (mut len, mut stride) = (len, unsigned(stride));
-    let slice = slice(rt, row).expect(rt, "a slice");
-    let answers = match do_slice(&mut len, &mut stride, slice, fit) {
-        Ok(offset) => row.number().ok() == Some(offset),
-        Err(fault) => is_refused(rt, row, fault.kind()),
+    let answers = match do_slice(&mut len, &mut stride, slice(row)?, fit) {
+        Ok(offset) => row.number()? == offset,
+        Err(fault) => row.word()? == name_of(Some(fault.kind())),
     };
-    answers && number(rt, row) == len && signed_number(rt, row) == signed(stride)
+    Ok(answers && row.length()? == len && row.number()? == signed(stride))
 }
 
 /// A row holds: the length and the stride of an axis, a slice of it, the answer, and the length and the stride
 /// afterwards.
-pub fn slice_holds(rt: &impl Abort, row: &mut Row<'_>, fit: Fit) -> bool {
-    let (len, stride) = (number(rt, row), signed_number(rt, row));
-    is_axis(len, stride) && gives(rt, row, len, stride, fit)
+pub fn slice_holds(row: &mut Row<'_>, fit: Fit) -> Result<bool, TableError> {
+    let (len, stride) = (row.length()?, row.number()?);
+    if !is_axis(len, stride) {
+        return Ok(false);
+    }
+    gives(row, len, stride, fit)
 }
 
 #[test]

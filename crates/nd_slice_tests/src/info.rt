@@ -1,6 +1,7 @@
 //! Slice arguments whose type says the counts of axes before and after.
-use nd_base::{ErrorKind, FixedCount, Ix0, Ix1, Ix2, Ix3, Ix6, IxDyn, ShapeError, new_ix2};
-use nd_dim::Lengths;
+use nd_base::{
+    ErrorKind, FixedCount, Ix0, Ix1, Ix2, Ix3, Ix6, IxDyn, Lengths, ShapeError, new_ix2,
+};
 use nd_slice::{Fit, NewAxis, SliceArg, SliceElems, SliceInfo, SliceInfoElem, check_slice};
 use std::alloc::Global;
 use test_tables::or_fault;

@@ -2,13 +2,10 @@
 //!
 //! A row is a length, a slice, and both entries.
 use crate::tables::{Told, hold};
-use crate::view::elems::elem;
-use crate::view::question::number;
-use crate::view::words::{says, word};
 use Fit::{Clamp, Strict};
 use nd_slice::{Fit, Slice, SliceInfoElem, slice_min_max, to_abs_slice};
-use std::process::Abort;
-use test_tables::Row;
+use test_slices::elem;
+use test_tables::{Row, TableError};
 
 /// Both entries, or nothing where there are none; the outer one where the slice does not fit.
 fn ends(len: usize, slice: Slice, fit: Fit) -> Option<Option<(usize, usize)>> {
@@ -19,21 +16,20 @@ fn ends(len: usize, slice: Slice, fit: Fit) -> Option<Option<(usize, usize)>> {
 }
 
 /// The slice that the next word of a row spells.
-pub fn slice(rt: &impl Abort, row: &mut Row<'_>) -> Option<Slice> {
-    match elem(rt, word(rt, row)) {
-        SliceInfoElem::Slice { start, end, step } => Some(Slice { start, end, step }),
-        _ => None,
+pub fn slice(row: &mut Row<'_>) -> Result<Slice, TableError> {
+    match elem(row)? {
+        SliceInfoElem::Slice { start, end, step } => Ok(Slice { start, end, step }),
+        _ => Err(TableError::NotANumber),
     }
 }
 
 /// A row holds.
-pub fn ends_hold(rt: &impl Abort, row: &mut Row<'_>, fit: Fit) -> bool {
-    let len = number(rt, row);
-    let slice = slice(rt, row).expect(rt, "a slice");
+pub fn ends_hold(row: &mut Row<'_>, fit: Fit) -> Result<bool, TableError> {
+    let (len, slice) = (row.length()?, slice(row)?);
     match ends(len, slice, fit) {
-        Some(Some((least, greatest))) => number(rt, row) == least && number(rt, row) == greatest,
-        Some(None) => says(rt, row, "none"),
-        None => false,
+        Some(Some(ends)) => Ok((row.length()?, row.length()?) == ends),
+        Some(None) => Ok(row.word()? == "none"),
+        None => Ok(false),
     }
 }
 
