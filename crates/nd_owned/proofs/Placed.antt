@@ -16,7 +16,7 @@ pub by_places : {X : Type 0} (stored : List X) (places : List ℕ) (at : List �
 by_places stored places at same = by_numbers stored places ∙ ap (map (item_at_place stored)) same
 
 -- an item of a list is the same whatever stands for a missing one
-other_default : {X : Type 0} (xs : List X) (i : ℕ) (d e : X) → i < length xs → get_or xs i d ≡ get_or xs i e
+pub other_default : {X : Type 0} (xs : List X) (i : ℕ) (d e : X) → i < length xs → get_or xs i d ≡ get_or xs i e
 other_default [] i d e below = absurd (omega arith)
 other_default (x ∷ xs) zero d e below = refl
 other_default (x ∷ xs) (suc i) d e below = other_default xs i d e (omega arith)

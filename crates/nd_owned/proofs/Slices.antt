@@ -23,10 +23,11 @@ use Rattle.ndarray_layout.proofs.laws.SlicedView.{HasDistinctPlaces-slice_of}
 use Rattle.ndarray_layout.proofs.laws.View.{length-view_places}
 use Rattle.nd_owned.specs.Owned.{item_at_place}
 use Rattle.nd_owned.specs.Writes.{Write, AreApart, CanWrite, HasWritten, IsWritten, KeepsOthers, ShareNone, Spares, has_count, slices_fault, write_places}
-use Rattle.nd_owned.proofs.Placed.{by_places, map_same}
+use Rattle.nd_owned.proofs.Faults.{both_none}
+use Rattle.nd_owned.proofs.Placed.{by_places}
 
 -- what two lists have at one position, where functions of them are the same
-at_both : {A B C : Type 0} (f : A → C) (g : B → C) (xs : List A) (ys : List B) (k : ℕ) (x : A) (y : B) → map f xs ≡ map g ys → k < length xs → f (get_or xs k x) ≡ g (get_or ys k y)
+pub at_both : {A B C : Type 0} (f : A → C) (g : B → C) (xs : List A) (ys : List B) (k : ℕ) (x : A) (y : B) → map f xs ≡ map g ys → k < length xs → f (get_or xs k x) ≡ g (get_or ys k y)
 at_both f g xs ys k x y same below =
     let there : k < length ys = omega (arith, length-map xs f, ap length same, length-map ys g) in
     sym (get_or-map f xs k x (f x) below) ∙ ap (λ zs. get_or zs k (f x)) same ∙ get_or-map g ys k y (f x) there
@@ -48,10 +49,6 @@ distinct_places order view places same distinct i j d earlier below e =
     (sym (at_both pos (place_at view) places indices i d [] same (omega arith)) ∙ ap pos e ∙ at_both pos (place_at view) places indices j d [] same below))
 
 -- ---- what holds of each of the writes
-both_none : (first second : Option ErrorKind) → option_or first second ≡ None → (first ≡ None) × (second ≡ None)
-both_none None second none = (refl, none)
-both_none (Some fault) second none = absurd (cc)
-
 pub each_fits : {T : Type 0} (shape : List ℕ) (writes : List (Write T)) → slices_fault shape writes ≡ None → All (λ write. argument_fault Strict shape write.slice ≡ None) writes
 each_fits shape [] none = λ k d below. absurd (omega arith)
 each_fits shape (write ∷ writes) none =

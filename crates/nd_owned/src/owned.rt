@@ -153,6 +153,7 @@ impl<T: Copy, D: Lengths> OwnedArray<T, D> {
         writes: &[(Vec<SliceInfoElem>, Vec<T>)],
     ) -> Result<(), LayoutError>
         ensures fault { IsFaultOfWrites self.old.view.shape (map write_of writes.now) (shape_fault result) }
+        ensures memory { shape_fault result ≡ None → length writes.now ≡ 0 → IsOk result }
         ensures unchanged { OnErr result (self.new ≡ self.old) }
         ensures view { self.new.view ≡ self.old.view }
         ensures count { length self.new.items ≡ length self.old.items }

@@ -115,7 +115,9 @@ pub(crate) fn places_of<T: Copy, D: Lengths>(
     view: &Strided<D>,
     writes: &[SliceItems<T>],
 ) -> Result<Vec<Vec<usize>>, LayoutError>
-    ensures fault { shape_fault result ≡ slices_fault view.now.shape (map write_of writes.now) }
+    requires { slices_fault view.now.shape (map write_of writes.now) ≡ None }
+    ensures fault { shape_fault result ≡ None }
+    ensures memory { length writes.now ≡ 0 → IsOk result }
     ensures places { IfOk result (λ v. map (map pos) (map vec_list v.items) ≡ map (write_places view.now) (map write_of writes.now)) }
     ensures inside { IfOk result (λ v. (len : ℕ) → LiesWithin len view.now → All (All (λ place. place < len)) (map vec_list v.items)) }
 {
@@ -135,8 +137,8 @@ fn write_at<T: Copy>(stored: &mut [T], places: &[usize], items: &[T])
     ensures kept { (place : ℕ) → (Contains places.now place → ⊥) →
         slice_get stored.new place ≡ slice_get stored.old place }
 {
-    for (place, item) in places.iter().zip(items) {
-        stored[*place] = *item;
+    for (at, place) in places.iter().enumerate() {
+        stored[*place] = items[at];
     }
 }
 

@@ -1,32 +1,46 @@
-use Rattle.std.proofs.Common.{rules, ◌≡◌, ◌<◌, ◌≢◌, ◌↔◌, ℕ, if◌then◌else◌, Some, None, IfErr, IfOk, IsOk, IsTrue, OnErr, OnOk, length, map, pos, slice_get, ◌+◌, ◌-◌, ◌*◌, ◌≤◌, ◌/◌, ◌%◌, Bool, true, false, nat_eq, nat_lt, List, [], ◌∷◌, ◌++◌, slice_index_or, slice_set, bit_and, bit_or, Fits, w8, w32, w64, Bor, MutBor}
-use Rattle.std.specs.List.{All, AllPairs, Contains, list_all}
+-- The first slice that meets one after it ends the check.
+use Rattle.std.proofs.Common.{rules, ◌≡◌, ◌+◌, ◌-◌, inr, Some, None, length, map, take, drop, refl, sym, ap, subst, ◌∙◌}
+use Rattle.std.specs.List.{All}
 use Rattle.std.specs.Result.{result_err}
-use Rattle.ndarray_layout.specs.declared.ErrorKind.TheVariants.{IncompatibleShape, Unsupported}
-use Rattle.ndarray_layout.specs.declared.Fit.TheVariants.{Strict}
-use Rattle.ndarray_layout.specs.declared.Order.TheVariants.{RowMajor}
-use Rattle.ndarray_layout.specs.ArgumentFault.{argument_fault}
-use Rattle.ndarray_layout.specs.ShapeFault.{shape_fault}
-use Rattle.ndarray_layout.specs.SlicedView.{slice_of}
-use Rattle.ndarray_layout.specs.View.{LiesWithin, view_places}
-use Rattle.nd_owned.specs.Writes.{CanWrite, HasWritten, IsFaultOfWrites, IsMeetFault, IsMeetFaultOf, has_count, slices_fault, vec_list, write_of, write_places}
+use Rattle.nd_owned.specs.Writes.{AreApart, IsMeetFault, slices_fault, write_of}
+use Rattle.nd_owned.proofs.Faults.{ended, met_later, next, next_fits, none_met, pairs_ended, pairs_more, rest, this_got}
 use Rattle.nd_owned.proofs.writes.check_apart.Goals as goal
 
--- src/writes.rt:80:9
 pub check_apart_from-requires-clause-fits : goal.check_apart_from-requires-clause-fits
-check_apart_from-requires-clause-fits g c = ?
+check_apart_from-requires-clause-fits g c =
+    (next_fits write_of c.args.view.now.shape c.args.writes.now c.loop-at.at c.index-writes-at.result c.loop-at-test.true c.index-writes-at.is c.loop-at.invariant.fit).0
 
--- src/writes.rt:80:9
 pub check_apart_from-requires-clause-others_fit : goal.check_apart_from-requires-clause-others_fit
-check_apart_from-requires-clause-others_fit g c = ?
+check_apart_from-requires-clause-others_fit g c =
+    ap (slices_fault c.args.view.now.shape) (rest write_of c.args.writes.now c.loop-at.at)
+    ∙ (next_fits write_of c.args.view.now.shape c.args.writes.now c.loop-at.at c.index-writes-at.result c.loop-at-test.true c.index-writes-at.is c.loop-at.invariant.fit).1
 
--- src/writes.rt:80:9
 pub returns-in_err-check_apart_from : goal.returns-in_err-check_apart_from
-returns-in_err-check_apart_from g c = ?
+returns-in_err-check_apart_from g c =
+    let i = c.loop-at.at in
+    let shape = c.args.view.now.shape in
+    let writes = c.args.writes.now in
+    let kind = c.in_err-check_apart_from.field-0.0 in
+    let same : result_err c.from_residual.result ≡ Some kind = search rules in
+    subst (IsMeetFault shape (map write_of writes)) (sym same)
+    (met_later shape (map write_of writes) (map write_of (take (length writes - (i + 1)) (drop (i + 1) writes))) i (write_of c.index-writes-at.result) kind
+    (this_got write_of writes i c.index-writes-at.result c.loop-at-test.true c.index-writes-at.is) (rest write_of writes i) c.in_err-check_apart_from.ensures)
 
--- src/writes.rt:79:5
 pub loop-at-preserved : goal.loop-at-preserved
-loop-at-preserved g c = ?
+loop-at-preserved g c =
+    let i = c.loop-at.at in
+    let shape = c.args.view.now.shape in
+    let item = c.index-writes-at.result in
+    let writes = map write_of c.args.writes.now in
+    let apart = none_met shape item.0.items (map write_of (take (length c.args.writes.now - (i + 1)) (drop (i + 1) c.args.writes.now))) c.in_ok-check_apart_from.ensures in
+    record {
+      apart = pairs_more (AreApart shape) writes (drop i writes) (drop (i + 1) writes) (write_of item)
+          (next write_of c.args.writes.now i item c.loop-at-test.true c.index-writes-at.is)
+          (subst (All (AreApart shape (write_of item))) (rest write_of c.args.writes.now i) apart) c.loop-at.invariant.apart;
+      fit = (next_fits write_of shape c.args.writes.now i item c.loop-at-test.true c.index-writes-at.is c.loop-at.invariant.fit).1;
+    }
 
--- src/writes.rt:72:1
 pub returns : goal.returns
-returns g c = ?
+returns g c =
+    let writes = map write_of c.args.writes.now in
+    inr (refl, pairs_ended (AreApart c.args.view.now.shape) writes (drop c.loop-at.at writes) (ended write_of c.args.writes.now c.loop-at.at c.loop-at-test.false) c.loop-at.invariant.apart)
