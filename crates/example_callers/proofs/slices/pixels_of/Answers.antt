@@ -3,7 +3,9 @@ use Rattle.std.proofs.Common.{◌≡◌, ℕ, ◌+◌, ◌<◌, ◌≤◌, ℤ, 
 use Rattle.std.proofs.lemmas.List.{map-append, map_more, take_all}
 use Rattle.std.proofs.lemmas.Option.{slice_get-get_or}
 use Rattle.std.specs.Prelude.{slice_get}
+use Rattle.ndarray_layout.specs.declared.Order.TheVariants.{RowMajor}
 use Rattle.ndarray_layout.specs.Signed.{magnitude}
+use Rattle.ndarray_layout.specs.View.{view_places}
 use Rattle.example_callers.proofs.slices.pixels_of.Goals as goal
 
 one_more : (pixels places : List ℕ) (i : ℕ) (old new : List ℕ) → i < length places → get_or places i 0 < length pixels
@@ -37,10 +39,10 @@ loop-place-preserved g c =
       items = one_more c.args.pixels.now places i c.loop-place.copies.items c.push_reserved.new.self.items c.loop-place-test.true
           (inside i 0 c.loop-place-test.true) c.push_reserved.ensures.items c.loop-place.invariant.items;
       len = omega (arith, c.push_reserved.ensures.len, c.loop-place.invariant.len);
-      capacity = c.push_reserved.ensures.capacity ∙ c.loop-place.invariant.capacity;
+      capacity = omega (arith, c.push_reserved.ensures.capacity, c.loop-place.invariant.capacity);
     }
 
 pub returns : goal.returns
 returns g c =
-    all_places c.args.pixels.now c.deref-place-items.result.now c.in_ok-places.places.items _ c.loop-place.place-index c.loop-place.copies.items
+    all_places c.args.pixels.now c.deref-place-items.result.now c.in_ok-places.places.items (view_places RowMajor c.args.view.now) c.loop-place.place-index c.loop-place.copies.items
     c.loop-place-test.false c.deref-place-items.ensures.value c.in_ok-places.ensures.items c.loop-place.invariant.items
