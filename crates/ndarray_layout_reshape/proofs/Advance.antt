@@ -1,9 +1,8 @@
 -- What one step of the walk keeps, by its kinds.
-use Rattle.std.proofs.Common.{◌≡◌, ◌≢◌, ℕ, zero, suc, ◌+◌, ◌-◌, ◌*◌, ◌<◌, ◌≤◌, false, ℤ, pos, ◌*ℤ◌, ◌≤ℤ◌, neg_ℤ, List, [], ◌∷◌, length, get_or, take, drop, refl, sym, ap, ap₂, ◌∙◌, ◌⊎◌, inl, inr, arith, subst, Some, w64}
+use Rattle.std.proofs.Common.{◌≡◌, ◌≢◌, ℕ, zero, suc, ◌+◌, ◌-◌, ◌*◌, ◌<◌, ◌≤◌, false, ℤ, pos, ◌*ℤ◌, ◌≤ℤ◌, neg_ℤ, List, [], ◌∷◌, length, get_or, take, drop, refl, sym, ap, ap₂, ◌∙◌, inl, inr, arith, subst, Some, w64}
 use Rattle.std.specs.Int.RustNames.{FitsSigned}
 use Rattle.std.proofs.Math.ListN.{get_or-map}
 use Rattle.std.proofs.Math.Nat.{mul-one, mul-le-mul_left, mul_comm}
-use Rattle.std.proofs.lemmas.Bool.{cases_lt}
 use Rattle.std.proofs.lemmas.Int.{ints}
 use Rattle.std.proofs.lemmas.List.{length-map, take-map, take_all, length-take-le, get_or-take, drop-take, drop-drop}
 use Rattle.nd_base.specs.declared.error.ErrorKind.TheVariants.{IncompatibleShape}
@@ -152,12 +151,6 @@ span-drop (len ∷ shape) (stride ∷ strides) (suc n) = let rest = span-drop sh
 
 fits-between : (z : ℤ) (low high : ℕ) → neg_ℤ (pos low) ≤ℤ z → z ≤ℤ pos high → low + high ≤ limit → FitsSigned w64 z
 fits-between z low high h g l = omega (arith, ints)
-
-pub sizes-fit : (to : List ℕ) (end j : ℕ) → is_empty to ≡ false → size to ≤ limit → size (drop j (take end to)) ≤ limit
-sizes-fit to end j h f =
-    let less = size_take_le to end h in
-    let least = size_drop_le (take end to) j (take-nonempty to end h) in
-    omega arith
 
 pub steps-fit : (from : List ℕ) (strides : List ℤ) (to : List ℕ) (i i_end k k_end : ℕ) (step : ℤ) (j : ℕ) → CanWalk from strides to → IsReached from strides to i k → IsReached from strides to i_end k_end → IsBlock from strides i i_end step → 1 < get_or to k 0 → k ≤ j → j < k_end → FitsSigned w64 (pos (size (drop (j + 1) (take k_end to))) *ℤ step)
 steps-fit from strides to i i_end k k_end step j w at further block long l g =

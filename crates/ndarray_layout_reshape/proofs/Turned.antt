@@ -101,7 +101,11 @@ filled-strides order read from strides to out (Ok done) is room made =
 filled-strides order read from strides to out (Err kind) is room made = tt
 
 -- strides that are those of the definition keep the places
-pub keeps-filled : (order : Order) (from strides to given : List ℕ) → is_empty from ≡ false → is_empty to ≡ false → length from ≡ length (all_signed strides) → reshape_fault order from (all_signed strides) to ≡ None →
-    all_signed given ≡ forced_strides order from (all_signed strides) to → Keeps order from (all_signed strides) to (all_signed given)
-keeps-filled order from strides to given some more count none made =
-    subst (Keeps order from (all_signed strides) to) (sym made) (forced-keeps order from (all_signed strides) to some more count ((fault-exactly order from (all_signed strides) to).0 none))
+pub keeps-filled : (order : Order) (from strides to lens steps news given : List ℕ) → lens ≡ from → steps ≡ strides → news ≡ to → is_empty from ≡ false → is_empty to ≡ false → length from ≡ length (all_signed strides) → reshape_fault order lens (all_signed steps) news ≡ None →
+    all_signed given ≡ forced_strides order lens (all_signed steps) news → Keeps order from (all_signed strides) to (all_signed given)
+keeps-filled order from strides to lens steps news given e f g some more count none made =
+    let fault : reshape_fault order from (all_signed strides) to ≡ None = sym (ap (λ x. reshape_fault order x (all_signed strides) to) e)
+    ∙ sym (ap (λ x. reshape_fault order lens (all_signed x) to) f) ∙ sym (ap (λ x. reshape_fault order lens (all_signed steps) x) g) ∙ none in
+    let forced : all_signed given ≡ forced_strides order from (all_signed strides) to = made ∙ ap (λ x. forced_strides order lens (all_signed steps) x) g
+    ∙ ap (λ x. forced_strides order lens (all_signed x) to) f ∙ ap (λ x. forced_strides order x (all_signed strides) to) e in
+    subst (Keeps order from (all_signed strides) to) (sym forced) (forced-keeps order from (all_signed strides) to some more count ((fault-exactly order from (all_signed strides) to).0 fault))

@@ -1,5 +1,5 @@
 -- The strides of the new axes that are read, after each step of the walk.
-use Rattle.std.proofs.Common.{◌≡◌, ◌≢◌, ℕ, zero, suc, ◌+◌, ◌-◌, ◌<◌, ◌≤◌, ℤ, pos, ◌*ℤ◌, List, length, get_or, take, drop, map, set, refl, sym, ap, ap₂, ◌∙◌, arith, subst, length-set, get_or-set_other, get_or-set_same}
+use Rattle.std.proofs.Common.{◌≡◌, ◌≢◌, ℕ, zero, suc, ◌+◌, ◌-◌, ◌<◌, ◌≤◌, ℤ, pos, ◌*ℤ◌, List, length, get_or, take, drop, map, set, refl, sym, ap, ◌∙◌, arith, subst, length-set, get_or-set_other, get_or-set_same}
 use Rattle.std.proofs.Math.ListN.{get_or-map}
 use Rattle.std.proofs.lemmas.List.{get_or_past, length-map, take-map, take_all}
 use Rattle.nd_base.specs.Indices.{below}

@@ -57,6 +57,12 @@ pub fn reshape_dim<D: Lengths, E: Lengths>(
         (forced_strides order (D.list from.now) (all_signed (D.list strides.now)) (E.list to.now)) }
 {
     let mut others = E::zeros(alloc, to.ndim())?;
-    fill_reshaped(order, from, strides, to, &mut others)?;
+    fill_reshaped(
+        order,
+        from.slice(),
+        strides.slice(),
+        to.slice(),
+        &mut others,
+    )?;
     Ok(others)
 }

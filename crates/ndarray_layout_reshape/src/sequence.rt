@@ -1,14 +1,14 @@
-//! The numbers of a dimension, one for each axis, counted from the first axis on or from the last one back.
+//! The numbers of a dimension or a slice, one for each axis, counted from the first axis on or from the last one back.
 ghost use Rattle.std.specs.Prelude.{◌≡◌, ℕ, ◌<◌, List, length, reverse, Some, slice_get, slice_set};
 
 use nd_base::Lengths;
 use std::ops::{Index, IndexMut};
 
-/// The numbers of a dimension, that of the first axis first. ndarray's `Forward`.
+/// The numbers of a dimension or a slice, that of the first axis first. ndarray's `Forward`.
 #[derive(Drop)]
 pub struct Forward<D>(pub D);
 
-/// The numbers of a dimension, that of the last axis first. ndarray's `Reverse`.
+/// The numbers of a dimension or a slice, that of the last axis first. ndarray's `Reverse`.
 #[derive(Drop)]
 pub struct Reverse<D>(pub D);
 
@@ -46,6 +46,61 @@ pub trait SequenceMut: Sequence + IndexMut<usize> {
 
     // and after several writes as after each.
     ghost same_target_on: { (s t u : Self) → same_target s t → same_target t u → same_target s u };
+}
+
+impl Index<usize> for Forward<&[usize]> {
+    type Output = usize;
+
+    ghost can_index = { λ s k. k < length s.0.now };
+
+    ghost index_gives = { λ s k item. slice_get s.0.now k ≡ Some item };
+
+    #[inline(always)]
+    fn index(&self, k: usize) -> &usize {
+        &self.0[k]
+    }
+}
+
+impl Sequence for Forward<&[usize]> {
+    ghost items = { λ s. s.0.now };
+
+    #[inline(always)]
+    fn len(&self) -> usize {
+        self.0.len()
+    }
+
+    ghost can_index_below = { λ s k h. h };
+
+    ghost index_is = { λ s k item h. h };
+}
+
+impl Index<usize> for Reverse<&[usize]> {
+    type Output = usize;
+
+    ghost can_index = { λ s k. k < length s.0.now };
+
+    ghost index_gives = { λ s k item. slice_get (reverse s.0.now) k ≡ Some item };
+
+    #[inline(always)]
+    fn index(&self, k: usize) -> &usize {
+        &self.0[self.0.len() - 1 - k]
+    }
+}
+
+impl Sequence for Reverse<&[usize]> {
+    ghost use Rattle.std.proofs.Common.{subst};
+    ghost use Rattle.std.proofs.lemmas.List.{length-reverse};
+
+    ghost items = { λ s. reverse s.0.now };
+
+    #[inline(always)]
+    fn len(&self) -> usize {
+        self.0.len()
+    }
+
+    ghost can_index_below = { λ s k h. subst (λ n. k < n) (length-reverse s.0.now) h };
+
+    ghost index_is = { λ s k item h. h };
 }
 
 impl<D: Lengths> Index<usize> for Forward<&D> {
@@ -110,11 +165,11 @@ impl<D: Lengths> Sequence for Forward<&mut D> {
 impl<D: Lengths> SequenceMut for Forward<&mut D> {
     ghost use Rattle.std.proofs.Common.{refl, ◌∙◌};
 
-    ghost same_target = { λ s t. t.0.ghost_name ≡ s.0.ghost_name };
+    ghost same_target = { λ s t. s.0.ghost_name ≡ t.0.ghost_name };
 
     ghost same_target_now = { λ s. refl };
 
-    ghost same_target_on = { λ s t u first next. next ∙ first };
+    ghost same_target_on = { λ s t u first next. first ∙ next };
 
     #[inline(always)]
     fn set(&mut self, k: usize, item: usize) {
@@ -193,11 +248,11 @@ impl<D: Lengths> Sequence for Reverse<&mut D> {
 impl<D: Lengths> SequenceMut for Reverse<&mut D> {
     ghost use Rattle.std.proofs.Common.{refl, ◌∙◌};
 
-    ghost same_target = { λ s t. t.0.ghost_name ≡ s.0.ghost_name };
+    ghost same_target = { λ s t. s.0.ghost_name ≡ t.0.ghost_name };
 
     ghost same_target_now = { λ s. refl };
 
-    ghost same_target_on = { λ s t u first next. next ∙ first };
+    ghost same_target_on = { λ s t u first next. first ∙ next };
 
     #[inline(always)]
     fn set(&mut self, k: usize, item: usize) {

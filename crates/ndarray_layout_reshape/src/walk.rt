@@ -211,7 +211,7 @@ fn write_ones<O: SequenceMut>(out: &mut O, start: usize)
     }
 }
 
-/// Writes the strides of a reshape. All sequences are in the order of reading, so there is a copy of this walk for each order.
+/// Writes the strides of a reshape, where all sequences are in the order of reading.
 ///
 /// Errors: `IncompatibleLayout` where a joint is bad, and then `IncompatibleShape` where the sizes differ.
 #[inline(always)]
@@ -244,25 +244,25 @@ fn walk<S: Sequence, T: Sequence, O: SequenceMut>(
     Ok(())
 }
 
-/// Writes the strides of a reshape.
+/// Writes the strides of a reshape, with a copy of the walk for each order.
 ///
 /// Errors: `IncompatibleLayout` where a joint is bad, and then `IncompatibleShape` where the sizes differ.
 #[inline(always)]
-pub(crate) fn fill_reshaped<D: Lengths, E: Lengths>(
+pub(crate) fn fill_reshaped<E: Lengths>(
     order: Order,
-    from: &D,
-    strides: &D,
-    to: &E,
+    from: &[usize],
+    strides: &[usize],
+    to: &[usize],
     out: &mut E,
 ) -> Result<(), ShapeError>
-    requires valid { IsValidLayout (D.list from.now) (all_signed (D.list strides.now)) }
-    requires from_some { is_empty (D.list from.now) ≡ false }
-    requires to_some { is_empty (E.list to.now) ≡ false }
-    requires to_fits { nonzero_size (E.list to.now) ≤ limit }
-    requires room { length (E.list out.old) ≡ length (E.list to.now) }
-    ensures fault { IfErr result (λ kind. reshape_fault order (D.list from.now) (all_signed (D.list strides.now)) (E.list to.now) ≡ Some kind) }
-    ensures fits { OnOk result (reshape_fault order (D.list from.now) (all_signed (D.list strides.now)) (E.list to.now) ≡ None) }
-    ensures strides { OnOk result (all_signed (E.list out.new) ≡ forced_strides order (D.list from.now) (all_signed (D.list strides.now)) (E.list to.now)) }
+    requires valid { IsValidLayout from.now (all_signed strides.now) }
+    requires from_some { is_empty from.now ≡ false }
+    requires to_some { is_empty to.now ≡ false }
+    requires to_fits { nonzero_size to.now ≤ limit }
+    requires room { length (E.list out.old) ≡ length to.now }
+    ensures fault { IfErr result (λ kind. reshape_fault order from.now (all_signed strides.now) to.now ≡ Some kind) }
+    ensures fits { OnOk result (reshape_fault order from.now (all_signed strides.now) to.now ≡ None) }
+    ensures strides { OnOk result (all_signed (E.list out.new) ≡ forced_strides order from.now (all_signed strides.now) to.now) }
 {
     match order {
         Order::RowMajor => walk(

@@ -22,5 +22,5 @@ pub returns-clause-forced : goal.returns-clause-forced
 returns-clause-forced g c = λ others k. keeps-agree c.args.order (g.D.Lengths.list c.args.from.now) (all_signed (g.D.Lengths.list c.args.strides.now)) (g.E.Lengths.list c.args.to.now) others c.requires.from_some c.requires.to_some c.requires.valid.same_count k
 
 pub returns-clause-keeps : goal.returns-clause-keeps
-returns-clause-keeps g c = keeps-filled c.args.order (g.D.Lengths.list c.args.from.now) (g.D.Lengths.list c.args.strides.now) (g.E.Lengths.list c.args.to.now) (g.E.Lengths.list c.fill_reshaped.new.out)
-    c.requires.from_some c.requires.to_some c.requires.valid.same_count c.in_ok-fill_reshaped.ensures.fits c.in_ok-fill_reshaped.ensures.strides
+returns-clause-keeps g c = keeps-filled c.args.order (g.D.Lengths.list c.args.from.now) (g.D.Lengths.list c.args.strides.now) (g.E.Lengths.list c.args.to.now) c.slice.result.now c.slice-2.result.now c.slice-3.result.now (g.E.Lengths.list c.fill_reshaped.new.out)
+    c.slice.ensures.list c.slice-2.ensures.list c.slice-3.ensures.list c.requires.from_some c.requires.to_some c.requires.valid.same_count c.in_ok-fill_reshaped.ensures.fits c.in_ok-fill_reshaped.ensures.strides

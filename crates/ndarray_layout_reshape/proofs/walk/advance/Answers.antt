@@ -1,4 +1,4 @@
-use Rattle.std.proofs.Common.{◌≡◌, ◌<◌, ℕ, pos, arith, sym, ap, ◌∙◌}
+use Rattle.std.proofs.Common.{arith, sym, ◌∙◌}
 use Rattle.nd_base.specs.Signed.{signed, all_signed}
 use Rattle.ndarray_layout_reshape.proofs.Advance.{steps-fit}
 use Rattle.ndarray_layout_reshape.proofs.Halfway.{len-fits, len-some}

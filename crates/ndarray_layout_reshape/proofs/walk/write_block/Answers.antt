@@ -1,4 +1,4 @@
-use Rattle.std.proofs.Common.{set, ap₂, to_z, of_z, ℤ, length-set, ◌≡◌, ◌<◌, ◌≤◌, ◌+◌, ◌-◌, ◌*◌, pos, ◌*ℤ◌, ℕ, List, length, drop, take, get_or, w64, arith, sym, ap, refl, ◌∙◌, subst, get_or-set_other, get_or-set_same, inl, inr}
+use Rattle.std.proofs.Common.{set, ap₂, to_z, ℤ, length-set, ◌≡◌, ◌<◌, ◌≤◌, ◌+◌, ◌-◌, ◌*◌, pos, ◌*ℤ◌, ℕ, List, length, drop, take, get_or, w64, arith, sym, ap, refl, ◌∙◌, subst, get_or-set_other, get_or-set_same, inl, inr}
 use Rattle.std.specs.Int.RustNames.{FitsSigned}
 use Rattle.std.proofs.Math.IntN.{*ℤ_comm}
 use Rattle.std.proofs.Math.Nat.{mul_comm}
