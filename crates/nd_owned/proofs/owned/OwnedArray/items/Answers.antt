@@ -1,5 +1,5 @@
 -- The items are those at the places of the slice.
-use Rattle.std.proofs.Common.{◌≡◌, ◌∙◌}
+use Rattle.std.proofs.Common.{◌∙◌}
 use Rattle.nd_owned.proofs.Placed.{by_places}
 use Rattle.nd_owned.proofs.owned.OwnedArray.items.Goals as goal
 
