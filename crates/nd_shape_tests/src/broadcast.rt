@@ -1,12 +1,12 @@
 //! The shape that two shapes have in common.
 //!
 //! A row is two shapes, and what they have in common, in either order; or, after an arrow, the fault.
-use crate::claim::{Claim, row_holds, table};
+use crate::claim::{Claim, table};
 use crate::questions::Question;
 use nd_dim::{Ix2, Ix3, IxDyn, Lengths, new_ix2, new_ix3};
 use nd_shape::co_broadcast;
 use std::alloc::Global;
-use test_tables::{Lists, grants, layout_fault_name};
+use test_tables::{Lists, layout_fault_name};
 
 /// Whether two shapes have these lengths in common, or this fault. (The call is made here alone, since what is
 /// ensured of it is dear.)
@@ -29,30 +29,11 @@ fn is_common<D1: Lengths, D2: Lengths, Output: Lengths>(
     }
 }
 
-/// What is asked of the shape that two have in common.
-#[derive(Clone, Copy)]
-pub(crate) enum Sharing {
-    /// That it is as the row says, in either order.
-    IsTold,
-    /// That to make it asks for memory: of two such calls one may fail.
-    Asks,
-}
-
 /// Whether a row says this of what two shapes have in common.
-pub(crate) fn shares<D: Lengths>(
-    alloc: Global,
-    shape: &D,
-    other: &D,
-    sharing: Sharing,
-    row: &Lists<'_>,
-) -> bool {
+pub(crate) fn shares<D: Lengths>(alloc: Global, shape: &D, other: &D, row: &Lists<'_>) -> bool {
     let lens = row.third.as_slice();
-    let first = is_common::<D, D, D>(alloc, shape, other, lens, row.answer);
-    let second = is_common::<D, D, D>(alloc, other, shape, lens, row.answer);
-    match sharing {
-        Sharing::IsTold => first && second,
-        Sharing::Asks => grants(alloc) && (first || second),
-    }
+    is_common::<D, D, D>(alloc, shape, other, lens, row.answer)
+        && is_common::<D, D, D>(alloc, other, shape, lens, row.answer)
 }
 
 const COMMON: &str = "\
@@ -72,16 +53,14 @@ const COMMON: &str = "\
 18446744073709551615,1 18446744073709551615 18446744073709551615,18446744073709551615
 2,3 2 - => IncompatibleShape
 0,3 2,3 - => IncompatibleShape
-5 1,1 1,5";
+5 1,1 1,5
+2,1,3,1,2 2,1,3,1,2 2,1,3,1,2
+2,1,3,1,2 2,1,3,1,4 - => IncompatibleShape
+1,3 2,4,1 2,4,3";
 
 #[test]
 fn r5_rows(rt: HostRuntime) {
-    table(
-        &rt,
-        rt.alloc(),
-        Claim::Asked(Question::Common(Sharing::IsTold)),
-        COMMON,
-    );
+    table(&rt, rt.alloc(), Claim::Asked(Question::Common), COMMON);
 }
 
 /// Whether shapes of two types have these lengths in common, in the type of the other one and in a third.
@@ -100,28 +79,4 @@ fn r5_rows_of_fixed_types(rt: HostRuntime) {
     let shape = new_ix2(2, 3);
     let other = new_ix3(4, 1, 3);
     assert!(rt; types_share::<Ix2, Ix3, IxDyn>(rt.alloc(), &shape, &other, &[4, 2, 3]));
-}
-
-// More than four axes ask for memory. To make the two shapes takes the first two requests.
-#[test]
-fn late_memory_of_broadcast(rt: HostRuntime) {
-    let claim = Claim::Asked(Question::Common(Sharing::Asks));
-    let row = "2,1,3,1,2 2,1,3,1,2 2,1,3,1,2";
-    assert!(rt; row_holds(claim, rt.alloc(), row));
-}
-
-// Shapes that have none in common are refused for that.
-#[test]
-fn late_memory_after_the_shapes(rt: HostRuntime) {
-    let claim = Claim::Asked(Question::Common(Sharing::IsTold));
-    let row = "2,1,3,1,2 2,1,3,1,4 - => IncompatibleShape";
-    assert!(rt; row_holds(claim, rt.alloc(), row));
-}
-
-// Up to four axes lie in the value itself.
-#[test]
-fn r9_rows_of_broadcast(rt: HostRuntime) {
-    let claim = Claim::Asked(Question::Common(Sharing::IsTold));
-    let row = "1,3 2,4,1 2,4,3";
-    assert!(rt; row_holds(claim, rt.alloc(), row));
 }

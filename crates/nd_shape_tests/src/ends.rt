@@ -2,7 +2,6 @@
 //! greatest `isize`, elements of size 0 and of the greatest size. Each table has the rows of the file of its
 //! question.
 use crate::axes::AskedOfAxes;
-use crate::broadcast::Sharing;
 use crate::claim::{Claim, table};
 use crate::indexes::Walk;
 use crate::questions::Question;
@@ -195,7 +194,7 @@ fn axes(rt: &impl Abort, alloc: Global) {
     table(rt, alloc, Claim::Asked(Question::Lies), ORDERED);
     table(rt, alloc, Claim::Asked(Question::Merged), MERGED);
     table(rt, alloc, Claim::Asked(Question::Moved), MOVED);
-    let common = Question::Common(Sharing::IsTold);
+    let common = Question::Common;
     table(rt, alloc, Claim::Asked(common), COMMON);
 }
 

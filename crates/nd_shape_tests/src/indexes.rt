@@ -10,7 +10,7 @@ use crate::claim::{Claim, row_holds, table};
 use nd_dim::{Dimension, IntoDimension, IxDyn, Lengths, Order, new_ixdyn};
 use nd_shape::{IndexCursor, IndexCursorF, Indices, all_indices, indices_iter_f};
 use std::alloc::{AllocError, Global};
-use test_tables::{List, Lists, Row, asked, made};
+use test_tables::{List, Lists, Row, made};
 
 // ---- what walks give
 
@@ -439,51 +439,21 @@ fn r7_rows_of_folded_ranks(rt: HostRuntime) {
 
 // ---- memory
 
-/// How many indices a cursor is to lend, if there was memory for it.
-fn len_of<C: LendingWalk + Drop>(cursor: Result<C, AllocError>) -> Result<usize, AllocError> {
-    Ok(cursor?.left())
-}
-
-/// What is asked of the cursors over a shape.
-#[derive(Clone, Copy)]
-enum Making {
-    /// That both are made.
-    IsDone,
-    /// That to make them asks for memory, once there is some for the shape itself, twice.
-    Asks,
-}
-
-/// Whether this holds of the cursors over a shape.
-fn holds_of_making(alloc: Global, making: Making, lens: &[usize]) -> bool {
+/// Whether both cursors over a shape are made.
+fn are_made(alloc: Global, lens: &[usize]) -> bool {
     let Ok(dim) = new_ixdyn(alloc, lens) else {
         return false;
     };
     let Ok(other) = new_ixdyn(alloc, lens) else {
         return false;
     };
-    let rows = len_of(row_cursor(alloc, dim));
-    let columns = len_of(column_cursor(alloc, other));
-    match making {
-        Making::IsDone => rows.is_ok() && columns.is_ok(),
-        Making::Asks => asked(alloc, rows, columns),
-    }
+    row_cursor(alloc, dim).is_ok() && column_cursor(alloc, other).is_ok()
 }
 
 #[test]
 fn ample_memory_for_cursors(rt: HostRuntime) {
     let alloc = rt.alloc();
-    assert!(rt; holds_of_making(alloc, Making::IsDone, &[1, 2, 1, 2, 1]));
+    assert!(rt; are_made(alloc, &[1, 2, 1, 2, 1]));
     let long = [1_usize; 1100];
-    assert!(rt; holds_of_making(alloc, Making::IsDone, &long));
-}
-
-#[test]
-fn memory_of_cursors_of_four_axes(rt: HostRuntime) {
-    assert!(rt; holds_of_making(rt.alloc(), Making::IsDone, &[1, 2, 3, 4]));
-}
-
-// To make the two shapes takes the first two requests.
-#[test]
-fn late_memory_of_cursors(rt: HostRuntime) {
-    assert!(rt; holds_of_making(rt.alloc(), Making::Asks, &[1, 2, 3, 2, 1]));
+    assert!(rt; are_made(alloc, &long));
 }

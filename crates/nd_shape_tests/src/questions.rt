@@ -3,7 +3,7 @@ use crate::acceptance::{
     has_fault, has_order_faults, has_size, is_accepted_along_its_own, is_fault,
 };
 use crate::axes::{AskedOfAxes, axes_hold};
-use crate::broadcast::{Sharing, shares};
+use crate::broadcast::shares;
 use crate::layout::orders;
 use crate::layouts::is_laid_out;
 use crate::merge::{merges, moves};
@@ -35,9 +35,8 @@ pub(crate) enum Question {
     Merged,
     /// The axis of the least stride as the last one.
     Moved,
-    /// The shape, and in place of strides another one: what they have in common; or that to make it asks for
-    /// memory.
-    Common(Sharing),
+    /// The shape, and in place of strides another one: what they have in common.
+    Common,
 }
 
 /// Whether a row says what is answered of its layout.
@@ -59,7 +58,7 @@ fn has_answer<D: Lengths>(
         Question::Lies => orders(dim, strides) == row.answer,
         Question::Merged => merges(dim, strides, row),
         Question::Moved => moves(dim, strides, row),
-        Question::Common(asks) => shares(alloc, dim, strides, asks, row),
+        Question::Common => shares(alloc, dim, strides, row),
     }
 }
 

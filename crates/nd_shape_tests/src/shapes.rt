@@ -6,14 +6,14 @@ ghost use Rattle.nd_base.specs.ValidLayout.{IsValidLayout};
 ghost use Rattle.nd_shape.specs.ShapeBuilder.{strides_list};
 
 use crate::claim::{Claim, table};
-use nd_dim::{IntoDimension, Ix2, IxDyn, Lengths, Order, new_ix2};
+use nd_dim::{IntoDimension, Ix2, IxDyn, Lengths, new_ix2};
 use nd_shape::{
     CanIndexCheckMode, Shape, ShapeBuilder, StrideShape, Strides, can_index_slice_with_strides,
     size_of_shape_checked,
 };
 use std::alloc::{AllocError, Global};
 use std::fmt::Debug;
-use test_tables::{Lists, asked, made};
+use test_tables::{Lists, made};
 
 // ---- what is built
 
@@ -230,17 +230,6 @@ fn r3_rows_of_builders_of_two_axes(rt: HostRuntime) {
     assert!(rt; all_build(rt.alloc(), patterns, arrays, &new_ix2(1, 2), &built));
 }
 
-/// What is asked of a list of lengths, which may stand for strides as well, as a builder.
-#[derive(Clone, Copy)]
-enum OfList<'a> {
-    /// That it builds shapes of so many indices, and with these strides.
-    Builds(usize, &'a [usize]),
-    /// That a call of it asks for memory.
-    Asks(Call),
-    /// How the strides of an order, which its shape has by itself, go about memory.
-    OwnStrides(Making),
-}
-
 /// Whether a list of lengths builds shapes of this size and with these strides.
 fn list_builds<D: Lengths, T: ShapeBuilder<Dim = D, Strides = T> + Copy>(
     alloc: Global,
@@ -264,33 +253,12 @@ fn list_builds<D: Lengths, T: ShapeBuilder<Dim = D, Strides = T> + Copy>(
     }
 }
 
-/// Whether this holds of a list of lengths.
-fn list_holds<D: Lengths, T: ShapeBuilder<Dim = D, Strides = T> + Copy>(
-    alloc: Global,
-    builder: T,
-    lens: &[usize],
-    of_list: OfList<'_>,
-) -> bool {
-    match of_list {
-        OfList::Builds(size, strides) => match made::<D>(alloc, lens) {
-            Some(dim) => list_builds(alloc, builder, &dim, size, strides),
-            None => false,
-        },
-        OfList::Asks(call) => asks(alloc, call, builder),
-        OfList::OwnStrides(making) => {
-            own_strides_are(
-                alloc,
-                making,
-                made::<D>(alloc, lens),
-                made::<D>(alloc, lens),
-            )
-        },
+/// The same at the type of any number of axes.
+fn list_builds_any(alloc: Global, lens: &[usize], size: usize, strides: &[usize]) -> bool {
+    match made::<IxDyn>(alloc, lens) {
+        Some(dim) => list_builds(alloc, lens, &dim, size, strides),
+        None => false,
     }
-}
-
-/// The same at its type.
-fn holds_of_list(alloc: Global, lens: &[usize], of_list: OfList<'_>) -> bool {
-    list_holds::<IxDyn, _>(alloc, lens, lens, of_list)
 }
 
 /// Whether a dimension builds shapes of its lengths: along given strides, and with its own by columns.
@@ -317,8 +285,7 @@ pub(crate) fn dimension_builds<D: Lengths + IntoDimension<Dim = D>>(
 #[test]
 fn r3_rows_of_builders_of_any_number_of_axes(rt: HostRuntime) {
     let alloc = rt.alloc();
-    let built = OfList::Builds(24, &[12, 4, 4, 2, 1]);
-    assert!(rt; holds_of_list(alloc, &[2, 3, 1, 2, 2], built));
+    assert!(rt; list_builds_any(alloc, &[2, 3, 1, 2, 2], 24, &[12, 4, 4, 2, 1]));
     table(&rt, alloc, Claim::Built, "2,3,1,2,2 1,2,6,6,12");
 }
 
@@ -332,121 +299,9 @@ fn shapes_are_copied(rt: HostRuntime) {
     assert!(rt; copy.dim == shape.dim && copy.dim == new_ix2(2, 3));
 }
 
-// ---- refused memory
-
-// Builders of at most four axes are never refused.
 #[test]
-fn r9_rows_of_builders(rt: HostRuntime) {
+fn r3_rows_of_builders_of_four_axes(rt: HostRuntime) {
     let alloc = rt.alloc();
-    let built = OfList::Builds(12, &[6, 2, 2, 1]);
-    assert!(rt; holds_of_list(alloc, &[2, 3, 1, 2], built));
+    assert!(rt; list_builds_any(alloc, &[2, 3, 1, 2], 12, &[6, 2, 2, 1]));
     table(&rt, alloc, Claim::Built, "2,3,1,2 1,2,6,6");
-}
-
-/// A call of a builder.
-#[derive(Clone, Copy)]
-enum Call {
-    Orders,
-    GivenStrides,
-    OwnStrides,
-}
-
-/// Whether a call of a builder asks for memory.
-fn asks<D: Lengths, T: ShapeBuilder<Dim = D, Strides = T> + Copy>(
-    alloc: Global,
-    call: Call,
-    builder: T,
-) -> bool {
-    match call {
-        Call::Orders => asked(
-            alloc,
-            builder.f(alloc),
-            builder.into_shape_with_order(alloc),
-        ),
-        Call::GivenStrides => {
-            asked(
-                alloc,
-                builder.strides(alloc, builder),
-                builder.strides(alloc, builder),
-            )
-        },
-        Call::OwnStrides => {
-            let first = StrideShape::from_builder(alloc, builder);
-            asked(alloc, first, StrideShape::from_builder(alloc, builder))
-        },
-    }
-}
-
-/// The same of a list of five lengths.
-fn five_ask(alloc: Global, call: Call) -> bool {
-    holds_of_list(alloc, &[2, 3, 1, 2, 2], OfList::Asks(call))
-}
-
-#[test]
-fn memory_of_orders(rt: HostRuntime) {
-    assert!(rt; five_ask(rt.alloc(), Call::Orders));
-}
-
-#[test]
-fn memory_of_given_strides(rt: HostRuntime) {
-    assert!(rt; five_ask(rt.alloc(), Call::GivenStrides));
-}
-
-#[test]
-fn memory_of_shapes(rt: HostRuntime) {
-    assert!(rt; five_ask(rt.alloc(), Call::OwnStrides));
-}
-
-/// How the strides of two shapes go about memory.
-#[derive(Clone, Copy)]
-enum Making {
-    /// They are made.
-    IsDone,
-    /// To make them asks for memory, twice.
-    Asks,
-}
-
-/// The strides that a shape has by itself in an order.
-fn own_strides<D: Lengths>(alloc: Global, order: Order, dim: &D) -> Result<D, AllocError> {
-    match size_of_shape_checked(dim) {
-        Ok(_) => match order {
-            Order::RowMajor => Strides::C.strides_for_dim(alloc, dim),
-            Order::ColumnMajor => Strides::F.strides_for_dim(alloc, dim),
-        },
-        Err(_) => Err(AllocError),
-    }
-}
-
-/// Whether this holds of the strides of one shape by rows and of another one by columns.
-fn own_strides_are<D: Lengths>(
-    alloc: Global,
-    making: Making,
-    dim: Option<D>,
-    other: Option<D>,
-) -> bool {
-    let Some(dim) = dim else {
-        return false;
-    };
-    let Some(other) = other else {
-        return false;
-    };
-    let rows = own_strides(alloc, Order::RowMajor, &dim);
-    let columns = own_strides(alloc, Order::ColumnMajor, &other);
-    match making {
-        Making::IsDone => rows.is_ok() && columns.is_ok(),
-        Making::Asks => asked(alloc, rows, columns),
-    }
-}
-
-#[test]
-fn memory_of_own_strides_of_four_axes(rt: HostRuntime) {
-    let made = OfList::OwnStrides(Making::IsDone);
-    assert!(rt; holds_of_list(rt.alloc(), &[2, 3, 1, 2], made));
-}
-
-// To make the two shapes takes the first two requests.
-#[test]
-fn late_memory_of_own_strides(rt: HostRuntime) {
-    let asks = OfList::OwnStrides(Making::Asks);
-    assert!(rt; holds_of_list(rt.alloc(), &[2, 3, 1, 2, 2], asks));
 }

@@ -204,9 +204,9 @@ fn answers_of_ndarray(rt: HostRuntime) {
     hold(&rt, rt.alloc(), Told::Meeting(Strict), ANSWERED);
 }
 
-// An answer and a fault each stay as they are where the first request for memory, or the second, is refused.
+// Arguments that are arrays.
 #[test]
-fn memory_of_meeting(rt: HostRuntime) {
+fn meeting_of_arrays(rt: HostRuntime) {
     let (dim, last, whole) = (new_ix2(4, 5), [Index(-1), NewAxis, Index(0)], [ALL; 2]);
     assert!(rt; meeting(&dim, &last, &whole, Strict) == "meet");
     assert!(rt; meeting(&dim, &whole, &[ALL], Strict) == "IncompatibleShape");

@@ -1,6 +1,7 @@
 //! Tables as text: a row is a line.
-use crate::reshape::asked::{Asked, reshape_holds};
+use crate::reshape::asked::reshape_holds;
 use crate::view::answer::view_holds;
+use ndarray_layout::Order;
 use std::alloc::Global;
 use std::process::Abort;
 use test_tables::{Row, rows};
@@ -10,15 +11,15 @@ use test_tables::{Row, rows};
 pub enum Told {
     /// A layout over data at a dimension type, a question and its answer.
     Views,
-    /// A layout, a shape, and the strides along which it has the same places, or the fault.
-    Reshapes(Asked),
+    /// A layout, a shape, and the strides along which it has the same places in an order, or the fault.
+    Reshapes(Order),
 }
 
 /// A row holds.
 fn holds(rt: &impl Abort, alloc: Global, told: Told, line: &str) -> bool {
     match told {
         Told::Views => view_holds(rt, alloc, &mut Row::new(line)),
-        Told::Reshapes(asked) => reshape_holds(rt, alloc, line, asked),
+        Told::Reshapes(order) => reshape_holds(rt, alloc, line, order),
     }
 }
 

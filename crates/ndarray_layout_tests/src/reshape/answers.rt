@@ -1,5 +1,4 @@
 //! What ndarray 0.17.2 answers of layouts of one to five axes, with gaps, steps back and strides of 0.
-use crate::reshape::asked::Asked::Answer;
 use crate::tables::{Told, hold};
 use Order::{ColumnMajor, RowMajor};
 use ndarray_layout::Order;
@@ -98,11 +97,6 @@ const BY_COLUMNS: &str = "\
 
 #[test]
 fn answers_of_ndarray(rt: HostRuntime) {
-    hold(&rt, rt.alloc(), Told::Reshapes(Answer(RowMajor)), BY_ROWS);
-    hold(
-        &rt,
-        rt.alloc(),
-        Told::Reshapes(Answer(ColumnMajor)),
-        BY_COLUMNS,
-    );
+    hold(&rt, rt.alloc(), Told::Reshapes(RowMajor), BY_ROWS);
+    hold(&rt, rt.alloc(), Told::Reshapes(ColumnMajor), BY_COLUMNS);
 }

@@ -1,5 +1,4 @@
-//! Memory that a reshape asks for: past four axes, at the type of any number, and none elsewhere.
-use crate::reshape::asked::Asked::{Answer, Memory, OfAny, OfFixed};
+//! Reshapes to few axes, which lie in the value itself, and to very many.
 use crate::reshape::asked::reshaped;
 use crate::tables::{Told, hold};
 use Order::{ColumnMajor, RowMajor};
@@ -8,65 +7,23 @@ use std::alloc::Global;
 use std::process::Abort;
 use test_tables::{AtType, at_type, made};
 
-/// Shapes of up to four axes, whatever is answered.
-const SMALL: &str = "\
+/// Shapes of up to four axes and of five, whatever is answered.
+const FEW: &str = "\
 2,2 2,1 2,1,2,1 2,1,1,1
 2,2 2,1 4 1
 - - 1,1,1,1 1,1,1,1
 2,2 2,1 3,1,1,1 => IncompatibleShape
 2,2 3,1 4 => IncompatibleLayout
-2,2 3,1 3,1,1,1 => IncompatibleLayout";
+2,2 3,1 3,1,1,1 => IncompatibleLayout
+2,2 2,1 2,1,2,1,1 2,1,1,1,1
+2,2 2,1 3,1,1,1,1 => IncompatibleShape
+2,2 3,1 1,1,1,1,4 => IncompatibleLayout
+2,2 3,1 3,1,1,1,1 => IncompatibleLayout
+2,1,1,1,2 -2,9,9,9,-1 1,4,1 1,-1,1";
 
 #[test]
-fn memory_of_reshapes_to_four(rt: HostRuntime) {
-    hold(&rt, rt.alloc(), Told::Reshapes(Answer(RowMajor)), SMALL);
-}
-
-/// Shapes of five axes, whatever is answered.
-const FIVE: [&str; 4] = [
-    "2,2 2,1 2,1,2,1,1 2,1,1,1,1",
-    "2,2 2,1 3,1,1,1,1 => IncompatibleShape",
-    "2,2 3,1 1,1,1,1,4 => IncompatibleLayout",
-    "2,2 3,1 3,1,1,1,1 => IncompatibleLayout",
-];
-
-#[test]
-fn memory_of_a_reshape_to_five(rt: HostRuntime) {
-    hold(&rt, rt.alloc(), Told::Reshapes(Memory(RowMajor)), FIVE[0]);
-}
-
-#[test]
-fn memory_of_a_reshape_to_another_size(rt: HostRuntime) {
-    hold(&rt, rt.alloc(), Told::Reshapes(Memory(RowMajor)), FIVE[1]);
-}
-
-#[test]
-fn memory_of_a_reshape_across_a_joint(rt: HostRuntime) {
-    hold(&rt, rt.alloc(), Told::Reshapes(Memory(RowMajor)), FIVE[2]);
-}
-
-#[test]
-fn memory_of_a_reshape_with_both_faults(rt: HostRuntime) {
-    hold(&rt, rt.alloc(), Told::Reshapes(Memory(RowMajor)), FIVE[3]);
-}
-
-/// The same at types that fix both counts, where none asks for memory.
-#[test]
-fn memory_of_reshapes_at_fixed_types(rt: HostRuntime) {
-    for row in FIVE {
-        hold(&rt, rt.alloc(), Told::Reshapes(OfFixed(RowMajor)), row);
-    }
-}
-
-// The old shape and its strides take the first two requests, and the new one takes none.
-#[test]
-fn late_memory_of_a_reshape_from_five(rt: HostRuntime) {
-    hold(
-        &rt,
-        rt.alloc(),
-        Told::Reshapes(OfAny(RowMajor)),
-        "2,1,1,1,2 -2,9,9,9,-1 1,4,1 1,-1,1",
-    );
+fn reshapes_to_few_axes(rt: HostRuntime) {
+    hold(&rt, rt.alloc(), Told::Reshapes(RowMajor), FEW);
 }
 
 // ---- many axes

@@ -1,5 +1,4 @@
 //! Strides of reshapes and their faults, as rows.
-use crate::reshape::asked::Asked::Answer;
 use crate::tables::{Told, hold};
 use Order::{ColumnMajor, RowMajor};
 use ndarray_layout::Order;
@@ -76,10 +75,10 @@ const EITHER_WAY: &str = "\
 #[test]
 fn r6_rows(rt: HostRuntime) {
     let alloc = rt.alloc();
-    hold(&rt, alloc, Told::Reshapes(Answer(RowMajor)), BY_ROWS);
-    hold(&rt, alloc, Told::Reshapes(Answer(ColumnMajor)), BY_COLUMNS);
-    hold(&rt, alloc, Told::Reshapes(Answer(RowMajor)), EITHER_WAY);
-    hold(&rt, alloc, Told::Reshapes(Answer(ColumnMajor)), EITHER_WAY);
+    hold(&rt, alloc, Told::Reshapes(RowMajor), BY_ROWS);
+    hold(&rt, alloc, Told::Reshapes(ColumnMajor), BY_COLUMNS);
+    hold(&rt, alloc, Told::Reshapes(RowMajor), EITHER_WAY);
+    hold(&rt, alloc, Told::Reshapes(ColumnMajor), EITHER_WAY);
 }
 
 /// Sizes of 2^62 and near the greatest `isize`, by rows: only a walk over the axes ends.
@@ -116,16 +115,11 @@ const LARGE_BY_COLUMNS: &str = "\
 
 #[test]
 fn r11_rows(rt: HostRuntime) {
+    hold(&rt, rt.alloc(), Told::Reshapes(RowMajor), LARGE_BY_ROWS);
     hold(
         &rt,
         rt.alloc(),
-        Told::Reshapes(Answer(RowMajor)),
-        LARGE_BY_ROWS,
-    );
-    hold(
-        &rt,
-        rt.alloc(),
-        Told::Reshapes(Answer(ColumnMajor)),
+        Told::Reshapes(ColumnMajor),
         LARGE_BY_COLUMNS,
     );
 }

@@ -4,11 +4,6 @@
 //! strides), a question and its answer. After `merge` stand the axis to take and the one to merge into,
 //! after `broadcast` the dimension type of the shape, and the shape.
 use crate::tables::{Told, hold};
-use crate::view::owned::owned;
-use ndarray_layout::{Lengths, new_ix2};
-use std::alloc::Global;
-use std::process::Abort;
-use test_tables::{AtType, at_type, grants, made};
 
 /// Merged axes: the view that is left, or that stays.
 const MERGED: &str = "\
@@ -95,82 +90,4 @@ Ix2 1 6 owned 2,3 3,1 second_row Ix3 2,2,3 is 2,2,3 0,0,1 3 3,4,5,3,4,5,3,4,5,3,
 #[test]
 fn r5_rows_of_steps(rt: HostRuntime) {
     hold(&rt, rt.alloc(), Told::Views, STEPS);
-}
-
-// ---- refused memory
-
-/// Whether two columns are read as a view of a shape.
-fn columns_are_read<E: Lengths>(alloc: Global, shape: &E) -> bool {
-    match owned(new_ix2(1, 2), new_ix2(2, 1), 2) {
-        Ok(columns) => columns.broadcast(alloc, shape).is_ok(),
-        Err(_) => false,
-    }
-}
-
-/// Whether two columns are read as a view of a shape of five axes twice, or once, where a request is refused.
-/// Each time takes two, after the one of the shape.
-fn one_is_read<E: Lengths>(alloc: Global, shape: &E) -> bool {
-    let first = columns_are_read(alloc, shape);
-    let second = columns_are_read(alloc, shape);
-    grants(alloc) && (first || second)
-}
-
-/// How often two columns are read as a view of a shape.
-#[derive(Clone, Copy)]
-enum Times {
-    Once,
-    TwiceOrRefused,
-}
-
-/// Two columns, as a view of a shape.
-#[derive(Clone, Copy)]
-struct Columns<'a> {
-    shape: &'a [usize],
-    times: Times,
-}
-
-impl<R: Abort> AtType<R> for Columns<'_> {
-    fn at<E: Lengths>(self, _rt: &R, alloc: Global) -> bool {
-        let Some(shape) = made::<E>(alloc, self.shape) else {
-            return E::NDIM.is_none() && matches!(self.times, Times::TwiceOrRefused);
-        };
-        match self.times {
-            Times::Once => columns_are_read(alloc, &shape),
-            Times::TwiceOrRefused => one_is_read(alloc, &shape),
-        }
-    }
-}
-
-/// Whether two columns are read as a view of a shape, at the type of so many axes.
-fn are_read(
-    rt: &impl Abort,
-    alloc: Global,
-    ndim: Option<usize>,
-    shape: &[usize],
-    times: Times,
-) -> bool {
-    at_type(rt, alloc, ndim, Columns { shape, times })
-}
-
-#[test]
-fn memory_of_broadcast_at_a_fixed_type(rt: HostRuntime) {
-    assert!(rt; are_read(&rt, rt.alloc(), Some(3), &[3, 2, 2], Times::Once));
-}
-
-#[test]
-fn memory_of_broadcast_to_four(rt: HostRuntime) {
-    assert!(rt; are_read(&rt, rt.alloc(), None, &[2, 1, 3, 2], Times::Once));
-}
-
-/// Five axes.
-const FIVE: [usize; 5] = [2, 1, 3, 1, 2];
-
-#[test]
-fn memory_of_broadcast_to_five(rt: HostRuntime) {
-    assert!(rt; are_read(&rt, rt.alloc(), None, &FIVE, Times::TwiceOrRefused));
-}
-
-#[test]
-fn late_memory_of_broadcast_to_five(rt: HostRuntime) {
-    assert!(rt; are_read(&rt, rt.alloc(), None, &FIVE, Times::TwiceOrRefused));
 }

@@ -1,6 +1,4 @@
 //! Runs of steps from the view of a shape of three axes, and where they stop.
-//!
-//! Each test passes plain, and with the first or the second request of its run refused.
 use crate::view::owned::{Left, is_left, owned};
 use SliceInfoElem::Slice;
 use ndarray_layout::{Axis, Fit, IxDyn, SliceInfoElem, Step, Stopped, Strided, new_ixdyn, run};
@@ -88,13 +86,10 @@ fn every_other(alloc: Global) -> Result<Vec<SliceInfoElem>, AllocError> {
     Ok(elems)
 }
 
-/// A step of each kind, where no view has more than four axes: once the elements of the slice are
-/// made, nothing is asked for.
+/// A step of each of four kinds.
 #[test]
-fn r9_rows_of_memory_in_runs(rt: HostRuntime) {
-    let Ok(elems) = every_other(rt.alloc()) else {
-        return;
-    };
+fn steps_of_four_kinds(rt: HostRuntime) {
+    let elems = every_other(rt.alloc()).expect(&rt, "memory");
     let wide = new_ixdyn(rt.alloc(), &[3, 1, 2, 2]).expect(&rt, "a shape");
     let steps = [
         Step::Slice(elems, Fit::Strict),
@@ -104,20 +99,4 @@ fn r9_rows_of_memory_in_runs(rt: HostRuntime) {
     ];
     let left: Left<'_> = (12, &[3, 1, 2, 2], &[0, 0, 0, 2]);
     assert!(rt; ends(run(rt.alloc(), grid(&rt, rt.alloc()), &steps), None, left));
-}
-
-/// A broadcast to five axes may be refused memory: then the view that it began with is left.
-#[test]
-fn memory_of_a_run(rt: HostRuntime) {
-    let Ok(wide) = new_ixdyn(rt.alloc(), &[2, 1, 2, 3, 4]) else {
-        return;
-    };
-    let steps = [Step::Collapse(Axis(0), 1), Step::Broadcast(wide)];
-    let ended = run(rt.alloc(), grid(&rt, rt.alloc()), &steps);
-    let (taken, left): (_, Left<'_>) = if ended.is_ok() {
-        (None, (12, &[2, 1, 2, 3, 4], &[0, 0, 0, 4, 1]))
-    } else {
-        (Some((1, "memory")), (12, &[1, 3, 4], &[12, 4, 1]))
-    };
-    assert!(rt; ends(ended, taken, left));
 }

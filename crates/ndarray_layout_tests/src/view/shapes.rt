@@ -12,7 +12,7 @@ use ndarray_layout::{
 };
 use std::alloc::{AllocError, Global};
 use std::process::Abort;
-use test_tables::{Row, grants};
+use test_tables::Row;
 
 // ---- axes
 
@@ -67,12 +67,6 @@ enum Asked<'a> {
     Axes(usize),
     /// The axes of both in turn.
     InTurn(&'a [Told]),
-    /// That it is made, and once more.
-    Made,
-    /// That it is made, or else that memory is refused.
-    MadeOrRefused,
-    /// Where the same once more starts, where a request for it may be refused.
-    StartOrRefused(usize),
 }
 
 /// Whether this holds of a view itself.
@@ -86,7 +80,6 @@ fn view_holds<D: Lengths>(
         Asked::Row(row) => is_view(rt, alloc, &mut Row::new(row), view),
         Asked::Axes(count) => view.axes().len() == count,
         Asked::InTurn(told) => are_in_turn(view.axes(), told),
-        _ => true,
     }
 }
 
@@ -103,41 +96,10 @@ fn again_holds<D: Lengths>(
     }
 }
 
-/// Whether a view once more starts there, or a request for that was refused.
-fn again_starts_or_is_refused<D: Lengths>(alloc: Global, view: &Strided<D>, start: usize) -> bool {
-    match view.duplicate(alloc) {
-        Ok(again) => again.start() == start,
-        Err(_) => grants(alloc),
-    }
-}
-
-/// Whether this holds of a view.
-fn made_holds<D: Lengths>(
-    rt: &impl Abort,
-    alloc: Global,
-    view: &Strided<D>,
-    asked: Asked<'_>,
-) -> bool {
-    match asked {
-        Asked::MadeOrRefused => grants(alloc),
-        Asked::StartOrRefused(start) => again_starts_or_is_refused(alloc, view, start),
-        _ => view_holds(rt, alloc, view, asked) && again_holds(rt, alloc, view, asked),
-    }
-}
-
 /// Whether this holds where a rule refuses the view.
 fn refusal_holds(rt: &impl Abort, fault: &ShapeError, asked: Asked<'_>) -> bool {
     match asked {
         Asked::Row(row) => is_refused(rt, &mut Row::new(row), fault.kind()),
-        _ => false,
-    }
-}
-
-/// Whether this holds where memory is refused to the view.
-fn refused_memory_holds(alloc: Global, asked: Asked<'_>) -> bool {
-    match asked {
-        Asked::MadeOrRefused => grants(alloc),
-        Asked::StartOrRefused(_) => true,
         _ => false,
     }
 }
@@ -150,9 +112,9 @@ fn holds<D: Lengths>(
     asked: Asked<'_>,
 ) -> bool {
     match view {
-        Ok(view) => made_holds(rt, alloc, &view, asked),
+        Ok(view) => view_holds(rt, alloc, &view, asked) && again_holds(rt, alloc, &view, asked),
         Err(LayoutError::Shape(fault)) => refusal_holds(rt, &fault, asked),
-        Err(LayoutError::Memory(_error)) => refused_memory_holds(alloc, asked),
+        Err(LayoutError::Memory(_error)) => false,
     }
 }
 
@@ -193,7 +155,7 @@ fn built_holds<D: Lengths, T: ShapeBuilder<Dim = D>>(
 ) -> bool {
     match shape(alloc, builder, strides) {
         Ok(shape) => holds(rt, alloc, along(alloc, shape, data), asked),
-        Err(_) => refused_memory_holds(alloc, asked),
+        Err(_) => false,
     }
 }
 
@@ -206,11 +168,6 @@ fn pair_holds(
     asked: Asked<'_>,
 ) -> bool {
     built_holds(rt, alloc, (2, 3), strides, data, asked)
-}
-
-/// The same of six axes, in column-major order.
-fn six_hold(rt: &impl Abort, alloc: Global, len: usize, asked: Asked<'_>) -> bool {
-    built_holds(rt, alloc, [2, 1, 3, 1, 2, 2], None, (1, len), asked)
 }
 
 /// The same of a list, at the type of any number of axes.
@@ -282,28 +239,4 @@ fn r3_rows_of_five_axes_along_given_strides(rt: HostRuntime) {
 fn r3_rows_of_five_axes_in_turn(rt: HostRuntime) {
     let told = [(0, 2, -6), (4, 2, 3), (1, 1, 9), (3, 1, 9), (2, 3, 1)];
     assert!(rt; five_given_hold(&rt, rt.alloc(), Asked::InTurn(&told)));
-}
-
-// ---- refused memory
-
-#[test]
-fn memory_of_shapes_at_fixed_types(rt: HostRuntime) {
-    assert!(rt; pair_holds(&rt, rt.alloc(), None, (1, 24), Asked::Made));
-    assert!(rt; six_hold(&rt, rt.alloc(), 24, Asked::Made));
-}
-
-#[test]
-fn memory_of_a_shape_of_four(rt: HostRuntime) {
-    assert!(rt; any_hold(&rt, rt.alloc(), &[2, 3, 2, 2], None, (1, 24), Asked::Made));
-}
-
-#[test]
-fn memory_of_a_shape_of_five(rt: HostRuntime) {
-    assert!(rt; any_hold(&rt, rt.alloc(), &FIVE, None, (1, 12), Asked::MadeOrRefused));
-}
-
-// The view itself takes two requests: the third and the fourth are those of what is asked here.
-#[test]
-fn late_memory_of_a_view_of_five(rt: HostRuntime) {
-    assert!(rt; five_given_hold(&rt, rt.alloc(), Asked::StartOrRefused(6)));
 }

@@ -1,14 +1,11 @@
-//! Two rows of three elements: slices as values of their type, and refused memory.
-//!
-//! Each test passes plain, and with the first or the second request of its run refused.
+//! Two rows of three elements: slices as values of their type.
 use crate::view::owned::{Left, is_left, owned};
 use Fit::Strict;
-use Order::RowMajor;
 use SliceInfoElem::{Index, NewAxis, Slice};
-use ndarray_layout::{Fit, LayoutError, Lengths, Order, SliceInfoElem, Strided};
-use std::alloc::{AllocError, Global};
+use ndarray_layout::{Fit, LayoutError, Lengths, SliceInfoElem, Strided};
+use std::alloc::Global;
 use std::process::Abort;
-use test_tables::{AtType, at_type, grants, made};
+use test_tables::{AtType, at_type, made};
 
 /// A list of two axes, as a value of a type that fixes their count.
 fn pair<D: Lengths>(rt: &impl Abort, alloc: Global, list: [usize; 2]) -> D {
@@ -66,34 +63,7 @@ fn row_with_a_new_axis(rt: HostRuntime) {
 }
 
 #[test]
-fn memory_of_slice(rt: HostRuntime) {
+fn rows_without_the_first_column(rt: HostRuntime) {
     let left: Left<'_> = (1, &[2, 2], &[3, 1]);
     assert!(rt; leaves(&rt, rt.alloc(), &[from(0), from(1)], left));
-}
-
-/// Whether these are the places of six elements, or the request of a small one after them was granted.
-fn lists_six(places: Result<Vec<usize>, AllocError>, granted: bool) -> bool {
-    match places {
-        Ok(places) => places.as_slice() == [0, 1, 2, 3, 4, 5].as_slice(),
-        Err(_) => granted,
-    }
-}
-
-/// The places of two rows of three elements.
-#[derive(Clone, Copy)]
-struct PlacesOfRows;
-
-impl<R: Abort> AtType<R> for PlacesOfRows {
-    fn at<D: Lengths>(self, rt: &R, alloc: Global) -> bool {
-        let places = two_rows::<D>(rt, alloc).places(alloc, RowMajor);
-        lists_six(places, grants(alloc))
-    }
-}
-
-#[test]
-fn memory_of_places(rt: HostRuntime) {
-    assert!(rt;
-        at_type(&rt, rt.alloc(), Some(2), PlacesOfRows),
-        "refused though no request was"
-    );
 }
