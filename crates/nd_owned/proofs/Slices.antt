@@ -1,12 +1,10 @@
 -- Slices of a view whose places are distinct: the lists of their places are such that items can be written at all of them, and what that leaves.
-use Rattle.std.proofs.Common.{◌≡◌, ◌≢◌, ℕ, ◌<◌, ℤ, pos, true, false, Bool, Some, None, Option, List, [], ◌∷◌, length, get_or, map, refl, sym, ap, subst, ◌∙◌, arith, ◌&&◌, eqb}
+use Rattle.std.proofs.Common.{◌≡◌, ◌≢◌, ℕ, ◌<◌, ℤ, pos, true, false, Bool, Some, None, List, [], ◌∷◌, length, get_or, map, refl, sym, ap, subst, ◌∙◌, arith, ◌&&◌}
 use Rattle.std.specs.List.{All, AllPairs, Contains, list_all}
-use Rattle.std.specs.Option.{option_or}
 use Rattle.std.specs.Prelude.{slice_get}
 use Rattle.std.proofs.lemmas.Bool.{eqb-true}
 use Rattle.std.proofs.lemmas.List.{get_or-map, length-map}
 use Rattle.std.proofs.lemmas.List.Elements.{All-cons, All-head, All-tail}
-use Rattle.ndarray_layout.specs.declared.ErrorKind.{ErrorKind}
 use Rattle.ndarray_layout.specs.declared.Fit.TheVariants.{Strict}
 use Rattle.ndarray_layout.specs.declared.Order.{Order}
 use Rattle.ndarray_layout.specs.declared.Order.TheVariants.{RowMajor}
@@ -21,8 +19,7 @@ use Rattle.ndarray_layout.proofs.laws.Indices.{All-indices_in, AllPairs-indices_
 use Rattle.ndarray_layout.proofs.laws.SharePlace.{meet_of_shared_place, shared_place_of_lists}
 use Rattle.ndarray_layout.proofs.laws.SlicedView.{HasDistinctPlaces-slice_of}
 use Rattle.ndarray_layout.proofs.laws.View.{length-view_places}
-use Rattle.nd_owned.specs.Owned.{item_at_place}
-use Rattle.nd_owned.specs.Writes.{Write, AreApart, CanWrite, HasWritten, IsWritten, KeepsOthers, ShareNone, Spares, has_count, slices_fault, write_places}
+use Rattle.nd_owned.specs.Writes.{Write, AreApart, CanWrite, HasWritten, IsWritten, KeepsOthers, has_count, slices_fault, write_places}
 use Rattle.nd_owned.proofs.Faults.{both_none}
 use Rattle.nd_owned.proofs.Placed.{by_places}
 

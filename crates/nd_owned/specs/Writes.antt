@@ -1,14 +1,20 @@
 -- Lists of items that are to be written at slices of an array: for which fault that is refused, and what it leaves.
-use Rattle.std.specs.Prelude.{◌≡◌, ◌≢◌, ℕ, ◌<◌, ℤ, pos, Bool, true, false, ◌==◌, ◌⊎◌, Option, Some, None, List, [], ◌∷◌, length, map, slice_get, refl}
+use Rattle.std.specs.Prelude.{◌≡◌, ◌≢◌, ℕ, ◌<◌, ℤ, pos, Bool, true, false, ◌==◌, ◌⊎◌, Option, Some, None, List, [], ◌∷◌, length, map, slice_get, slice_index_or, unwrap_or, nat_eq, refl}
+use Rattle.std.proofs.Common.{ap, eq-eqb, inl, inr}
+use Rattle.std.proofs.Math.Dec.{lit≤}
+use Rattle.std.proofs.Math.Nat.{not-suc-le-zero}
+use Rattle.std.proofs.lemmas.Bool.{both_ways, ltb-true}
 use Rattle.std.specs.List.{All, AllPairs, Contains, list_all}
 use Rattle.std.specs.Option.{option_or}
 use Rattle.std.specs.declared.vec.Vec.{Vec}
 use Rattle.ndarray_layout.specs.declared.ErrorKind.{ErrorKind}
-use Rattle.ndarray_layout.specs.declared.ErrorKind.TheVariants.{IncompatibleShape, Unsupported}
+use Rattle.ndarray_layout.specs.declared.ErrorKind.TheVariants.{IncompatibleShape, OutOfBounds, Unsupported}
 use Rattle.ndarray_layout.specs.declared.Fit.TheVariants.{Strict}
 use Rattle.ndarray_layout.specs.declared.Order.TheVariants.{RowMajor}
 use Rattle.ndarray_layout.specs.declared.SliceInfoElem.{SliceInfoElem}
-use Rattle.ndarray_layout.specs.ArgumentFault.{argument_fault}
+use Rattle.ndarray_layout.specs.declared.SliceInfoElem.TheVariants as elem
+use Rattle.ndarray_layout.specs.ArgumentFault.{argument_fault, out_count}
+use Rattle.ndarray_layout.specs.Lengths.{NeedsNoMemory}
 use Rattle.ndarray_layout.specs.Meet.{Meet}
 use Rattle.ndarray_layout.specs.Size.{size}
 use Rattle.ndarray_layout.specs.Sliced.{sliced_shape}
@@ -37,6 +43,12 @@ slices_fault shape (write ∷ writes) = option_or (argument_fault Strict shape w
 -- there is an item for each index that the slice picks, and no more
 abbrev pub has_count : {T : Type 0} → List ℕ → Write T → Bool
 has_count shape write = length write.items == size (sliced_shape Strict write.slice shape)
+
+-- a slice without fault picks nothing, and leaves no more axes than a value keeps in itself
+pub record IsOfNone (shape : List ℕ) (slice : List SliceInfoElem) : Type 0 where
+  pub fits : argument_fault Strict shape slice ≡ None
+  pub few : NeedsNoMemory None (out_count slice)
+  pub none : size (sliced_shape Strict slice shape) ≡ 0
 
 -- the slices share no index
 abbrev pub AreApart : {T : Type 0} → List ℕ → Write T → Write T → Type 0
@@ -111,3 +123,88 @@ pub record CanWrite {T : Type 0} (len : ℕ) (places : List (List ℕ)) (writes 
 pub record HasWritten {T : Type 0} (places : List (List ℕ)) (writes : List (Write T)) (old new : List T) : Type 0 where
   pub written : map (map (slice_get new)) places ≡ map (λ write. map Some write.items) writes
   pub kept : (place : ℕ) → All (λ list. Contains list place → ⊥) places → slice_get new place ≡ slice_get old place
+
+-- examples
+abbrev two_by_three : View
+two_by_three = record { start = 0; shape = 2 ∷ 3 ∷ []; strides = pos 3 ∷ pos 1 ∷ [] }
+
+abbrev all_of_axis : SliceInfoElem
+all_of_axis = elem.Slice (pos 0) None (pos 1)
+
+abbrev first_row : Write ℕ
+first_row = record { slice = elem.Index (pos 0) ∷ all_of_axis ∷ []; items = 10 ∷ 11 ∷ 12 ∷ [] }
+
+abbrev first_column : Write ℕ
+first_column = record { slice = all_of_axis ∷ elem.Index (pos 0) ∷ []; items = 20 ∷ 21 ∷ [] }
+
+abbrev short_column : Write ℕ
+short_column = record { slice = all_of_axis ∷ elem.Index (pos 0) ∷ []; items = 20 ∷ [] }
+
+abbrev tenth_row : Write ℕ
+tenth_row = record { slice = elem.Index (pos 9) ∷ all_of_axis ∷ []; items = [] }
+
+three_of_a_row : has_count (2 ∷ 3 ∷ []) first_row ≡ true
+three_of_a_row = refl
+
+one_of_a_column : has_count (2 ∷ 3 ∷ []) short_column ≡ false
+one_of_a_column = refl
+
+second_slice_at_fault : slices_fault (2 ∷ 3 ∷ []) (short_column ∷ tenth_row ∷ []) ≡ Some OutOfBounds
+second_slice_at_fault = refl
+
+slice_before_count : IsFaultOfWrites (2 ∷ 3 ∷ []) (short_column ∷ tenth_row ∷ []) (Some OutOfBounds)
+slice_before_count = refl
+
+count_before_meeting : IsFaultOfWrites (2 ∷ 3 ∷ []) (first_row ∷ short_column ∷ []) (Some IncompatibleShape)
+count_before_meeting = refl
+
+no_row : IsOfNone (2 ∷ 3 ∷ []) (elem.Slice (pos 0) (Some (pos 0)) (pos 1) ∷ all_of_axis ∷ [])
+no_row = record { fits = refl; few = lit≤ tt; none = refl }
+
+at_the_corner : Meet Strict (2 ∷ 3 ∷ []) first_row.slice first_column.slice
+at_the_corner =
+    (0 ∷ 0 ∷ [], refl, ((0, ltb-true 0 1 refl, refl), ((0, ltb-true 0 3 refl, refl), tt)), ((0, ltb-true 0 2 refl, refl), ((0, ltb-true 0 1 refl, refl), tt)))
+
+row_meets_column : SomeMeet (2 ∷ 3 ∷ []) (first_row ∷ first_column ∷ [])
+row_meets_column = record {
+  first = 0;
+  second = 1;
+  one = first_row;
+  other = first_column;
+  earlier = ltb-true 0 1 refl;
+  one_there = refl;
+  other_there = refl;
+  meet = at_the_corner;
+}
+
+row_and_column : IsFaultOfWrites (2 ∷ 3 ∷ []) (first_row ∷ first_column ∷ []) (Some Unsupported)
+row_and_column = inl (refl, row_meets_column)
+
+row_meets_one : MeetsOneOf (2 ∷ 3 ∷ []) first_row.slice (first_column ∷ [])
+row_meets_one = record { at = 0; other = first_column; there = refl; meet = at_the_corner }
+
+row_and_column_apart : AreApart (2 ∷ 3 ∷ []) first_row first_column → ⊥
+row_and_column_apart apart = apart at_the_corner
+
+nothing_to_write : IsFaultOfWrites {T = ℕ} (2 ∷ 3 ∷ []) [] None
+nothing_to_write = inr (refl, λ i j d earlier below. absurd (not-suc-le-zero below))
+
+row_written : IsWritten two_by_three (10 ∷ 11 ∷ 12 ∷ 3 ∷ 4 ∷ 5 ∷ 6 ∷ []) first_row
+row_written = refl
+
+place_of_the_row : Spares two_by_three 1 first_row → ⊥
+place_of_the_row spares = spares (1, ltb-true 1 3 refl, refl)
+
+another_item : KeepsOthers {T = ℕ} two_by_three [] (7 ∷ []) (8 ∷ []) → ⊥
+another_item kept = both_ways (nat_eq 8 7) refl (eq-eqb 8 7 (ap (λ item. unwrap_or item 0) (kept 0 (λ k d below. absurd (not-suc-le-zero below)))))
+
+place_in_both : ShareNone (4 ∷ 5 ∷ []) (5 ∷ []) → ⊥
+place_in_both apart = apart 5 (1, ltb-true 1 2 refl, refl) (0, ltb-true 0 1 refl, refl)
+
+one_place_twice : CanWrite 9 ((4 ∷ 4 ∷ []) ∷ []) (first_column ∷ []) → ⊥
+one_place_twice can = can.distinct 0 [] (ltb-true 0 1 refl) 0 1 0 (ltb-true 0 1 refl) (ltb-true 1 2 refl) refl
+
+item_not_there : HasWritten ((1 ∷ []) ∷ []) (short_column ∷ []) (7 ∷ 7 ∷ []) (7 ∷ 7 ∷ []) → ⊥
+item_not_there left =
+    both_ways (nat_eq 7 20) refl
+    (eq-eqb 7 20 (ap (λ lists. unwrap_or (slice_index_or (slice_index_or lists 0 []) 0 None) 0) left.written))

@@ -16,7 +16,7 @@ ghost use Rattle.ndarray_layout.specs.SlicedView.{slice_of};
 ghost use Rattle.ndarray_layout.specs.Span.{low_span};
 ghost use Rattle.ndarray_layout.specs.View.{view_of, view_places};
 ghost use Rattle.nd_owned.specs.Owned.{IsOwned, item_at, item_at_place, shape_fault_of, with_item};
-ghost use Rattle.nd_owned.specs.Writes.{IsFaultOfWrites, IsWritten, KeepsOthers, write_of};
+ghost use Rattle.nd_owned.specs.Writes.{IsFaultOfWrites, IsOfNone, IsWritten, KeepsOthers, write_of};
 
 use crate::writes::{check_writes, places_of, slice_places, write_all};
 use ndarray_layout::{
@@ -48,7 +48,8 @@ impl<T: Copy, D: Lengths> Model for OwnedArray<T, D> {
 /// The items at places of a list, in the order of the places.
 fn items_at<T: Copy>(alloc: Global, stored: &[T], places: &[usize]) -> Result<Vec<T>, AllocError>
     requires { All (λ place. place < length stored.now) places.now }
-    ensures { IfOk result (λ v. map Some v.items ≡ map (slice_get stored.now) places.now) }
+    ensures items { IfOk result (λ v. map Some v.items ≡ map (slice_get stored.now) places.now) }
+    ensures memory { length places.now ≡ 0 → IsOk result }
 {
     let mut items = Vec::with_capacity(alloc, places.len())?;
     for place in places {
@@ -127,11 +128,13 @@ impl<T: Copy, D: Lengths> OwnedArray<T, D> {
 
     /// Copies of the items that a slice picks, the first axis moving slowest.
     ///
-    /// Errors: those of `check_slice` on the shape, then that memory is refused.
+    /// Errors: those of `check_slice` on the shape, then that memory is refused, but not where the slice picks
+    /// nothing and leaves at most 4 axes.
     pub fn items<S: SliceElems>(&self, alloc: Global, slices: &S) -> Result<Vec<T>, LayoutError>
         ensures fault { shape_fault result ≡ argument_fault Strict self.now.view.shape (S.list slices.now) }
         ensures items { IfOk result (λ v. map Some v.items ≡ map (item_at_place self.now.items)
             (view_places RowMajor (slice_of Strict (S.list slices.now) self.now.view))) }
+        ensures memory { IsOfNone self.now.view.shape (S.list slices.now) → IsOk result }
     {
         let places = slice_places(alloc, &self.view, slices)?;
         Ok(items_at(alloc, self.items.as_slice(), places.as_slice())?)

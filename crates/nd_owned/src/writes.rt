@@ -1,21 +1,23 @@
 //! Items that are to be written at slices of a view: whether that is refused, their places, and the writes.
 ghost use Rattle.std.specs.List.{All, AllPairs, Contains, list_all};
-ghost use Rattle.std.specs.Prelude.{◌≡◌, ◌<◌, ◌≢◌, ◌↔◌, ℕ, if◌then◌else◌, Some, None, IfErr, IfOk, IsOk, IsTrue, OnErr, OnOk, length, map, pos, slice_get};
+ghost use Rattle.std.specs.Prelude.{◌≡◌, ◌<◌, ◌≢◌, ◌↔◌, ℕ, if◌then◌else◌, Some, None, IfErr, IfOk, IsOk, IsTrue, OnErr, OnOk, length, map, pos, slice_get, vec_len};
 ghost use Rattle.std.specs.Result.{result_err};
 ghost use Rattle.ndarray_layout.specs.declared.ErrorKind.TheVariants.{IncompatibleShape, Unsupported};
 ghost use Rattle.ndarray_layout.specs.declared.Fit.TheVariants.{Strict};
 ghost use Rattle.ndarray_layout.specs.declared.Order.TheVariants.{RowMajor};
 ghost use Rattle.ndarray_layout.specs.ArgumentFault.{argument_fault};
 ghost use Rattle.ndarray_layout.specs.ShapeFault.{shape_fault};
+ghost use Rattle.ndarray_layout.specs.Size.{size};
+ghost use Rattle.ndarray_layout.specs.Sliced.{sliced_shape};
 ghost use Rattle.ndarray_layout.specs.SlicedView.{slice_of};
 ghost use Rattle.ndarray_layout.specs.View.{LiesWithin, view_places};
-ghost use Rattle.nd_owned.specs.Writes.{CanWrite, HasWritten, IsFaultOfWrites, IsMeetFault, IsMeetFaultOf, has_count, slices_fault, vec_list, write_of, write_places};
+ghost use Rattle.nd_owned.specs.Writes.{IsOfNone, CanWrite, HasWritten, IsFaultOfWrites, IsMeetFault, IsMeetFaultOf, has_count, slices_fault, vec_list, write_of, write_places};
 
 use ndarray_layout::{
     ErrorKind, Fit, IxDyn, LayoutError, Lengths, Order, ShapeError, SliceElems, SliceInfoElem,
     Strided, check_slice, from_kind,
 };
-use std::alloc::{AllocError, Global};
+use std::alloc::Global;
 
 /// A slice, and the items for its places.
 type SliceItems<T> = (Vec<SliceInfoElem>, Vec<T>);
@@ -104,6 +106,8 @@ pub(crate) fn slice_places<D: Lengths, S: SliceElems>(
     ensures fault { shape_fault result ≡ argument_fault Strict view.now.shape (S.list slice.now) }
     ensures places { IfOk result (λ v. map pos v.items ≡ view_places RowMajor (slice_of Strict (S.list slice.now) view.now)) }
     ensures inside { IfOk result (λ v. (len : ℕ) → LiesWithin len view.now → All (λ place. place < len) v.items) }
+    ensures len { IfOk result (λ v. vec_len v ≡ size (sliced_shape Strict (S.list slice.now) view.now.shape)) }
+    ensures memory { IsOfNone view.now.shape (S.list slice.now) → IsOk result }
 {
     let slice: Strided<IxDyn> = view.slice(alloc, slice, Fit::Strict)?;
     Ok(slice.places(alloc, Order::RowMajor)?)

@@ -1,5 +1,5 @@
 -- The first slice that meets one after it ends the check.
-use Rattle.std.proofs.Common.{rules, ◌≡◌, ◌+◌, ◌-◌, inr, Some, None, length, map, take, drop, refl, sym, ap, subst, ◌∙◌}
+use Rattle.std.proofs.Common.{rules, ◌≡◌, ◌+◌, ◌-◌, inr, Some, length, map, take, drop, refl, sym, ap, subst, ◌∙◌}
 use Rattle.std.specs.List.{All}
 use Rattle.std.specs.Result.{result_err}
 use Rattle.nd_owned.specs.Writes.{AreApart, IsMeetFault, slices_fault, write_of}

@@ -3,7 +3,7 @@ use Rattle.std.proofs.Common.{◌≡◌, None, map, drop}
 use Rattle.std.specs.List.{All}
 use Rattle.ndarray_layout.specs.declared.Fit.TheVariants.{Strict}
 use Rattle.ndarray_layout.specs.Meet.{Meet}
-use Rattle.nd_owned.specs.Writes.{Write, slices_fault, write_of}
+use Rattle.nd_owned.specs.Writes.{slices_fault, write_of}
 use Rattle.nd_owned.proofs.writes.check_apart_from.Given as goal
 
 abbrev pub invariant-loop-other : goal.invariant-loop-other

@@ -1,5 +1,5 @@
 -- The first count that isn't the slice's ends the check.
-use Rattle.std.proofs.Common.{◌≡◌, ◌+◌, ◌&&◌, false, true, Some, None, cond, eqb, length, map, drop, sym, ap, ◌∙◌}
+use Rattle.std.proofs.Common.{◌≡◌, ◌+◌, ◌&&◌, false, true, Some, None, cond, length, map, drop, sym, ap, ◌∙◌}
 use Rattle.std.proofs.lemmas.Bool.{eq-eqb, ne_eqb}
 use Rattle.std.specs.List.{list_all}
 use Rattle.ndarray_layout.specs.declared.ErrorKind.TheVariants.{IncompatibleShape}

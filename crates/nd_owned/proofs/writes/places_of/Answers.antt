@@ -1,5 +1,5 @@
 -- One more slice has its places listed; only memory is refused.
-use Rattle.std.proofs.Common.{◌≡◌, ◌+◌, ◌<◌, ◌++◌, ◌∷◌, [], ℕ, Vec, Global, pos, length, map, take, sym, ap, ◌∙◌, arith}
+use Rattle.std.proofs.Common.{◌≡◌, ◌<◌, ◌++◌, ◌∷◌, [], ℕ, Vec, Global, pos, length, map, ap, ◌∙◌, arith}
 use Rattle.std.proofs.lemmas.List.{length-map, map-append}
 use Rattle.std.specs.List.{All}
 use Rattle.nd_owned.specs.Writes.{vec_list, write_of, write_places}

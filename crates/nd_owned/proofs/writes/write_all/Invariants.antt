@@ -1,5 +1,5 @@
 -- The items of the writes so far are at their places, and nothing else has changed.
-use Rattle.std.proofs.Common.{◌≡◌, ℕ, Some, length, map, take}
+use Rattle.std.proofs.Common.{◌≡◌, ℕ, Some, map, take}
 use Rattle.std.specs.List.{All, Contains}
 use Rattle.std.specs.Prelude.{slice_get}
 use Rattle.nd_owned.specs.Writes.{vec_list, write_of}

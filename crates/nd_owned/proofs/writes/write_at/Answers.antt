@@ -1,5 +1,5 @@
 -- One more item is at its place.
-use Rattle.std.proofs.Common.{◌≡◌, ◌<◌, length, get_or, sym, ◌∙◌, arith}
+use Rattle.std.proofs.Common.{◌<◌, length, get_or, sym, ◌∙◌, arith}
 use Rattle.nd_owned.proofs.Placed.{one_more_place, other_default, set_other}
 use Rattle.nd_owned.proofs.writes.write_at.Goals as goal
 

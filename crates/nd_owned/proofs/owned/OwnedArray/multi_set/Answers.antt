@@ -1,5 +1,5 @@
 -- The places of the slices are such that their items can be written; what that leaves is what was asked for.
-use Rattle.std.proofs.Common.{◌≡◌, ◌++◌, ◌<◌, pos, length, map, take, drop, sym, subst, ◌∙◌}
+use Rattle.std.proofs.Common.{◌≡◌, ◌++◌, pos, length, map, take, drop, sym, subst, ◌∙◌}
 use Rattle.std.proofs.lemmas.List.{take_at}
 use Rattle.std.specs.List.{All}
 use Rattle.nd_owned.specs.Writes.{IsWritten, KeepsOthers, vec_list, write_of, write_places}
