@@ -6,9 +6,11 @@ mod parts;
 mod places;
 mod reshapes;
 mod slices;
+mod writes;
 
 pub use broadcasts::on_common_shape;
 pub use parts::separate_places;
 pub use places::{picture, pixel};
 pub use reshapes::along_shape;
 pub use slices::{alternate_rows, pixels_of};
+pub use writes::write_parts;

@@ -1,0 +1,29 @@
+//! Writes several parts of an owned array at once, all of them or none.
+ghost use Rattle.std.specs.Prelude.{◌≡◌, IfOk, IsTrue, OnErr, false, map};
+ghost use Rattle.std.specs.List.{All};
+ghost use Rattle.nd_owned.specs.Writes.{IsWritten, KeepsOthers, write_of};
+
+use nd_owned::OwnedArray;
+use ndarray_layout::{LayoutError, Lengths, SliceInfoElem};
+use std::alloc::{AllocError, Global};
+
+/// Writes pixels at several parts of a picture, and answers whether they were written: not where a part doesn't fit, has
+/// another count of pixels than are given for it, or shares an index with another part. Then the picture stays.
+pub fn write_parts<D: Lengths>(
+    alloc: Global,
+    picture: &mut OwnedArray<u8, D>,
+    parts: &[(Vec<SliceInfoElem>, Vec<u8>)],
+) -> Result<bool, AllocError>
+    ensures written { IfOk result (λ done. IsTrue done →
+        All (IsWritten picture.old.view picture.new.items) (map write_of parts.now)) }
+    ensures kept { IfOk result (λ done. IsTrue done →
+        KeepsOthers picture.old.view (map write_of parts.now) picture.old.items picture.new.items) }
+    ensures refused { IfOk result (λ done. done ≡ false → picture.new ≡ picture.old) }
+    ensures no_memory { OnErr result (picture.new ≡ picture.old) }
+{
+    match picture.multi_set(alloc, parts) {
+        Ok(()) => Ok(true),
+        Err(LayoutError::Shape(_)) => Ok(false),
+        Err(LayoutError::Memory(refused)) => Err(refused),
+    }
+}
