@@ -1,4 +1,5 @@
 pub mod Owned
+pub mod Writes
 pub use Rattle.ndarray_layout.specs.AcceptanceByStrides
 pub use Rattle.ndarray_layout.specs.ArgumentFault
 pub use Rattle.ndarray_layout.specs.Lengths

@@ -3,5 +3,6 @@
 #![tactic(auto)]
 
 mod owned;
+mod writes;
 
 pub use owned::OwnedArray;

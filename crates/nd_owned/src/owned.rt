@@ -1,7 +1,7 @@
 //! An array that owns its items.
 ghost use Rattle.std.specs.List.{All};
 ghost use Rattle.std.specs.Option.{IsSome};
-ghost use Rattle.std.specs.Prelude.{◌≡◌, ◌<◌, ◌↔◌, IsTrue, Some, None, IfErr, IfOk, IsOk, length, map, slice_get, vec_len};
+ghost use Rattle.std.specs.Prelude.{◌≡◌, ◌<◌, ◌↔◌, IsTrue, Some, None, IfErr, IfOk, IsOk, OnErr, OnOk, length, map, slice_get, vec_len};
 ghost use Rattle.ndarray_layout.specs.declared.CanIndexCheckMode.TheVariants.{OwnedMutable};
 ghost use Rattle.ndarray_layout.specs.declared.Fit.TheVariants.{Strict};
 ghost use Rattle.ndarray_layout.specs.declared.Order.TheVariants.{RowMajor};
@@ -16,9 +16,11 @@ ghost use Rattle.ndarray_layout.specs.SlicedView.{slice_of};
 ghost use Rattle.ndarray_layout.specs.Span.{low_span};
 ghost use Rattle.ndarray_layout.specs.View.{view_of, view_places};
 ghost use Rattle.nd_owned.specs.Owned.{IsOwned, item_at, item_at_place, shape_fault_of, with_item};
+ghost use Rattle.nd_owned.specs.Writes.{IsFaultOfWrites, IsWritten, KeepsOthers, write_of};
 
+use crate::writes::{check_writes, places_of, slice_places, write_all};
 use ndarray_layout::{
-    CanIndexCheckMode, Fit, IxDyn, LayoutError, Lengths, NdIndex, Order, SliceElems, StrideShape,
+    CanIndexCheckMode, LayoutError, Lengths, NdIndex, SliceElems, SliceInfoElem, StrideShape,
     Strided,
 };
 use std::alloc::{AllocError, Global};
@@ -131,8 +133,36 @@ impl<T: Copy, D: Lengths> OwnedArray<T, D> {
         ensures items { IfOk result (λ v. map Some v.items ≡ map (item_at_place self.now.items)
             (view_places RowMajor (slice_of Strict (S.list slices.now) self.now.view))) }
     {
-        let slice: Strided<IxDyn> = self.view.slice(alloc, slices, Fit::Strict)?;
-        let places = slice.places(alloc, Order::RowMajor)?;
+        let places = slice_places(alloc, &self.view, slices)?;
         Ok(items_at(alloc, self.items.as_slice(), places.as_slice())?)
+    }
+
+    /// Writes items at several slices at once, each with the list of items for its indices, the first axis
+    /// moving slowest. All other items stay, those at no place of the layout too. Slices that pick nothing meet
+    /// none, and no slices at all is no fault.
+    ///
+    /// Each slice is compared once with each one after it, so that of `k` slices `k * (k - 1) / 2` pairs are
+    /// compared, each on all axes. The places of all slices are listed before the first write.
+    ///
+    /// Errors, which change nothing: that of `check_slice` on the shape for the first slice that doesn't fit; then
+    /// `IncompatibleShape` where a list has more items or fewer than its slice picks; then `Unsupported` where two
+    /// slices share an index; at last that memory is refused. ndarray's `multi_slice_move`, with the writes.
+    pub fn multi_set(
+        &mut self,
+        alloc: Global,
+        writes: &[(Vec<SliceInfoElem>, Vec<T>)],
+    ) -> Result<(), LayoutError>
+        ensures fault { IsFaultOfWrites self.old.view.shape (map write_of writes.now) (shape_fault result) }
+        ensures memory { shape_fault result ≡ None → length writes.now ≡ 0 → IsOk result }
+        ensures unchanged { OnErr result (self.new ≡ self.old) }
+        ensures view { self.new.view ≡ self.old.view }
+        ensures count { length self.new.items ≡ length self.old.items }
+        ensures written { OnOk result (All (IsWritten self.old.view self.new.items) (map write_of writes.now)) }
+        ensures kept { OnOk result (KeepsOthers self.old.view (map write_of writes.now) self.old.items self.new.items) }
+    {
+        check_writes(&self.view, writes)?;
+        let places = places_of(alloc, &self.view, writes)?;
+        write_all(self.items.as_mut_slice(), places.as_slice(), writes);
+        Ok(())
     }
 }

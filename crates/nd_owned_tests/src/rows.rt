@@ -1,88 +1,151 @@
-//! Arrays of two rows of three items, 0 and so on, and a spare item or none.
-use SliceInfoElem::Slice;
-use nd_owned::OwnedArray;
-use ndarray_layout::{
-    ErrorKind, Ix2, LayoutError, SliceInfoElem, StrideShape, Strides, new_ix2, unsigned,
-};
+//! Arrays of no, one, two, three and six axes, over the items 0 and so on.
+use crate::asked::Kind::{self, Halves, Numbers, NumbersInRows, NumbersWithoutAxes};
+use crate::asked::holds_of;
 use std::alloc::Global;
 use std::process::Abort;
+use test_tables::rows;
 
-type Refusal = (LayoutError, Vec<usize>);
-
-/// The first numbers.
-fn numbers(rt: &impl Abort, alloc: Global, count: usize) -> Vec<usize> {
-    let mut numbers = Vec::new(alloc);
-    for number in 0..count {
-        numbers.push(number).expect(rt, "memory");
-    }
-    numbers
-}
-
-/// The array of two rows by some strides over the first numbers.
-fn two_rows(
-    rt: &impl Abort,
-    alloc: Global,
-    strides: Strides<Ix2>,
-    count: usize,
-) -> Result<OwnedArray<usize, Ix2>, Refusal> {
-    let dim = new_ix2(2, 3);
-    OwnedArray::from_shape_vec(
-        alloc,
-        StrideShape { dim, strides },
-        numbers(rt, alloc, count),
-    )
-}
-
-/// The entries of an axis from one on, or all of them from the back.
-fn from(start: isize, step: isize) -> SliceInfoElem {
-    Slice {
-        start,
-        end: None,
-        step,
+/// The rows of a table hold of arrays of these kinds.
+pub fn hold(rt: &impl Abort, alloc: Global, kinds: &[Kind], table: &str) {
+    for kind in kinds {
+        for line in rows(table) {
+            assert!(rt; holds_of(rt, alloc, *kind, line), "{line}");
+        }
     }
 }
 
-#[test]
-fn items_of_slices(rt: HostRuntime) {
-    let alloc = rt.alloc();
-    let array = two_rows(&rt, alloc, Strides::C, 7)
-        .ok()
-        .expect(&rt, "refused");
-    let items = array
-        .items(alloc, &[from(0, -1), from(1, 1)])
-        .ok()
-        .expect(&rt, "refused");
-    assert_eq!(rt; items.as_slice(), [4, 5, 1, 2].as_slice());
-}
+/// Two rows of three items, with a spare one or without.
+const ROWS: &str = "\
+2,3 C 7: items ..;-1,1.. => 4,5,1,2
+2,3 C 7: multi_set 0,.. 10,11,12&1,..;2 20,21 => Ok 10,11,12,20,4,21,6
+2,3 C 7: multi_set 0,.. 10,11,12&..,0 20,21 => Unsupported 0,1,2,3,4,5,6
+2,3 C 7: multi_set ..,0 10 => IncompatibleShape 0,1,2,3,4,5,6
+2,3 C 7: multi_set ..,0 10&9,.. 20,21,22 => OutOfBounds 0,1,2,3,4,5,6
+2,3 C 7: multi_set 0..0,.. - => Ok 0,1,2,3,4,5,6
+2,3 C 7: set 1,3 9 => false 0,1,2,3,4,5,6
+2,3 C 5: from_shape_vec => OutOfBounds 0,1,2,3,4
+2,3 -3,1 6: items ..,.. => 3,4,5,0,1,2";
 
 #[test]
-fn items_of_negative_strides(rt: HostRuntime) {
-    let alloc = rt.alloc();
-    let strides = Strides::Custom(new_ix2(unsigned(-3), 1));
-    let array = two_rows(&rt, alloc, strides, 6).ok().expect(&rt, "refused");
-    let items = array
-        .items(alloc, &[from(0, 1), from(0, 1)])
-        .ok()
-        .expect(&rt, "refused");
-    assert_eq!(rt; items.as_slice(), [3, 4, 5, 0, 1, 2].as_slice());
+fn r15_rows(rt: HostRuntime) {
+    hold(&rt, rt.alloc(), &[NumbersInRows, Numbers, Halves], ROWS);
 }
 
-#[test]
-fn items_at_indices(rt: HostRuntime) {
-    let mut array = two_rows(&rt, rt.alloc(), Strides::C, 7)
-        .ok()
-        .expect(&rt, "refused");
-    assert!(rt; !array.set(&(1, 3), 9) && array.set(&(1, 0), 8));
-    assert_eq!(rt; (array.get(&(1, 0)), array.get(&(2, 0))), (Some(8), None));
-    assert_eq!(rt; array.stored(), [0, 1, 2, 8, 4, 5, 6].as_slice());
-}
+/// Writes to two rows of three items that are refused: for the first slice that doesn't fit, then for a count of items, then for
+/// two slices that share an index.
+const REFUSED: &str = "\
+2,3 C 7: multi_set .. 10&9,.. 1,2,3 => IncompatibleShape 0,1,2,3,4,5,6
+2,3 C 7: multi_set 9,.. 1,2,3&.. 10 => OutOfBounds 0,1,2,3,4,5,6
+2,3 C 7: multi_set ..,0 1&..,..;0 - => Unsupported 0,1,2,3,4,5,6
+2,3 C 7: multi_set ..,-4.. 1&0,0 1,2 => OutOfBounds 0,1,2,3,4,5,6
+2,3 C 7: multi_set 0,.. 1,2,3&..,0 4 => IncompatibleShape 0,1,2,3,4,5,6
+2,3 C 7: multi_set 0,0 1,2 => IncompatibleShape 0,1,2,3,4,5,6
+2,3 C 7: multi_set 0..0,.. 1 => IncompatibleShape 0,1,2,3,4,5,6
+2,3 C 7: multi_set 0,0 1&1,.. 2,3,4&0,..;2 5,6 => Unsupported 0,1,2,3,4,5,6
+2,3 C 7: multi_set 1,1 9&1,1 9 => Unsupported 0,1,2,3,4,5,6
+2,3 C 7: multi_set 1..,NewAxis,.. 7,8,9&..,2..;-2 1,2 => Unsupported 0,1,2,3,4,5,6";
+
+/// Writes to two rows of three items that are done.
+const DONE: &str = "\
+2,3 C 7: multi_set 0,..;2 1,2&0,1..;2 3 => Ok 1,3,2,3,4,5,6
+2,3 C 7: multi_set NewAxis,1,NewAxis,..;-1 7,8,9 => Ok 0,1,2,9,8,7,6
+2,3 C 7: multi_set => Ok 0,1,2,3,4,5,6
+2,3 C 7: multi_set ..,..;-1 10,11,12,13,14,15 => Ok 12,11,10,15,14,13,6
+2,3 C 7: multi_set ..,3.. -&..,0 20,21 => Ok 20,1,2,21,4,5,6
+2,3 C 7: multi_set 1..1,.. -&1..1,.. - => Ok 0,1,2,3,4,5,6
+2,3 C 7: multi_set -1,-1 9&-2,-3 8 => Ok 8,1,2,3,4,9,6
+2,3 F 7: multi_set ..,1 10,11 => Ok 0,1,10,11,4,5,6
+2,3 -3,-1 8: multi_set 0,..;2 10,11&1,1 30 => Ok 0,30,2,11,4,10,6,7
+2,3 -3,-1 8: multi_set ..;-1,1.. 10,11,12,13 => Ok 11,10,2,13,12,5,6,7
+2,2 4,2 8: multi_set ..,1 20,21&..;-1,0 30,31 => Ok 31,1,20,3,30,5,21,7
+0,3 C 2: multi_set ..,.. -&..,0 - => Ok 0,1";
+
+/// Items of slices and of indices.
+const READ: &str = "\
+2,3 F 7: items ..,.. => 0,2,4,1,3,5
+2,3 -3,-1 8: items ..,.. => 5,4,3,2,1,0
+2,2 4,2 8: items ..,..;-1 => 2,0,6,4
+2,3 C 7: items 1,1 => 4
+2,3 C 7: items ..,1..1 => -
+0,3 C 2: items ..,..;-1 => -
+2,3 C 7: items .. => IncompatibleShape
+2,3 C 7: items 2,.. => OutOfBounds
+2,3 C 7: items ..,..;0 => Unsupported
+2,3 C 7: get 1,0 => 3
+2,3 C 7: get 2,0 => none
+2,3 -3,-1 8: get 1,2 => 0
+0,3 C 2: get 0,0 => none
+2,3 C 7: set 1,0 8 => true 0,1,2,8,4,5,6
+2,3 -3,-1 8: set 0,1 9 => true 0,1,2,3,9,5,6,7";
+
+/// Layouts over items.
+const MADE: &str = "\
+2,2 1,1 9: from_shape_vec => Unsupported 0,1,2,3,4,5,6,7,8
+2,2 3,1 4: from_shape_vec => OutOfBounds 0,1,2,3
+2,2 3,1 5: from_shape_vec => Ok 0,1,2,3,4
+4611686018427387904,4 C 1: from_shape_vec => Overflow 0
+0,2 2,1 0: from_shape_vec => OutOfBounds -
+0,2 2,1 1: from_shape_vec => Ok 0";
 
 #[test]
-fn too_few_items(rt: HostRuntime) {
-    let refused = two_rows(&rt, rt.alloc(), Strides::C, 5);
-    let (fault, items) = refused.err().expect(&rt, "accepted");
-    assert!(rt;
-        matches!(fault, LayoutError::Shape(fault) if fault.kind() == ErrorKind::OutOfBounds)
-    );
-    assert_eq!(rt; items.as_slice(), [0, 1, 2, 3, 4].as_slice());
+fn two_axes(rt: HostRuntime) {
+    for table in [REFUSED, DONE, READ, MADE] {
+        hold(&rt, rt.alloc(), &[NumbersInRows, Halves], table);
+    }
+}
+
+/// Arrays without an axis: one item, and spare ones.
+const WITHOUT_AXES: &str = "\
+- C 2: multi_set - 5 => Ok 5,1
+- C 1: multi_set NewAxis,NewAxis 7 => Ok 7
+- C 2: multi_set - 7&NewAxis 8 => Unsupported 0,1
+- C 1: multi_set - - => IncompatibleShape 0
+- C 1: multi_set 0 5 => IncompatibleShape 0
+- C 3: items NewAxis => 0
+- C 3: items - => 0
+- C 2: get - => 0
+- C 2: set - 9 => true 9,1
+- C 0: from_shape_vec => OutOfBounds -";
+
+#[test]
+fn no_axes(rt: HostRuntime) {
+    hold(&rt, rt.alloc(), &[NumbersWithoutAxes, Halves], WITHOUT_AXES);
+}
+
+/// Arrays of one, three and six axes, and lists of other counts of axes than the array has. In the one of six axes the items 2, 5, 6,
+/// 9 and 12 are spare.
+const OTHER_COUNTS: &str = "\
+4 -2 8: multi_set 1..;-2 10,11 => Ok 10,1,2,3,11,5,6,7
+4 C 4: get 4 => none
+4 C 4: get 0,0 => none
+4 C 4: set - 9 => false 0,1,2,3
+2,3 1 7: from_shape_vec => IncompatibleLayout 0,1,2,3,4,5,6
+2,2,2 C 9: multi_set ..,1,.. 10,11,12,13&..;-1,0,0 20,21 => Ok 21,1,10,11,20,5,12,13,8
+2,1,2,1,2,1 7,9,-3,9,1,9 13: items ..,..,..,..,..,.. => 3,4,0,1,10,11,7,8
+2,1,2,1,2,1 7,9,-3,9,1,9 13: items 1,0,..;-1,..,1,0 => 8,11
+2,1,2,1,2,1 7,9,-3,9,1,9 13: multi_set 1,0,..,0,..;-1,-1 20,21,22,23&0,..,1,..,..,.. 30,31 => Ok 30,31,2,3,4,5,6,23,22,9,21,20,12
+2,1,2,1,2,1 7,9,-3,9,1,9 13: multi_set ..,..,..,..,.. 1 => IncompatibleShape 0,1,2,3,4,5,6,7,8,9,10,11,12
+2,1,2,1,2,1 7,9,-3,9,1,9 13: multi_set 0,0,..,0,0,0 1,2&..,..,1,..,0,.. 3,4 => Unsupported 0,1,2,3,4,5,6,7,8,9,10,11,12
+2,1,2,1,2,1 C 8: items ..;-1,..,..,..,..,.. => 4,5,6,7,0,1,2,3
+2,1,2,1,2,1 F 8: items ..,..,..,..,..,.. => 0,4,2,6,1,5,3,7";
+
+#[test]
+fn any_number_of_axes(rt: HostRuntime) {
+    hold(&rt, rt.alloc(), &[Numbers, Halves], OTHER_COUNTS);
+}
+
+/// 10,000 items and a spare one.
+const LARGE_ROWS: &str = "\
+50,200 C 10001: all_from_the_back ..;-1,..;-1 => -
+50,200 C 10001: fifty_from_the_back 0,..;-1 => -";
+
+/// The same along six axes.
+const LARGE: &str = "\
+50,1,2,10,1,10 C 10001: all_from_the_back ..;-1,..;-1,..;-1,..;-1,..;-1,..;-1 => -
+50,1,2,10,1,10 C 10001: fifty_from_the_back 0,..;-1,..;-1,..;-1,..;-1,..;-1 => -";
+
+#[test]
+fn ample_memory(rt: HostRuntime) {
+    hold(&rt, rt.alloc(), &[NumbersInRows], LARGE_ROWS);
+    hold(&rt, rt.alloc(), &[Numbers, Halves], LARGE);
 }

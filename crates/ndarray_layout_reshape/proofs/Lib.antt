@@ -16,4 +16,5 @@ pub mod Steps
 pub mod Tails
 pub mod Turned
 pub mod Values
+pub mod Written
 pub mod laws

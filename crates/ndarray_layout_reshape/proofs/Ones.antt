@@ -149,14 +149,14 @@ off-product from strides to k before none =
     ]
 
 -- ---- what is written stays
-abbrev Kept : List ℤ → List ℤ → ℕ → Type 0
+abbrev pub Kept : List ℤ → List ℤ → ℕ → Type 0
 Kept out news k = (j : ℕ) → j < k → get_or news j (pos 0) ≡ get_or out j (pos 0)
 
 previous-kept : (out news : List ℤ) (k j : ℕ) → j ≤ k → Kept out news k → previous news j ≡ previous out j
 previous-kept out news k zero l kept = refl
 previous-kept out news k (suc j) l kept = kept j (omega arith)
 
-written-kept : (from : List ℕ) (strides : List ℤ) (to : List ℕ) (out news : List ℤ) (i k : ℕ) → Kept out news k → OnesAlike from strides to out i k → (j : ℕ) → j < k → get_or to j 0 ≡ 1 → get_or news j (pos 0) ≡ stride_of_one from strides to j (previous news j)
+pub written-kept : (from : List ℕ) (strides : List ℤ) (to : List ℕ) (out news : List ℤ) (i k : ℕ) → Kept out news k → OnesAlike from strides to out i k → (j : ℕ) → j < k → get_or to j 0 ≡ 1 → get_or news j (pos 0) ≡ stride_of_one from strides to j (previous news j)
 written-kept from strides to out news i k kept ones j l one = kept j l ∙ ones.written j l one ∙ ap (stride_of_one from strides to j) (sym (previous-kept out news k j (omega arith) kept))
 
 -- ---- the walk's steps
@@ -304,16 +304,16 @@ strides-forced from strides to news i k more sizes e end alike ones = fill_by_al
         ]
 
 -- both shapes are read whole
-pub strides-whole : (from : List ℕ) (strides : List ℤ) (to : List ℕ) (news : List ℤ) (i k product : ℕ) → CanWalk from strides to → IsReached from strides to i k product → length from ≤ i → length to ≤ k → length to ≡ length news →
+pub strides-whole : (from : List ℕ) (strides : List ℤ) (to : List ℕ) (news : List ℤ) (i k : ℕ) → CanWalk from strides to → IsReached from strides to i k → length from ≤ i → length to ≤ k → length to ≡ length news →
     PlacesAlike (take i from) (take i strides) (take k to) (take k news) → OnesAlike from strides to news i k → news ≡ map (stride_at from strides to) (below (length to))
-strides-whole from strides to news i k product w at from_end to_end e alike ones =
+strides-whole from strides to news i k w at from_end to_end e alike ones =
     let counts = w.same_count in
     let to_in = at.to_in in
     let from_all = take_all i from from_end in
     let strides_all = take_all i strides (omega arith) in
     let to_all = take_all k to to_end in
     let news_all = take_all k news (omega arith) in
-    let sizes : size from ≡ size to = sym (ap size from_all) ∙ at.from_size ∙ sym at.to_size ∙ ap size to_all in
+    let sizes : size from ≡ size to = sym (ap size from_all) ∙ at.sizes ∙ ap size to_all in
     let first : PlacesAlike from (take i strides) (take k to) (take k news) = subst (λ xs. PlacesAlike xs (take i strides) (take k to) (take k news)) from_all alike in
     let second : PlacesAlike from strides (take k to) (take k news) = subst (λ xs. PlacesAlike from xs (take k to) (take k news)) strides_all first in
     let third : PlacesAlike from strides to (take k news) = subst (λ xs. PlacesAlike from strides xs (take k news)) to_all second in

@@ -40,12 +40,11 @@ pub record CanWalk (from : List ℕ) (strides : List ℤ) (to : List ℕ) : Type
   pub span_fits : span from strides ≤ limit
 
 -- so many axes of each shape are read, which have as many indices
-pub record IsReached (from : List ℕ) (strides : List ℤ) (to : List ℕ) (from_axes to_axes product : ℕ) : Type 0 where
+pub record IsReached (from : List ℕ) (strides : List ℤ) (to : List ℕ) (from_axes to_axes : ℕ) : Type 0 where
   pub from_in : from_axes ≤ length from
   pub to_in : to_axes ≤ length to
-  pub from_size : size (take from_axes from) ≡ product
-  pub to_size : size (take to_axes to) ≡ product
-  pub joints : GoodBelow from strides to product
+  pub sizes : size (take from_axes from) ≡ size (take to_axes to)
+  pub joints : GoodBelow from strides to (size (take from_axes from))
 
 -- the axes read next step as one
 pub record IsBlock (from : List ℕ) (strides : List ℤ) (from_axes from_end : ℕ) (step : ℤ) : Type 0 where
@@ -70,6 +69,12 @@ pub record OnesAlike (from : List ℕ) (strides : List ℤ) (to : List ℕ) (new
   pub written : (axis : ℕ) → axis < to_axes → slice_index to axis ≡ 1 → slice_index_or news axis (pos 0) ≡ stride_of_one from strides to axis (previous news axis)
   pub from_first : slice_index from from_axes ≡ 1 → ones_before to (size (take to_axes to)) to_axes ≤ ones_before from (size (take from_axes from)) from_axes
   pub to_first : slice_index to to_axes ≡ 1 → ones_before from (size (take from_axes from)) from_axes ≤ ones_before to (size (take to_axes to)) to_axes
+
+-- so many axes of each are read, and those of the new shape have their strides
+pub record IsWritten (from : List ℕ) (strides : List ℤ) (to : List ℕ) (news : List ℤ) (from_axes to_axes : ℕ) : Type 0 where
+  pub reached : IsReached from strides to from_axes to_axes
+  pub alike : PlacesAlike (take from_axes from) (take from_axes strides) (take to_axes to) (take to_axes news)
+  pub ones : OnesAlike from strides to news from_axes to_axes
 
 -- examples
 middle : segment {A = ℕ} 1 3 (5 ∷ 6 ∷ 7 ∷ 8 ∷ []) ≡ 6 ∷ 7 ∷ []

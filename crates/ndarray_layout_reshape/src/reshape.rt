@@ -57,12 +57,6 @@ pub fn reshape_dim<D: Lengths, E: Lengths>(
         (forced_strides order (D.list from.now) (all_signed (D.list strides.now)) (E.list to.now)) }
 {
     let mut others = E::zeros(alloc, to.ndim())?;
-    fill_reshaped(
-        order,
-        from.slice(),
-        strides.slice(),
-        to.slice(),
-        others.slice_mut(),
-    )?;
+    fill_reshaped(order, from, strides, to, &mut others)?;
     Ok(others)
 }

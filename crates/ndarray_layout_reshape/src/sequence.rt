@@ -40,6 +40,12 @@ pub trait SequenceMut: Sequence + IndexMut<usize> {
         requires { k < length (Self.items self.old) }
         ensures items { Self.items self.new ≡ slice_set (Self.items self.old) k item }
         ensures target { same_target self.old self.new };
+
+    // A value writes to what it does itself,
+    ghost same_target_now: { (s : Self) → same_target s s };
+
+    // and after several writes as after each.
+    ghost same_target_on: { (s t u : Self) → same_target s t → same_target t u → same_target s u };
 }
 
 impl<D: Lengths> Index<usize> for Forward<&D> {
@@ -102,7 +108,13 @@ impl<D: Lengths> Sequence for Forward<&mut D> {
 }
 
 impl<D: Lengths> SequenceMut for Forward<&mut D> {
+    ghost use Rattle.std.proofs.Common.{refl, ◌∙◌};
+
     ghost same_target = { λ s t. t.0.ghost_name ≡ s.0.ghost_name };
+
+    ghost same_target_now = { λ s. refl };
+
+    ghost same_target_on = { λ s t u first next. next ∙ first };
 
     #[inline(always)]
     fn set(&mut self, k: usize, item: usize) {
@@ -179,7 +191,13 @@ impl<D: Lengths> Sequence for Reverse<&mut D> {
 }
 
 impl<D: Lengths> SequenceMut for Reverse<&mut D> {
+    ghost use Rattle.std.proofs.Common.{refl, ◌∙◌};
+
     ghost same_target = { λ s t. t.0.ghost_name ≡ s.0.ghost_name };
+
+    ghost same_target_now = { λ s. refl };
+
+    ghost same_target_on = { λ s t u first next. next ∙ first };
 
     #[inline(always)]
     fn set(&mut self, k: usize, item: usize) {

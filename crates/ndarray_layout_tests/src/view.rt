@@ -4,6 +4,7 @@ mod axes;
 mod meets;
 mod owned;
 pub mod question;
+mod reshapes;
 mod runs;
 mod shapes;
 mod slices;

@@ -2,7 +2,13 @@
 #![tactic(auto)]
 
 #[cfg(test)]
+mod cut_scripts;
+#[cfg(test)]
+mod devices;
+#[cfg(test)]
 mod fakes;
+#[cfg(test)]
+mod long_scripts;
 #[cfg(test)]
 mod reshapes;
 #[cfg(test)]

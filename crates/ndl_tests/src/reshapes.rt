@@ -1,5 +1,5 @@
 //! Whole runs of scripts that reshape, in both orders.
-use crate::session::assert_rows;
+use crate::session::assert_answers;
 
 const DONE: &str = "\
 data 6 owned 2,3 3,1|reshape C 3,2| => shape 3,2|strides 2,1|places 0 1 2 3 4 5|
@@ -33,8 +33,8 @@ data 3 owned 3 1|broadcast 2,3|reshape C 6| => step 2: ShapeError/IncompatibleLa
 
 #[test]
 fn r6_rows(rt: HostRuntime) {
-    assert_rows(&rt, rt.alloc(), DONE, 0);
-    assert_rows(&rt, rt.alloc(), REFUSED, 1);
+    assert_answers(&rt, rt.alloc(), DONE);
+    assert_answers(&rt, rt.alloc(), REFUSED);
 }
 
 const UNREADABLE: &str = "\
@@ -55,5 +55,5 @@ data 4 owned 4 1|reshape C 18446744073709551616| => line 2: unreadable|
 
 #[test]
 fn r6_grammar_rows(rt: HostRuntime) {
-    assert_rows(&rt, rt.alloc(), UNREADABLE, 2);
+    assert_answers(&rt, rt.alloc(), UNREADABLE);
 }

@@ -28,22 +28,11 @@ data 4 owned 4 1|slice ..|slice ..| => 4 owned [4] [1] ; [Slice([Slice { start: 
 ";
 
 /// Inputs, each with the number of its first unreadable line.
-const UNREADABLE: &str = "\
-data 4 owned 4 => 1
- => 1
-|  | => 1
-data 4 owned 4 1|slice 1..;| => 2
-data 4 owned 4 1|slice +1..| => 2
-data 4 owned 4 1|slice 1,,2| => 2
-data 4 owned 4 1|merge 0| => 2
-data 4 owned 4 1|reshape c 4| => 2
-data 4 owned 4 1|data 4 owned 4 1| => 2
+const UNREADABLE: &str = " => 1
 data 4 owned 4 1|slice 1...2| => 2
 slice ..|data 4 owned 4 1| => 1
-data 4 owned 4 9223372036854775808| => 1
 data 18446744073709551616 read 1 1| => 1
 data 1 owned 1 1\r => 1
-|data 4 owned 4 1|slise ..| => 3
 data 6 owned 2,3 3,1|slice ..,..|slise ..| => 3
 data\t4 owned 4 1| => 1
 data +4 owned 4 1| => 1

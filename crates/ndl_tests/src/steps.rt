@@ -1,5 +1,5 @@
 //! Whole runs of scripts with steps of every kind.
-use crate::session::assert_rows;
+use crate::session::assert_answers;
 
 const DONE: &str = "\
 data 6 owned 2,3 3,1|collapse 0 1|merge 0 1|broadcast 2,2,3| => shape 2,2,3|strides 0,0,1|places 3 4 5 3 4 5 3 4 5 3 4 5|
@@ -37,8 +37,8 @@ data 24 owned 2,3,4 12,4,1|collapse 1 2|merge 0 1|merge 1 1|slice ..| => step 3:
 
 #[test]
 fn r8_rows(rt: HostRuntime) {
-    assert_rows(&rt, rt.alloc(), DONE, 0);
-    assert_rows(&rt, rt.alloc(), REFUSED, 1);
+    assert_answers(&rt, rt.alloc(), DONE);
+    assert_answers(&rt, rt.alloc(), REFUSED);
 }
 
 const UNREADABLE: &str = "\
@@ -71,5 +71,5 @@ merge 0 1|data 4 owned 4 1| => line 1: unreadable|
 
 #[test]
 fn r8_grammar_rows(rt: HostRuntime) {
-    assert_rows(&rt, rt.alloc(), UNREADABLE, 2);
+    assert_answers(&rt, rt.alloc(), UNREADABLE);
 }

@@ -109,6 +109,31 @@ fn is_broadcast<D: Lengths, E: Lengths>(
     is_told(rt, alloc, row, view.broadcast(alloc, &shape))
 }
 
+/// Whether the next words of a row write the view that a call makes of another, or the rule that refuses it and the other view,
+/// which stays.
+fn is_told_or_stays<D: Lengths, E: Lengths>(
+    rt: &impl Abort,
+    alloc: Global,
+    row: &mut Row<'_>,
+    view: &Strided<D>,
+    made: Result<Strided<E>, LayoutError>,
+) -> bool {
+    let is_made = made.is_ok();
+    is_told(rt, alloc, row, made) && (is_made || has_start(rt, alloc, row, view))
+}
+
+/// The same places in an order along a shape of a dimension type, the next word of a row.
+fn is_reshaped<D: Lengths, E: Lengths>(
+    rt: &impl Abort,
+    alloc: Global,
+    row: &mut Row<'_>,
+    view: &Strided<D>,
+    order: Order,
+) -> bool {
+    let shape: E = dim(rt, alloc, row);
+    is_told_or_stays::<D, E>(rt, alloc, row, view, view.reshape(alloc, &shape, order))
+}
+
 /// A view that is made of another, by the next words of a row.
 struct OfMade<'a, 'b, D: Lengths> {
     view: &'a Strided<D>,
@@ -122,6 +147,7 @@ impl<R: Abort, D: Lengths> AtType<R> for OfMade<'_, '_, D> {
         match made {
             Made::Slice(fit) => is_sliced::<D, E>(rt, alloc, row, view, fit),
             Made::Broadcast => is_broadcast::<D, E>(rt, alloc, row, view),
+            Made::Reshape(order) => is_reshaped::<D, E>(rt, alloc, row, view, order),
         }
     }
 }
@@ -245,9 +271,9 @@ fn view_answers<D: Lengths>(
         OfView::Merge => is_merged(rt, alloc, row, view),
         OfView::InOrder => slice_is_in_order(rt, alloc, row, view),
         OfView::Made(made) => is_made(rt, alloc, row, view, made),
-        OfView::SecondRow => {
+        OfView::SecondRow(made) => {
             keep_second_row(rt, view);
-            is_made(rt, alloc, row, view, Made::Broadcast)
+            is_made(rt, alloc, row, view, made)
         }
     }
 }

@@ -2,7 +2,8 @@
 use crate::view::words::word;
 use CanIndexCheckMode::{OwnedMutable, ReadOnly};
 use Fit::{Clamp, Strict};
-use ndarray_layout::{CanIndexCheckMode, Fit, Lengths};
+use Order::{ColumnMajor, RowMajor};
+use ndarray_layout::{CanIndexCheckMode, Fit, Lengths, Order};
 use std::alloc::Global;
 use std::process::Abort;
 use test_tables::Row;
@@ -24,6 +25,8 @@ pub enum Made {
     Slice(Fit),
     /// As the same data, as a view of a shape.
     Broadcast,
+    /// As the same places in an order, along a shape.
+    Reshape(Order),
 }
 
 /// What is asked of a view.
@@ -41,8 +44,8 @@ pub enum OfView {
     InOrder,
     /// A view that is made of it.
     Made(Made),
-    /// The second row, merged and then as a view of a shape.
-    SecondRow,
+    /// A view that is made of the second row, after that is merged.
+    SecondRow(Made),
 }
 
 /// What is asked of a layout.
@@ -109,7 +112,11 @@ fn about_view(word: &str) -> Option<OfView> {
         "collapse" => Some(OfView::Collapse),
         "merge" => Some(OfView::Merge),
         "in_order" => Some(OfView::InOrder),
-        "second_row" => Some(OfView::SecondRow),
+        "second_row" => Some(OfView::SecondRow(Made::Broadcast)),
+        "second_row_by_rows" => Some(OfView::SecondRow(Made::Reshape(RowMajor))),
+        "second_row_by_columns" => Some(OfView::SecondRow(Made::Reshape(ColumnMajor))),
+        "by_rows" => Some(OfView::Made(Made::Reshape(RowMajor))),
+        "by_columns" => Some(OfView::Made(Made::Reshape(ColumnMajor))),
         "broadcast" => Some(OfView::Made(Made::Broadcast)),
         "slice" => Some(OfView::Made(Made::Slice(Strict))),
         "clamp" => Some(OfView::Made(Made::Slice(Clamp))),

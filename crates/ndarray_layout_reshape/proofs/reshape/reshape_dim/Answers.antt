@@ -1,4 +1,3 @@
-use Rattle.std.proofs.Common.{◌∙◌, ap, length}
 use Rattle.nd_base.specs.Signed.{all_signed}
 use Rattle.ndarray_layout_reshape.proofs.Turned.{keeps-filled}
 use Rattle.ndarray_layout_reshape.proofs.laws.Keeps.{fault-complete, keeps-agree}
@@ -23,8 +22,5 @@ pub returns-clause-forced : goal.returns-clause-forced
 returns-clause-forced g c = λ others k. keeps-agree c.args.order (g.D.Lengths.list c.args.from.now) (all_signed (g.D.Lengths.list c.args.strides.now)) (g.E.Lengths.list c.args.to.now) others c.requires.from_some c.requires.to_some c.requires.valid.same_count k
 
 pub returns-clause-keeps : goal.returns-clause-keeps
-returns-clause-keeps g c =
-    let given = g.met.E.Lengths.list_of_with_list c.in_ok-others.others c.fill_reshaped.new.out (c.fill_reshaped.auto.out ∙ ap length c.slice_mut.ensures.list) in
-    keeps-filled c.args.order (g.D.Lengths.list c.args.from.now) (g.D.Lengths.list c.args.strides.now) (g.E.Lengths.list c.args.to.now) c.slice.result.now c.slice-2.result.now c.slice-3.result.now c.fill_reshaped.new.out
-    (g.E.Lengths.list (g.E.Lengths.with_list c.in_ok-others.others c.fill_reshaped.new.out)) c.slice.ensures.list c.slice-2.ensures.list c.slice-3.ensures.list given
+returns-clause-keeps g c = keeps-filled c.args.order (g.D.Lengths.list c.args.from.now) (g.D.Lengths.list c.args.strides.now) (g.E.Lengths.list c.args.to.now) (g.E.Lengths.list c.fill_reshaped.new.out)
     c.requires.from_some c.requires.to_some c.requires.valid.same_count c.in_ok-fill_reshaped.ensures.fits c.in_ok-fill_reshaped.ensures.strides

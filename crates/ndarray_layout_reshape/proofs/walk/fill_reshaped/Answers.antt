@@ -1,22 +1,37 @@
-use Rattle.std.proofs.Common.{◌≡◌, Some, ap, sym, ◌∙◌}
+use Rattle.std.proofs.Common.{◌≡◌, sym, subst}
+use Rattle.std.specs.Prelude.{OnOk}
 use Rattle.nd_base.specs.Signed.{all_signed}
-use Rattle.ndarray_layout_reshape.specs.ReshapeFault.{reshape_fault}
-use Rattle.ndarray_layout_reshape.proofs.Turned.{can-walk, fault-read, none-read, forced-read, handed_on}
+use Rattle.ndarray_layout_reshape.specs.ForcedStrides.{forced_strides}
+use Rattle.nd_base.specs.declared.order.Order.TheVariants.{RowMajor, ColumnMajor}
+use Rattle.ndarray_layout_reshape.proofs.Turned.{can-walk, filled-fault, filled-fits, filled-strides}
 use Rattle.ndarray_layout_reshape.proofs.walk.fill_reshaped.Goals as goal
 
 pub walk-requires-clause-can_walk : goal.walk-requires-clause-can_walk
-walk-requires-clause-can_walk c = can-walk c.args.order c.args.from.now c.args.strides.now c.args.to.now c.requires.valid c.requires.from_some c.requires.to_some c.requires.to_fits
+walk-requires-clause-can_walk g c = can-walk RowMajor (g.D.Lengths.list c.args.from.now) (g.D.Lengths.list c.args.strides.now) (g.E.Lengths.list c.args.to.now) c.requires.valid c.requires.from_some c.requires.to_some c.requires.to_fits
 
-pub returns-in_err-walk-clause-fault : goal.returns-in_err-walk-clause-fault
-returns-in_err-walk-clause-fault c = handed_on (λ kind. reshape_fault c.args.order c.args.from.now (all_signed c.args.strides.now) c.args.to.now ≡ Some kind) c.from_residual.result c.in_err-walk.field-0.0 c.from_residual.ensures.1
-    (sym (fault-read c.args.order c.args.from.now c.args.strides.now c.args.to.now) ∙ c.in_err-walk.ensures.fault)
+pub walk-requires-in-ColumnMajor-clause-can_walk : goal.walk-requires-in-ColumnMajor-clause-can_walk
+walk-requires-in-ColumnMajor-clause-can_walk g c = can-walk ColumnMajor (g.D.Lengths.list c.args.from.now) (g.D.Lengths.list c.args.strides.now) (g.E.Lengths.list c.args.to.now) c.requires.valid c.requires.from_some c.requires.to_some c.requires.to_fits
 
-pub returns-clause-fits : goal.returns-clause-fits
-returns-clause-fits c =
-    let can = can-walk c.args.order c.args.from.now c.args.strides.now c.args.to.now c.requires.valid c.requires.from_some c.requires.to_some c.requires.to_fits in
-    none-read c.args.order c.args.from.now c.args.strides.now c.args.to.now c.walk.new.out can (c.walk.auto.out ∙ c.requires.room) c.in_ok-walk.ensures.sizes c.in_ok-walk.ensures.alike
+pub returns-in-RowMajor-clause-fault : goal.returns-in-RowMajor-clause-fault
+returns-in-RowMajor-clause-fault g c = filled-fault c.args.order RowMajor (g.D.Lengths.list c.args.from.now) (g.D.Lengths.list c.args.strides.now) (g.E.Lengths.list c.args.to.now) c.walk.result c.in-RowMajor.is c.walk.ensures.fault
 
-pub returns-clause-strides : goal.returns-clause-strides
-returns-clause-strides c =
-    ap all_signed c.turn.ensures
-    ∙ forced-read c.args.order c.args.from.now c.args.strides.now c.args.to.now c.walk.new.out (c.walk.auto.out ∙ c.requires.room) c.in_ok-walk.ensures.strides
+pub returns-in-RowMajor-clause-fits : goal.returns-in-RowMajor-clause-fits
+returns-in-RowMajor-clause-fits g c = filled-fits c.args.order RowMajor (g.D.Lengths.list c.args.from.now) (g.D.Lengths.list c.args.strides.now) (g.E.Lengths.list c.args.to.now) (g.E.Lengths.list c.walk.new.out.0.now) c.walk.result c.in-RowMajor.is
+    (can-walk RowMajor (g.D.Lengths.list c.args.from.now) (g.D.Lengths.list c.args.strides.now) (g.E.Lengths.list c.args.to.now) c.requires.valid c.requires.from_some c.requires.to_some c.requires.to_fits) c.walk.ensures.room c.walk.ensures.sizes c.walk.ensures.alike
+
+pub returns-in-RowMajor-clause-strides : goal.returns-in-RowMajor-clause-strides
+returns-in-RowMajor-clause-strides g c =
+    subst (λ e. OnOk c.walk.result (all_signed (g.E.Lengths.list e) ≡ forced_strides c.args.order (g.D.Lengths.list c.args.from.now) (all_signed (g.D.Lengths.list c.args.strides.now)) (g.E.Lengths.list c.args.to.now))) (sym (c.out-1.given.1 (sym c.walk.ensures.target)))
+    (filled-strides c.args.order RowMajor (g.D.Lengths.list c.args.from.now) (g.D.Lengths.list c.args.strides.now) (g.E.Lengths.list c.args.to.now) (g.E.Lengths.list c.walk.new.out.0.now) c.walk.result c.in-RowMajor.is c.walk.ensures.room c.walk.ensures.strides)
+
+pub returns-in-ColumnMajor-clause-fault : goal.returns-in-ColumnMajor-clause-fault
+returns-in-ColumnMajor-clause-fault g c = filled-fault c.args.order ColumnMajor (g.D.Lengths.list c.args.from.now) (g.D.Lengths.list c.args.strides.now) (g.E.Lengths.list c.args.to.now) c.walk-in-ColumnMajor.result c.in-ColumnMajor.is c.walk-in-ColumnMajor.ensures.fault
+
+pub returns-in-ColumnMajor-clause-fits : goal.returns-in-ColumnMajor-clause-fits
+returns-in-ColumnMajor-clause-fits g c = filled-fits c.args.order ColumnMajor (g.D.Lengths.list c.args.from.now) (g.D.Lengths.list c.args.strides.now) (g.E.Lengths.list c.args.to.now) (g.E.Lengths.list c.walk-in-ColumnMajor.new.out.0.now) c.walk-in-ColumnMajor.result c.in-ColumnMajor.is
+    (can-walk ColumnMajor (g.D.Lengths.list c.args.from.now) (g.D.Lengths.list c.args.strides.now) (g.E.Lengths.list c.args.to.now) c.requires.valid c.requires.from_some c.requires.to_some c.requires.to_fits) c.walk-in-ColumnMajor.ensures.room c.walk-in-ColumnMajor.ensures.sizes c.walk-in-ColumnMajor.ensures.alike
+
+pub returns-in-ColumnMajor-clause-strides : goal.returns-in-ColumnMajor-clause-strides
+returns-in-ColumnMajor-clause-strides g c =
+    subst (λ e. OnOk c.walk-in-ColumnMajor.result (all_signed (g.E.Lengths.list e) ≡ forced_strides c.args.order (g.D.Lengths.list c.args.from.now) (all_signed (g.D.Lengths.list c.args.strides.now)) (g.E.Lengths.list c.args.to.now))) (sym (c.out-in-ColumnMajor-1.given.1 (sym c.walk-in-ColumnMajor.ensures.target)))
+    (filled-strides c.args.order ColumnMajor (g.D.Lengths.list c.args.from.now) (g.D.Lengths.list c.args.strides.now) (g.E.Lengths.list c.args.to.now) (g.E.Lengths.list c.walk-in-ColumnMajor.new.out.0.now) c.walk-in-ColumnMajor.result c.in-ColumnMajor.is c.walk-in-ColumnMajor.ensures.room c.walk-in-ColumnMajor.ensures.strides)

@@ -1,17 +1,15 @@
--- Both shapes are read so far, and the axes that are read have their places.
-use Rattle.std.proofs.Common.{◌≡◌, ◌+◌, ◌-◌, length, take}
+-- Both shapes are read so far, and the axes that are read have their strides.
+use Rattle.std.proofs.Common.{◌≡◌, ◌+◌, ◌-◌, length}
 use Rattle.nd_base.specs.Signed.{all_signed}
-use Rattle.nd_base.specs.Reading.{as_read}
-use Rattle.ndarray_layout_reshape.specs.Walk.{IsReached, OnesAlike, PlacesAlike}
+use Rattle.ndarray_layout_reshape.specs.Walk.{IsWritten}
 use Rattle.ndarray_layout_reshape.proofs.walk.walk.Given as goal
 
 abbrev pub invariant-loop-at : goal.invariant-loop-at
-invariant-loop-at l = record {
-  room : length l.out ≡ length l.to;
-  reached : IsReached (as_read l.order l.from) (all_signed (as_read l.order l.strides)) (as_read l.order l.to) l.at.from_axes l.at.to_axes l.at.product;
-  alike : PlacesAlike (take l.at.from_axes (as_read l.order l.from)) (take l.at.from_axes (all_signed (as_read l.order l.strides))) (take l.at.to_axes (as_read l.order l.to)) (take l.at.to_axes (all_signed l.out));
-  ones : OnesAlike (as_read l.order l.from) (all_signed (as_read l.order l.strides)) (as_read l.order l.to) (all_signed l.out) l.at.from_axes l.at.to_axes;
+invariant-loop-at g l = record {
+  room : length (g.O.Sequence.items l.out) ≡ length (g.T.Sequence.items l.to);
+  written : IsWritten (g.S.Sequence.items l.from) (all_signed (g.S.Sequence.items l.strides)) (g.T.Sequence.items l.to) (all_signed (g.O.Sequence.items l.out)) l.at.from_axes l.at.to_axes;
+  target : g.O.SequenceMut.same_target l.fn.out l.out;
 }
 
 abbrev pub decreases-loop-at : goal.decreases-loop-at
-decreases-loop-at l = (length l.from + length l.to) - (l.at.from_axes + l.at.to_axes)
+decreases-loop-at g l = (length (g.S.Sequence.items l.from) + length (g.T.Sequence.items l.to)) - (l.at.from_axes + l.at.to_axes)

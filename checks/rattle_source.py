@@ -1,0 +1,188 @@
+"""Reads what a crate of Rattle offers from its sources, as `rt fmt` lays them out: items with their docs, signatures and
+clauses. For checks/api.
+"""
+import dataclasses, os, re
+
+STRINGS = re.compile(r'"(?:\\.|[^"\\])*"|\'(?:\\.|[^\'\\])\'|//.*')
+CLAUSE = re.compile(r"\s*(?:(?://.*)\n\s*)*(requires|ensures)(\*?)\s*(\w*)\s*\{")
+KIND = re.compile(
+    r"(?P<pub>pub |)(?:pub\(\w+\) )?(?:const (?=fn)|final (?=fn))?(?P<kind>fn|struct|enum|trait|type|const|impl|ghost use|ghost|mod|use)\b"
+    r"\s*(?P<name>[\w']*)"
+)
+
+FIELD = re.compile(r"(?P<pub>pub |)(?:pub\(\w+\) )?(?P<name>\w+)")  # a field, or a variant
+WHOLE = ("const", "field", "ghost", "ghost use", "use", "mod", "type")
+
+
+@dataclasses.dataclass
+class Item:
+    """One item of a file, of an `impl`, of a trait or of a type."""
+
+    kind: str
+    name: str
+    is_public: bool
+    head: str
+    doc: list
+    comment: str
+    derives: str
+    clauses: list
+    members: list
+
+
+def joined(text):
+    """A text of several lines as one."""
+    line = re.sub(r"\s+", " ", text).strip()
+    return line.replace("( ", "(").replace(", )", ")").replace(" )", ")").replace(", }", " }")
+
+
+def depth_of(line):
+    """How many brackets a line opens more than it closes."""
+    code = STRINGS.sub("", line)
+    return sum(map(code.count, "([{")) - sum(map(code.count, ")]}"))
+
+
+def end_of_item(lines, first, indent):
+    """The number of the line after an item that begins at a line."""
+    depth = 0
+    for number in range(first, len(lines)):
+        line = lines[number]
+        depth += depth_of(line)
+        after = next((one for one in lines[number + 1 :] if one.strip()), "")
+        goes_on = after.startswith(indent + " ") or after == indent + "{" or after.startswith(indent + "where")
+        if depth == 0 and STRINGS.sub("", line).rstrip().endswith((";", "}", ",")) and not goes_on:
+            return number + 1
+    return len(lines)
+
+
+def close_of(text, start):
+    """The place of the brace that closes the one before `start`."""
+    depth = 1
+    for place in range(start, len(text)):
+        depth += {"{": 1, "}": -1}.get(text[place], 0)
+        if depth == 0:
+            return place
+    raise ValueError(text)
+
+
+def head_and_rest(text):
+    """A declaration up to its first clause, its body or its end, and what follows."""
+    depth = 0
+    for place, char in enumerate(text):
+        if depth == 0 and (char in "{;" or (char == "\n" and CLAUSE.match(text, place))):
+            return joined(text[:place]), text[place:]
+        depth += {"(": 1, "[": 1, ")": -1, "]": -1}.get(char, 0)
+    return joined(text).rstrip(","), ""
+
+
+def clauses_of(rest):
+    """The clauses that a function's text goes on with: (keyword, name, fact)."""
+    clauses, place = [], 0
+    while found := CLAUSE.match(rest, place):
+        end = close_of(rest, found.end())
+        clauses.append((found[1] + found[2], found[3], joined(rest[found.end() : end])))
+        place = end + 1
+    return clauses
+
+
+def item_of(lines, doc, comment, derives, indent):
+    """The item of these lines."""
+    text = "\n".join(lines)
+    found = KIND.match(text.strip()) or FIELD.match(text.strip())
+    kind = found.groupdict().get("kind", "field")
+    if kind == "field":
+        text = re.sub(r"\n *///.*", "", text)
+    members = []
+    head, rest = (joined(text).rstrip(";,"), "") if kind in WHOLE else head_and_rest(text)
+    if kind in ("struct", "enum", "trait", "impl") and rest.startswith("{"):
+        members = list(items_of(rest[1 : rest.rindex("}")].split("\n"), indent + "    "))
+    return Item(kind, found["name"], bool(found["pub"]), head, doc, comment, derives, clauses_of(rest), members)
+
+
+def items_of(lines, indent=""):
+    """The items at an indentation, in order."""
+    doc, comment, derives, number = [], [], "", 0
+    while number < len(lines):
+        line = lines[number]
+        text = line.strip()
+        if not text:
+            comment = []
+        elif text.startswith("///"):
+            doc.append(text[3:].strip())
+        elif text.startswith("//"):
+            comment.append(text.strip("/! "))
+        elif text.startswith("#"):
+            found = re.match(r"#\[derive\((.*)\)\]", text)
+            derives = found[1] if found else derives
+        elif line.startswith(indent) and not line.startswith(indent + " "):
+            end = end_of_item(lines, number, indent)
+            yield item_of(lines[number:end], doc, " ".join(comment), derives, indent)
+            doc, comment, derives, number = [], [], "", end - 1
+        number += 1
+
+
+def modules_of(folder, path="", name="lib"):
+    """The modules of a crate, each before those inside it: (path, doc, items)."""
+    with open(os.path.join(folder, f"{name if not path else path}.rt"), encoding="utf-8") as file:
+        lines = file.read().split("\n")
+    doc = [line[3:].strip() for line in lines if line.startswith("//!")]
+    items = list(items_of(lines))
+    yield path, doc, items
+    for inner in items:
+        if inner.kind == "mod":
+            yield from modules_of(folder, os.path.join(path, inner.name))
+
+
+def self_type(head):
+    """The name of the type that an `impl` is for, and the trait's, if it is of one."""
+    text = re.sub(r"^impl\s*", "", head)
+    if text.startswith("<"):
+        text = text[angle_end(text) :].strip()
+    text = re.split(r"\bwhere\b", text)[0].strip()
+    place = for_place(text)
+    trait, target = (None, text) if place is None else (text[:place].strip(), text[place + 5 :].strip())
+    return name_of(target), name_of(trait) if trait else None
+
+
+def name_of(text):
+    """The last word of a path, without generics; the text itself where it is no path."""
+    found = re.match(r"&?(?:'\w+ )?(?:\w+::)*(\w+)", text)
+    return found[1] if found else text
+
+
+def angle_end(text):
+    """The place after the generics that a text begins with."""
+    depth = 0
+    for place, char in enumerate(text):
+        depth += {"<": 1, ">": 0 if text[place - 1] == "-" else -1}.get(char, 0)
+        if depth == 0:
+            return place + 1
+    return len(text)
+
+
+def for_place(text):
+    """Where ` for ` stands outside of generics, if it does."""
+    depth = 0
+    for place, char in enumerate(text):
+        depth += {"<": 1, ">": 0 if text[place - 1] == "-" else -1}.get(char, 0)
+        if depth == 0 and text.startswith(" for ", place):
+            return place
+    return None
+
+
+def sentences_of(doc):
+    """The sentences of the first paragraph of a doc, and of the others."""
+    text = "\n".join(doc)
+    found = []
+    for paragraph in text.split("\n\n"):
+        start, line = 0, joined_doc(paragraph)
+        for stop in re.finditer(r"\.\s", line):
+            if line[start : stop.start()].count("`") % 2 == 0:
+                found.append(line[start : stop.start() + 1].strip())
+                start = stop.end()
+        found.append(line[start:].strip())
+    return [sentence for sentence in found if sentence]
+
+
+def joined_doc(text):
+    """A paragraph as one line."""
+    return re.sub(r"\s+", " ", text).strip()

@@ -1,0 +1,48 @@
+-- One more place gives one more pixel, and in the end the places are those of the view.
+use Rattle.std.proofs.Common.{◌≡◌, ℕ, ◌+◌, ◌<◌, ◌≤◌, ℤ, pos, Some, List, [], ◌∷◌, ◌++◌, length, get_or, map, take, refl, sym, ap, ◌∙◌, arith}
+use Rattle.std.proofs.lemmas.List.{map-append, map_more, take_all}
+use Rattle.std.proofs.lemmas.Option.{slice_get-get_or}
+use Rattle.std.specs.Prelude.{slice_get}
+use Rattle.ndarray_layout.specs.declared.Order.TheVariants.{RowMajor}
+use Rattle.ndarray_layout.specs.Signed.{magnitude}
+use Rattle.ndarray_layout.specs.View.{view_places}
+use Rattle.example_callers.proofs.slices.pixels_of.Goals as goal
+
+one_more : (pixels places : List ℕ) (i : ℕ) (old new : List ℕ) → i < length places → get_or places i 0 < length pixels
+    → new ≡ old ++ get_or pixels (get_or places i 0) 0 ∷ [] → map Some old ≡ map (slice_get pixels) (take i places)
+    → map Some new ≡ map (slice_get pixels) (take (i + 1) places)
+one_more pixels places i old new at below pushed same =
+    ap (map Some) pushed
+    ∙ map-append Some old (get_or pixels (get_or places i 0) 0 ∷ [])
+    ∙ ap (λ xs. xs ++ Some (get_or pixels (get_or places i 0) 0) ∷ []) same
+    ∙ ap (λ o. map (slice_get pixels) (take i places) ++ o ∷ []) (sym (slice_get-get_or pixels (get_or places i 0) 0 below))
+    ∙ sym (map_more (slice_get pixels) places i 0 at)
+
+by_numbers : (pixels places : List ℕ) → map (slice_get pixels) places ≡ map (λ place. slice_get pixels (magnitude place)) (map pos places)
+by_numbers pixels [] = refl
+by_numbers pixels (place ∷ places) = ap (λ found. slice_get pixels place ∷ found) (by_numbers pixels places)
+
+all_places : (pixels places listed : List ℕ) (at : List ℤ) (i : ℕ) (copies : List ℕ) → length places ≤ i → places ≡ listed → map pos listed ≡ at
+    → map Some copies ≡ map (slice_get pixels) (take i places) → map Some copies ≡ map (λ place. slice_get pixels (magnitude place)) at
+all_places pixels places listed at i copies done is of_view same =
+    same
+    ∙ ap (map (slice_get pixels)) (take_all i places done ∙ is)
+    ∙ by_numbers pixels listed
+    ∙ ap (map (λ place. slice_get pixels (magnitude place))) of_view
+
+pub loop-place-preserved : goal.loop-place-preserved
+loop-place-preserved g c =
+    let places = c.deref-place-items.result.now in
+    let i = c.loop-place.place-index in
+    let inside = rw (← c.deref-place-items.ensures.value) at (c.in_ok-places.ensures.inside (length c.args.pixels.now) c.requires) in
+    record {
+      items = one_more c.args.pixels.now places i c.loop-place.copies.items c.push_reserved.new.self.items c.loop-place-test.true
+          (inside i 0 c.loop-place-test.true) c.push_reserved.ensures.items c.loop-place.invariant.items;
+      len = omega (arith, c.push_reserved.ensures.len, c.loop-place.invariant.len);
+      capacity = omega (arith, c.push_reserved.ensures.capacity, c.loop-place.invariant.capacity);
+    }
+
+pub returns : goal.returns
+returns g c =
+    all_places c.args.pixels.now c.deref-place-items.result.now c.in_ok-places.places.items (view_places RowMajor c.args.view.now) c.loop-place.place-index c.loop-place.copies.items
+    c.loop-place-test.false c.deref-place-items.ensures.value c.in_ok-places.ensures.items c.loop-place.invariant.items

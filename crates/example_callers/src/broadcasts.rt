@@ -1,0 +1,31 @@
+//! Reads two views as views of the shape that both have in common.
+ghost use Rattle.std.specs.Prelude.{◌≡◌, ℕ, IfOk, Some, length, max};
+ghost use Rattle.ndarray_layout.specs.CommonShape.{common_shape};
+ghost use Rattle.ndarray_layout.specs.Lengths.{IsCount};
+ghost use Rattle.ndarray_layout.specs.View.{LiesWithin};
+
+use ndarray_layout::{LayoutError, Lengths, Strided, co_broadcast};
+use std::alloc::Global;
+
+/// Two views as views of the shape that NumPy's rule gives them in common. The caller ensures that the type allows the
+/// greater of their counts of axes: any type that fixes a count does, and `IxDyn`.
+///
+/// Errors: `IncompatibleShape` where they have no shape in common, `Overflow` where its size passes the greatest `isize`;
+/// that memory is refused, but not where the type fixes the count or there are at most four axes.
+pub fn on_common_shape<D: Lengths>(
+    alloc: Global,
+    one: &Strided<D>,
+    other: &Strided<D>,
+) -> Result<(Strided<D>, Strided<D>), LayoutError>
+    requires { IsCount D.NDIM (max (length one.now.shape) (length other.now.shape)) }
+    ensures common { IfOk result (λ both. common_shape one.now.shape other.now.shape ≡ Some both.0.shape) }
+    ensures same_shape { IfOk result (λ both. both.0.shape ≡ both.1.shape) }
+    ensures inside { IfOk result (λ both. (len : ℕ) → LiesWithin len one.now → LiesWithin len both.0) }
+    ensures inside_other { IfOk result (λ both. (len : ℕ) → LiesWithin len other.now → LiesWithin len both.1) }
+{
+    let shape: D = co_broadcast(alloc, one.dim(), other.dim())?;
+    Ok((
+        one.broadcast(alloc, &shape)?,
+        other.broadcast(alloc, &shape)?,
+    ))
+}

@@ -1,0 +1,46 @@
+//! Takes two parts of a view that can be written in any order, since they share no place.
+ghost use Rattle.std.specs.Prelude.{◌≡◌, ℕ, pos, Contains, IfNone, IfOk, IfSome, map};
+ghost use Rattle.ndarray_layout.specs.declared.Fit.TheVariants.{Strict};
+ghost use Rattle.ndarray_layout.specs.declared.Order.TheVariants.{RowMajor};
+ghost use Rattle.ndarray_layout.specs.DistinctPlaces.{HasDistinctPlaces};
+ghost use Rattle.ndarray_layout.specs.Meet.{Meet};
+ghost use Rattle.ndarray_layout.specs.SlicedView.{slice_of};
+ghost use Rattle.ndarray_layout.specs.View.{view_places};
+
+use ndarray_layout::{Fit, LayoutError, Lengths, Order, SliceElems, Strided};
+use std::alloc::Global;
+
+/// The places of a part that has as many axes as the type of the view.
+fn places_of<D: Lengths, S: SliceElems>(
+    alloc: Global,
+    view: &Strided<D>,
+    part: &S,
+) -> Result<Vec<usize>, LayoutError>
+    ensures { IfOk result (λ places. map pos places.items ≡
+        view_places RowMajor (slice_of Strict (S.list part.now) view.now)) }
+{
+    let part: Strided<D> = view.slice(alloc, part, Fit::Strict)?;
+    Ok(part.places(alloc, Order::RowMajor)?)
+}
+
+/// The places of two parts of a view, or `None` where the parts share an index.
+///
+/// Errors: those of `Strided::slice` for the first part, then for the second; that memory is refused.
+pub fn separate_places<D: Lengths, A: SliceElems, B: SliceElems>(
+    alloc: Global,
+    view: &Strided<D>,
+    first: &A,
+    second: &B,
+) -> Result<Option<(Vec<usize>, Vec<usize>)>, LayoutError>
+    requires { HasDistinctPlaces view.now }
+    ensures separate { IfOk result (λ parts. IfSome parts (λ places.
+        (n : ℕ) → Contains places.0.items n → Contains places.1.items n → ⊥)) }
+    ensures meet { IfOk result (λ parts. IfNone parts
+        (Meet Strict view.now.shape (A.list first.now) (B.list second.now))) }
+{
+    if view.meets(first, second, Fit::Strict)? {
+        return Ok(None);
+    }
+    let first = places_of(alloc, view, first)?;
+    Ok(Some((first, places_of(alloc, view, second)?)))
+}

@@ -1,0 +1,28 @@
+//! Reads a view along another shape, or learns that no strides would do.
+ghost use Rattle.std.specs.Prelude.{◌≡◌, IfNone, IfOk, IfSome};
+ghost use Rattle.ndarray_layout.specs.declared.Order.TheVariants.{RowMajor};
+ghost use Rattle.ndarray_layout.specs.ReshapedView.{ReshapeFits};
+ghost use Rattle.ndarray_layout.specs.View.{view_places};
+
+use ndarray_layout::{LayoutError, Lengths, Order, Strided};
+use std::alloc::{AllocError, Global};
+
+/// The places of a view along another shape, in row-major order, or `None` where no strides keep that list: then the
+/// elements have to be copied.
+pub fn along_shape<D: Lengths, E: Lengths>(
+    alloc: Global,
+    view: &Strided<D>,
+    shape: &E,
+) -> Result<Option<Strided<E>>, AllocError>
+    ensures shape { IfOk result (λ found. IfSome found (λ same. same.shape ≡ E.list shape.now)) }
+    ensures kept { IfOk result (λ found. IfSome found (λ same.
+        view_places RowMajor same ≡ view_places RowMajor view.now)) }
+    ensures none { IfOk result (λ found. IfNone found
+        (ReshapeFits RowMajor (E.list shape.now) view.now → ⊥)) }
+{
+    match view.reshape(alloc, shape, Order::RowMajor) {
+        Ok(same) => Ok(Some(same)),
+        Err(LayoutError::Shape(_)) => Ok(None),
+        Err(LayoutError::Memory(refused)) => Err(refused),
+    }
+}

@@ -1,0 +1,41 @@
+//! Slices a view, and walks over the places of what is left.
+ghost use Rattle.std.specs.Prelude.{◌≡◌, ℕ, pos, negsuc, [], ◌∷◌, IfOk, None, Some, length, map, slice_get};
+ghost use Rattle.ndarray_layout.specs.declared.Fit.TheVariants.{Strict};
+ghost use Rattle.ndarray_layout.specs.declared.Order.TheVariants.{RowMajor};
+ghost use Rattle.ndarray_layout.specs.DistinctPlaces.{HasDistinctPlaces};
+ghost use Rattle.ndarray_layout.specs.Signed.{magnitude};
+ghost use Rattle.ndarray_layout.specs.View.{LiesWithin, view_places};
+ghost use Rattle.ndarray_layout.specs.SlicedView.{IsSliceOf};
+
+use ndarray_layout::{Fit, Ix2, LayoutError, Lengths, Order, Slice, SliceInfoElem, Strided};
+use std::alloc::{AllocError, Global};
+
+/// Every other row of a picture, from the last one up.
+pub fn alternate_rows(alloc: Global, picture: &Strided<Ix2>) -> Result<Strided<Ix2>, LayoutError>
+    ensures sliced { IfOk result (λ rows. IsSliceOf Strict
+        (SliceInfoElem.Slice (pos 0) None (negsuc 1) ∷ SliceInfoElem.Slice (pos 0) None (pos 1) ∷ [])
+        picture.now rows) }
+    ensures inside { IfOk result (λ rows. (len : ℕ) → LiesWithin len picture.now → LiesWithin len rows) }
+    ensures distinct { IfOk result (λ rows. HasDistinctPlaces picture.now → HasDistinctPlaces rows) }
+{
+    let part: [SliceInfoElem; 2] = [Slice::new(0, None, -2).into(), (..).into()];
+    picture.slice(alloc, &part, Fit::Strict)
+}
+
+/// Copies of the pixels of a view, in row-major order.
+pub fn pixels_of<D: Lengths>(
+    alloc: Global,
+    pixels: &[u8],
+    view: &Strided<D>,
+) -> Result<Vec<u8>, AllocError>
+    requires { LiesWithin (length pixels.now) view.now }
+    ensures { IfOk result (λ copies. map Some copies.items ≡
+        map (λ place. slice_get pixels.now (magnitude place)) (view_places RowMajor view.now)) }
+{
+    let places = view.places(alloc, Order::RowMajor)?;
+    let mut copies = Vec::with_capacity(alloc, places.len())?;
+    for place in &places {
+        copies.push_reserved(pixels[*place]);
+    }
+    Ok(copies)
+}

@@ -1,0 +1,47 @@
+-- What a picture is: its extent, and a pixel at each position of it.
+use Rattle.std.specs.Prelude.{◌≡◌, ℕ, ◌+◌, ◌*◌, ◌<◌, ◌≤◌, Option, Some, None, List, [], ◌∷◌, length, slice_get, refl}
+use Rattle.std.specs.List.{All}
+use Rattle.example_tiles_picture.specs.declared.picture.Extent.{Extent}
+use Rattle.example_tiles_picture.specs.declared.picture.Picture.{Picture}
+
+-- a picture by what it holds: its extent, the value of white, and its pixels row by row
+pub record Image : Type 0 where
+  pub extent : Extent
+  pub greatest : ℕ
+  pub pixels : List ℕ
+
+abbrev pub image : Picture → Image
+image picture = record { extent = picture.extent; greatest = picture.greatest; pixels = picture.pixels.items }
+
+-- how many pixels a picture of an extent has
+abbrev pub pixel_count : Extent → ℕ
+pixel_count extent = extent.rows * extent.columns
+
+-- there is one pixel for each position, and none is whiter than white
+pub record IsPicture (image : Image) : Type 0 where
+  pub complete : length image.pixels ≡ pixel_count image.extent
+  pub in_range : All (λ pixel. pixel ≤ image.greatest) image.pixels
+
+-- a row and a column, each counted from 0
+pub record Position : Type 0 where
+  pub row : ℕ
+  pub column : ℕ
+
+-- a position is one of an extent
+pub record IsWithin (extent : Extent) (at : Position) : Type 0 where
+  pub row_below : at.row < extent.rows
+  pub column_below : at.column < extent.columns
+
+-- the pixel at a position of the extent
+abbrev pub pixel_at : Image → Position → Option ℕ
+pixel_at image at = slice_get image.pixels (at.row * image.extent.columns + at.column)
+
+-- examples
+abbrev two_by_three : Image
+two_by_three = record { extent = record { rows = 2; columns = 3 }; greatest = 9; pixels = 1 ∷ 2 ∷ 3 ∷ 4 ∷ 5 ∷ 6 ∷ [] }
+
+six_pixels : pixel_count two_by_three.extent ≡ 6
+six_pixels = refl
+
+first_of_second_row : pixel_at two_by_three (record { row = 1; column = 0 }) ≡ Some 4
+first_of_second_row = refl

@@ -1,0 +1,138 @@
+-- Faults of lists of writes, and what holds of each of them, one write after another.
+use Rattle.std.proofs.Common.{◌≡◌, ℕ, zero, suc, ◌+◌, ◌-◌, ◌<◌, ◌≤◌, Bool, true, false, inl, inr, Option, Some, None, Result, Ok, Err, List, [], ◌∷◌, ◌++◌, length, get_or, map, take, drop, refl, sym, ap, subst, ◌∙◌, zero-add, arith}
+use Rattle.std.specs.List.{All, AllPairs, drop-map, list_all}
+use Rattle.std.specs.Prelude.{slice_get}
+use Rattle.std.specs.Option.{option_or, option_map}
+use Rattle.std.specs.Result.{IsErrAnd}
+use Rattle.std.proofs.lemmas.List.{drop_more, drop_all, get_or-map, length-map, length-drop, map-append, map_more, take_all}
+use Rattle.std.proofs.lemmas.List.Elements.{All-append, All-cons}
+use Rattle.std.proofs.lemmas.List.Kept.{AllPairs-cons}
+use Rattle.std.proofs.lemmas.Option.{slice_get-get_or, slice_get-map}
+use Rattle.ndarray_layout.specs.declared.ErrorKind.{ErrorKind}
+use Rattle.ndarray_layout.specs.declared.Fit.TheVariants.{Strict}
+use Rattle.ndarray_layout.specs.declared.LayoutError.{LayoutError}
+use Rattle.ndarray_layout.specs.declared.LayoutError.TheVariants.{Shape, Memory}
+use Rattle.ndarray_layout.specs.declared.SliceInfoElem.{SliceInfoElem}
+use Rattle.ndarray_layout.specs.ArgumentFault.{argument_fault}
+use Rattle.ndarray_layout.specs.Meet.{Meet}
+use Rattle.ndarray_layout.specs.ShapeFault.{shape_fault}
+use Rattle.nd_owned.specs.Writes.{Write, AreApart, IsFaultBy, IsFaultOfWrites, IsMeetFault, IsMeetFaultOf, has_count, slices_fault}
+
+-- ---- a list that a function was applied to, at its next item
+within : {X Y : Type 0} (f : X → Y) (xs : List X) (i : ℕ) → i < length xs → i < length (map f xs)
+within f xs i below = omega (arith, length-map xs f)
+
+-- the item is what the function makes of the item of the first list
+pub this : {X Y : Type 0} (f : X → Y) (xs : List X) (i : ℕ) (x : X) → i < length xs → x ≡ get_or xs i x → f x ≡ get_or (map f xs) i (f x)
+this f xs i x below is = ap f is ∙ sym (get_or-map f xs i x (f x) below)
+
+pub this_got : {X Y : Type 0} (f : X → Y) (xs : List X) (i : ℕ) (x : X) → i < length xs → x ≡ get_or xs i x → slice_get (map f xs) i ≡ Some (f x)
+this_got f xs i x below is = slice_get-map f xs i ∙ ap (option_map f) (slice_get-get_or xs i x below ∙ ap Some (sym is))
+
+-- what is left from it on
+pub next : {X Y : Type 0} (f : X → Y) (xs : List X) (i : ℕ) (x : X) → i < length xs → x ≡ get_or xs i x → drop i (map f xs) ≡ f x ∷ drop (i + 1) (map f xs)
+next f xs i x below is = drop_more (map f xs) i (f x) (within f xs i below) ∙ ap (λ y. y ∷ drop (i + 1) (map f xs)) (sym (this f xs i x below is))
+
+-- what is left after it, where that was cut off before
+pub rest : {X Y : Type 0} (f : X → Y) (xs : List X) (i : ℕ) → map f (take (length xs - (i + 1)) (drop (i + 1) xs)) ≡ drop (i + 1) (map f xs)
+rest f xs i = ap (map f) (take_all (length xs - (i + 1)) (drop (i + 1) xs) (omega (arith, length-drop (i + 1) xs))) ∙ sym (drop-map f (i + 1) xs)
+
+-- at the end nothing is left
+pub ended : {X Y : Type 0} (f : X → Y) (xs : List X) (i : ℕ) → length xs ≤ i → drop i (map f xs) ≡ []
+ended f xs i end = drop_all i (map f xs) (omega (arith, length-map xs f))
+
+-- what holds of each item holds of it
+pub of_this : {X Y : Type 0} (P : Y → Type 0) (f : X → Y) (xs : List X) (i : ℕ) (x : X) → i < length xs → x ≡ get_or xs i x → All P (map f xs) → P (f x)
+of_this P f xs i x below is all = subst P (sym (this f xs i x below is)) (all i (f x) (within f xs i below))
+
+-- one more item of two lists
+pub one_more : {A B C : Type 0} (f : A → C) (g : B → C) (old new : List A) (x : A) (ys : List B) (i : ℕ) (y : B) → new ≡ old ++ x ∷ [] → i < length ys → y ≡ get_or ys i y → f x ≡ g y
+    → map f old ≡ map g (take i ys) → map f new ≡ map g (take (i + 1) ys)
+one_more f g old new x ys i y pushed below is same before =
+    ap (map f) pushed
+    ∙ map-append f old (x ∷ [])
+    ∙ ap (λ zs. zs ++ f x ∷ []) before
+    ∙ ap (λ z. map g (take i ys) ++ z ∷ []) (same ∙ ap g is)
+    ∙ sym (map_more g ys i y below)
+
+pub all_pushed : {A : Type 0} (P : A → Type 0) (old new : List A) (x : A) → new ≡ old ++ x ∷ [] → All P old → P x → All P new
+all_pushed P old new x pushed all this = subst (All P) (sym pushed) (All-append P old (x ∷ []) all (All-cons P x [] this (λ k d below. absurd (omega arith))))
+
+-- ---- slices that fit
+pub both_none : (first second : Option ErrorKind) → option_or first second ≡ None → (first ≡ None) × (second ≡ None)
+both_none None second none = (refl, none)
+both_none (Some fault) second none = absurd (cc)
+
+-- where those so far do, the fault is that of the next, and then that of those after it
+pub next_fault : {T X : Type 0} (f : X → Write T) (shape : List ℕ) (xs : List X) (i : ℕ) (x : X) → i < length xs → x ≡ get_or xs i x
+    → slices_fault shape (map f xs) ≡ slices_fault shape (drop i (map f xs))
+    → slices_fault shape (map f xs) ≡ option_or (argument_fault Strict shape (f x).slice) (slices_fault shape (drop (i + 1) (map f xs)))
+next_fault f shape xs i x below is before = before ∙ ap (slices_fault shape) (next f xs i x below is)
+
+-- where all do that are left, the next does, and all after it
+pub next_fits : {T X : Type 0} (f : X → Write T) (shape : List ℕ) (xs : List X) (i : ℕ) (x : X) → i < length xs → x ≡ get_or xs i x
+    → slices_fault shape (drop i (map f xs)) ≡ None → (argument_fault Strict shape (f x).slice ≡ None) × (slices_fault shape (drop (i + 1) (map f xs)) ≡ None)
+next_fits f shape xs i x below is none =
+    both_none (argument_fault Strict shape (f x).slice) (slices_fault shape (drop (i + 1) (map f xs))) (sym (ap (slices_fault shape) (next f xs i x below is)) ∙ none)
+
+-- an error without the fault of a shape that is handed on has none either
+pub handed_on : {X : Type 0} (Y : Type 0) (result : Result X LayoutError) (error : LayoutError) → IsErrAnd result (λ e. e ≡ error) → shape_fault {X = Y} (Err error) ≡ None → shape_fault result ≡ None
+handed_on Y (Ok x) error is none = refl
+handed_on Y (Err (Memory e)) error is none = refl
+handed_on Y (Err (Shape kind)) error is none = subst (λ e. shape_fault {X = Y} (Err e) ≡ None) (sym is) none
+
+-- ---- facts of each item, or of each two, by what is left
+pub all_more : {X : Type 0} (P : X → Type 0) (xs left after : List X) (x : X) → left ≡ x ∷ after → P x → (All P left → All P xs) → All P after → All P xs
+all_more P xs left after x e this before all = before (subst (All P) (sym e) (All-cons P x after this all))
+
+pub all_ended : {X : Type 0} (P : X → Type 0) (xs left : List X) → left ≡ [] → (All P left → All P xs) → All P xs
+all_ended P xs left e before = before (subst (All P) (sym e) (λ k d below. absurd (omega arith)))
+
+pub pairs_more : {X : Type 0} (R : X → X → Type 0) (xs left after : List X) (x : X) → left ≡ x ∷ after → All (R x) after → (AllPairs R left → AllPairs R xs) → AllPairs R after → AllPairs R xs
+pairs_more R xs left after x e this before all = before (subst (AllPairs R) (sym e) (AllPairs-cons R x after this all))
+
+pub pairs_ended : {X : Type 0} (R : X → X → Type 0) (xs left : List X) → left ≡ [] → (AllPairs R left → AllPairs R xs) → AllPairs R xs
+pairs_ended R xs left e before = before (subst (AllPairs R) (sym e) (λ i j d earlier below. absurd (omega arith)))
+
+-- ---- slices that meet
+got_later : {X : Type 0} (n : ℕ) (xs : List X) (k : ℕ) → slice_get (drop n xs) k ≡ slice_get xs (n + k)
+got_later zero xs k = ap (slice_get xs) (sym (zero-add k))
+got_later (suc n) [] k = refl
+got_later (suc n) (x ∷ xs) k = let e : suc n + k ≡ suc (n + k) = omega arith in rw e (got_later n xs k)
+
+-- one that meets a slice after it is one of two that meet
+pub met_later : {T : Type 0} (shape : List ℕ) (writes after : List (Write T)) (i : ℕ) (write : Write T) (kind : ErrorKind) → slice_get writes i ≡ Some write → after ≡ drop (i + 1) writes
+    → IsMeetFaultOf shape write.slice after (Some kind) → IsMeetFault shape writes (Some kind)
+met_later shape writes after i write kind here e (inl (is, meets)) = inl (
+  is,
+  record {
+    first = i;
+    second = i + 1 + meets.at;
+    one = write;
+    other = meets.other;
+    earlier = omega arith;
+    one_there = here;
+    other_there = sym (got_later (i + 1) writes meets.at) ∙ ap (λ xs. slice_get xs meets.at) (sym e) ∙ meets.there;
+    meet = meets.meet;
+  },
+)
+met_later shape writes after i write kind here e (inr (is, apart)) = absurd (cc)
+
+pub none_met : {T : Type 0} (shape : List ℕ) (slice : List SliceInfoElem) (writes : List (Write T)) → IsMeetFaultOf shape slice writes None → All (λ other. Meet Strict shape slice other.slice → ⊥) writes
+none_met shape slice writes (inl (is, meets)) = absurd (cc)
+none_met shape slice writes (inr (is, apart)) = apart
+
+-- ---- writes without a fault
+pub record HaveNoFault {T : Type 0} (shape : List ℕ) (writes : List (Write T)) : Type 0 where
+  pub fit : slices_fault shape writes ≡ None
+  pub counts : list_all (has_count shape) writes ≡ true
+  pub apart : AllPairs (AreApart shape) writes
+
+pub no_fault : {T : Type 0} (shape : List ℕ) (writes : List (Write T)) → IsFaultOfWrites shape writes None → HaveNoFault shape writes
+no_fault shape writes none = by (slices_fault shape writes) (list_all (has_count shape) writes) refl refl none
+  where
+    by : (fault : Option ErrorKind) (counts : Bool) → slices_fault shape writes ≡ fault → list_all (has_count shape) writes ≡ counts → IsFaultBy fault counts shape writes None → HaveNoFault shape writes
+    by (Some kind) counts e f is = absurd (cc)
+    by None false e f is = absurd (cc)
+    by None true e f (inl (is, meet)) = absurd (cc)
+    by None true e f (inr (is, apart)) = record { fit = e; counts = f; apart = apart }

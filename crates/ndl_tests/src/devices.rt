@@ -1,0 +1,145 @@
+//! Runs over devices that move a few bytes at a time, and whose calls go wrong.
+use crate::fakes::{FakeReader, FakeWriter, Fault, FaultyCall};
+use crate::session::status_of;
+use ndl_session::session;
+use ndl_text::Watched;
+use std::alloc::Global;
+use std::io::ErrorKind;
+use std::process::Abort;
+use std::test::Fail;
+
+/// An input, and the text of its answer.
+#[derive(Clone, Copy)]
+struct Case<'a> {
+    input: &'a [u8],
+    text: &'a str,
+}
+
+/// How many bytes a call of either device moves at the most, and which of their calls go wrong.
+#[derive(Clone, Copy)]
+struct Devices {
+    most: usize,
+    read: FaultyCall,
+    write: FaultyCall,
+}
+
+/// What a run leaves: its status, how often the reader and the writer were called, and what went
+/// out.
+type Ended<'a> = (u8, usize, usize, &'a [u8]);
+
+/// What is due of a run: it ends at the first read that fails, and what goes out ends at the first write that does.
+fn due(case: Case, devices: Devices) -> Ended {
+    let reads = calls(case.input.len(), devices.most).saturating_add(1);
+    match devices.read {
+        Some((call, _)) if call < reads => {
+            let text = b"input failed\n";
+            written(4, call.saturating_add(1), text, devices)
+        }
+        _ => written(status_of(case.text), reads, case.text.as_bytes(), devices),
+    }
+}
+
+/// What is due of a run that has a whole text to write.
+fn written(status: u8, reads: usize, text: &[u8], devices: Devices) -> Ended {
+    let writes = calls(text.len(), devices.most);
+    match devices.write {
+        Some((call, _)) if call < writes => {
+            let before = call.saturating_mul(devices.most).min(text.len());
+            (4, reads, call.saturating_add(1), &text[..before])
+        }
+        _ => (status, reads, writes, text),
+    }
+}
+
+/// How many calls so many bytes take, where each moves this many at the most.
+fn calls(bytes: usize, most: usize) -> usize {
+    if most == 0 { 0 } else { bytes.div_ceil(most) }
+}
+
+/// Whether a run over these devices ends so.
+fn ends(alloc: Global, reader: FakeReader, writer: FakeWriter, due: Ended) -> bool {
+    let mut reader = Watched::new(reader);
+    let mut writer = Watched::new(writer);
+    let status = session(alloc, &mut reader, &mut writer);
+    let (reader, writer) = (reader.into_inner(), writer.into_inner());
+    (status, reader.calls, writer.calls, writer.taken.as_slice()) == due
+}
+
+/// Whether a run over such devices leaves what is due of it.
+fn holds(alloc: Global, case: Case, devices: Devices) -> bool {
+    let reader = FakeReader::new(case.input, devices.most, devices.read);
+    let writer = FakeWriter::new(alloc, devices.most, devices.write);
+    ends(alloc, reader, writer, due(case, devices))
+}
+
+const BROKEN: Fault = Fault::Error(ErrorKind::BrokenPipe);
+
+const INTERRUPTED: Fault = Fault::Error(ErrorKind::Interrupted);
+
+/// Whether the runs hold in which each write in turn fails in each way, and those in which none does.
+fn writes_hold(alloc: Global, case: Case, most: usize, read: FaultyCall) -> bool {
+    let write = None;
+    let (_, _, writes, _) = due(case, Devices { most, read, write });
+    for call in 0..=writes {
+        for fault in [BROKEN, INTERRUPTED, Fault::Nothing] {
+            let write = Some((call, fault));
+            if !holds(alloc, case, Devices { most, read, write }) {
+                return false;
+            }
+        }
+    }
+    true
+}
+
+/// Whether the runs hold in which each read in turn fails in each way, and those in which none does; writes fail
+/// as well.
+fn reads_hold(alloc: Global, case: Case, most: usize) -> bool {
+    let reads = calls(case.input.len(), most).saturating_add(1);
+    for call in 0..=reads {
+        for fault in [BROKEN, INTERRUPTED] {
+            if !writes_hold(alloc, case, most, Some((call, fault))) {
+                return false;
+            }
+        }
+    }
+    true
+}
+
+/// Scripts and their answers.
+const SCRIPTS: &str = "\
+data 4 owned 4 1|slice 1..;-2| => shape 2|strides -2|places 3 1|
+data 6 owned 2,3 3,1|collapse 0 1|merge 0 1|broadcast 2,2,3| => shape 2,2,3|strides 0,0,1|places 3 4 5 3 4 5 3 4 5 3 4 5|
+data 6 owned 2,3 3,1|reshape F 3,2| => step 1: ShapeError/IncompatibleLayout: incompatible memory layout|
+data 4 owned 4 1|slice 1..||slise ..| => line 4: unreadable|
+ => line 1: unreadable|
+";
+
+/// Asserts the runs of a script over devices that move 1 byte, 7, or all at a time.
+fn assert_runs(rt: &impl Abort, alloc: Global, row: &str) -> Result<(), Fail> {
+    let row = row.replace(alloc, "|", "\n")?;
+    let (input, text) = row.as_str().split_once(" => ").expect(rt, "an answer");
+    let input = input.as_bytes();
+    for most in [1, 7, usize::MAX] {
+        assert!(rt;
+            reads_hold(alloc, Case { input, text }, most),
+            "{most} bytes, {text}"
+        );
+    }
+    Ok(())
+}
+
+#[test]
+fn r13_devices(rt: HostRuntime) -> Result<(), Fail> {
+    for row in SCRIPTS.lines() {
+        assert_runs(&rt, rt.alloc(), row)?;
+    }
+    Ok(())
+}
+
+#[test]
+fn r13_devices_end_once(rt: HostRuntime) {
+    let reader = FakeReader::new(b"data 4 owned 4 1\n", 1, Some((2, Fault::Nothing)));
+    let writer = FakeWriter::new(rt.alloc(), 100, None);
+    let due = (2, 3, 1, b"line 1: unreadable\n".as_slice());
+    assert!(rt; ends(rt.alloc(), reader, writer, due));
+}
