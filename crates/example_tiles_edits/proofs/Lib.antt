@@ -1,0 +1,4 @@
+pub mod Axes
+pub mod EditSteps
+pub mod Misfits
+pub mod Pixels

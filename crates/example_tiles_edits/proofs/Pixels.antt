@@ -1,0 +1,121 @@
+-- The places of the pixels that edits leave.
+use Rattle.std.proofs.Common.{◌≡◌, ◌≢◌, ℕ, suc, ◌+◌, ◌*◌, ◌-◌, ◌^◌, ◌<◌, ◌≤◌, ℤ, pos, Bool, true, false, ◌&&◌, Option, Some, None, Result, Ok, Err, IfOk, MatchResult, List, [], ◌∷◌, length, get_or, map, drop, drop-cons, refl, sym, ap, ◌∙◌, subst, inl, inr, zero-add, arith}
+use Rattle.std.specs.List.{All}
+use Rattle.std.specs.Option.{option_map}
+use Rattle.std.specs.Result.{IsErrAnd}
+use Rattle.std.specs.Prelude.{slice_get}
+use Rattle.std.proofs.lemmas.Bool.{lt-ltb}
+use Rattle.std.proofs.lemmas.List.{length-map}
+use Rattle.std.proofs.lemmas.Option.{get_or_from_slice_get, slice_get-get_or, slice_get-map, slice_get_within}
+use Rattle.ndarray_layout.specs.declared.ErrorKind.{ErrorKind}
+use Rattle.ndarray_layout.specs.declared.LayoutError.{LayoutError}
+use Rattle.ndarray_layout.specs.declared.LayoutError.TheVariants.{Shape}
+use Rattle.ndarray_layout.specs.declared.Order.TheVariants.{RowMajor}
+use Rattle.ndarray_layout.specs.Indices.{is_index}
+use Rattle.ndarray_layout.specs.KeepsPlaces.{KeepsPlaces}
+use Rattle.ndarray_layout.specs.Rank.{index_of_rank, rank}
+use Rattle.ndarray_layout.specs.Run.{IsEndedBy, run_of}
+use Rattle.ndarray_layout.specs.Size.{size}
+use Rattle.ndarray_layout.specs.Step.{StepValue}
+use Rattle.ndarray_layout.specs.View.{LiesWithin, View, place_at, view_places}
+use Rattle.ndarray_layout.proofs.laws.Rank.{index_of_rank-rank, rank-lt-size}
+use Rattle.ndarray_layout.proofs.laws.Strides.{offset_of-default_strides}
+use Rattle.ndarray_layout.proofs.laws.View.{length-view_places}
+use Rattle.example_tiles_picture.specs.declared.Extent.{Extent}
+use Rattle.example_tiles_picture.specs.Picture.{IsWithin, Position, pixel_count}
+use Rattle.example_tiles_edits.specs.declared.edit.Edit.{Edit}
+use Rattle.example_tiles_edits.specs.declared.editing.EditError.{EditError}
+use Rattle.example_tiles_edits.specs.Edits.{extent_of, first_misfit, source_of}
+use Rattle.example_tiles_edits.specs.Slices.{ArePlaces, index_of, place_in, shape_of, step_of, whole_view}
+use Rattle.example_tiles_edits.proofs.EditSteps.{IsRun, run_of_edits, source_of_within}
+
+none_is_not_some : {A : Type 0} (x : A) → None ≡ Some x → ⊥
+none_is_not_some x e = cc
+
+-- ---- a position as an index
+is_index_of : (extent : Extent) (at : Position) → IsWithin extent at → is_index (shape_of extent) (index_of at) ≡ true
+is_index_of extent at within = rw (lt-ltb at.row extent.rows within.row_below, lt-ltb at.column extent.columns within.column_below) refl
+
+rank_of : (extent : Extent) (at : Position) → rank (shape_of extent) (index_of at) ≡ place_in extent at
+rank_of extent at = omega arith
+
+place_of_whole : (extent : Extent) (at : Position) → IsWithin extent at → place_at (whole_view extent) (index_of at) ≡ pos (place_in extent at)
+place_of_whole extent at within =
+    rw (offset_of-default_strides (shape_of extent) (index_of at) (is_index_of extent at within)) (ap pos (zero-add _ ∙ rank_of extent at))
+
+some_number : (o : Option ℕ) (n : ℕ) → option_map pos o ≡ Some (pos n) → o ≡ Some n
+some_number None n e = absurd (cc)
+some_number (Some m) n e = cc
+
+-- ---- the place at a rank
+found : (left extent : Extent) (view : View) (source : List ℕ → List ℕ) (places : List ℕ) (at from : Position) → view.shape ≡ shape_of left → KeepsPlaces source (whole_view extent) view
+    → ((r : ℕ) → r < size view.shape → option_map pos (slice_get places r) ≡ Some (place_at view (index_of_rank view.shape r)))
+    → IsWithin left at → IsWithin extent from → source (index_of at) ≡ index_of from → slice_get places (place_in left at) ≡ Some (place_in extent from)
+found left extent view source places at from shape keeps at_rank within inside same =
+    let is = is_index_of left at within in
+    let small : place_in left at < size view.shape = rw shape (subst (λ r. r < size (shape_of left)) (rank_of left at) (rank-lt-size (shape_of left) (index_of at) is)) in
+    let index : index_of_rank view.shape (place_in left at) ≡ index_of at = rw shape (ap (index_of_rank (shape_of left)) (sym (rank_of left at)) ∙ index_of_rank-rank (shape_of left) (index_of at) is) in
+    let kept = keeps (index_of at) (ap (λ s. is_index s (index_of at)) shape ∙ is) in
+    some_number (slice_get places (place_in left at)) (place_in extent from)
+    (at_rank (place_in left at) small ∙ ap (λ (z : ℤ). Some z) (ap (place_at view) index ∙ kept.1 ∙ ap (place_at (whole_view extent)) same ∙ place_of_whole extent from inside))
+
+size_of : (extent : Extent) → size (shape_of extent) ≡ pixel_count extent
+size_of extent = omega arith
+
+pub places_found : (edits : List Edit) (extent : Extent) (steps : List StepValue) (start view : View) (places : List ℕ) → first_misfit edits extent ≡ None → steps ≡ map step_of edits → start ≡ whole_view extent
+    → view ≡ (run_of steps start).view → KeepsPlaces (run_of steps start).source start view
+    → ((r : ℕ) → r < size view.shape → option_map pos (slice_get places r) ≡ Some (place_at view (index_of_rank view.shape r))) → length places ≡ size view.shape → All (λ place. place < pixel_count extent) places
+    → ArePlaces edits extent places
+places_found edits extent steps start view places fit same whole left keeps at_rank complete inside =
+    let ran : IsRun edits extent (run_of steps start) = rw same (run_of_edits edits extent start fit (ap (λ (v : View). v.shape) whole)) in
+    let shape : view.shape ≡ shape_of (extent_of edits extent) = ap (λ (v : View). v.shape) left ∙ ran.shape in
+    record {
+      complete = complete ∙ ap size shape ∙ size_of (extent_of edits extent);
+      inside = inside;
+      from_source = λ at within. found (extent_of edits extent) extent view (run_of steps start).source places at (source_of edits extent at) shape
+          (subst (λ (v : View). KeepsPlaces (run_of steps start).source v view) whole keeps) at_rank within (source_of_within edits extent at fit within) (ran.sources at within);
+    }
+
+-- a run of edits that fit ends for no fault of its own
+pub not_refused : (edits : List Edit) (extent : Extent) (steps : List StepValue) (start left : View) (fault : LayoutError) (kind : ErrorKind) (at : ℕ) → first_misfit edits extent ≡ None → steps ≡ map step_of edits → start ≡ whole_view extent
+    → IsEndedBy (run_of steps start) at fault left → fault ≡ Shape kind → ⊥
+not_refused edits extent steps start left fault kind at fit same whole ended is =
+    let ran : IsRun edits extent (run_of steps start) = rw same (run_of_edits edits extent start fit (ap (λ (v : View). v.shape) whole)) in
+    let refused : IsEndedBy (run_of steps start) at (Shape kind) left = subst (λ (f : LayoutError). IsEndedBy (run_of steps start) at f left) is ended in
+    none_is_not_some kind (sym ran.fault ∙ refused.0)
+
+-- ---- pixels at places
+of_some : (o x : Option ℕ) → option_map Some o ≡ Some x → o ≡ x
+of_some None x e = absurd (cc)
+of_some (Some n) x e = cc
+
+pub read_at : (pixels stored places : List ℕ) (r q : ℕ) → map Some pixels ≡ map (slice_get stored) places → slice_get places r ≡ Some q → slice_get pixels r ≡ slice_get stored q
+read_at pixels stored places r q gathered at =
+    of_some (slice_get pixels r) (slice_get stored q)
+    (sym (slice_get-map Some pixels r) ∙ ap (λ (xs : List (Option ℕ)). slice_get xs r) gathered ∙ slice_get-map (slice_get stored) places r ∙ ap (option_map (slice_get stored)) at)
+
+pub length_gathered : (pixels stored places : List ℕ) → map Some pixels ≡ map (slice_get stored) places → length pixels ≡ length places
+length_gathered pixels stored places gathered = sym (length-map pixels Some) ∙ ap length gathered ∙ length-map places (slice_get stored)
+
+pub All-gathered : (P : ℕ → Type 0) (pixels stored places : List ℕ) → map Some pixels ≡ map (slice_get stored) places → All P stored → All P pixels
+All-gathered P pixels stored places gathered each k d h =
+    let place = slice_get-get_or places k 0 (omega (arith, length_gathered pixels stored places gathered)) in
+    let read : slice_get stored (get_or places k 0) ≡ Some (get_or pixels k d) = sym (read_at pixels stored places k (get_or places k 0) gathered place) ∙ slice_get-get_or pixels k d h in
+    subst P (get_or_from_slice_get stored (get_or places k 0) (get_or pixels k d) d read) (each (get_or places k 0) d (slice_get_within stored (get_or places k 0) (get_or pixels k d) read))
+
+-- ---- the extent that edits leave, as the call answers it
+pub extent_left : (r : Result Extent ℕ) (s : Result Extent EditError) (x left : Extent) (A : Type 0) (B : ℕ → Type 0) (C : ℕ → EditError → Type 0) → MatchResult r (λ e. A × (e ≡ left)) B
+    → MatchResult r (λ e. s ≡ Ok e) (λ at. IsErrAnd s (C at)) → s ≡ Ok x → x ≡ left
+extent_left (Ok e) s x left A B C h k is = let same : e ≡ x = cc in sym same ∙ h.1
+extent_left (Err at) s x left A B C h k is = absurd (subst (λ (t : Result Extent EditError). IsErrAnd t (C at)) is k)
+
+-- ---- the places that a call answers
+pub of_places : {V E : Type 0} (items : V → List ℕ) (r : Result V E) (edits : List Edit) (extent : Extent) (steps : List StepValue) (start view : View) → first_misfit edits extent ≡ None → steps ≡ map step_of edits → start ≡ whole_view extent
+    → view ≡ (run_of steps start).view → KeepsPlaces (run_of steps start).source start view → LiesWithin (pixel_count extent) view
+    → IfOk r (λ v. map pos (items v) ≡ view_places RowMajor view)
+    → IfOk r (λ v. (r : ℕ) → r < size view.shape → option_map pos (slice_get (items v) r) ≡ Some (place_at view (index_of_rank view.shape r)))
+    → IfOk r (λ v. (len : ℕ) → LiesWithin len view → All (λ place. place < len) (items v)) → IfOk r (λ v. ArePlaces edits extent (items v))
+of_places items (Ok v) edits extent steps start view fit same whole left keeps within listed at_rank inside =
+    places_found edits extent steps start view (items v) fit same whole left keeps at_rank
+    (sym (length-map (items v) pos) ∙ ap length listed ∙ length-view_places RowMajor view) (inside (pixel_count extent) within)
+of_places items (Err e) edits extent steps start view fit same whole left keeps within listed at_rank inside = tt

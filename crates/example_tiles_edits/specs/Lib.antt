@@ -1,0 +1,3 @@
+pub mod EditError
+pub mod Edits
+pub mod Slices

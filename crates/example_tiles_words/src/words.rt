@@ -1,0 +1,93 @@
+//! Reads edits from words.
+ghost use Rattle.std.specs.Prelude.{◌≡◌, ◌*◌, ◌≤◌, IfErr, IfOk, IfSome, length};
+ghost use Rattle.example_tiles_words.specs.Words.{LiesAmong};
+
+use example_tiles_edits::{Edit, Span};
+use example_tiles_text::number;
+use std::alloc::{AllocFailed, Global};
+use thiserror::Error;
+
+/// Why words were not read as edits.
+#[derive(Clone, Copy, Debug, PartialEq, Eq, Error)]
+pub enum WordsError {
+    /// No edit begins with the word of this number, from 0 on.
+    #[error("argument {0}: expected `crop A..B C..D`, `flip rows`, `flip columns` or `every N`")]
+    Unreadable(usize),
+    /// Memory was refused.
+    #[error("out of memory")]
+    Memory,
+}
+
+impl<T: Drop> From<AllocFailed<T>> for WordsError {
+    ghost use Rattle.example_tiles_words.specs.declared.words.WordsError.TheVariants.{Memory};
+
+    ghost from_gives = { λ _ error. error ≡ Memory };
+
+    fn from(_error: AllocFailed<T>) -> Self {
+        WordsError::Memory
+    }
+}
+
+/// The span of a word as `2..6`; `None` where it is no such word.
+fn span(word: &[u8]) -> Option<Span> {
+    let at = word.iter().position(|b| *b == b'.')?;
+    let [b'.', end @ ..] = &word[at + 1..] else {
+        return None;
+    };
+    Some(Span {
+        start: number(&word[..at])?,
+        end: number(end)?,
+    })
+}
+
+/// The flip of a word, `rows` or `columns`; `None` where it is neither.
+fn flip(word: &[u8]) -> Option<Edit> {
+    if word == b"rows".as_slice() {
+        Some(Edit::FlipRows)
+    } else if word == b"columns".as_slice() {
+        Some(Edit::FlipColumns)
+    } else {
+        None
+    }
+}
+
+/// The edit that some words begin with, and how many of them spell it; `None` where they begin with none.
+fn first_edit(words: &[&[u8]]) -> Option<(Edit, usize)>
+    ensures { IfSome result (λ found. (2 ≤ found.1) × (found.1 ≤ length words.now)) }
+{
+    let [name, first, rest @ ..] = words else {
+        return None;
+    };
+    if *name == b"crop".as_slice() {
+        let [second, ..] = rest else {
+            return None;
+        };
+        return Some((Edit::Crop(span(first)?, span(second)?), 3));
+    }
+    if *name == b"flip".as_slice() {
+        return Some((flip(first)?, 2));
+    }
+    if *name == b"every".as_slice() {
+        return Some((Edit::Every(number(first)?), 2));
+    }
+    None
+}
+
+/// The edits that words spell, one after another, each in two words or three. Which edits these are no clause says.
+///
+/// Errors: the number of the first word that no edit begins with; that memory is refused.
+pub fn read_edits(alloc: Global, words: &[&[u8]]) -> Result<Vec<Edit>, WordsError>
+    ensures counted { IfOk result (λ edits. 2 * length edits.items ≤ length words.now) }
+    ensures refused { IfErr result (LiesAmong words.now) }
+{
+    let mut edits = Vec::new(alloc);
+    let mut at = 0;
+    while at < words.len() {
+        let Some((edit, taken)) = first_edit(&words[at..]) else {
+            return Err(WordsError::Unreadable(at));
+        };
+        edits.push(edit)?;
+        at += taken;
+    }
+    Ok(edits)
+}
