@@ -1,0 +1,145 @@
+//! What a call answers, as text.
+use Answer::{Listed, Refused, Stopped, View};
+use ndarray_layout::{ErrorKind, LayoutError, Lengths, Strided, signed};
+use std::alloc::AllocError;
+use std::fmt;
+use test_tables::{List, name_of};
+
+/// The shape, the strides and the start of a view.
+#[derive(Clone, Copy)]
+pub struct Laid {
+    shape: List,
+    strides: List,
+    start: usize,
+}
+
+/// Why a call makes nothing.
+#[derive(Clone, Copy)]
+pub enum Fault {
+    /// A rule refuses it.
+    Rule(ErrorKind),
+    /// Memory is refused.
+    Memory,
+    /// There is nothing to make.
+    Nothing,
+    /// What it makes is too long to be told.
+    TooLong,
+}
+
+impl Fault {
+    /// Why a call that makes a layout is refused.
+    pub fn of(fault: &LayoutError) -> Fault {
+        match fault {
+            LayoutError::Shape(fault) => Fault::Rule(fault.kind()),
+            LayoutError::Memory(_) => Fault::Memory,
+        }
+    }
+
+    /// Its name.
+    fn name(self) -> &'static str {
+        match self {
+            Fault::Rule(kind) => name_of(Some(kind)),
+            Fault::Memory => "memory",
+            Fault::Nothing => "none",
+            Fault::TooLong => "too long",
+        }
+    }
+}
+
+/// What a call answers.
+#[derive(Clone, Copy)]
+pub enum Answer {
+    /// Nothing.
+    Refused(Fault),
+    /// The list of a value.
+    Listed(List),
+    /// A view.
+    View(Laid),
+    /// How many steps were taken, why the next one is refused, and the view that they left.
+    Stopped(usize, Fault, Laid),
+}
+
+/// What a call answers, and the view that it was lent.
+#[derive(Clone, Copy)]
+pub struct Told {
+    pub answer: Answer,
+    pub lent: Option<Laid>,
+}
+
+/// The refusal of memory.
+pub const MEMORY: Answer = Refused(Fault::Memory);
+
+/// A list as an answer.
+pub fn listed(numbers: &[usize]) -> Answer {
+    match List::of(numbers) {
+        Some(list) => Listed(list),
+        None => Refused(Fault::TooLong),
+    }
+}
+
+/// The list of a value that a call makes.
+pub fn made_list<D: Lengths>(made: Result<D, AllocError>) -> Answer {
+    match made {
+        Ok(dim) => listed(dim.slice()),
+        Err(_) => MEMORY,
+    }
+}
+
+/// What a view has; nothing where it has more than 16 axes.
+pub fn layout_of<D: Lengths>(view: &Strided<D>) -> Option<Laid> {
+    Some(Laid {
+        shape: List::of(view.dim().slice())?,
+        strides: List::of(view.strides().slice())?,
+        start: view.start(),
+    })
+}
+
+/// The view that a call makes.
+pub fn made_view<D: Lengths>(made: Result<Strided<D>, LayoutError>) -> Option<Answer> {
+    match made {
+        Ok(view) => Some(View(layout_of(&view)?)),
+        Err(fault) => Some(Refused(Fault::of(&fault))),
+    }
+}
+
+/// Writes numbers separated by commas, or `-` for none.
+fn write_list<W: fmt::Write>(list: &List, f: &mut fmt::Formatter<W>) -> fmt::Result {
+    let Some((first, rest)) = list.as_slice().split_first() else {
+        return f.write_str("-");
+    };
+    write!(f, "{}", signed(*first))?;
+    for number in rest {
+        write!(f, ",{}", signed(*number))?;
+    }
+    Ok(())
+}
+
+impl fmt::Display for Laid {
+    fn fmt<W: fmt::Write>(&self, f: &mut fmt::Formatter<W>) -> fmt::Result {
+        write_list(&self.shape, f)?;
+        f.write_str(" ")?;
+        write_list(&self.strides, f)?;
+        write!(f, " {}", self.start)
+    }
+}
+
+impl fmt::Display for Answer {
+    fn fmt<W: fmt::Write>(&self, f: &mut fmt::Formatter<W>) -> fmt::Result {
+        match self {
+            Refused(fault) => f.write_str(fault.name()),
+            Listed(list) => write_list(list, f),
+            View(view) => write!(f, "{view}"),
+            Stopped(at, fault, view) => write!(f, "{} {at} {view}", fault.name()),
+        }
+    }
+}
+
+impl fmt::Display for Told {
+    fn fmt<W: fmt::Write>(&self, f: &mut fmt::Formatter<W>) -> fmt::Result {
+        fmt::Display::fmt(&self.answer, f)?;
+        match &self.lent {
+            Some(lent) => write!(f, " of {lent}"),
+            None => Ok(()),
+        }
+    }
+}

@@ -1,0 +1,104 @@
+//! Calls of a view: the lists are its shape and its strides, and another shape.
+use crate::answer::{Answer, Fault, MEMORY, Told, layout_of, listed, made_list, made_view};
+use crate::call::{Call, ask};
+use CanIndexCheckMode::ReadOnly;
+use Fit::Strict;
+use Order::RowMajor;
+use ndarray_layout::{
+    CanIndexCheckMode, Fit, LayoutError, Lengths, Order, SliceInfoElem, StrideShape, Strided,
+    Strides, max_abs_offset_check_overflow, reshape_dim, size_of_shape_checked,
+};
+use std::alloc::Global;
+use test_tables::made;
+
+/// The whole of an axis, from the last entry back.
+pub const REVERSED: SliceInfoElem = SliceInfoElem::Slice {
+    start: 0,
+    end: None,
+    step: -1,
+};
+
+/// A view of data that has room for it.
+pub fn view_of<D: Lengths>(dim: D, strides: D) -> Option<Strided<D>> {
+    Strided::new(dim, strides, 1, 99, ReadOnly).ok()
+}
+
+/// What a call answers.
+pub fn told<D: Lengths>(alloc: Global, call: &Call<'_>, name: &str) -> Option<Told> {
+    let dim: D = made(alloc, call.lists.first.as_slice())?;
+    let strides: D = made(alloc, call.lists.second.as_slice())?;
+    let to: D = made(alloc, call.lists.third.as_slice())?;
+    let view = view_of(dim, strides)?;
+    ask(alloc, call.earlier)?;
+    let answer = match name {
+        "from_shape" => shaped(alloc, to),
+        "places" => Some(places(alloc, &view)),
+        "reshape_dim" => reshaped(alloc, view.dim(), view.strides(), &to),
+        _ => made_view(another(alloc, name, &view, &to)?),
+    };
+    Some(Told {
+        answer: answer?,
+        lent: layout_of(&view),
+    })
+}
+
+/// The view of a shape in column-major order.
+fn shaped<D: Lengths>(alloc: Global, dim: D) -> Option<Answer> {
+    let shape = StrideShape {
+        dim,
+        strides: Strides::F,
+    };
+    made_view(Strided::from_shape(alloc, shape, 1, 99, ReadOnly))
+}
+
+/// The same view once more.
+fn duplicated<D: Lengths>(alloc: Global, view: &Strided<D>) -> Result<Strided<D>, LayoutError> {
+    Ok(view.duplicate(alloc)?)
+}
+
+/// The slice of a view by all of its axes, each from the last entry back; nothing where it has more than six.
+fn reversed<D: Lengths>(
+    alloc: Global,
+    view: &Strided<D>,
+) -> Option<Result<Strided<D>, LayoutError>> {
+    let all = [REVERSED; 6];
+    let elems = all.get(..view.dim().ndim())?;
+    Some(view.slice(alloc, &elems, Strict))
+}
+
+/// The view that a call makes of another, if a call has this name.
+fn another<D: Lengths>(
+    alloc: Global,
+    name: &str,
+    view: &Strided<D>,
+    to: &D,
+) -> Option<Result<Strided<D>, LayoutError>> {
+    match name {
+        "duplicate" => Some(duplicated(alloc, view)),
+        "slice" => reversed(alloc, view),
+        "reshape" => Some(view.reshape(alloc, to, RowMajor)),
+        "broadcast" => Some(view.broadcast(alloc, to)),
+        _ => None,
+    }
+}
+
+/// The places of a view in row-major order.
+fn places<D: Lengths>(alloc: Global, view: &Strided<D>) -> Answer {
+    match view.places(alloc, RowMajor) {
+        Ok(places) => listed(places.as_slice()),
+        Err(_) => MEMORY,
+    }
+}
+
+/// The strides of a layout under another shape.
+fn reshaped<D: Lengths>(alloc: Global, from: &D, strides: &D, to: &D) -> Option<Answer> {
+    if from.slice().contains(&0) || to.slice().contains(&0) {
+        return None;
+    }
+    size_of_shape_checked(to).ok()?;
+    max_abs_offset_check_overflow(1, from, strides).ok()?;
+    match reshape_dim(alloc, from, strides, to, RowMajor) {
+        Ok(others) => Some(listed(others.slice())),
+        Err(fault) => Some(Answer::Refused(Fault::of(&fault))),
+    }
+}
