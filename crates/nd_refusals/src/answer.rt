@@ -1,5 +1,5 @@
 //! What a call answers, as text.
-use Answer::{Listed, Refused, Stopped, View};
+use Answer::{Left, Listed, Refused, Stopped, View};
 use ndarray_layout::{ErrorKind, LayoutError, Lengths, Strided, signed};
 use std::alloc::AllocError;
 use std::fmt;
@@ -46,6 +46,14 @@ impl Fault {
     }
 }
 
+/// The name of a fault, or `Ok`.
+fn word_of(fault: Option<Fault>) -> &'static str {
+    match fault {
+        Some(fault) => fault.name(),
+        None => "Ok",
+    }
+}
+
 /// What a call answers.
 #[derive(Clone, Copy)]
 pub enum Answer {
@@ -57,6 +65,8 @@ pub enum Answer {
     View(Laid),
     /// How many steps were taken, why the next one is refused, and the view that they left.
     Stopped(usize, Fault, Laid),
+    /// Why a call is refused, if it is, and the items that are left.
+    Left(Option<Fault>, List),
 }
 
 /// What a call answers, and the view that it was lent.
@@ -75,6 +85,11 @@ pub fn listed(numbers: &[usize]) -> Answer {
         Some(list) => Listed(list),
         None => Refused(Fault::TooLong),
     }
+}
+
+/// The items that a call leaves, and why it is refused, if it is; nothing where there are more than 16.
+pub fn left(fault: Option<Fault>, items: &[usize]) -> Option<Answer> {
+    Some(Left(fault, List::of(items)?))
 }
 
 /// The list of a value that a call makes.
@@ -130,6 +145,11 @@ impl fmt::Display for Answer {
             Listed(list) => write_list(list, f),
             View(view) => write!(f, "{view}"),
             Stopped(at, fault, view) => write!(f, "{} {at} {view}", fault.name()),
+            Left(fault, items) => {
+                f.write_str(word_of(*fault))?;
+                f.write_str(" ")?;
+                write_list(items, f)
+            },
         }
     }
 }

@@ -1,9 +1,9 @@
 //! A line of input, and the call that it says.
 //!
 //! A line is how many small requests are made before the call, the call by its name, what it is made at, and up to four lists.
-//! It is made at a dimension type, the count of axes that this fixes or `any`; at a `list`; or at the `steps` of a run.
+//! It is made at a dimension type, the count of axes that this fixes or `any`; at a `list`; at an `array`; or at the `steps` of a run.
 use crate::answer::Told;
-use crate::{dimensions, lists, runs, views};
+use crate::{dimensions, lists, owned, runs, views};
 use ndarray_layout::{IntoDimension, Ix4, Ix6, IxDyn, RemoveAxis};
 use std::alloc::Global;
 use test_tables::{Lists, grants};
@@ -52,6 +52,7 @@ pub fn told(alloc: Global, line: &str) -> Option<Told> {
         "any" => told_as::<IxDyn>(alloc, &call),
         "list" => lists::told(alloc, &call),
         "steps" => runs::told(alloc, &call),
+        "array" => owned::told(alloc, &call),
         _ => None,
     }
 }

@@ -6,6 +6,7 @@ mod answer;
 mod call;
 mod dimensions;
 mod lists;
+mod owned;
 mod runs;
 mod views;
 
