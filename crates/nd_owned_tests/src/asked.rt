@@ -4,7 +4,7 @@
 //! arrow the answer, with the items that the array then has. Writes are separated by `&`, and each is a slice and its items.
 use crate::items::{Halved, Item, are, are_counted, counted};
 use crate::large::{are_fifty_written, is_turned};
-use crate::words::{Write, dim, list, slice, strides, word, write, writes};
+use crate::words::{dim, list, slice, strides, word, writes};
 use nd_owned::OwnedArray;
 use ndarray_layout::{Ix0, Ix2, IxDyn, LayoutError, Lengths, StrideShape};
 use std::alloc::Global;
@@ -83,64 +83,17 @@ fn is_written<T: Item, D: Lengths>(
     told.says(answer) && told.leaves(rt, array.stored())
 }
 
-/// These writes are answered so, or memory is refused and nothing is changed; then the next call is answered so.
-fn are_written_or_kept<T: Item, D: Lengths>(
-    rt: &impl Abort,
-    alloc: Global,
-    told: Told<'_>,
-    array: &mut OwnedArray<T, D>,
-    writes: &[Write<T>],
-) -> bool {
-    let mut answer = name(array.multi_set(alloc, writes));
-    if answer == "memory" && are_counted(array.stored(), 0) {
-        answer = name(array.multi_set(alloc, writes));
-    }
-    told.says(answer) && told.leaves(rt, array.stored())
-}
-
-/// The same of the one write or the two that the row tells, which take no memory but for their lists.
-fn is_written_or_kept<T: Item, D: Lengths>(
-    rt: &impl Abort,
-    alloc: Global,
-    told: Told<'_>,
-    array: &mut OwnedArray<T, D>,
-) -> bool {
-    match told.given.split_once("&") {
-        Some((one, other)) => {
-            let writes = [write(rt, alloc, one), write(rt, alloc, other)];
-            are_written_or_kept(rt, alloc, told, array, &writes)
-        },
-        None => { are_written_or_kept(rt, alloc, told, array, &[write(rt, alloc, told.given)]) },
-    }
-}
-
-/// What is told of the items of a slice, or `memory`.
-fn items_answer<T: Item, D: Lengths>(
+/// The items of a slice are these, or they are refused so.
+fn are_read<T: Item, D: Lengths>(
     rt: &impl Abort,
     alloc: Global,
     told: Told<'_>,
     array: &OwnedArray<T, D>,
-) -> &'static str {
+) -> bool {
     let slice = slice(rt, alloc, told.given);
     match array.items(alloc, &slice) {
-        Ok(items) if are(items.as_slice(), list(rt, told.answer).as_slice()) => "told",
-        Ok(_) => "wrong",
-        Err(fault) if told.says(layout_fault_name(&fault)) => "told",
-        Err(LayoutError::Memory(_)) => "memory",
-        Err(_) => "wrong",
-    }
-}
-
-/// The items of a slice are these, or memory is refused, and the next time they are.
-fn is_read_or_refused<T: Item, D: Lengths>(
-    rt: &impl Abort,
-    alloc: Global,
-    told: Told<'_>,
-    array: &OwnedArray<T, D>,
-) -> bool {
-    match items_answer(rt, alloc, told, array) {
-        "memory" => items_answer(rt, alloc, told, array) == "told",
-        answer => answer == "told",
+        Ok(items) => are(items.as_slice(), list(rt, told.answer).as_slice()),
+        Err(fault) => told.says(layout_fault_name(&fault)),
     }
 }
 
@@ -182,9 +135,7 @@ fn answers<T: Item, D: Lengths>(
 ) -> bool {
     match told.call {
         "multi_set" => is_written(rt, alloc, told, array),
-        "multi_set_or_memory" => is_written_or_kept(rt, alloc, told, array),
-        "items" => items_answer(rt, alloc, told, array) == "told",
-        "items_or_memory" => is_read_or_refused(rt, alloc, told, array),
+        "items" => are_read(rt, alloc, told, array),
         "get" => is_got(rt, alloc, told, array),
         "set" => is_set(rt, alloc, told, array),
         "all_from_the_back" => is_turned(rt, alloc, told.given, array),
@@ -193,13 +144,9 @@ fn answers<T: Item, D: Lengths>(
     }
 }
 
-/// Whether there is to be no array for this fault, or for want of memory, and all items are handed back.
+/// Whether there is to be no array for this fault, and all items are handed back.
 fn is_refused<T: Item>(rt: &impl Abort, told: Told<'_>, fault: &LayoutError, items: &[T]) -> bool {
-    let is_told = match layout_fault_name(fault) {
-        "memory" => told.call == "from_shape_vec_or_memory",
-        fault => told.call == "from_shape_vec" && told.says(fault),
-    };
-    is_told && told.leaves(rt, items)
+    told.call == "from_shape_vec" && told.says(layout_fault_name(fault)) && told.leaves(rt, items)
 }
 
 /// A row holds.

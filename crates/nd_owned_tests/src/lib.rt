@@ -8,8 +8,6 @@ mod items;
 #[cfg(test)]
 mod large;
 #[cfg(test)]
-mod memory;
-#[cfg(test)]
 mod rows;
 #[cfg(test)]
 mod words;

@@ -7,7 +7,7 @@ use test_slices::elems;
 use test_tables::{List, Lists, Row, made};
 
 /// A slice, and the items for it.
-pub type Write<T> = (Vec<SliceInfoElem>, Vec<T>);
+type Write<T> = (Vec<SliceInfoElem>, Vec<T>);
 
 /// The next word.
 pub fn word<'a>(rt: &impl Abort, row: &mut Row<'a>) -> &'a str {
@@ -46,7 +46,7 @@ pub fn slice(rt: &impl Abort, alloc: Global, word: &str) -> Vec<SliceInfoElem> {
 }
 
 /// The slice and the items for it that two words tell.
-pub fn write<T: Item>(rt: &impl Abort, alloc: Global, words: &str) -> Write<T> {
+fn write<T: Item>(rt: &impl Abort, alloc: Global, words: &str) -> Write<T> {
     let row = &mut Row::new(words);
     let slice = slice(rt, alloc, word(rt, row));
     let items = list(rt, word(rt, row));
