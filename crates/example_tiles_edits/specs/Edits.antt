@@ -78,7 +78,8 @@ every_fourth = refl
 last_row_first : source four_by_six FlipRows (record { row = 0; column = 2 }) ≡ record { row = 3; column = 2 }
 last_row_first = refl
 
-of_a_flipped_crop : source_of (Crop (span 1 4) (span 2 4) ∷ FlipColumns ∷ []) four_by_six (record { row = 0; column = 0 }) ≡ record { row = 1; column = 3 }
+of_a_flipped_crop : source_of (Crop (span 1 4) (span 2 4) ∷ FlipColumns ∷ []) four_by_six (record { row = 0; column = 0 })
+    ≡ record { row = 1; column = 3 }
 of_a_flipped_crop = refl
 
 left_of_both : extent_of (Crop (span 1 4) (span 2 4) ∷ Every 2 ∷ []) four_by_six ≡ record { rows = 2; columns = 1 }
