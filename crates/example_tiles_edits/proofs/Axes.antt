@@ -1,7 +1,7 @@
 -- What the slices of an edit pick of an axis.
-use Rattle.std.proofs.Common.{◌≡◌, ℕ, zero, suc, ◌+◌, ◌-◌, ◌*◌, ◌/◌, ◌%◌, ◌≤◌, ◌<◌, ℤ, pos, negsuc, Bool, true, false, ◌&&◌, ltb, leb, Some, None, List, [], ◌∷◌, length, get_or, refl, sym, ap, ◌∙◌, subst, lit<, arith, rules}
+use Rattle.std.proofs.Common.{◌≡◌, ℕ, ◌+◌, ◌-◌, ◌*◌, ◌<◌, pos, negsuc, true, ltb, leb, Some, None, length, get_or, refl, sym, ap, ◌∙◌, subst, lit<, arith, rules}
 use Rattle.std.specs.Int.{div_ceil}
-use Rattle.std.proofs.lemmas.Bool.{and_parts, leb-true, le-leb, ltb-true, ne_eqb}
+use Rattle.std.proofs.lemmas.Bool.{le-leb, ltb-true, ne_eqb}
 use Rattle.ndarray_layout.specs.declared.Fit.TheVariants.{Strict}
 use Rattle.ndarray_layout.specs.declared.Slice.{Slice}
 use Rattle.ndarray_layout.specs.Picks.{picks, slice_with}

@@ -1,18 +1,17 @@
 -- Edits as steps of a run: they fit a view, and leave of it what the edits do.
-use Rattle.std.proofs.Common.{◌≡◌, ℕ, suc, ◌+◌, ◌-◌, ◌*◌, ◌<◌, ℤ, pos, negsuc, Bool, true, false, cond, ◌&&◌, Option, Some, None, List, [], ◌∷◌, length, get_or, map, refl, sym, ap, ◌∙◌, subst, arith}
-use Rattle.std.proofs.lemmas.Bool.{and_parts, lt-ltb}
-use Rattle.std.specs.Option.{option_map, option_or}
+use Rattle.std.proofs.Common.{◌≡◌, ℕ, ◌+◌, ◌-◌, ◌*◌, ◌<◌, pos, negsuc, Bool, true, false, cond, Option, Some, None, List, [], ◌∷◌, map, refl, sym, ap, ◌∙◌, subst}
+use Rattle.std.proofs.lemmas.Bool.{and_parts}
+use Rattle.std.specs.Option.{option_map}
 use Rattle.ndarray_layout.specs.declared.Fit.TheVariants.{Strict}
 use Rattle.ndarray_layout.specs.declared.Slice.{Slice}
 use Rattle.ndarray_layout.specs.declared.SliceInfoElem.{SliceInfoElem}
 use Rattle.ndarray_layout.specs.declared.SliceInfoElem.TheVariants as elem
 use Rattle.ndarray_layout.specs.ArgumentFault.{argument_fault}
-use Rattle.ndarray_layout.specs.Picks.{picks, slice_with}
+use Rattle.ndarray_layout.specs.Picks.{slice_with}
 use Rattle.ndarray_layout.specs.Run.{Outcome, run_of, stepped, joined}
 use Rattle.ndarray_layout.specs.Selected.{selected}
 use Rattle.ndarray_layout.specs.Sliced.{sliced_shape}
-use Rattle.ndarray_layout.specs.SliceFault.{slice_fault}
-use Rattle.ndarray_layout.specs.Step.{StepValue, SliceBy, step_fault, view_after, source_index}
+use Rattle.ndarray_layout.specs.Step.{StepValue, step_fault, view_after, source_index}
 use Rattle.ndarray_layout.specs.View.{View}
 use Rattle.ndarray_layout.proofs.laws.Picks.{pick_below}
 use Rattle.ndarray_layout.proofs.laws.SliceFault.{no_fault_of_fits}

@@ -1,5 +1,5 @@
 -- What edits make of a picture: whether they fit, what extent they leave, and where in the source each pixel of the result comes from.
-use Rattle.std.specs.Prelude.{◌≡◌, ℕ, ◌+◌, ◌-◌, ◌*◌, ◌/◌, ◌%◌, Bool, true, false, ◌&&◌, nat_le, nat_lt, if◌then◌else◌}
+use Rattle.std.specs.Prelude.{◌≡◌, ℕ, ◌+◌, ◌-◌, ◌*◌, Bool, true, false, ◌&&◌, nat_le, nat_lt, if◌then◌else◌}
 use Rattle.std.specs.Prelude.{Option, Some, None, List, [], ◌∷◌, refl}
 use Rattle.std.specs.Int.{div_ceil}
 use Rattle.std.specs.Option.{option_map}
@@ -78,7 +78,8 @@ every_fourth = refl
 last_row_first : source four_by_six FlipRows (record { row = 0; column = 2 }) ≡ record { row = 3; column = 2 }
 last_row_first = refl
 
-of_a_flipped_crop : source_of (Crop (span 1 4) (span 2 4) ∷ FlipColumns ∷ []) four_by_six (record { row = 0; column = 0 }) ≡ record { row = 1; column = 3 }
+of_a_flipped_crop : source_of (Crop (span 1 4) (span 2 4) ∷ FlipColumns ∷ []) four_by_six (record { row = 0; column = 0 })
+    ≡ record { row = 1; column = 3 }
 of_a_flipped_crop = refl
 
 left_of_both : extent_of (Crop (span 1 4) (span 2 4) ∷ Every 2 ∷ []) four_by_six ≡ record { rows = 2; columns = 1 }

@@ -52,7 +52,8 @@ place_in extent at = at.row * extent.columns + at.column
 pub record ArePlaces (edits : List Edit) (extent : Extent) (places : List ℕ) : Type 0 where
   pub complete : length places ≡ pixel_count (extent_of edits extent)
   pub inside : All (λ place. place < pixel_count extent) places
-  pub from_source : (at : Position) → IsWithin (extent_of edits extent) at → slice_get places (place_in (extent_of edits extent) at) ≡ Some (place_in extent (source_of edits extent at))
+  pub from_source : (at : Position) → IsWithin (extent_of edits extent) at
+      → slice_get places (place_in (extent_of edits extent) at) ≡ Some (place_in extent (source_of edits extent at))
 
 -- examples
 rows_turned_round : elems_of FlipRows ≡ Slice (pos 0) None (negsuc 0) ∷ Slice (pos 0) None (pos 1) ∷ []

@@ -1,6 +1,5 @@
 -- Values that are read one after another.
-use Rattle.std.proofs.Common.{◌≡◌, ℕ, zero, suc, ◌+◌, ◌-◌, ◌≤◌, ◌<◌, Result, Ok, Err, List, [], ◌∷◌, ◌++◌, append_assoc, length, get_or, sym, ap, ◌∙◌, refl, subst, arith}
-use Rattle.std.specs.List.{All}
+use Rattle.std.proofs.Common.{◌≡◌, ℕ, suc, ◌+◌, ◌-◌, ◌<◌, Result, Ok, Err, List, [], ◌∷◌, ◌++◌, append_assoc, sym, ap, ◌∙◌, refl, arith}
 use Rattle.example_tiles_text.specs.Words.{NumberedWord}
 use Rattle.example_tiles_picture.specs.declared.reading.Fault.{Fault}
 use Rattle.example_tiles_picture.specs.PictureText.{◌>>=◌, number_first, values_first}

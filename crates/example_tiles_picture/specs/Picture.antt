@@ -1,5 +1,5 @@
 -- What a picture is: its extent, and a pixel at each position of it.
-use Rattle.std.specs.Prelude.{◌≡◌, ℕ, ◌+◌, ◌*◌, ◌<◌, ◌≤◌, Option, Some, None, List, [], ◌∷◌, length, slice_get, refl}
+use Rattle.std.specs.Prelude.{◌≡◌, ℕ, ◌+◌, ◌*◌, ◌<◌, ◌≤◌, Option, Some, List, [], ◌∷◌, length, slice_get, refl}
 use Rattle.std.specs.List.{All}
 use Rattle.example_tiles_picture.specs.declared.picture.Extent.{Extent}
 use Rattle.example_tiles_picture.specs.declared.picture.Picture.{Picture}

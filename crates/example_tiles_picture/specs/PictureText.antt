@@ -1,8 +1,8 @@
 -- The picture that a text in the format PGM (P2) spells, or what is wrong with the text; and the text of a picture.
-use Rattle.std.specs.Prelude.{◌≡◌, ℕ, zero, suc, ◌+◌, ◌-◌, ◌*◌, ◌^◌, Bool, true, false, ◌&&◌, nat_le, if◌then◌else◌}
-use Rattle.std.specs.Prelude.{Option, Some, None, Result, Ok, Err, List, [], ◌∷◌, ◌++◌, length, take, drop, map, codes, refl}
+use Rattle.std.specs.Prelude.{◌≡◌, ℕ, zero, suc, ◌-◌, ◌^◌, Bool, ◌&&◌, nat_le, if◌then◌else◌}
+use Rattle.std.specs.Prelude.{Option, Some, None, Result, Ok, Err, List, [], ◌∷◌, ◌++◌, take, drop, codes, refl}
 use Rattle.std.specs.Fmt.{decimal}
-use Rattle.std.specs.List.{flat_map, join_by, range_with_len}
+use Rattle.std.specs.List.{flat_map, join_by}
 use Rattle.std.specs.Str.{bytes_eq}
 use Rattle.example_tiles_text.specs.Numbers.{number_of}
 use Rattle.example_tiles_text.specs.Words.{NumberedWord, words_from}

@@ -1,5 +1,5 @@
 -- What `parse` reads, in the words of the definition.
-use Rattle.std.proofs.Common.{◌≡◌, ◌≢◌, ℕ, ◌^◌, ◌<◌, Bool, true, false, cond, ◌&&◌, ltb, eqb, List, [], ◌∷◌, length, get_or, Some, None, Result, Ok, Err, refl, sym, ap, ◌∙◌, arith, eqb-true, nat_eq, Bor, MatchResult}
+use Rattle.std.proofs.Common.{◌≡◌, ◌≢◌, ℕ, ◌^◌, ◌<◌, Bool, true, false, cond, ◌&&◌, eqb, List, [], ◌∷◌, length, get_or, Some, None, Result, Ok, Err, refl, sym, ap, ◌∙◌, arith, eqb-true, nat_eq, Bor, MatchResult}
 use Rattle.std.specs.Result.{OkIff, result_ok}
 use Rattle.std.specs.Bool.{Decides}
 use Rattle.std.specs.Str.{IsUtf8, IsAscii, all_ascii_digits}

@@ -1,5 +1,5 @@
 -- Which word an error speaks of.
-use Rattle.std.specs.Prelude.{◌≡◌, ℕ, ◌<◌, List, [], ◌∷◌, length, refl}
+use Rattle.std.specs.Prelude.{ℕ, ◌<◌, List, [], ◌∷◌, length}
 use Rattle.std.proofs.Common.{lit<}
 use Rattle.example_tiles_words.specs.declared.words.WordsError.{WordsError}
 use Rattle.example_tiles_words.specs.declared.words.WordsError.TheVariants.{Unreadable, Memory}

@@ -1,10 +1,9 @@
 -- The pixels at the places that the edits say, in a picture of the extent that they leave.
-use Rattle.std.proofs.Common.{◌≡◌, ◌≤◌, ◌+◌, ◌*◌, ◌∙◌, ℕ, List, length, sym, ap, refl, subst}
+use Rattle.std.proofs.Common.{◌≤◌, ◌∙◌, ℕ, sym, ap, refl, subst}
 use Rattle.std.specs.Prelude.{slice_get}
 use Rattle.example_tiles_picture.specs.declared.Extent.{Extent}
-use Rattle.example_tiles_picture.specs.Picture.{IsWithin, Position, pixel_count}
-use Rattle.example_tiles_edits.specs.Edits.{extent_of, source_of}
-use Rattle.example_tiles_edits.specs.Slices.{ArePlaces, place_in}
+use Rattle.example_tiles_picture.specs.Picture.{IsWithin, pixel_count}
+use Rattle.example_tiles_edits.specs.Slices.{place_in}
 use Rattle.example_tiles_edits.proofs.Pixels.{All-gathered, extent_left, length_gathered, read_at}
 use Rattle.example_tiles_edits.proofs.editing.edited.Goals as goal
 

@@ -1,6 +1,6 @@
 -- The places that the run leaves are those that the edits say.
-use Rattle.std.proofs.Common.{◌≡◌, ◌∙◌, sym, ap, map, List, Bor}
-use Rattle.ndarray_layout.specs.Step.{StepValue, step_value}
+use Rattle.std.proofs.Common.{◌∙◌, ap, map}
+use Rattle.ndarray_layout.specs.Step.{step_value}
 use Rattle.example_tiles_picture.specs.Picture.{pixel_count}
 use Rattle.example_tiles_edits.proofs.Pixels.{not_refused, of_places}
 use Rattle.example_tiles_edits.proofs.editing.places_of.Goals as goal

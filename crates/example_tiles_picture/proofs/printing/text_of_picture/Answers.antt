@@ -1,5 +1,5 @@
 -- One row more.
-use Rattle.std.proofs.Common.{◌≡◌, ◌<◌, ◌+◌, ◌-◌, ◌*◌, suc, ℕ, List, ◌++◌, ◌∙◌, append_assoc, string_bytes, arith, length, take, drop}
+use Rattle.std.proofs.Common.{◌≡◌, ◌<◌, ◌+◌, ◌-◌, ◌*◌, suc, ℕ, List, ◌++◌, ◌∙◌, append_assoc, string_bytes, arith, take, drop}
 use Rattle.std.specs.List.{flat_map}
 use Rattle.example_tiles_picture.specs.PictureText.{row_text, rows_of}
 use Rattle.example_tiles_picture.proofs.printing.text_of_picture.Goals as goal

@@ -1,5 +1,5 @@
 -- One value more, or the fault of a word.
-use Rattle.std.proofs.Common.{◌≡◌, ◌≤◌, ◌∙◌, ℕ, sym, subst, Result, Ok, Err, List, ◌++◌, ◌∷◌, [], length, length-append, arith}
+use Rattle.std.proofs.Common.{◌≡◌, ◌≤◌, ◌∙◌, ℕ, sym, subst, Result, Ok, Err, ◌∷◌, [], length-append, arith}
 use Rattle.std.specs.Result.{IfErr, IsErrAnd}
 use Rattle.std.proofs.lemmas.List.Elements.{All-push}
 use Rattle.example_tiles_picture.specs.declared.reading.Fault.{Fault}

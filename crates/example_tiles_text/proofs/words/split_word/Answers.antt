@@ -1,4 +1,4 @@
-use Rattle.std.proofs.Common.{◌≡◌, Bool, not, rules, tests, sym, ◌∙◌}
+use Rattle.std.proofs.Common.{◌≡◌, not, rules, tests, sym, ◌∙◌}
 use Rattle.std.specs.Char.{is_ascii_whitespace}
 use Rattle.std.specs.List.{position}
 use Rattle.std.proofs.lemmas.Iterator.{YieldsList-from_slice}
