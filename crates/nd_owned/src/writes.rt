@@ -104,7 +104,8 @@ pub(crate) fn slice_places<D: Lengths, S: SliceElems>(
     slice: &S,
 ) -> Result<Vec<usize>, LayoutError>
     ensures fault { shape_fault result ≡ argument_fault Strict view.now.shape (S.list slice.now) }
-    ensures places { IfOk result (λ v. map pos v.items ≡ view_places RowMajor (slice_of Strict (S.list slice.now) view.now)) }
+    ensures places { IfOk result (λ v. map pos v.items
+        ≡ view_places RowMajor (slice_of Strict (S.list slice.now) view.now)) }
     ensures inside { IfOk result (λ v. (len : ℕ) → LiesWithin len view.now → All (λ place. place < len) v.items) }
     ensures len { IfOk result (λ v. vec_len v ≡ size (sliced_shape Strict (S.list slice.now) view.now.shape)) }
     ensures memory { IsOfNone view.now.shape (S.list slice.now) → IsOk result }
@@ -122,8 +123,10 @@ pub(crate) fn places_of<T: Copy, D: Lengths>(
     requires { slices_fault view.now.shape (map write_of writes.now) ≡ None }
     ensures fault { shape_fault result ≡ None }
     ensures memory { length writes.now ≡ 0 → IsOk result }
-    ensures places { IfOk result (λ v. map (map pos) (map vec_list v.items) ≡ map (write_places view.now) (map write_of writes.now)) }
-    ensures inside { IfOk result (λ v. (len : ℕ) → LiesWithin len view.now → All (All (λ place. place < len)) (map vec_list v.items)) }
+    ensures places { IfOk result (λ v. map (map pos) (map vec_list v.items)
+        ≡ map (write_places view.now) (map write_of writes.now)) }
+    ensures inside { IfOk result (λ v. (len : ℕ) → LiesWithin len view.now →
+        All (All (λ place. place < len)) (map vec_list v.items)) }
 {
     let mut places = Vec::with_capacity(alloc, writes.len())?;
     for (slice, _) in writes {
