@@ -7,7 +7,7 @@ use test_slices::elems;
 use test_tables::{List, Lists, Row, made};
 
 /// A slice, and the items for it.
-type Write<T> = (Vec<SliceInfoElem>, Vec<T>);
+pub type Write<T> = (Vec<SliceInfoElem>, Vec<T>);
 
 /// The next word.
 pub fn word<'a>(rt: &impl Abort, row: &mut Row<'a>) -> &'a str {
