@@ -87,3 +87,15 @@ left_of_both = refl
 
 second_misfit : first_misfit (Crop (span 1 4) (span 2 4) ∷ Crop (span 0 1) (span 0 3) ∷ []) four_by_six ≡ Some 1
 second_misfit = refl
+
+third_of_every_second : source four_by_six (Every 2) (record { row = 1; column = 2 }) ≡ record { row = 2; column = 4 }
+third_of_every_second = refl
+
+last_column_first : source four_by_six FlipColumns (record { row = 2; column = 0 }) ≡ record { row = 2; column = 5 }
+last_column_first = refl
+
+end_before_start : extent_after four_by_six (Crop (span 3 1) (span 0 2)) ≡ record { rows = 0; columns = 2 }
+end_before_start = refl
+
+rounded_up : extent_after (record { rows = 5; columns = 7 }) (Every 2) ≡ record { rows = 3; columns = 4 }
+rounded_up = refl

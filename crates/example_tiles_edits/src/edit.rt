@@ -17,6 +17,7 @@ pub struct Span {
 #[derive(Clone, Copy, Debug, PartialEq, Eq)]
 pub enum Edit {
     /// Some rows, and of these some columns. Fits where no bound is past the rows or the columns there are.
+    /// A span that ends before it starts has none.
     Crop(Span, Span),
     /// The rows from the last to the first.
     FlipRows,
