@@ -114,3 +114,6 @@ both_spelled = (3, refl, (2, refl, refl))
 
 third_unreadable : IsRefusedBy (codes "flip" ∷ codes "rows" ∷ codes "flip" ∷ []) (Unreadable 2)
 third_unreadable = record { edits = FlipRows ∷ []; spelled = (2, refl, refl); within = lit< tt; none = refl }
+
+first_readable : IsRefusedBy (codes "flip" ∷ codes "rows" ∷ codes "flip" ∷ []) (Unreadable 0) → ⊥
+first_readable refused = let none : Some (FlipRows, 2) ≡ None = refused.none in cc
