@@ -1,14 +1,119 @@
--- Which word an error speaks of.
-use Rattle.std.specs.Prelude.{ℕ, ◌<◌, List, [], ◌∷◌, length}
+-- The edits that words spell, and the word by which a call is refused.
+use Rattle.std.specs.Prelude.{◌≡◌, ℕ, ◌<◌, ◌==◌, Bool, true, if◌then◌else◌, Option, Some, None}
+use Rattle.std.specs.Prelude.{List, [], ◌∷◌, drop, length, codes, refl}
+use Rattle.std.specs.List.{after_first, before_first}
+use Rattle.std.specs.Option.{option_map}
+use Rattle.std.specs.Str.{bytes_eq}
 use Rattle.std.proofs.Common.{lit<}
+use Rattle.example_tiles_edits.specs.declared.edit.Edit.{Edit}
+use Rattle.example_tiles_edits.specs.declared.edit.Edit.TheVariants.{Crop, FlipRows, FlipColumns, Every}
+use Rattle.example_tiles_edits.specs.declared.edit.Span.{Span}
+use Rattle.example_tiles_text.specs.Numbers.{number_of}
 use Rattle.example_tiles_words.specs.declared.words.WordsError.{WordsError}
 use Rattle.example_tiles_words.specs.declared.words.WordsError.TheVariants.{Unreadable, Memory}
 
--- the word that can't be read is one of these; where memory is refused, nothing is said
-abbrev pub LiesAmong : {A : Type 0} → List A → WordsError → Type 0
-LiesAmong words (Unreadable at) = at < length words
-LiesAmong words Memory = Unit {0}
+abbrev pub is_dot : ℕ → Bool
+is_dot b = b == 46
 
--- example
-second_of_two : LiesAmong {A = ℕ} (7 ∷ 8 ∷ []) (Unreadable 1)
-second_of_two = lit< tt
+-- what is made of two readings, where both read something
+abbrev pub both : {A B C : Type 0} → (A → B → C) → Option A → Option B → Option C
+both together (Some first) (Some second) = Some (together first second)
+both together (Some first) None = None
+both together None second = None
+
+-- the span of its first number, and of the rest of the word, which is a dot and the second
+abbrev pub span_between : Option ℕ → List ℕ → Option Span
+span_between start [] = None
+span_between start (b ∷ end) = if is_dot b then both (λ first last. record { start = first; end = last }) start (number_of end) else None
+
+-- the span that a word spells: two numbers with two dots between them
+abbrev pub span_of : List ℕ → Option Span
+span_of word = span_between (number_of (before_first is_dot word)) (after_first is_dot word)
+
+-- the flip that a word names
+abbrev pub flip_of : List ℕ → Option Edit
+flip_of word = if bytes_eq word (codes "rows") then Some FlipRows else if bytes_eq word (codes "columns") then Some FlipColumns else None
+
+-- an edit, where there is one, and how many words spell it
+abbrev pub by_words : ℕ → Option Edit → Option (Edit × ℕ)
+by_words count None = None
+by_words count (Some edit) = Some (edit, count)
+
+-- the crop of two words, the rows and the columns, that come first
+abbrev pub crop_of : List ℕ → List (List ℕ) → Option Edit
+crop_of rows [] = None
+crop_of rows (columns ∷ words) = both Crop (span_of rows) (span_of columns)
+
+-- the number of rows and columns of which one is kept
+abbrev pub every_of : List ℕ → Option Edit
+every_of word = option_map Every (number_of word)
+
+-- the edit that words begin with, and how many of them spell it
+abbrev pub edit_first : List (List ℕ) → Option (Edit × ℕ)
+edit_first [] = None
+edit_first (name ∷ []) = None
+edit_first (name ∷ first ∷ words) =
+    if bytes_eq name (codes "crop") then by_words 3 (crop_of first words)
+    else if bytes_eq name (codes "flip") then by_words 2 (flip_of first)
+    else if bytes_eq name (codes "every") then by_words 2 (every_of first)
+    else None
+
+-- words spell edits, and some are left: they begin with the first edit, and those after it spell the others
+abbrev pub Spell : List (List ℕ) → List Edit → List (List ℕ) → Type 0
+Spell words [] left = words ≡ left
+Spell words (edit ∷ edits) left = (taken : ℕ) × (edit_first words ≡ Some (edit, taken)) × Spell (drop taken words) edits left
+
+-- the words before the one of this number spell edits, and no edit begins with it
+pub record IsUnreadable (words : List (List ℕ)) (at : ℕ) : Type 0 where
+  pub edits : List Edit
+  pub spelled : Spell words edits (drop at words)
+  pub within : at < length words
+  pub none : edit_first (drop at words) ≡ None
+
+-- the word that an error names is the first that can't be read; where memory is refused, nothing is said
+abbrev pub IsRefusedBy : List (List ℕ) → WordsError → Type 0
+IsRefusedBy words (Unreadable at) = IsUnreadable words at
+IsRefusedBy words Memory = Unit {0}
+
+-- examples
+abbrev crop_and_flip : List (List ℕ)
+crop_and_flip = codes "crop" ∷ codes "1..3" ∷ codes "0..2" ∷ codes "flip" ∷ codes "rows" ∷ []
+
+first_dot : is_dot 46 ≡ true
+first_dot = refl
+
+second_missing : both {C = Span} (λ first last. record { start = first; end = last }) (Some 1) None ≡ None
+second_missing = refl
+
+from_one_on : span_between (Some 1) (codes ".3") ≡ Some (record { start = 1; end = 3 })
+from_one_on = refl
+
+one_dot : span_of (codes "1.3") ≡ None
+one_dot = refl
+
+flip_of_nothing : flip_of (codes "row") ≡ None
+flip_of_nothing = refl
+
+in_two_words : by_words 2 (Some FlipRows) ≡ Some (FlipRows, 2)
+in_two_words = refl
+
+no_columns : crop_of (codes "1..3") [] ≡ None
+no_columns = refl
+
+every_zeroth : every_of (codes "0") ≡ Some (Every 0)
+every_zeroth = refl
+
+crop_first : edit_first crop_and_flip ≡ Some (Crop (record { start = 1; end = 3 }) (record { start = 0; end = 2 }), 3)
+crop_first = refl
+
+number_missing : edit_first (codes "every" ∷ codes "two" ∷ []) ≡ None
+number_missing = refl
+
+both_spelled : Spell crop_and_flip (Crop (record { start = 1; end = 3 }) (record { start = 0; end = 2 }) ∷ FlipRows ∷ []) []
+both_spelled = (3, refl, (2, refl, refl))
+
+third_unreadable : IsRefusedBy (codes "flip" ∷ codes "rows" ∷ codes "flip" ∷ []) (Unreadable 2)
+third_unreadable = record { edits = FlipRows ∷ []; spelled = (2, refl, refl); within = lit< tt; none = refl }
+
+first_readable : IsRefusedBy (codes "flip" ∷ codes "rows" ∷ codes "flip" ∷ []) (Unreadable 0) → ⊥
+first_readable refused = let none : Some (FlipRows, 2) ≡ None = refused.none in cc

@@ -1,6 +1,6 @@
 //! Reads edits from words.
-ghost use Rattle.std.specs.Prelude.{◌≡◌, ◌*◌, ◌≤◌, IfErr, IfOk, IfSome, length};
-ghost use Rattle.example_tiles_words.specs.Words.{LiesAmong};
+ghost use Rattle.std.specs.Prelude.{◌≡◌, ◌<◌, ◌≤◌, [], length, map, IfErr, IfOk, IfSome};
+ghost use Rattle.example_tiles_words.specs.Words.{IsRefusedBy, Spell, edit_first, flip_of, span_of};
 
 use example_tiles_edits::{Edit, Span};
 use example_tiles_text::number;
@@ -29,11 +29,16 @@ impl<T: Drop> From<AllocFailed<T>> for WordsError {
 }
 
 /// The span of a word as `2..6`; `None` where it is no such word.
-fn span(word: &[u8]) -> Option<Span> {
+fn span(word: &[u8]) -> Option<Span>
+    ensures { result ≡ span_of word.now }
+{
     let at = word.iter().position(|b| *b == b'.')?;
-    let [b'.', end @ ..] = &word[at + 1..] else {
+    let [second, end @ ..] = &word[at + 1..] else {
         return None;
     };
+    if *second != b'.' {
+        return None;
+    }
     Some(Span {
         start: number(&word[..at])?,
         end: number(end)?,
@@ -41,7 +46,9 @@ fn span(word: &[u8]) -> Option<Span> {
 }
 
 /// The flip of a word, `rows` or `columns`; `None` where it is neither.
-fn flip(word: &[u8]) -> Option<Edit> {
+fn flip(word: &[u8]) -> Option<Edit>
+    ensures { result ≡ flip_of word.now }
+{
     if word == b"rows".as_slice() {
         Some(Edit::FlipRows)
     } else if word == b"columns".as_slice() {
@@ -53,7 +60,8 @@ fn flip(word: &[u8]) -> Option<Edit> {
 
 /// The edit that some words begin with, and how many of them spell it; `None` where they begin with none.
 fn first_edit(words: &[&[u8]]) -> Option<(Edit, usize)>
-    ensures { IfSome result (λ found. (2 ≤ found.1) × (found.1 ≤ length words.now)) }
+    ensures edit { result ≡ edit_first (map (λ word. word.now) words.now) }
+    ensures taken { IfSome result (λ found. (0 < found.1) × (found.1 ≤ length words.now)) }
 {
     let [name, first, rest @ ..] = words else {
         return None;
@@ -73,12 +81,12 @@ fn first_edit(words: &[&[u8]]) -> Option<(Edit, usize)>
     None
 }
 
-/// The edits that words spell, one after another, each in two words or three. Which edits these are no clause says.
+/// The edits that words spell, one after another, each in two words or three.
 ///
 /// Errors: the number of the first word that no edit begins with; that memory is refused.
 pub fn read_edits(alloc: Global, words: &[&[u8]]) -> Result<Vec<Edit>, WordsError>
-    ensures counted { IfOk result (λ edits. 2 * length edits.items ≤ length words.now) }
-    ensures refused { IfErr result (LiesAmong words.now) }
+    ensures read { IfOk result (λ edits. Spell (map (λ word. word.now) words.now) edits.items []) }
+    ensures refused { IfErr result (IsRefusedBy (map (λ word. word.now) words.now)) }
 {
     let mut edits = Vec::new(alloc);
     let mut at = 0;

@@ -1,11 +1,12 @@
--- Two words or more were taken for each edit so far.
-use Rattle.std.proofs.Common.{◌*◌, ◌≤◌, ◌-◌, length}
+-- The edits so far are spelled by the words before this one.
+use Rattle.std.proofs.Common.{◌≤◌, ◌-◌, drop, length, map}
+use Rattle.example_tiles_words.specs.Words.{Spell}
 use Rattle.example_tiles_words.proofs.words.read_edits.Given as goal
 
 abbrev pub invariant-loop-at : goal.invariant-loop-at
 invariant-loop-at l = record {
   within : l.at ≤ length l.words;
-  counted : 2 * length l.edits.items ≤ l.at;
+  spelled : Spell (map (λ word. word.now) l.words) l.edits.items (drop l.at (map (λ word. word.now) l.words));
 }
 
 abbrev pub decreases-loop-at : goal.decreases-loop-at
