@@ -1,7 +1,8 @@
 //! Writes several parts of an owned array at once, all of them or none.
-ghost use Rattle.std.specs.Prelude.{◌≡◌, IfOk, IsTrue, OnErr, false, map};
+ghost use Rattle.std.specs.Prelude.{◌≡◌, IfOk, IsTrue, None, OnErr, Some, false, map};
 ghost use Rattle.std.specs.List.{All};
-ghost use Rattle.nd_owned.specs.Writes.{IsWritten, KeepsOthers, write_of};
+ghost use Rattle.ndarray_layout.specs.declared.ErrorKind.{ErrorKind};
+ghost use Rattle.nd_owned.specs.Writes.{IsFaultOfWrites, IsWritten, KeepsOthers, write_of};
 
 use nd_owned::OwnedArray;
 use ndarray_layout::{LayoutError, Lengths, SliceInfoElem};
@@ -14,6 +15,10 @@ pub fn write_parts<D: Lengths>(
     picture: &mut OwnedArray<u8, D>,
     parts: &[(Vec<SliceInfoElem>, Vec<u8>)],
 ) -> Result<bool, AllocError>
+    ensures fits { IfOk result (λ done. IsTrue done →
+        IsFaultOfWrites picture.old.view.shape (map write_of parts.now) None) }
+    ensures fault { IfOk result (λ done. done ≡ false →
+        (kind : ErrorKind) × IsFaultOfWrites picture.old.view.shape (map write_of parts.now) (Some kind)) }
     ensures written { IfOk result (λ done. IsTrue done →
         All (IsWritten picture.old.view picture.new.items) (map write_of parts.now)) }
     ensures kept { IfOk result (λ done. IsTrue done →
