@@ -1,7 +1,11 @@
 //! Reads two views as views of the shape that both have in common.
-ghost use Rattle.std.specs.Prelude.{◌≡◌, ℕ, IfOk, Some, length, max};
+ghost use Rattle.std.specs.Option.{option_map_or};
+ghost use Rattle.std.specs.Prelude.{◌≡◌, ℕ, IfOk, IsOk, None, Some, length, max};
+ghost use Rattle.ndarray_layout.specs.declared.ErrorKind.TheVariants.{IncompatibleShape};
+ghost use Rattle.ndarray_layout.specs.BroadcastView.{broadcast_fault, broadcast_of};
 ghost use Rattle.ndarray_layout.specs.CommonShape.{common_shape};
-ghost use Rattle.ndarray_layout.specs.Lengths.{IsCount};
+ghost use Rattle.ndarray_layout.specs.Lengths.{IsCount, NeedsNoMemory};
+ghost use Rattle.ndarray_layout.specs.ShapeFault.{shape_fault};
 ghost use Rattle.ndarray_layout.specs.View.{LiesWithin};
 
 use ndarray_layout::{LayoutError, Lengths, Strided, co_broadcast};
@@ -18,8 +22,16 @@ pub fn on_common_shape<D: Lengths>(
     other: &Strided<D>,
 ) -> Result<(Strided<D>, Strided<D>), LayoutError>
     requires { IsCount D.NDIM (max (length one.now.shape) (length other.now.shape)) }
+    ensures fault { NeedsNoMemory D.NDIM (max (length one.now.shape) (length other.now.shape)) →
+        shape_fault result ≡ option_map_or
+        (λ common. broadcast_fault common one.now.shape)
+        (common_shape one.now.shape other.now.shape)
+        (Some IncompatibleShape) }
+    ensures memory { NeedsNoMemory D.NDIM (max (length one.now.shape) (length other.now.shape)) →
+        shape_fault result ≡ None → IsOk result }
     ensures common { IfOk result (λ both. common_shape one.now.shape other.now.shape ≡ Some both.0.shape) }
-    ensures same_shape { IfOk result (λ both. both.0.shape ≡ both.1.shape) }
+    ensures one { IfOk result (λ both. both.0 ≡ broadcast_of both.0.shape one.now) }
+    ensures other { IfOk result (λ both. both.1 ≡ broadcast_of both.0.shape other.now) }
     ensures inside { IfOk result (λ both. (len : ℕ) → LiesWithin len one.now → LiesWithin len both.0) }
     ensures inside_other { IfOk result (λ both. (len : ℕ) → LiesWithin len other.now → LiesWithin len both.1) }
 {

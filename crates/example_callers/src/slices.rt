@@ -1,9 +1,12 @@
 //! Slices a view, and walks over the places of what is left.
-ghost use Rattle.std.specs.Prelude.{◌≡◌, ℕ, pos, negsuc, [], ◌∷◌, IfOk, None, Some, length, map, slice_get};
+ghost use Rattle.std.specs.Prelude.{◌≡◌, ℕ, pos, negsuc, [], ◌∷◌, IfOk, IsOk, None, Some, length, map, slice_get};
 ghost use Rattle.ndarray_layout.specs.declared.Fit.TheVariants.{Strict};
 ghost use Rattle.ndarray_layout.specs.declared.Order.TheVariants.{RowMajor};
+ghost use Rattle.ndarray_layout.specs.ArgumentFault.{argument_fault};
 ghost use Rattle.ndarray_layout.specs.DistinctPlaces.{HasDistinctPlaces};
+ghost use Rattle.ndarray_layout.specs.ShapeFault.{shape_fault};
 ghost use Rattle.ndarray_layout.specs.Signed.{magnitude};
+ghost use Rattle.ndarray_layout.specs.Size.{size};
 ghost use Rattle.ndarray_layout.specs.View.{LiesWithin, view_places};
 ghost use Rattle.ndarray_layout.specs.SlicedView.{IsSliceOf};
 
@@ -11,7 +14,12 @@ use ndarray_layout::{Fit, Ix2, LayoutError, Lengths, Order, Slice, SliceInfoElem
 use std::alloc::{AllocError, Global};
 
 /// Every other row of a picture, from the last one up.
+///
+/// Errors: those of `check_slice`, of which a shape of two axes has none. Two axes need no memory.
 pub fn alternate_rows(alloc: Global, picture: &Strided<Ix2>) -> Result<Strided<Ix2>, LayoutError>
+    ensures fault { shape_fault result ≡ argument_fault Strict picture.now.shape
+        (SliceInfoElem.Slice (pos 0) None (negsuc 1) ∷ SliceInfoElem.Slice (pos 0) None (pos 1) ∷ []) }
+    ensures memory { shape_fault result ≡ None → IsOk result }
     ensures sliced { IfOk result (λ rows. IsSliceOf Strict
         (SliceInfoElem.Slice (pos 0) None (negsuc 1) ∷ SliceInfoElem.Slice (pos 0) None (pos 1) ∷ [])
         picture.now rows) }
@@ -23,14 +31,17 @@ pub fn alternate_rows(alloc: Global, picture: &Strided<Ix2>) -> Result<Strided<I
 }
 
 /// Copies of the pixels of a view, in row-major order.
+///
+/// Errors: that memory is refused, but not where the view has no index.
 pub fn pixels_of<D: Lengths>(
     alloc: Global,
     pixels: &[u8],
     view: &Strided<D>,
 ) -> Result<Vec<u8>, AllocError>
     requires { LiesWithin (length pixels.now) view.now }
-    ensures { IfOk result (λ copies. map Some copies.items ≡
+    ensures copies { IfOk result (λ copies. map Some copies.items ≡
         map (λ place. slice_get pixels.now (magnitude place)) (view_places RowMajor view.now)) }
+    ensures memory { size view.now.shape ≡ 0 → IsOk result }
 {
     let places = view.places(alloc, Order::RowMajor)?;
     let mut copies = Vec::with_capacity(alloc, places.len())?;

@@ -1,5 +1,5 @@
 //! Writes several parts of an owned array at once, all of them or none.
-ghost use Rattle.std.specs.Prelude.{◌≡◌, IfOk, IsTrue, None, OnErr, Some, false, map};
+ghost use Rattle.std.specs.Prelude.{◌≡◌, IfOk, IsOk, IsTrue, None, OnErr, Some, false, length, map};
 ghost use Rattle.std.specs.List.{All};
 ghost use Rattle.ndarray_layout.specs.declared.ErrorKind.{ErrorKind};
 ghost use Rattle.nd_owned.specs.Writes.{IsFaultOfWrites, IsWritten, KeepsOthers, write_of};
@@ -10,6 +10,8 @@ use std::alloc::{AllocError, Global};
 
 /// Writes pixels at several parts of a picture, and answers whether they were written: not where a part doesn't fit, has
 /// another count of pixels than are given for it, or shares an index with another part. Then the picture stays.
+///
+/// Errors: that memory is refused, but not where there are no parts. The picture stays then as well.
 pub fn write_parts<D: Lengths>(
     alloc: Global,
     picture: &mut OwnedArray<u8, D>,
@@ -25,6 +27,7 @@ pub fn write_parts<D: Lengths>(
         KeepsOthers picture.old.view (map write_of parts.now) picture.old.items picture.new.items) }
     ensures refused { IfOk result (λ done. done ≡ false → picture.new ≡ picture.old) }
     ensures no_memory { OnErr result (picture.new ≡ picture.old) }
+    ensures memory { length parts.now ≡ 0 → IsOk result }
 {
     match picture.multi_set(alloc, parts) {
         Ok(()) => Ok(true),

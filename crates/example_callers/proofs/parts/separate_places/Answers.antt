@@ -11,5 +11,5 @@ returns-clause-separate g c n here there =
     let one = slice_of Strict (g.A.SliceElems.list c.args.first.now) c.args.view.now in
     let other = slice_of Strict (g.B.SliceElems.list c.args.second.now) c.args.view.now in
     let share = shared_place_of_lists RowMajor RowMajor one other c.in_ok-first.first.items c.in_ok-places_of.field-0.items n
-    c.in_ok-first.ensures c.in_ok-places_of.ensures here there in
+    c.in_ok-first.ensures.places c.in_ok-places_of.ensures.places here there in
     both_ways c.in_ok-meets.field-0 c.if-branch.false ((c.in_ok-meets.ensures.places c.requires).1 share)

@@ -42,7 +42,7 @@ loop-place-preserved g c =
       capacity = omega (arith, c.push_reserved.ensures.capacity, c.loop-place.invariant.capacity);
     }
 
-pub returns : goal.returns
-returns g c =
+pub returns-clause-copies : goal.returns-clause-copies
+returns-clause-copies g c =
     all_places c.args.pixels.now c.deref-place-items.result.now c.in_ok-places.places.items (view_places RowMajor c.args.view.now) c.loop-place.place-index c.loop-place.copies.items
     c.loop-place-test.false c.deref-place-items.ensures.value c.in_ok-places.ensures.items c.loop-place.invariant.items
