@@ -3,7 +3,7 @@ ghost use Rattle.std.specs.Prelude.{◌≡◌, ◌++◌, IfOk, OnOk, codes, stri
 ghost use Rattle.std.specs.Fmt.{decimal};
 ghost use Rattle.std.specs.List.{join_by};
 ghost use Rattle.example_tiles_picture.specs.Picture.{IsPicture, image};
-ghost use Rattle.example_tiles_picture.specs.PictureText.{row_text, text_of};
+ghost use Rattle.example_tiles_picture.specs.PrintedPicture.{row_text, text_of};
 
 use crate::picture::{Extent, Picture};
 use std::alloc::{AllocError, Global};

@@ -2,7 +2,7 @@
 use Rattle.std.proofs.Common.{◌≡◌, ◌++◌, ◌-◌, ◌*◌, length, string_bytes}
 use Rattle.std.specs.List.{flat_map}
 use Rattle.example_tiles_picture.specs.Picture.{image}
-use Rattle.example_tiles_picture.specs.PictureText.{row_text, rows_of, text_of}
+use Rattle.example_tiles_picture.specs.PrintedPicture.{row_text, rows_of, text_of}
 use Rattle.example_tiles_picture.proofs.printing.text_of_picture.Given as goal
 
 abbrev pub invariant-loop : goal.invariant-loop
