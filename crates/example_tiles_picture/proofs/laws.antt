@@ -1,1 +1,2 @@
 pub mod PictureText
+pub mod PrintedPicture
