@@ -4,8 +4,4 @@
 #[cfg(test)]
 mod answers;
 #[cfg(test)]
-mod edits;
-#[cfg(test)]
-mod large;
-#[cfg(test)]
-mod pictures;
+mod rows;
