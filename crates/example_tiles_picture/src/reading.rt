@@ -153,24 +153,6 @@ fn take_nothing(words: &mut Words<'_>) -> Result<(), Fault>
     }
 }
 
-/// Takes all words, which have to spell a picture.
-fn take_picture(alloc: Global, words: &mut Words<'_>) -> Result<Picture, ReadError>
-    ensures read { IfOk result (λ picture. SpellPicture words.old (image picture)) }
-    ensures refused { IfErr result (IsRefusedBy words.old) }
-    ensures picture { IfOk result (λ picture. IsPicture (image picture)) }
-{
-    take_magic(words)?;
-    let extent = take_extent(words)?;
-    let white = take_number(words, 1, GREATEST_WHITE)? as u16;
-    let pixels = take_pixels(alloc, words, extent, white)?;
-    take_nothing(words)?;
-    Ok(Picture {
-        extent,
-        greatest: white,
-        pixels,
-    })
-}
-
 /// The picture that a text spells: `P2`, the number of columns, that of rows, the value of white, and the pixels row by
 /// row, separated by white space. A comment goes from a `#` to the end of its line.
 ///
@@ -183,5 +165,14 @@ pub fn read_picture(alloc: Global, text: &[u8]) -> Result<Picture, ReadError>
     ensures picture { IfOk result (λ picture. IsPicture (image picture)) }
 {
     let mut words = Words::new(text);
-    take_picture(alloc, &mut words)
+    take_magic(&mut words)?;
+    let extent = take_extent(&mut words)?;
+    let white = take_number(&mut words, 1, GREATEST_WHITE)? as u16;
+    let pixels = take_pixels(alloc, &mut words, extent, white)?;
+    take_nothing(&mut words)?;
+    Ok(Picture {
+        extent,
+        greatest: white,
+        pixels,
+    })
 }
