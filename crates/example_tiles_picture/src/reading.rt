@@ -108,15 +108,27 @@ fn take_number(words: &mut Words<'_>, least: u32, greatest: u32) -> Result<u32, 
     }
 }
 
-/// Takes the numbers of columns and of rows.
-fn take_extent(words: &mut Words<'_>) -> Result<Extent, Fault>
-    ensures { (all : List NumberedWord) → BeginWith all [] words.old
-        → MatchResult result (λ extent. BeginWith all (extent.columns ∷ extent.rows ∷ []) words.new)
-        (λ fault. IsFaultOf all fault) }
+/// What stands before the pixels of a picture.
+#[derive(Clone, Copy)]
+struct Header {
+    extent: Extent,
+    white: u16,
+}
+
+/// Takes `P2`, and the numbers of columns and of rows and the value of white.
+fn take_header(words: &mut Words<'_>) -> Result<Header, Fault>
+    ensures { MatchResult result
+        (λ header. BeginWith words.old (header.extent.columns ∷ header.extent.rows ∷ header.white ∷ []) words.new)
+        (λ fault. IsFaultOf words.old fault) }
 {
+    take_magic(words)?;
     let columns = take_number(words, 0, u32::MAX)?;
     let rows = take_number(words, 0, u32::MAX)?;
-    Ok(Extent { rows, columns })
+    let white = take_number(words, 1, GREATEST_WHITE)? as u16;
+    Ok(Header {
+        extent: Extent { rows, columns },
+        white,
+    })
 }
 
 /// Takes as many pixels as the extent has, each up to the value of white.
@@ -165,14 +177,12 @@ pub fn read_picture(alloc: Global, text: &[u8]) -> Result<Picture, ReadError>
     ensures picture { IfOk result (λ picture. IsPicture (image picture)) }
 {
     let mut words = Words::new(text);
-    take_magic(&mut words)?;
-    let extent = take_extent(&mut words)?;
-    let white = take_number(&mut words, 1, GREATEST_WHITE)? as u16;
-    let pixels = take_pixels(alloc, &mut words, extent, white)?;
+    let header = take_header(&mut words)?;
+    let pixels = take_pixels(alloc, &mut words, header.extent, header.white)?;
     take_nothing(&mut words)?;
     Ok(Picture {
-        extent,
-        greatest: white,
+        extent: header.extent,
+        greatest: header.white,
         pixels,
     })
 }
