@@ -171,8 +171,9 @@ fn take_nothing(words: &mut Words<'_>) -> Result<(), Fault>
 /// Errors: the fault of the text; that memory is refused.
 pub fn read_picture(alloc: Global, text: &[u8]) -> Result<Picture, ReadError>
     ensures read { IfOk result (λ picture. SpellPicture (words_from 1 text.now) (image picture)) }
+    // Each text spells one picture or has one fault, and not both (`proofs/laws/PictureText.antt`).
     ensures refused { IfErr result (IsRefusedBy (words_from 1 text.now)) }
-    // A text that spells a picture is refused for memory alone.
+    // So a text that spells a picture is refused for memory alone.
     ensures spelled { (made : Image) → SpellPicture (words_from 1 text.now) made → IsOkUnless result ReadError.Memory }
     ensures picture { IfOk result (λ picture. IsPicture (image picture)) }
 {
