@@ -1,6 +1,8 @@
 -- What a picture is: its extent, and a pixel at each position of it.
 use Rattle.std.specs.Prelude.{◌≡◌, ℕ, ◌+◌, ◌*◌, ◌<◌, ◌≤◌, Option, Some, List, [], ◌∷◌, length, slice_get, refl}
 use Rattle.std.specs.List.{All}
+use Rattle.std.proofs.Common.{lit<, lit≤, arith}
+use Rattle.std.proofs.lemmas.List.Elements.{All-from_recursion}
 use Rattle.example_tiles_picture.specs.declared.picture.Extent.{Extent}
 use Rattle.example_tiles_picture.specs.declared.picture.Picture.{Picture}
 
@@ -45,3 +47,18 @@ six_pixels = refl
 
 first_of_second_row : pixel_at two_by_three (record { row = 1; column = 0 }) ≡ Some 4
 first_of_second_row = refl
+
+a_picture : IsPicture two_by_three
+a_picture = record {
+  complete = refl;
+  in_range = All-from_recursion (λ pixel. pixel ≤ 9) two_by_three.pixels (lit≤ tt, (lit≤ tt, (lit≤ tt, (lit≤ tt, (lit≤ tt, (lit≤ tt, tt))))));
+}
+
+pixel_too_few : IsPicture (record two_by_three { pixels = 1 ∷ 2 ∷ 3 ∷ 4 ∷ 5 ∷ [] }) → ⊥
+pixel_too_few picture = absurd (omega (arith, picture.complete))
+
+whiter_than_white : IsPicture (record two_by_three { greatest = 5 }) → ⊥
+whiter_than_white picture = absurd (omega (arith, picture.in_range 5 0 (lit< tt)))
+
+below_the_last_row : IsWithin two_by_three.extent (record { row = 2; column = 0 }) → ⊥
+below_the_last_row within = absurd (omega (arith, within.row_below))

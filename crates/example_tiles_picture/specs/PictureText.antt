@@ -1,113 +1,189 @@
--- The picture that a text in the format PGM (P2) spells, or what is wrong with the text; and the text of a picture.
-use Rattle.std.specs.Prelude.{◌≡◌, ℕ, zero, suc, ◌-◌, ◌^◌, Bool, ◌&&◌, nat_le, if◌then◌else◌}
-use Rattle.std.specs.Prelude.{Option, Some, None, Result, Ok, Err, List, [], ◌∷◌, ◌++◌, take, drop, codes, refl}
-use Rattle.std.specs.Fmt.{decimal}
-use Rattle.std.specs.List.{flat_map, join_by}
-use Rattle.std.specs.Str.{bytes_eq}
+-- The picture that a text in the format PGM (P2) spells, and what is wrong with a text that spells none.
+use Rattle.std.specs.Prelude.{◌≡◌, ◌≢◌, ℕ, ◌*◌, ◌-◌, ◌^◌, ◌≤◌, ◌⊎◌, nat_lt, if◌then◌else◌}
+use Rattle.std.specs.Prelude.{Option, Some, None, List, [], ◌∷◌, ◌++◌, length, map, take, slice_index, codes, refl}
+use Rattle.std.specs.List.{EachIndex}
+use Rattle.std.proofs.Common.{zero, suc, drop, ap, ◌∙◌, inl, inr, lit≤, arith}
+use Rattle.std.proofs.lemmas.List.{append-nil}
+use Rattle.std.specs.Option.{IsSomeAnd}
 use Rattle.example_tiles_text.specs.Numbers.{number_of}
 use Rattle.example_tiles_text.specs.Words.{NumberedWord, words_from}
-use Rattle.example_tiles_picture.specs.declared.picture.Extent.{Extent}
 use Rattle.example_tiles_picture.specs.declared.reading.Fault.{Fault}
 use Rattle.example_tiles_picture.specs.declared.reading.Fault.TheVariants.{NotPgm, NotNumber, Ended, NotEnded}
 use Rattle.example_tiles_picture.specs.declared.reading.ReadError.{ReadError}
 use Rattle.example_tiles_picture.specs.declared.reading.ReadError.TheVariants.{Text, Memory}
-use Rattle.example_tiles_picture.specs.Picture.{Image, pixel_count}
+use Rattle.example_tiles_picture.specs.Picture.{Image}
 
--- a reading and then the next one, which may depend on what was read; the first fault ends both
-infixl 10 ◌>>=◌
-abbrev pub ◌>>=◌ : {A B : Type 0} → Result A Fault → (A → Result B Fault) → Result B Fault
-Ok x >>= f = f x
-Err fault >>= f = Err fault
+-- ---- the numbers that may stand in a text
 
--- the words after `P2`
-abbrev pub magic_first : List NumberedWord → Result (List NumberedWord) Fault
-magic_first [] = Err Ended
-magic_first (word ∷ words) = if bytes_eq word.1 (codes "P2") then Ok words else Err (NotPgm word.0)
+-- the least number that may stand somewhere, and the greatest
+pub record Bounds : Type 0 where
+  pub least : ℕ
+  pub greatest : ℕ
 
--- whether a number is in a range
-abbrev pub is_in : ℕ → ℕ → ℕ → Bool
-is_in least greatest n = nat_le least n && nat_le n greatest
+-- a number is one that may
+pub record IsBetween (bounds : Bounds) (n : ℕ) : Type 0 where
+  pub not_below : bounds.least ≤ n
+  pub not_above : n ≤ bounds.greatest
 
--- what a word spells that has to be a number in a range
-abbrev pub number_in : ℕ → ℕ → ℕ → Option ℕ → Result ℕ Fault
-number_in line least greatest None = Err (NotNumber line least greatest)
-number_in line least greatest (Some n) = if is_in least greatest n then Ok n else Err (NotNumber line least greatest)
+-- which number may stand next after those of a text so far: its columns, its rows, the value of white, then each pixel.
+-- None may after the last pixel
+abbrev pub next_number : List ℕ → Option Bounds
+next_number [] = Some (record { least = 0; greatest = 2 ^ 32 - 1 })
+next_number (columns ∷ []) = Some (record { least = 0; greatest = 2 ^ 32 - 1 })
+next_number (columns ∷ rows ∷ []) = Some (record { least = 1; greatest = 65535 })
+next_number (columns ∷ rows ∷ white ∷ pixels) =
+    if nat_lt (length pixels) (rows * columns) then Some (record { least = 0; greatest = white }) else None
 
--- a number in a range, and the words after it
-abbrev pub number_first : ℕ → ℕ → List NumberedWord → Result (ℕ × List NumberedWord) Fault
-number_first least greatest [] = Err Ended
-number_first least greatest (word ∷ words) = do
-  n ← number_in word.0 least greatest (number_of word.1)
-  Ok (n, words)
+-- a number may stand next
+abbrev pub MayFollow : List ℕ → ℕ → Type 0
+MayFollow numbers n = IsSomeAnd (next_number numbers) (λ bounds. IsBetween bounds n)
 
--- the number of columns and that of rows, and the words after them
-abbrev pub extent_first : List NumberedWord → Result (Extent × List NumberedWord) Fault
-extent_first words = do
-  columns ← number_first 0 (2 ^ 32 - 1) words
-  rows ← number_first 0 (2 ^ 32 - 1) columns.1
-  Ok (record { rows = rows.0; columns = columns.0 }, rows.1)
+-- ---- texts of pictures
 
--- so many values up to the greatest one, and the words after them
-abbrev pub values_first : ℕ → ℕ → List NumberedWord → Result (List ℕ × List NumberedWord) Fault
-values_first zero greatest words = Ok ([], words)
-values_first (suc count) greatest words = do
-  value ← number_first 0 greatest words
-  values ← values_first count greatest value.1
-  Ok (value.0 ∷ values.0, values.1)
+-- words spell numbers, a word each
+abbrev pub SpellNumbers : List NumberedWord → List ℕ → Type 0
+SpellNumbers words numbers = map (λ word. number_of word.1) words ≡ map Some numbers
 
--- no words
-abbrev pub nothing_first : List NumberedWord → Result (List NumberedWord) Fault
-nothing_first [] = Ok []
-nothing_first (word ∷ words) = Err (NotEnded word.0)
+-- words begin as the text of a picture does: with `P2`, and then these numbers, each of which may stand after those
+-- before it. The other words are left
+pub record BeginWith (words : List NumberedWord) (numbers : List ℕ) (left : List NumberedWord) : Type 0 where
+  pub line : ℕ
+  pub spelled : List NumberedWord
+  pub parts : words ≡ (line, codes "P2") ∷ spelled ++ left
+  pub spell : SpellNumbers spelled numbers
+  pub allowed : EachIndex numbers (λ k. MayFollow (take k numbers) (slice_index numbers k))
 
--- the picture that a text spells, or the first fault of the text
-abbrev pub picture_of : List ℕ → Result Image Fault
-picture_of text = do
-  words ← magic_first (words_from 1 text)
-  extent ← extent_first words
-  greatest ← number_first 1 65535 extent.1
-  pixels ← values_first (pixel_count extent.0) greatest.0 greatest.1
-  rest ← nothing_first pixels.1
-  Ok (record { extent = extent.0; greatest = greatest.0; pixels = pixels.0 })
+-- the numbers of a picture's text
+abbrev pub numbers_of : Image → List ℕ
+numbers_of image = image.extent.columns ∷ image.extent.rows ∷ image.greatest ∷ image.pixels
 
--- an error of a reader is the fault of what it reads; memory may be refused in any case
-abbrev pub IsFaultOf : {A : Type 0} → ReadError → Result A Fault → Type 0
-IsFaultOf (Text fault) reading = reading ≡ Err fault
-IsFaultOf Memory reading = Unit {0}
+-- the words of a text spell a picture: they are `P2` and the picture's numbers, and no number may follow
+pub record SpellPicture (words : List NumberedWord) (image : Image) : Type 0 where
+  pub begun : BeginWith words (numbers_of image) []
+  pub complete : next_number (numbers_of image) ≡ None
 
--- a row of a picture as a line: its pixels, separated by spaces
-abbrev pub row_text : List ℕ → List ℕ
-row_text pixels = join_by decimal (codes " ") pixels ++ codes "\n"
+-- ---- faults of texts
 
--- the rows of pixels of a picture
-abbrev pub rows_of : ℕ → ℕ → List ℕ → List (List ℕ)
-rows_of zero columns pixels = []
-rows_of (suc rows) columns pixels = take columns pixels ∷ rows_of rows columns (drop columns pixels)
+-- the first word of all stands on this line, and isn't `P2`
+pub record BeginsOtherwise (words : List NumberedWord) (line : ℕ) : Type 0 where
+  pub word : List ℕ
+  pub rest : List NumberedWord
+  pub first : words ≡ (line, word) ∷ rest
+  pub other : word ≢ codes "P2"
 
--- the text of a picture: a line each for `P2`, its columns and rows, the value of white, and each row
-abbrev pub text_of : Image → List ℕ
-text_of image =
-    codes "P2\n" ++ decimal image.extent.columns ++ codes " " ++ decimal image.extent.rows ++ codes "\n" ++ decimal image.greatest ++ codes "\n"
-    ++ flat_map row_text (rows_of image.extent.rows image.extent.columns image.pixels)
+-- the first word of those left stands on this line, and isn't the number between these bounds that is to stand there
+pub record HasNoNumber (words : List NumberedWord) (line : ℕ) (bounds : Bounds) : Type 0 where
+  pub numbers : List ℕ
+  pub word : List ℕ
+  pub rest : List NumberedWord
+  pub begun : BeginWith words numbers ((line, word) ∷ rest)
+  pub expected : next_number numbers ≡ Some bounds
+  pub other : (n : ℕ) → number_of word ≡ Some n → ¬ (IsBetween bounds n)
+
+-- no word is left, and a number is still to follow
+pub record IsUnfinished (words : List NumberedWord) : Type 0 where
+  pub numbers : List ℕ
+  pub bounds : Bounds
+  pub begun : BeginWith words numbers []
+  pub expected : next_number numbers ≡ Some bounds
+
+-- no number may follow, and the first word of those left stands on this line
+pub record GoesOn (words : List NumberedWord) (line : ℕ) : Type 0 where
+  pub numbers : List ℕ
+  pub word : List ℕ
+  pub rest : List NumberedWord
+  pub begun : BeginWith words numbers ((line, word) ∷ rest)
+  pub complete : next_number numbers ≡ None
+
+-- what is wrong with the words of a text
+abbrev pub IsFaultOf : List NumberedWord → Fault → Type 0
+IsFaultOf words (NotPgm line) = BeginsOtherwise words line
+IsFaultOf words (NotNumber line least greatest) = HasNoNumber words line (record { least = least; greatest = greatest })
+IsFaultOf words Ended = (words ≡ []) ⊎ IsUnfinished words
+IsFaultOf words (NotEnded line) = GoesOn words line
+
+-- a reader's error is what is wrong with the words; or memory is refused, of which nothing is said
+abbrev pub IsRefusedBy : List NumberedWord → ReadError → Type 0
+IsRefusedBy words (Text fault) = IsFaultOf words fault
+IsRefusedBy words Memory = Unit {0}
 
 -- examples
-abbrev two_by_three : Image
-two_by_three = record { extent = record { rows = 2; columns = 3 }; greatest = 9; pixels = 1 ∷ 2 ∷ 3 ∷ 4 ∷ 5 ∷ 6 ∷ [] }
+first_numbers : next_number (3 ∷ 2 ∷ []) ≡ Some (record { least = 1; greatest = 65535 })
+first_numbers = refl
 
-with_a_comment : picture_of (codes "P2 # grey\n3 2\n9\n1 2 3\n4 5 6\n") ≡ Ok two_by_three
-with_a_comment = refl
+last_pixel : next_number (3 ∷ 2 ∷ 9 ∷ 1 ∷ 2 ∷ 3 ∷ 4 ∷ 5 ∷ []) ≡ Some (record { least = 0; greatest = 9 })
+last_pixel = refl
 
-not_p2 : picture_of (codes "\nP5 3 2") ≡ Err (NotPgm 2)
-not_p2 = refl
+after_the_last : next_number (3 ∷ 2 ∷ 9 ∷ 1 ∷ 2 ∷ 3 ∷ 4 ∷ 5 ∷ 6 ∷ []) ≡ None
+after_the_last = refl
 
-too_white : picture_of (codes "P2 3 2\n9\n1 2 3\n4 10 6") ≡ Err (NotNumber 4 0 9)
-too_white = refl
+no_white : MayFollow (3 ∷ 2 ∷ []) 0 → ⊥
+no_white follows = absurd (omega (arith, follows.not_below))
 
-no_number : picture_of (codes "P2\n3 x") ≡ Err (NotNumber 2 0 4294967295)
-no_number = refl
+whiter_than_white : MayFollow (3 ∷ 2 ∷ 9 ∷ []) 10 → ⊥
+whiter_than_white follows = absurd (omega (arith, follows.not_above))
 
-too_few : picture_of (codes "P2\n3 2\n9\n1 2 3 4 5 # 6\n") ≡ Err Ended
-too_few = refl
+-- a picture of one pixel
+abbrev dot : Image
+dot = record { extent = record { rows = 1; columns = 1 }; greatest = 9; pixels = 5 ∷ [] }
 
-too_many : picture_of (codes "P2\n3 2\n9\n1 2 3 4 5 6\n 7") ≡ Err (NotEnded 5)
-too_many = refl
+dot_without_pixel : EachIndex {X = ℕ} (1 ∷ 1 ∷ 9 ∷ []) (λ k. MayFollow (take k (1 ∷ 1 ∷ 9 ∷ [])) (slice_index (1 ∷ 1 ∷ 9 ∷ []) k))
+dot_without_pixel zero below = record { not_below = lit≤ tt; not_above = lit≤ tt }
+dot_without_pixel (suc zero) below = record { not_below = lit≤ tt; not_above = lit≤ tt }
+dot_without_pixel (suc (suc zero)) below = record { not_below = lit≤ tt; not_above = lit≤ tt }
+dot_without_pixel (suc (suc (suc k))) below = absurd (omega arith)
+
+numbers_of_dot : EachIndex {X = ℕ} (1 ∷ 1 ∷ 9 ∷ 5 ∷ []) (λ k. MayFollow (take k (1 ∷ 1 ∷ 9 ∷ 5 ∷ [])) (slice_index (1 ∷ 1 ∷ 9 ∷ 5 ∷ []) k))
+numbers_of_dot zero below = record { not_below = lit≤ tt; not_above = lit≤ tt }
+numbers_of_dot (suc zero) below = record { not_below = lit≤ tt; not_above = lit≤ tt }
+numbers_of_dot (suc (suc zero)) below = record { not_below = lit≤ tt; not_above = lit≤ tt }
+numbers_of_dot (suc (suc (suc zero))) below = record { not_below = lit≤ tt; not_above = lit≤ tt }
+numbers_of_dot (suc (suc (suc (suc k)))) below = absurd (omega arith)
+
+spelled_dot : SpellPicture (words_from 1 (codes "P2 # a dot\n1 1\n9 5\n")) dot
+spelled_dot = record {
+  begun = record { line = 1; spelled = (2, codes "1") ∷ (2, codes "1") ∷ (3, codes "9") ∷ (3, codes "5") ∷ []; parts = refl; spell = refl; allowed = numbers_of_dot };
+  complete = refl;
+}
+
+other_white : SpellPicture (words_from 1 (codes "P2 1 1 9 5")) (record dot { greatest = 8 }) → ⊥
+other_white spelled =
+    let words = ap (drop 1) spelled.begun.parts ∙ append-nil spelled.begun.spelled in
+    let numbers = ap (map (λ (word : NumberedWord). number_of word.1)) words ∙ spelled.begun.spell in
+    cc
+
+not_p2 : IsFaultOf (words_from 1 (codes "\nP5 1 1")) (NotPgm 2)
+not_p2 = record { word = codes "P5"; rest = (2, codes "1") ∷ (2, codes "1") ∷ []; first = refl; other = λ same. let second : 53 ≡ 50 = ap (λ (bytes : List ℕ). slice_index bytes 1) same in absurd (omega arith) }
+
+line_before : IsFaultOf (words_from 1 (codes "\nP5 1 1")) (NotPgm 1) → ⊥
+line_before fault = let lines = ap (map (λ (word : NumberedWord). word.0)) fault.first in cc
+
+too_white : IsFaultOf (words_from 1 (codes "P2 1 1\n9\n10")) (NotNumber 3 0 9)
+too_white = record {
+  numbers = 1 ∷ 1 ∷ 9 ∷ [];
+  word = codes "10";
+  rest = [];
+  begun = record { line = 1; spelled = (1, codes "1") ∷ (1, codes "1") ∷ (2, codes "9") ∷ []; parts = refl; spell = refl; allowed = dot_without_pixel };
+  expected = refl;
+  other = λ n spells between. let ten : 10 ≡ n = cc in absurd (omega (arith, between.not_above));
+}
+
+nothing : IsFaultOf [] Ended
+nothing = inl refl
+
+too_few : IsFaultOf (words_from 1 (codes "P2 1 1 9 # 5")) Ended
+too_few = inr (record {
+  numbers = 1 ∷ 1 ∷ 9 ∷ [];
+  bounds = record { least = 0; greatest = 9 };
+  begun = record { line = 1; spelled = (1, codes "1") ∷ (1, codes "1") ∷ (1, codes "9") ∷ []; parts = refl; spell = refl; allowed = dot_without_pixel };
+  expected = refl;
+})
+
+too_many : IsFaultOf (words_from 1 (codes "P2 1 1 9 5\n#\n 6")) (NotEnded 3)
+too_many = record {
+  numbers = 1 ∷ 1 ∷ 9 ∷ 5 ∷ [];
+  word = codes "6";
+  rest = [];
+  begun = record { line = 1; spelled = (1, codes "1") ∷ (1, codes "1") ∷ (1, codes "9") ∷ (1, codes "5") ∷ []; parts = refl; spell = refl; allowed = numbers_of_dot };
+  complete = refl;
+}

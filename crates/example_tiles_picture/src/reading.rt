@@ -1,8 +1,10 @@
 //! Reads a picture.
-ghost use Rattle.std.specs.Prelude.{◌≡◌, ◌≤◌, ◌-◌, ◌*◌, ◌<◌, ◌^◌, IfErr, IfOk, MatchResult, Err, Ok, length};
+ghost use Rattle.std.specs.Prelude.{◌≡◌, ◌≤◌, ◌*◌, [], ◌∷◌, ◌++◌, List, ℕ, IfErr, IfOk, MatchResult, None, Some, length};
 ghost use Rattle.std.specs.List.{All};
-ghost use Rattle.example_tiles_picture.specs.Picture.{IsPicture, image};
-ghost use Rattle.example_tiles_picture.specs.PictureText.{IsFaultOf, extent_first, magic_first, nothing_first, number_first, picture_of, values_first};
+ghost use Rattle.std.specs.Result.{IsOkUnless};
+ghost use Rattle.example_tiles_text.specs.Words.{NumberedWord, words_from};
+ghost use Rattle.example_tiles_picture.specs.Picture.{Image, IsPicture, image, pixel_count};
+ghost use Rattle.example_tiles_picture.specs.PictureText.{BeginWith, IsFaultOf, IsRefusedBy, SpellPicture, next_number};
 
 use crate::picture::{Extent, Picture};
 use example_tiles_text::{Words, number};
@@ -75,8 +77,8 @@ const GREATEST_WHITE: u32 = 65535;
 
 /// Takes the first word, which has to be `P2`.
 fn take_magic(words: &mut Words<'_>) -> Result<(), Fault>
-    ensures { MatchResult result (λ _. magic_first words.old ≡ Ok words.new)
-        (λ fault. magic_first words.old ≡ Err fault) }
+    ensures { MatchResult result (λ _. BeginWith words.old [] words.new)
+        (λ fault. IsFaultOf words.old fault) }
 {
     match words.take() {
         None => Err(Fault::Ended),
@@ -85,11 +87,12 @@ fn take_magic(words: &mut Words<'_>) -> Result<(), Fault>
     }
 }
 
-/// Takes the first word, which has to be a number in a range.
+/// Takes the first word that is left of all, which has to be a number in a range.
 fn take_number(words: &mut Words<'_>, least: u32, greatest: u32) -> Result<u32, Fault>
-    ensures taken { MatchResult result
-        (λ n. number_first least greatest words.old ≡ Ok (n, words.new))
-        (λ fault. number_first least greatest words.old ≡ Err fault) }
+    ensures taken { (all : List NumberedWord) (numbers : List ℕ) → BeginWith all numbers words.old
+        → next_number numbers ≡ Some (record { least = least; greatest = greatest })
+        → MatchResult result (λ n. BeginWith all (numbers ++ n ∷ []) words.new)
+        (λ fault. IsFaultOf all fault) }
     ensures in_range { IfOk result (λ n. n ≤ greatest) }
 {
     let Some(word) = words.take() else {
@@ -105,41 +108,56 @@ fn take_number(words: &mut Words<'_>, least: u32, greatest: u32) -> Result<u32, 
     }
 }
 
-/// Takes the numbers of columns and of rows.
-fn take_extent(words: &mut Words<'_>) -> Result<Extent, Fault>
-    ensures { MatchResult result
-        (λ extent. extent_first words.old ≡ Ok (extent, words.new))
-        (λ fault. extent_first words.old ≡ Err fault) }
-{
-    let columns = take_number(words, 0, u32::MAX)?;
-    let rows = take_number(words, 0, u32::MAX)?;
-    Ok(Extent { rows, columns })
+/// What stands before the pixels of a picture.
+#[derive(Clone, Copy)]
+struct Header {
+    extent: Extent,
+    white: u16,
 }
 
-/// Takes as many values as given, each up to the greatest one.
-fn take_values(
+/// Takes `P2`, and the numbers of columns and of rows and the value of white.
+fn take_header(words: &mut Words<'_>) -> Result<Header, Fault>
+    ensures { MatchResult result
+        (λ header. BeginWith words.old (header.extent.columns ∷ header.extent.rows ∷ header.white ∷ []) words.new)
+        (λ fault. IsFaultOf words.old fault) }
+{
+    take_magic(words)?;
+    let columns = take_number(words, 0, u32::MAX)?;
+    let rows = take_number(words, 0, u32::MAX)?;
+    let white = take_number(words, 1, GREATEST_WHITE)? as u16;
+    Ok(Header {
+        extent: Extent { rows, columns },
+        white,
+    })
+}
+
+/// Takes as many pixels as the extent has, each up to the value of white.
+fn take_pixels(
     alloc: Global,
     words: &mut Words<'_>,
-    count: usize,
-    greatest: u16,
+    extent: Extent,
+    white: u16,
 ) -> Result<Vec<u16>, ReadError>
-    ensures taken { IfOk result (λ values. values_first count greatest words.old ≡ Ok (values.items, words.new)) }
-    ensures refused { IfErr result (λ error. IsFaultOf error (values_first count greatest words.old)) }
-    ensures count { IfOk result (λ values. length values.items ≡ count) }
-    ensures in_range { IfOk result (λ values. All (λ value. value ≤ greatest) values.items) }
+    ensures taken { (all : List NumberedWord) → BeginWith all (extent.columns ∷ extent.rows ∷ white ∷ []) words.old
+        → IfOk result (λ pixels. BeginWith all (extent.columns ∷ extent.rows ∷ white ∷ pixels.items) words.new) }
+    ensures refused { (all : List NumberedWord) → BeginWith all (extent.columns ∷ extent.rows ∷ white ∷ []) words.old
+        → IfErr result (IsRefusedBy all) }
+    ensures count { IfOk result (λ pixels. length pixels.items ≡ pixel_count extent) }
+    ensures in_range { IfOk result (λ pixels. All (λ pixel. pixel ≤ white) pixels.items) }
 {
-    let mut values = Vec::new(alloc);
-    for _ in 0..count {
-        let value = take_number(words, 0, u32::from(greatest))?;
-        values.push(value as u16)?;
+    let mut pixels = Vec::new(alloc);
+    for _ in 0..extent.pixel_count() {
+        let pixel = take_number(words, 0, u32::from(white))?;
+        pixels.push(pixel as u16)?;
     }
-    Ok(values)
+    Ok(pixels)
 }
 
 /// Requires that no word is left.
 fn take_nothing(words: &mut Words<'_>) -> Result<(), Fault>
-    ensures { MatchResult result (λ _. nothing_first words.old ≡ Ok words.new)
-        (λ fault. nothing_first words.old ≡ Err fault) }
+    ensures { (all : List NumberedWord) (numbers : List ℕ) → BeginWith all numbers words.old
+        → next_number numbers ≡ None
+        → MatchResult result (λ _. words.old ≡ []) (λ fault. IsFaultOf all fault) }
 {
     match words.take() {
         None => Ok(()),
@@ -150,21 +168,22 @@ fn take_nothing(words: &mut Words<'_>) -> Result<(), Fault>
 /// The picture that a text spells: `P2`, the number of columns, that of rows, the value of white, and the pixels row by
 /// row, separated by white space. A comment goes from a `#` to the end of its line.
 ///
-/// Errors: the first fault of the text; that memory is refused.
+/// Errors: the fault of the text; that memory is refused.
 pub fn read_picture(alloc: Global, text: &[u8]) -> Result<Picture, ReadError>
-    ensures read { IfOk result (λ picture. picture_of text.now ≡ Ok (image picture)) }
-    ensures refused { IfErr result (λ error. IsFaultOf error (picture_of text.now)) }
+    ensures read { IfOk result (λ picture. SpellPicture (words_from 1 text.now) (image picture)) }
+    // Each text spells one picture or has one fault, and not both (`proofs/laws/PictureText.antt`).
+    ensures refused { IfErr result (IsRefusedBy (words_from 1 text.now)) }
+    // So a text that spells a picture is refused for memory alone.
+    ensures spelled { (made : Image) → SpellPicture (words_from 1 text.now) made → IsOkUnless result ReadError.Memory }
     ensures picture { IfOk result (λ picture. IsPicture (image picture)) }
 {
     let mut words = Words::new(text);
-    take_magic(&mut words)?;
-    let extent = take_extent(&mut words)?;
-    let greatest = take_number(&mut words, 1, GREATEST_WHITE)? as u16;
-    let pixels = take_values(alloc, &mut words, extent.pixel_count(), greatest)?;
+    let header = take_header(&mut words)?;
+    let pixels = take_pixels(alloc, &mut words, header.extent, header.white)?;
     take_nothing(&mut words)?;
     Ok(Picture {
-        extent,
-        greatest,
+        extent: header.extent,
+        greatest: header.white,
         pixels,
     })
 }

@@ -17,7 +17,7 @@ use Rattle.example_tiles_text.specs.Numbers.{is_decimal, number_of}
 abbrev plus_sign : ℕ
 plus_sign = 43
 
-own : IsNumeralModel (λ ds. all_ascii_digits ds ≡ true) (digits_value 10)
+pub own : IsNumeralModel (λ ds. all_ascii_digits ds ≡ true) (digits_value 10)
 own = numerals_by_value _ tells_all_ascii_digits
 
 chosen : {A E : Type 0} (r : Result A E) (P : Type 0) (b : Bool) (x : A) → OkIff r P x → Decides b P → result_ok r ≡ cond b (Some x) None

@@ -41,6 +41,11 @@ before_none p xs e = take_all _ xs (none_passes p xs e)
 pub before_at : {X : Type 0} (p : X → Bool) (xs : List X) (at : ℕ) → position p xs ≡ Some at → before_first p xs ≡ take at xs
 before_at p xs at e = ap (λ n. take n xs) (first_place p xs at e).1
 
+-- ---- words of a line
+pub first_of : (word : List ℕ) (rest : List (List ℕ)) → 0 < length word → filter (λ w. ltb 0 (length w)) (word ∷ rest) ≡ word ∷ filter (λ w. ltb 0 (length w)) rest
+first_of [] rest h = absurd (omega arith)
+first_of (b ∷ word) rest h = rw (lt-ltb 0 (length (b ∷ word)) h) refl
+
 -- ---- white space before a word
 module _ (p : ℕ → Bool) where
   abbrev words_by : List ℕ → List (List ℕ)
@@ -66,10 +71,6 @@ module _ (p : ℕ → Bool) where
       ]) h
 
   -- a word and the rest of its line
-  first_of : (word : List ℕ) (rest : List (List ℕ)) → 0 < length word → filter (λ w. ltb 0 (length w)) (word ∷ rest) ≡ word ∷ filter (λ w. ltb 0 (length w)) rest
-  first_of [] rest h = absurd (omega arith)
-  first_of (b ∷ word) rest h = rw (lt-ltb 0 (length (b ∷ word)) h) refl
-
   rest_from : (xs : List ℕ) (at : ℕ) → at < length xs → p (get_or xs at 0) ≡ true → words_by (drop at xs) ≡ words_by (drop (at + 1) xs)
   rest_from xs at h passes =
       let more : at + 1 ≡ suc at = omega arith in

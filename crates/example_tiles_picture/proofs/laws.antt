@@ -1,0 +1,2 @@
+pub mod PictureText
+pub mod PrintedPicture

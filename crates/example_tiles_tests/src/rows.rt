@@ -1,0 +1,80 @@
+//! Texts that spell pictures, texts that are refused, and edits of small pictures.
+use crate::answers::{is_kept_by_a_flip, row_holds};
+use std::test::Fail;
+
+/// Texts, and words and an `@` before the text of the picture that is edited, each with what is printed: the text of a
+/// picture, or the message of why there is none. A `|` stands for a line feed.
+const ROWS: &str = "\
+P2 1 1 9 5 => P2|1 1|9|5|
+P2|3 2|9|1 2 3|4 5 6| => P2|3 2|9|1 2 3|4 5 6|
+P2 3 2|9 1 2|3 4 5 6 => P2|3 2|9|1 2 3|4 5 6|
+P2 0 0 9 => P2|0 0|9|
+P2 2 0 9| => P2|2 0|9|
+P2 0 2 9||| => P2|0 2|9|||
+# a|P2#b|2 1 # 7|#|9|1#2|2#|#3 => P2|2 1|9|1 2|
+\tP2\r|\t2\t1\r||9\r|1\t\r2\u{c}|\r => P2|2 1|9|1 2|
+P2 0000000002 01 009 00000000000000000001 00 => P2|2 1|9|1 0|
+P2 2 1 65535 65535 0 => P2|2 1|65535|65535 0|
+P2 2 1 1 1 0 => P2|2 1|1|1 0|
+# P2 1 1 9 5|||# => the text ends before the last pixel
+ => the text ends before the last pixel
+P2#1 1 9 5 => the text ends before the last pixel
+P2 3 => the text ends before the last pixel
+P2 3|2| => the text ends before the last pixel
+P2 3 2 9 => the text ends before the last pixel
+P2 3 2|9|1 2 3|4 5 # 6| => the text ends before the last pixel
+P2 4294967295 4294967295 1 0 => the text ends before the last pixel
+P5 1 1 9 5 => line 1: `P2` is expected
+|#|p2 1 1 9 5 => line 3: `P2` is expected
+P21 1 9 5 => line 1: `P2` is expected
+2 1 9 5 P2 => line 1: `P2` is expected
+P2 x => line 1: a number from 0 to 4294967295 is expected
+P2|4294967296 x => line 2: a number from 0 to 4294967295 is expected
+P2|1|-1 => line 3: a number from 0 to 4294967295 is expected
+P2 1 1|0 5 => line 2: a number from 1 to 65535 is expected
+P2 1 1 65536 5 => line 1: a number from 1 to 65535 is expected
+P2 1 1 +9 5 => line 1: a number from 1 to 65535 is expected
+P2 0 0 # 9|||x => line 4: a number from 1 to 65535 is expected
+P2 1 1 9|10 => line 2: a number from 0 to 9 is expected
+P2 3 1 9 1|#|2.5 x => line 3: a number from 0 to 9 is expected
+P2 2 1 1 1|2 0 => line 2: a number from 0 to 1 is expected
+P2 2 1 65535 65535 65536 => line 1: a number from 0 to 65535 is expected
+P2 1 1 9|5|6 => line 3: nothing more is expected after the last pixel
+P2 0 0 9|#0|  P2 x => line 3: nothing more is expected after the last pixel
+P2 0 1 9 x => line 1: nothing more is expected after the last pixel
+crop 0..2 0..3 @ P2 3 2 99 1 2 3 4 5 6 => P2|3 2|99|1 2 3|4 5 6|
+crop 0..1 1..3 @ P2 3 2 99 1 2 3 4 5 6 => P2|2 1|99|2 3|
+crop 1..2 2..3 @ P2 3 2 99 1 2 3 4 5 6 => P2|1 1|99|6|
+crop 1..1 0..3 @ P2 3 2 99 1 2 3 4 5 6 => P2|3 0|99|
+crop 0..2 3..3 @ P2 3 2 99 1 2 3 4 5 6 => P2|0 2|99|||
+crop 2..0 2..1 @ P2 3 2 99 1 2 3 4 5 6 => P2|0 0|99|
+flip rows @ P2 3 2 99 1 2 3 4 5 6 => P2|3 2|99|4 5 6|1 2 3|
+flip columns @ P2 3 2 99 1 2 3 4 5 6 => P2|3 2|99|3 2 1|6 5 4|
+every 1 @ P2 3 2 99 1 2 3 4 5 6 => P2|3 2|99|1 2 3|4 5 6|
+every 2 @ P2 3 2 99 1 2 3 4 5 6 => P2|2 1|99|1 3|
+every 3 @ P2 3 2 99 1 2 3 4 5 6 => P2|1 1|99|1|
+every 4294967295 @ P2 3 2 99 1 2 3 4 5 6 => P2|1 1|99|1|
+every 3 @ P2 7 1 99 1 2 3 4 5 6 7 => P2|3 1|99|1 4 7|
+flip rows @ P2 0 2 99 => P2|0 2|99|||
+flip columns @ P2 3 0 99 => P2|3 0|99|
+crop 0..0 1..2 @ P2 3 0 99 => P2|1 0|99|
+flip rows flip columns @ P2 4 3 99 11 12 13 14 21 22 23 24 31 32 33 34 => P2|4 3|99|34 33 32 31|24 23 22 21|14 13 12 11|
+flip columns flip columns @ P2 4 3 99 11 12 13 14 21 22 23 24 31 32 33 34 => P2|4 3|99|11 12 13 14|21 22 23 24|31 32 33 34|
+crop 1..3 0..4 flip rows every 2 @ P2 4 3 99 11 12 13 14 21 22 23 24 31 32 33 34 => P2|2 1|99|31 33|
+every 2 flip columns crop 0..2 1..2 @ P2 4 3 99 11 12 13 14 21 22 23 24 31 32 33 34 => P2|1 2|99|11|31|
+flip columns crop 0..3 0..3 every 3 @ P2 4 3 99 11 12 13 14 21 22 23 24 31 32 33 34 => P2|1 1|99|14|
+flip columns every 3 @ P2 7 1 99 1 2 3 4 5 6 7 => P2|3 1|99|7 4 1|
+every 2 every 2 @ P2 7 1 99 1 2 3 4 5 6 7 => P2|2 1|99|1 5|
+crop 0..1 1..7 every 5 flip columns @ P2 7 1 99 1 2 3 4 5 6 7 => P2|2 1|99|7 2|
+flip columns every 7 @ P2 0 2 99 => P2|0 1|99||
+";
+
+#[test]
+fn printed_rows(rt: HostRuntime) -> Result<(), Fail> {
+    for row in ROWS.lines() {
+        assert!(rt; row_holds(rt.alloc(), row)?, "{row}");
+    }
+    assert!(rt; is_kept_by_a_flip(rt.alloc(), 9)?);
+    assert!(rt; is_kept_by_a_flip(rt.alloc(), 700)?);
+    Ok(())
+}
