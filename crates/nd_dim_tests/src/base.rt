@@ -6,6 +6,5 @@ mod equality;
 mod errors;
 mod ixdynimpl;
 mod lists;
-mod memory;
 mod operators;
 mod strides;

@@ -2,7 +2,7 @@
 use Answer::{Left, Listed, Refused, Stopped, View};
 use ndarray_layout::{ErrorKind, LayoutError, Lengths, Strided, signed};
 use std::alloc::AllocError;
-use std::fmt;
+use std::fmt::{self, Display};
 use test_tables::{List, name_of};
 
 /// The shape, the strides and the start of a view.
@@ -76,6 +76,14 @@ pub struct Told {
     pub lent: Option<Laid>,
 }
 
+/// What a call that is lent no view answers.
+pub fn lone(answer: Option<Answer>) -> Option<Told> {
+    Some(Told {
+        answer: answer?,
+        lent: None,
+    })
+}
+
 /// The refusal of memory.
 pub const MEMORY: Answer = Refused(Fault::Memory);
 
@@ -122,28 +130,30 @@ fn write_list<W: fmt::Write>(list: &List, f: &mut fmt::Formatter<W>) -> fmt::Res
     let Some((first, rest)) = list.as_slice().split_first() else {
         return f.write_str("-");
     };
-    write!(f, "{}", signed(*first))?;
+    signed(*first).fmt(f)?;
     for number in rest {
-        write!(f, ",{}", signed(*number))?;
+        f.write_str(",")?;
+        signed(*number).fmt(f)?;
     }
     Ok(())
 }
 
-impl fmt::Display for Laid {
+impl Display for Laid {
     fn fmt<W: fmt::Write>(&self, f: &mut fmt::Formatter<W>) -> fmt::Result {
         write_list(&self.shape, f)?;
         f.write_str(" ")?;
         write_list(&self.strides, f)?;
-        write!(f, " {}", self.start)
+        f.write_str(" ")?;
+        self.start.fmt(f)
     }
 }
 
-impl fmt::Display for Answer {
+impl Display for Answer {
     fn fmt<W: fmt::Write>(&self, f: &mut fmt::Formatter<W>) -> fmt::Result {
         match self {
             Refused(fault) => f.write_str(fault.name()),
             Listed(list) => write_list(list, f),
-            View(view) => write!(f, "{view}"),
+            View(view) => view.fmt(f),
             Stopped(at, fault, view) => write!(f, "{} {at} {view}", fault.name()),
             Left(fault, items) => {
                 f.write_str(word_of(*fault))?;
@@ -154,12 +164,13 @@ impl fmt::Display for Answer {
     }
 }
 
-impl fmt::Display for Told {
+impl Display for Told {
     fn fmt<W: fmt::Write>(&self, f: &mut fmt::Formatter<W>) -> fmt::Result {
-        fmt::Display::fmt(&self.answer, f)?;
-        match &self.lent {
-            Some(lent) => write!(f, " of {lent}"),
-            None => Ok(()),
-        }
+        self.answer.fmt(f)?;
+        let Some(lent) = &self.lent else {
+            return Ok(());
+        };
+        f.write_str(" of ")?;
+        lent.fmt(f)
     }
 }

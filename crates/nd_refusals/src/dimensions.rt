@@ -2,37 +2,56 @@
 ghost use Rattle.std.specs.Prelude.{◌^◌, ◌<◌};
 ghost use Rattle.ndarray_layout.specs.Size.{size};
 
-use crate::answer::{Answer, Fault, MEMORY, Told, listed, made_list};
-use crate::call::{Call, ask};
+use crate::answer::{Answer, Fault, MEMORY, listed, made_list};
+use crate::call::Call;
+use crate::names::{Named, OfAxis, OfBuilder, OfDimension, OfGiven, OfIfAny, OfLengths};
 use ndarray_layout::{
-    Axis, Dimension, IntoDimension, IxDyn, Lengths, RemoveAxis, Shape, ShapeArg, ShapeBuilder,
-    StrideShape, Strides, co_broadcast, default_strides, fortran_strides, new_dim,
+    Axis, Dimension, IntoDimension, IxDyn, Lengths, Order, RemoveAxis, Shape, ShapeArg,
+    ShapeBuilder, StrideShape, Strides, co_broadcast, default_strides, fortran_strides, new_dim,
+    new_ixdyn,
 };
 use std::alloc::{AllocError, Global};
 use test_tables::made;
 
-/// What a call answers.
-pub fn told<D: RemoveAxis + IntoDimension<Dim = D>>(
-    alloc: Global,
-    call: &Call<'_>,
-) -> Option<Told> {
-    let lens = call.lists.first.as_slice();
-    let (dim, given): (D, D) = (made(alloc, lens)?, made(alloc, lens)?);
+/// What a call that is lent a value answers.
+pub fn answer<D: RemoveAxis>(alloc: Global, call: &Call<'_>) -> Option<Answer> {
+    let dim: D = made(alloc, call.lists.first.as_slice())?;
     dim.size_checked()?;
-    ask(alloc, call.earlier)?;
-    let (owner, name) = call.name.split_once("::").unwrap_or(("", call.name));
-    let answer = match owner {
-        "Lengths" => of_lengths(alloc, name, &dim),
-        "Dimension" => of_dimension(alloc, name, &dim),
-        "Axis" => of_axis(alloc, name, &dim, Axis(call.lists.second.at(0))),
-        "IntoDimension" => handed_on(alloc, name, given),
-        "ShapeBuilder" => built(alloc, name, given, dim),
-        _ => of_shape(alloc, name, &dim),
-    };
-    Some(Told {
-        answer: answer?,
-        lent: None,
-    })
+    of_lent(alloc, call, &dim)
+}
+
+/// The same of the value.
+fn of_lent<D: RemoveAxis>(alloc: Global, call: &Call<'_>, dim: &D) -> Option<Answer>
+    requires { size (D.list dim.now) < 2 ^ 64 }
+{
+    match call.named {
+        Named::Lengths(named) => Some(made_list(of_lengths(alloc, named, dim))),
+        Named::Dimension(named) => Some(made_list(another(alloc, named, dim))),
+        Named::IfAny(named) => Some(if_any(alloc, named, dim)),
+        Named::Axis(named) => of_axis(alloc, named, dim, Axis(call.lists.second.at(0))),
+        Named::Common => common(alloc, dim, dim),
+        _ => None,
+    }
+}
+
+/// What a call that takes a value answers.
+pub fn of_given<D: Dimension + IntoDimension<Dim = D>>(
+    alloc: Global,
+    named: &OfGiven,
+    call: &Call<'_>,
+) -> Option<Answer> {
+    Some(handed_on::<D>(alloc, named, made(alloc, call.lists.first.as_slice())?))
+}
+
+/// What a call of a builder answers that is a value.
+pub fn of_builder<D: IntoDimension<Dim = D> + Lengths>(
+    alloc: Global,
+    named: &OfBuilder,
+    call: &Call<'_>,
+) -> Option<Answer> {
+    let lens = call.lists.first.as_slice();
+    let builder: D = made(alloc, lens)?;
+    Some(built(alloc, named, builder, made(alloc, lens)?))
 }
 
 /// The shape that two shapes have in common.
@@ -48,16 +67,41 @@ pub fn common<D: Lengths>(alloc: Global, dim: &D, other: &D) -> Option<Answer> {
     }
 }
 
-/// What a call of any value of lengths answers.
-fn of_lengths<D: Lengths>(alloc: Global, name: &str, dim: &D) -> Option<Answer> {
-    match name {
-        "zeros" => Some(made_list(D::zeros(alloc, dim.ndim()))),
-        "duplicate" => Some(made_list(dim.duplicate(alloc))),
-        _ => None,
+/// What a call of any value of lengths makes.
+fn of_lengths<D: Lengths>(alloc: Global, named: &OfLengths, dim: &D) -> Result<D, AllocError>
+    requires { size (D.list dim.now) < 2 ^ 64 }
+{
+    match named {
+        OfLengths::Zeros => D::zeros(alloc, dim.ndim()),
+        OfLengths::Duplicate => dim.duplicate(alloc),
+        OfLengths::DefaultStrides => default_strides(alloc, dim),
+        OfLengths::FortranStrides => fortran_strides(alloc, dim),
+        OfLengths::StridesForDim => Strides::F.strides_for_dim(alloc, dim),
+    }
+}
+
+/// What a call of a dimension makes.
+fn another<D: Dimension>(alloc: Global, named: &OfDimension, dim: &D) -> Result<D, AllocError>
+    requires { size (D.list dim.now) < 2 ^ 64 }
+{
+    match named {
+        OfDimension::DefaultStrides => dim.default_strides(alloc),
+        OfDimension::FortranStrides => dim.fortran_strides(alloc),
+        OfDimension::DefaultIn => D::default_in(alloc),
+        OfDimension::StrideOrder => dim._fastest_varying_stride_order(alloc),
     }
 }
 
 /// What a call that may have nothing to make answers.
+fn if_any<D: Dimension>(alloc: Global, named: &OfIfAny, dim: &D) -> Answer {
+    match named {
+        OfIfAny::FirstIndex => made_if_any(dim.first_index(alloc)),
+        OfIfAny::FromDimension => made_if_any(D::from_dimension(alloc, dim)),
+        OfIfAny::FromDimensionOfAny => made_if_any(IxDyn::from_dimension(alloc, dim)),
+    }
+}
+
+/// The list of a value that may be made.
 fn made_if_any<D: Lengths>(made: Result<Option<D>, AllocError>) -> Answer {
     match made {
         Ok(Some(dim)) => listed(dim.slice()),
@@ -66,53 +110,42 @@ fn made_if_any<D: Lengths>(made: Result<Option<D>, AllocError>) -> Answer {
     }
 }
 
-/// What a call of a dimension answers.
-fn of_dimension<D: Dimension>(alloc: Global, name: &str, dim: &D) -> Option<Answer>
-    requires { size (D.list dim.now) < 2 ^ 64 }
-{
-    match name {
-        "default_strides" => Some(made_list(dim.default_strides(alloc))),
-        "fortran_strides" => Some(made_list(dim.fortran_strides(alloc))),
-        "first_index" => Some(made_if_any(dim.first_index(alloc))),
-        "default_in" => Some(made_list(D::default_in(alloc))),
-        "_fastest_varying_stride_order" => {
-            Some(made_list(dim._fastest_varying_stride_order(alloc)))
-        },
-        "from_dimension" => Some(made_if_any(D::from_dimension(alloc, dim))),
-        "from_dimension_of_any" => Some(made_if_any(IxDyn::from_dimension(alloc, dim))),
+/// What the call that makes a value of a type of one of any number of axes answers.
+pub fn from_any<D: Dimension>(alloc: Global, call: &Call<'_>) -> Option<Answer> {
+    let any = new_ixdyn(alloc, call.lists.first.as_slice()).ok()?;
+    Some(made_if_any(D::from_dimension(alloc, &any)))
+}
+
+/// What a call that adds or removes an axis answers; nothing where there is no such axis.
+fn of_axis<D: RemoveAxis>(alloc: Global, named: &OfAxis, dim: &D, axis: Axis) -> Option<Answer> {
+    let (place, ndim) = (axis.index(), dim.ndim());
+    match named {
+        OfAxis::Insert if place <= ndim => Some(made_list(dim.insert_axis(alloc, axis))),
+        OfAxis::TryRemove if place < ndim => Some(made_list(dim.try_remove_axis(alloc, axis))),
+        OfAxis::Remove if place < ndim => Some(made_list(dim.remove_axis(alloc, axis))),
         _ => None,
     }
 }
 
-/// What a call that adds or removes an axis answers.
-fn of_axis<D: RemoveAxis>(alloc: Global, name: &str, dim: &D, axis: Axis) -> Option<Answer> {
-    match name {
-        "insert_axis" if axis.index() <= dim.ndim() => {
-            Some(made_list(dim.insert_axis(alloc, axis)))
-        },
-        "try_remove_axis" if axis.index() < dim.ndim() => {
-            Some(made_list(dim.try_remove_axis(alloc, axis)))
-        },
-        "remove_axis" if axis.index() < dim.ndim() => Some(made_list(dim.remove_axis(alloc, axis))),
-        _ => None,
-    }
-}
-
-/// What a call that takes a value answers.
+/// What a call answers that is given this value.
 fn handed_on<D: Dimension + IntoDimension<Dim = D>>(
     alloc: Global,
-    name: &str,
+    named: &OfGiven,
     dim: D,
-) -> Option<Answer> {
-    match name {
-        "into_dimension" => Some(made_list(dim.into_dimension(alloc))),
-        "new_dim" => Some(made_list(new_dim(alloc, dim))),
-        "into_dyn" => Some(made_list(dim.into_dyn(alloc))),
-        "into_shape_and_order" => match dim.into_shape_and_order(alloc) {
-            Ok((shape, _)) => Some(listed(shape.slice())),
-            Err(_) => Some(MEMORY),
-        },
-        _ => None,
+) -> Answer {
+    match named {
+        OfGiven::IntoDimension => made_list(dim.into_dimension(alloc)),
+        OfGiven::NewDim => made_list(new_dim(alloc, dim)),
+        OfGiven::IntoDyn => made_list(dim.into_dyn(alloc)),
+        OfGiven::IntoShapeAndOrder => made_shape_and_order(dim.into_shape_and_order(alloc)),
+    }
+}
+
+/// The shape that a call makes.
+pub fn made_shape_and_order<D: Lengths>(made: Result<(D, Option<Order>), AllocError>) -> Answer {
+    match made {
+        Ok((shape, _)) => listed(shape.slice()),
+        Err(_) => MEMORY,
     }
 }
 
@@ -135,29 +168,15 @@ fn made_stride_shape<D: Lengths>(made: Result<StrideShape<D>, AllocError>) -> An
 /// What a call of a builder answers.
 pub fn built<D: Lengths, T: ShapeBuilder<Dim = D, Strides = T> + Drop>(
     alloc: Global,
-    name: &str,
+    named: &OfBuilder,
     builder: T,
     strides: T,
-) -> Option<Answer> {
-    match name {
-        "into_shape_with_order" => Some(made_shape(builder.into_shape_with_order(alloc))),
-        "f" => Some(made_shape(builder.f(alloc))),
-        "set_f" => Some(made_shape(builder.set_f(alloc, true))),
-        "strides" => Some(made_stride_shape(builder.strides(alloc, strides))),
-        "from_builder" => Some(made_stride_shape(StrideShape::from_builder(alloc, builder))),
-        _ => None,
-    }
-}
-
-/// What a call of a shape answers.
-fn of_shape<D: Lengths>(alloc: Global, name: &str, dim: &D) -> Option<Answer>
-    requires { size (D.list dim.now) < 2 ^ 64 }
-{
-    match name {
-        "co_broadcast" => common(alloc, dim, dim),
-        "default_strides" => Some(made_list(default_strides(alloc, dim))),
-        "fortran_strides" => Some(made_list(fortran_strides(alloc, dim))),
-        "strides_for_dim" => Some(made_list(Strides::F.strides_for_dim(alloc, dim))),
-        _ => None,
+) -> Answer {
+    match named {
+        OfBuilder::IntoShapeWithOrder => made_shape(builder.into_shape_with_order(alloc)),
+        OfBuilder::F => made_shape(builder.f(alloc)),
+        OfBuilder::SetF => made_shape(builder.set_f(alloc, true)),
+        OfBuilder::Strides => made_stride_shape(builder.strides(alloc, strides)),
+        OfBuilder::FromBuilder => made_stride_shape(StrideShape::from_builder(alloc, builder)),
     }
 }

@@ -1,54 +1,48 @@
 //! Calls that make a value of any number of axes of a list.
-use crate::answer::{Answer, MEMORY, Told, listed, made_list};
-use crate::call::{Call, ask};
-use crate::dimensions::{built, common};
+ghost use Rattle.std.specs.Prelude.{◌^◌, ◌<◌};
+ghost use Rattle.ndarray_layout.specs.Dim.{lengths};
+ghost use Rattle.ndarray_layout.specs.Size.{size};
+
+use crate::answer::{Answer, MEMORY, listed, made_list};
+use crate::call::Call;
+use crate::dimensions::{built, common, made_shape_and_order};
+use crate::names::{Named, OfEntries, OfSlice, OfVector, OfWalk};
 use ndarray_layout::{
-    Dimension, IndexCursor, IndexCursorF, IntoDimension, IxDyn, IxDynImpl, all_indices,
-    indices_iter_f, new_ixdyn,
+    Dimension, IndexCursor, IndexCursorF, IntoDimension, IxDyn, IxDynImpl, Lengths, ShapeArg,
+    all_indices, indices_iter_f, new_dim, new_ixdyn,
 };
 use std::alloc::{AllocError, Global};
 
 /// What a call answers.
-pub fn told(alloc: Global, call: &Call<'_>) -> Option<Told> {
+pub fn answer(alloc: Global, call: &Call<'_>) -> Option<Answer> {
     let (lens, place) = (call.lists.first.as_slice(), call.lists.second.at(0));
-    let (owner, name) = call.name.split_once("::").unwrap_or(("", call.name));
-    let answer = match owner {
-        "IxDynImpl" => of_entries(alloc, call.earlier, name, lens, place),
-        "Vec" => of_vector(alloc, call.earlier, name, lens),
-        "ShapeBuilder" => of_builder(alloc, call.earlier, name, lens),
-        "walk" => walked(alloc, call.earlier, name, lens),
-        "shapes" => shared(alloc, call),
-        _ => of_slice(alloc, call.earlier, name, lens),
-    };
-    Some(Told {
-        answer: answer?,
-        lent: None,
-    })
-}
-
-/// What a call of a builder answers.
-fn of_builder(alloc: Global, earlier: usize, name: &str, lens: &[usize]) -> Option<Answer> {
-    ask(alloc, earlier)?;
-    built(alloc, name, lens, lens)
+    match call.named {
+        Named::Entries(named) => of_entries(alloc, named, lens, place),
+        Named::Vector(named) => of_vector(alloc, named, lens),
+        Named::Builder(named) => Some(built(alloc, named, lens, lens)),
+        Named::Walk(named) => walked(alloc, named, lens),
+        Named::Shapes => shared(alloc, lens, call.lists.second.as_slice()),
+        Named::Slice(named) => Some(of_slice(alloc, named, lens)),
+        _ => None,
+    }
 }
 
 /// The shape that two shapes have in common.
-fn shared(alloc: Global, call: &Call<'_>) -> Option<Answer> {
-    let first = new_ixdyn(alloc, call.lists.first.as_slice()).ok()?;
-    let second = new_ixdyn(alloc, call.lists.second.as_slice()).ok()?;
-    ask(alloc, call.earlier)?;
+fn shared(alloc: Global, lens: &[usize], others: &[usize]) -> Option<Answer> {
+    let first = new_ixdyn(alloc, lens).ok()?;
+    let second = new_ixdyn(alloc, others).ok()?;
     common(alloc, &first, &second)
 }
 
 /// What a call of a slice answers.
-fn of_slice(alloc: Global, earlier: usize, name: &str, lens: &[usize]) -> Option<Answer> {
-    ask(alloc, earlier)?;
-    match name {
-        "new_ixdyn" => Some(made_list(new_ixdyn(alloc, lens))),
-        "into_dimension" => Some(made_list(lens.into_dimension(alloc))),
-        "zeros" => Some(made_list(IxDyn::zeros(alloc, lens.len()))),
-        "copy_from" => Some(made_entries(IxDynImpl::copy_from(alloc, lens))),
-        _ => None,
+fn of_slice(alloc: Global, named: &OfSlice, lens: &[usize]) -> Answer {
+    match named {
+        OfSlice::NewIxdyn => made_list(new_ixdyn(alloc, lens)),
+        OfSlice::NewDim => made_list(new_dim(alloc, lens)),
+        OfSlice::IntoDimension => made_list(lens.into_dimension(alloc)),
+        OfSlice::IntoShapeAndOrder => made_shape_and_order(lens.into_shape_and_order(alloc)),
+        OfSlice::Zeros => made_list(IxDyn::zeros(alloc, lens.len())),
+        OfSlice::CopyFrom => made_entries(IxDynImpl::copy_from(alloc, lens)),
     }
 }
 
@@ -60,46 +54,47 @@ fn made_entries(made: Result<IxDynImpl, AllocError>) -> Answer {
     }
 }
 
-/// What a call of a list answers.
-fn of_entries(
-    alloc: Global,
-    earlier: usize,
-    name: &str,
-    lens: &[usize],
-    place: usize,
-) -> Option<Answer> {
+/// What a call of a list answers; nothing where there is no such place.
+fn of_entries(alloc: Global, named: &OfEntries, lens: &[usize], place: usize) -> Option<Answer> {
     let entries = IxDynImpl::copy_from(alloc, lens).ok()?;
-    ask(alloc, earlier)?;
-    match name {
-        "insert" if place <= lens.len() => Some(made_entries(entries.insert(alloc, place))),
-        "remove" if place < lens.len() => Some(made_entries(entries.remove(alloc, place))),
-        "into_dimension" => Some(made_list(entries.into_dimension(alloc))),
+    match named {
+        OfEntries::Insert if place <= lens.len() => {
+            Some(made_entries(entries.insert(alloc, place)))
+        },
+        OfEntries::Remove if place < lens.len() => Some(made_entries(entries.remove(alloc, place))),
+        OfEntries::IntoDimension => Some(made_list(entries.into_dimension(alloc))),
         _ => None,
     }
 }
 
 /// What a call of a vector answers.
-fn of_vector(alloc: Global, earlier: usize, name: &str, lens: &[usize]) -> Option<Answer> {
-    let lens = lens.to_vec(alloc).ok()?;
-    ask(alloc, earlier)?;
-    match name {
-        "from_vec" => Some(made_entries(IxDynImpl::from_vec(alloc, lens))),
-        "into_dimension" => Some(made_list(lens.into_dimension(alloc))),
-        _ => None,
-    }
+fn of_vector(alloc: Global, named: &OfVector, lens: &[usize]) -> Option<Answer> {
+    let items = lens.to_vec(alloc).ok()?;
+    Some(match named {
+        OfVector::FromVec => made_entries(IxDynImpl::from_vec(alloc, items)),
+        OfVector::IntoDimension => made_list(items.into_dimension(alloc)),
+    })
 }
 
 /// What a call that begins a walk answers: how many indices that is over.
-fn walked(alloc: Global, earlier: usize, name: &str, lens: &[usize]) -> Option<Answer> {
+fn walked(alloc: Global, named: &OfWalk, lens: &[usize]) -> Option<Answer> {
     let dim = new_ixdyn(alloc, lens).ok()?;
     let count = dim.size_checked()?;
-    ask(alloc, earlier)?;
-    let is_made = match name {
-        "IndexCursor::new" => IndexCursor::new(alloc, dim).is_ok(),
-        "IndexCursorF::new" => IndexCursorF::new(alloc, dim).is_ok(),
-        "all_indices" => all_indices(alloc, dim).is_ok(),
-        "indices_iter_f" => indices_iter_f(alloc, dim).is_ok(),
-        _ => return None,
-    };
-    Some(if is_made { listed(&[count]) } else { MEMORY })
+    Some(if begins(alloc, named, dim) {
+        listed(&[count])
+    } else {
+        MEMORY
+    })
+}
+
+/// Whether a walk over the indices of a shape is begun.
+fn begins(alloc: Global, named: &OfWalk, dim: IxDyn) -> bool
+    requires { size (lengths dim) < 2 ^ 64 }
+{
+    match named {
+        OfWalk::Cursor => IndexCursor::new(alloc, dim).is_ok(),
+        OfWalk::CursorF => IndexCursorF::new(alloc, dim).is_ok(),
+        OfWalk::AllIndices => all_indices(alloc, dim).is_ok(),
+        OfWalk::IndicesIterF => indices_iter_f(alloc, dim).is_ok(),
+    }
 }

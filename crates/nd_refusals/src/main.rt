@@ -1,11 +1,12 @@
 //! Calls that may need memory, as lines of input say: which of a call's requests is refused, the run decides
-//! (`rt try --fail-alloc`), and how many small requests are made before the call (`checks/memory`).
+//! (`rt try --fail-alloc`), and how many small requests are made first (`checks/refused_calls`).
 #![tactic(auto)]
 
 mod answer;
 mod call;
 mod dimensions;
 mod lists;
+mod names;
 mod owned;
 mod runs;
 mod views;

@@ -1,24 +1,20 @@
 //! Calls of an array of numbers, 0 and so on: the lists are its shape, its strides, how many items it has, and the items that are
 //! written to each of the first two entries of its first axis.
-use crate::answer::{Answer, Fault, Told, left, listed};
-use crate::call::{Call, ask};
+use crate::answer::{Answer, Fault, left, listed};
+use crate::call::Call;
+use crate::names::OfArray;
 use crate::views::REVERSED;
 use nd_owned::OwnedArray;
 use ndarray_layout::{IxDyn, SliceInfoElem, StrideShape, Strides, new_ixdyn};
 use std::alloc::Global;
 
 /// What a call answers.
-pub fn told(alloc: Global, call: &Call<'_>) -> Option<Told> {
-    let answer = match call.name {
-        "OwnedArray::from_shape_vec" => by_columns(alloc, call),
-        "OwnedArray::items" => items(alloc, call),
-        "OwnedArray::multi_set" => written(alloc, call),
-        _ => None,
-    };
-    Some(Told {
-        answer: answer?,
-        lent: None,
-    })
+pub fn answer(alloc: Global, call: &Call<'_>, named: &OfArray) -> Option<Answer> {
+    match named {
+        OfArray::FromShapeVec => by_columns(alloc, call),
+        OfArray::Items => items(alloc, call),
+        OfArray::MultiSet => written(alloc, call),
+    }
 }
 
 /// The first numbers.
@@ -32,57 +28,72 @@ fn numbers(alloc: Global, count: usize) -> Option<Vec<usize>> {
 
 /// The shape of the array, in column-major order, over its items: they are left, or handed back.
 fn by_columns(alloc: Global, call: &Call<'_>) -> Option<Answer> {
-    let dim = new_ixdyn(alloc, call.lists.first.as_slice()).ok()?;
     let items = numbers(alloc, call.lists.third.at(0))?;
-    let shape = StrideShape {
-        dim,
-        strides: Strides::F,
-    };
-    ask(alloc, call.earlier)?;
-    match OwnedArray::from_shape_vec(alloc, shape, items) {
+    let dim = new_ixdyn(alloc, call.lists.first.as_slice()).ok()?;
+    over_items(alloc, dim, items)
+}
+
+/// The same of the lengths and the items.
+fn over_items(alloc: Global, dim: IxDyn, items: Vec<usize>) -> Option<Answer> {
+    let strides = Strides::F;
+    match OwnedArray::from_shape_vec(alloc, StrideShape { dim, strides }, items) {
         Ok(array) => left(None, array.stored()),
         Err((fault, items)) => left(Some(Fault::of(&fault)), items.as_slice()),
     }
 }
 
+/// The shape and the strides of the array.
+fn laid(alloc: Global, call: &Call<'_>) -> Option<StrideShape<IxDyn>> {
+    let dim = new_ixdyn(alloc, call.lists.first.as_slice()).ok()?;
+    let strides = Strides::Custom(new_ixdyn(alloc, call.lists.second.as_slice()).ok()?);
+    Some(StrideShape { dim, strides })
+}
+
 /// The array.
 fn array(alloc: Global, call: &Call<'_>) -> Option<OwnedArray<usize, IxDyn>> {
-    let shape = StrideShape {
-        dim: new_ixdyn(alloc, call.lists.first.as_slice()).ok()?,
-        strides: Strides::Custom(new_ixdyn(alloc, call.lists.second.as_slice()).ok()?),
-    };
-    OwnedArray::from_shape_vec(alloc, shape, numbers(alloc, call.lists.third.at(0))?).ok()
+    let items = numbers(alloc, call.lists.third.at(0))?;
+    OwnedArray::from_shape_vec(alloc, laid(alloc, call)?, items).ok()
 }
 
 /// The items of all axes, each from the last entry back.
 fn items(alloc: Global, call: &Call<'_>) -> Option<Answer> {
-    let array = array(alloc, call)?;
     let all = [REVERSED; 6];
     let slice = all.get(..call.lists.first.as_slice().len())?;
-    ask(alloc, call.earlier)?;
+    let array = array(alloc, call)?;
     match array.items(alloc, &slice) {
         Ok(items) => Some(listed(items.as_slice())),
         Err(fault) => Some(Answer::Refused(Fault::of(&fault))),
     }
 }
 
+/// A slice, and the items for it.
+type Write = (Vec<SliceInfoElem>, Vec<usize>);
+
 /// The items for an entry of the first axis, the others from the last entry back.
-fn write(alloc: Global, call: &Call<'_>, entry: isize) -> Option<(Vec<SliceInfoElem>, Vec<usize>)> {
+fn write(alloc: Global, call: &Call<'_>, entry: isize) -> Option<Write> {
     let mut slice = [REVERSED; 6];
     slice[0] = SliceInfoElem::Index(entry);
     let slice = slice.get(..call.lists.first.as_slice().len())?;
-    Some((
-        slice.to_vec(alloc).ok()?,
-        call.lists.fourth.as_slice().to_vec(alloc).ok()?,
-    ))
+    let items = call.lists.fourth.as_slice().to_vec(alloc).ok()?;
+    Some((slice.to_vec(alloc).ok()?, items))
+}
+
+/// The writes to the first two entries of the first axis.
+fn writes(alloc: Global, call: &Call<'_>) -> Option<[Write; 2]> {
+    let first = write(alloc, call, 0)?;
+    Some([first, write(alloc, call, 1)?])
 }
 
 /// The items of the array after writes to the first two entries of the first axis.
 fn written(alloc: Global, call: &Call<'_>) -> Option<Answer> {
-    let mut array = array(alloc, call)?;
-    let writes = [write(alloc, call, 0)?, write(alloc, call, 1)?];
-    ask(alloc, call.earlier)?;
-    match array.multi_set(alloc, &writes) {
+    let writes = writes(alloc, call)?;
+    of_writes(array(alloc, call)?, alloc, &writes)
+}
+
+/// The items of an array after writes.
+fn of_writes(array: OwnedArray<usize, IxDyn>, alloc: Global, writes: &[Write]) -> Option<Answer> {
+    let mut array = array;
+    match array.multi_set(alloc, writes) {
         Ok(()) => left(None, array.stored()),
         Err(fault) => left(Some(Fault::of(&fault)), array.stored()),
     }

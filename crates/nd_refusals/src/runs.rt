@@ -1,7 +1,7 @@
 //! A run of a step of each kind: the lists are the shape and the strides of the view that it begins with, and the shapes of the
 //! reshape and of the broadcast.
-use crate::answer::{Answer, Fault, Told, layout_of};
-use crate::call::{Call, ask};
+use crate::answer::{Answer, Fault, layout_of};
+use crate::call::Call;
 use crate::views::{REVERSED, view_of};
 use Fit::Strict;
 use Order::RowMajor;
@@ -9,15 +9,18 @@ use ndarray_layout::{Axis, Fit, IxDyn, Order, Step, Stopped, Strided, new_ixdyn,
 use std::alloc::Global;
 
 /// What the run answers: the view, or how many steps were taken and the view that they left.
-pub fn told(alloc: Global, call: &Call<'_>) -> Option<Told> {
-    let view = begun(alloc, call)?;
+pub fn answer(alloc: Global, call: &Call<'_>) -> Option<Answer> {
     let steps = steps(alloc, call)?;
-    ask(alloc, call.earlier)?;
-    let answer = match run(alloc, view, &steps) {
-        Ok(view) => Answer::View(layout_of(&view)?),
-        Err(stopped) => of_stopped(stopped)?,
-    };
-    Some(Told { answer, lent: None })
+    of_run(alloc, call, &steps)
+}
+
+/// The same of these steps.
+fn of_run(alloc: Global, call: &Call<'_>, steps: &[Step]) -> Option<Answer> {
+    let view = begun(alloc, call)?;
+    match run(alloc, view, steps) {
+        Ok(view) => Some(Answer::View(layout_of(&view)?)),
+        Err(stopped) => of_stopped(&stopped),
+    }
 }
 
 /// The view that the run begins with.
@@ -27,24 +30,38 @@ fn begun(alloc: Global, call: &Call<'_>) -> Option<Strided<IxDyn>> {
     view_of(dim, strides)
 }
 
-/// A step of each kind. The last axis but one is merged into the last one.
+/// A step of each kind.
 fn steps(alloc: Global, call: &Call<'_>) -> Option<[Step; 5]> {
     let ndim = call.lists.first.as_slice().len();
     let elems = [REVERSED; 6].get(..ndim)?.to_vec(alloc).ok()?;
+    with_shapes(alloc, call, Step::Slice(elems, Strict), merged(ndim))
+}
+
+/// The last axis but one, merged into the last one.
+fn merged(ndim: usize) -> Step {
+    Step::Merge(Axis(ndim.saturating_sub(2)), Axis(ndim.saturating_sub(1)))
+}
+
+/// The steps by two first ones and two shapes.
+fn with_shapes(alloc: Global, call: &Call<'_>, slice: Step, merge: Step) -> Option<[Step; 5]> {
+    let (shape, wide) = shapes(alloc, call)?;
     Some([
-        Step::Slice(elems, Strict),
+        slice,
         Step::Collapse(Axis(0), 1),
-        Step::Merge(Axis(ndim.checked_sub(2)?), Axis(ndim.checked_sub(1)?)),
-        Step::Reshape(
-            new_ixdyn(alloc, call.lists.third.as_slice()).ok()?,
-            RowMajor,
-        ),
-        Step::Broadcast(new_ixdyn(alloc, call.lists.fourth.as_slice()).ok()?),
+        merge,
+        Step::Reshape(shape, RowMajor),
+        Step::Broadcast(wide),
     ])
 }
 
+/// The shapes of the reshape and of the broadcast.
+fn shapes(alloc: Global, call: &Call<'_>) -> Option<(IxDyn, IxDyn)> {
+    let shape = new_ixdyn(alloc, call.lists.third.as_slice()).ok()?;
+    Some((shape, new_ixdyn(alloc, call.lists.fourth.as_slice()).ok()?))
+}
+
 /// What a run that ended early answers.
-fn of_stopped(stopped: Stopped) -> Option<Answer> {
-    let Stopped { at, fault, view } = stopped;
-    Some(Answer::Stopped(at, Fault::of(&fault), layout_of(&view)?))
+fn of_stopped(stopped: &Stopped) -> Option<Answer> {
+    let left = layout_of(&stopped.view)?;
+    Some(Answer::Stopped(stopped.at, Fault::of(&stopped.fault), left))
 }

@@ -1,6 +1,7 @@
 //! Calls of a view: the lists are its shape and its strides, and another shape.
 use crate::answer::{Answer, Fault, MEMORY, Told, layout_of, listed, made_list, made_view};
-use crate::call::{Call, ask};
+use crate::call::Call;
+use crate::names::OfView;
 use CanIndexCheckMode::ReadOnly;
 use Fit::Strict;
 use Order::RowMajor;
@@ -23,23 +24,30 @@ pub fn view_of<D: Lengths>(dim: D, strides: D) -> Option<Strided<D>> {
     Strided::new(dim, strides, 1, 99, ReadOnly).ok()
 }
 
-/// What a call answers.
-pub fn told<D: Lengths>(alloc: Global, call: &Call<'_>, name: &str) -> Option<Told> {
+/// The view of a call.
+fn lent<D: Lengths>(alloc: Global, call: &Call<'_>) -> Option<Strided<D>> {
     let dim: D = made(alloc, call.lists.first.as_slice())?;
-    let strides: D = made(alloc, call.lists.second.as_slice())?;
+    view_of(dim, made(alloc, call.lists.second.as_slice())?)
+}
+
+/// What a call answers.
+pub fn told<D: Lengths>(alloc: Global, call: &Call<'_>, named: &OfView) -> Option<Told> {
     let to: D = made(alloc, call.lists.third.as_slice())?;
-    let view = view_of(dim, strides)?;
-    ask(alloc, call.earlier)?;
-    let answer = match name {
-        "from_shape" => shaped(alloc, to),
-        "places" => Some(places(alloc, &view)),
-        "reshape_dim" => reshaped(alloc, view.dim(), view.strides(), &to),
-        _ => made_view(another(alloc, name, &view, &to)?),
-    };
+    let view: Strided<D> = lent(alloc, call)?;
     Some(Told {
-        answer: answer?,
+        answer: answer(alloc, named, &view, to)?,
         lent: layout_of(&view),
     })
+}
+
+/// The same of the view and of another shape.
+fn answer<D: Lengths>(alloc: Global, named: &OfView, view: &Strided<D>, to: D) -> Option<Answer> {
+    match named {
+        OfView::FromShape => shaped(alloc, to),
+        OfView::Places => Some(places(alloc, view)),
+        OfView::ReshapeDim => reshaped(alloc, view.dim(), view.strides(), &to),
+        _ => made_view(another(alloc, named, view, &to)?),
+    }
 }
 
 /// The view of a shape in column-major order.
@@ -69,15 +77,15 @@ fn reversed<D: Lengths>(
 /// The view that a call makes of another, if a call has this name.
 fn another<D: Lengths>(
     alloc: Global,
-    name: &str,
+    named: &OfView,
     view: &Strided<D>,
     to: &D,
 ) -> Option<Result<Strided<D>, LayoutError>> {
-    match name {
-        "duplicate" => Some(duplicated(alloc, view)),
-        "slice" => reversed(alloc, view),
-        "reshape" => Some(view.reshape(alloc, to, RowMajor)),
-        "broadcast" => Some(view.broadcast(alloc, to)),
+    match named {
+        OfView::Duplicate => Some(duplicated(alloc, view)),
+        OfView::Slice => reversed(alloc, view),
+        OfView::Reshape => Some(view.reshape(alloc, to, RowMajor)),
+        OfView::Broadcast => Some(view.broadcast(alloc, to)),
         _ => None,
     }
 }

@@ -71,7 +71,7 @@ pub record OnesAlike (from : List ℕ) (strides : List ℤ) (to : List ℕ) (new
   pub to_first : slice_index to to_axes ≡ 1 → ones_before from (size (take from_axes from)) from_axes ≤ ones_before to (size (take to_axes to)) to_axes
 
 -- so many axes of each are read, and those of the new shape have their strides
-pub record IsWritten (from : List ℕ) (strides : List ℤ) (to : List ℕ) (news : List ℤ) (from_axes to_axes : ℕ) : Type 0 where
+pub record HasStridesUpTo (from : List ℕ) (strides : List ℤ) (to : List ℕ) (news : List ℤ) (from_axes to_axes : ℕ) : Type 0 where
   pub reached : IsReached from strides to from_axes to_axes
   pub alike : PlacesAlike (take from_axes from) (take from_axes strides) (take to_axes to) (take to_axes news)
   pub ones : OnesAlike from strides to news from_axes to_axes

@@ -8,7 +8,7 @@ ghost use Rattle.nd_base.specs.Size.{size, nonzero_size, is_empty, limit};
 ghost use Rattle.nd_base.specs.ValidLayout.{IsValidLayout};
 ghost use Rattle.ndarray_layout_reshape.specs.ForcedStrides.{forced_strides, stride_at};
 ghost use Rattle.ndarray_layout_reshape.specs.ReshapeFault.{reshape_fault, fault_as_read};
-ghost use Rattle.ndarray_layout_reshape.specs.Walk.{CanWalk, IsReached, IsBlock, IsInside, IsWritten, PlacesAlike};
+ghost use Rattle.ndarray_layout_reshape.specs.Walk.{CanWalk, IsReached, IsBlock, IsInside, HasStridesUpTo, PlacesAlike};
 
 use crate::sequence::{Forward, Reverse, Sequence, SequenceMut};
 use nd_base::{ErrorKind, Lengths, Order, ShapeError, from_kind, signed, unsigned};
@@ -150,11 +150,11 @@ fn advance<S: Sequence, T: Sequence, O: SequenceMut>(
     requires from_left { at.from_axes < length (S.items from.now) }
     requires to_left { at.to_axes < length (T.items to.now) }
     requires room { length (O.items out.old) ≡ length (T.items to.now) }
-    requires written { IsWritten (S.items from.now) (all_signed (S.items strides.now)) (T.items to.now) (all_signed (O.items out.old)) at.from_axes at.to_axes }
+    requires written { HasStridesUpTo (S.items from.now) (all_signed (S.items strides.now)) (T.items to.now) (all_signed (O.items out.old)) at.from_axes at.to_axes }
     ensures fault { IfErr result (λ kind. fault_as_read (S.items from.now) (all_signed (S.items strides.now)) (T.items to.now) ≡ Some kind) }
     ensures further { IfOk result (λ next. at.from_axes + at.to_axes < next.from_axes + next.to_axes) }
     ensures room { IfOk result (λ next. length (O.items out.new) ≡ length (T.items to.now)) }
-    ensures written { IfOk result (λ next. IsWritten (S.items from.now) (all_signed (S.items strides.now)) (T.items to.now) (all_signed (O.items out.new)) next.from_axes next.to_axes) }
+    ensures written { IfOk result (λ next. HasStridesUpTo (S.items from.now) (all_signed (S.items strides.now)) (T.items to.now) (all_signed (O.items out.new)) next.from_axes next.to_axes) }
     ensures target { O.same_target out.old out.new }
 {
     let from_len = item(from, at.from_axes);

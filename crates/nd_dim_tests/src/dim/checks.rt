@@ -53,7 +53,7 @@ pub(crate) fn has_size<D: Dimension>(dim: &D, wanted: &[usize]) -> bool {
 
 /// What makes strides.
 #[derive(Clone, Copy)]
-pub(crate) enum By {
+enum By {
     /// The shape itself.
     Shape,
     /// Its list alone.
@@ -61,12 +61,7 @@ pub(crate) enum By {
 }
 
 /// The strides of a shape in an order, where its size fits.
-pub(crate) fn strides<D: Dimension>(
-    alloc: Global,
-    dim: &D,
-    order: Order,
-    by: By,
-) -> Result<D, AllocError> {
+fn strides<D: Dimension>(alloc: Global, dim: &D, order: Order, by: By) -> Result<D, AllocError> {
     if dim.size_checked().is_none() {
         return Err(AllocError);
     }
@@ -207,19 +202,17 @@ pub(crate) fn handed_on<D: Dimension>(alloc: Global, lens: &[usize]) -> Result<I
 }
 
 /// A value of any number of axes that a call made has these lengths, and is one of this type or is none.
-/// The last argument says whether the call may be refused for memory.
 pub(crate) fn becomes<D: Dimension>(
     alloc: Global,
     dynamic: Result<IxDyn, AllocError>,
     lens: &[usize],
     answer: bool,
-    may_want_memory: bool,
 ) -> bool {
     match dynamic {
         Ok(dynamic) => {
             dynamic.slice() == lens && may_give(D::from_dimension(alloc, &dynamic), lens, answer)
         },
-        Err(_) => may_want_memory,
+        Err(_) => false,
     }
 }
 

@@ -7,7 +7,6 @@ use crate::dim::checks::{
 };
 use crate::dim::ends::has_next;
 use crate::dim::lists::dim_of;
-use crate::dim::memory::{Memory, asks, serves};
 use crate::dim::operators::{Operator, calculates, scales};
 use crate::dim::steps::has_indices;
 use nd_dim::{
@@ -59,8 +58,6 @@ pub(crate) enum Question {
     LastWritten,
     /// Lengths, an axis and its new length, and the lengths with it.
     Written,
-    /// Lengths, and an axis: how a call goes about memory.
-    Memory(Memory),
 }
 
 /// The types at which a row is asked.
@@ -68,8 +65,6 @@ pub(crate) enum Question {
 pub(crate) enum Types {
     /// That of as many axes as the first list of the row has.
     Fixed,
-    /// That of any number of axes.
-    AnyCount,
     /// Both.
     Both,
 }
@@ -85,13 +80,12 @@ fn keeps<D: Dimension + IntoDimension<Dim = D>>(
     let ones = [1; 4];
     has_list(alloc, dim, lens)
         && stays::<D>(rt, alloc, lens)
-        && becomes::<D>(alloc, handed_on::<D>(alloc, lens), lens, true, false)
+        && becomes::<D>(alloc, handed_on::<D>(alloc, lens), lens, true)
         && becomes::<D>(
             alloc,
             new_ixdyn(alloc, &ones),
             &ones,
             D::NDIM.unwrap_or(4) == 4,
-            false,
         )
 }
 
@@ -107,9 +101,7 @@ fn dimension_answers<D: Dimension>(
     third: &[usize],
 ) -> bool {
     match question {
-        Question::Made(answer) => {
-            becomes::<D>(alloc, new_ixdyn(alloc, second), second, answer, false)
-        },
+        Question::Made(answer) => becomes::<D>(alloc, new_ixdyn(alloc, second), second, answer),
         Question::Incompatible => is_incompatible(rt, alloc, dim, second),
         Question::Inserted => widens(alloc, dim, number, third),
         Question::Removed => tries_to_narrow(alloc, dim, number, third),
@@ -153,26 +145,22 @@ fn answers<D: Dimension + IntoDimension<Dim = D>>(
             row.second.at(1),
             third,
         ),
-        Question::Memory(memory) => serves(alloc, memory, dim, number),
         _ => dimension_answers(rt, question, alloc, dim, number, second, third),
     }
 }
 
-/// Whether the calls answer what a row says at a type that can have an axis to remove. Where a row asks how
-/// calls go about memory, memory for the value itself may be refused.
+/// Whether the calls answer what a row says at a type that can have an axis to remove.
 fn holds<D: RemoveAxis + IntoDimension<Dim = D>>(
     rt: &impl Abort,
     question: Question,
     alloc: Global,
     row: &Lists<'_>,
 ) -> bool {
-    let lens = row.first.as_slice();
-    let Some(dim) = made::<D>(alloc, lens) else {
-        return matches!(question, Question::Memory(_)) && D::NDIM.is_none() && lens.len() > 4;
+    let Some(dim) = made::<D>(alloc, row.first.as_slice()) else {
+        return false;
     };
     match question {
         Question::Removed => narrows(alloc, &dim, row.second.at(0), row.third.as_slice()),
-        Question::Memory(memory) => asks(alloc, memory, &dim, row.second.at(0)),
         _ => answers(rt, question, alloc, &dim, row),
     }
 }
@@ -203,9 +191,8 @@ fn row_holds(rt: &impl Abort, alloc: Global, question: Question, types: Types, l
         return false;
     };
     let count = row.first.as_slice().len();
-    let at_fixed = matches!(types, Types::AnyCount)
-        || holds_at(rt, question, alloc, Some(count), &row);
-    at_fixed && (matches!(types, Types::Fixed) || holds_at(rt, question, alloc, None, &row))
+    holds_at(rt, question, alloc, Some(count), &row)
+        && (matches!(types, Types::Fixed) || holds_at(rt, question, alloc, None, &row))
 }
 
 /// Fails, and prints the row, where it doesn't hold.
