@@ -31,6 +31,16 @@ of_span len start end first last =
       entry = λ j h. (let picked = pick_up 1 start end j (lit< tt) (subst (λ n. j < n) (sym count) h) in omega (arith, picked));
     }
 
+pub back_over : (len start end : ℕ) → leb start len ≡ true → leb end len ≡ true → IsPick len (slice_with (pos start) (Some (pos end)) (negsuc 0)) (end - start) (λ j. end - 1 - j)
+back_over len start end first last =
+    let fits : SliceFits Strict len (slice_with (pos start) (Some (pos end)) (negsuc 0)) = record { start_within = first; end_within = last; step_moves = refl } in
+    let count = length-picks Strict len (slice_with (pos start) (Some (pos end)) (negsuc 0)) fits ∙ ceil_by_one (end - start) in
+    record {
+      fits = fits;
+      count = count;
+      entry = λ j h. (let picked = pick_down 0 start end j (subst (λ n. j < n) (sym count) h) in omega (arith, picked));
+    }
+
 pub turned : (len : ℕ) → IsPick len (slice_with (pos 0) None (negsuc 0)) len (λ j. len - 1 - j)
 turned len =
     let fits : SliceFits Strict len (slice_with (pos 0) None (negsuc 0)) = record { start_within = le-leb 0 len (omega arith); end_within = le-leb len len (omega arith); step_moves = refl } in

@@ -2,11 +2,10 @@
 use Rattle.std.proofs.Common.{◌≡◌, ℕ, ◌<◌, ℤ, pos, true, Option, Some, None, Result, Ok, Err, IfOk, MatchResult, List, length, get_or, map, refl, sym, ap, ◌∙◌, subst, zero-add, arith}
 use Rattle.std.specs.List.{All}
 use Rattle.std.specs.Option.{option_map}
-use Rattle.std.specs.Result.{IsErrAnd}
 use Rattle.std.specs.Prelude.{slice_get}
 use Rattle.std.proofs.lemmas.Bool.{lt-ltb}
 use Rattle.std.proofs.lemmas.List.{length-map}
-use Rattle.std.proofs.lemmas.Option.{get_or_from_slice_get, slice_get-get_or, slice_get-map, slice_get_within}
+use Rattle.std.proofs.lemmas.Option.{slice_get-map}
 use Rattle.ndarray_layout.specs.declared.ErrorKind.{ErrorKind}
 use Rattle.ndarray_layout.specs.declared.LayoutError.{LayoutError}
 use Rattle.ndarray_layout.specs.declared.LayoutError.TheVariants.{Shape}
@@ -24,7 +23,6 @@ use Rattle.ndarray_layout.proofs.laws.View.{length-view_places}
 use Rattle.example_tiles_picture.specs.declared.Extent.{Extent}
 use Rattle.example_tiles_picture.specs.Picture.{IsWithin, Position, pixel_count}
 use Rattle.example_tiles_edits.specs.declared.edit.Edit.{Edit}
-use Rattle.example_tiles_edits.specs.declared.editing.EditError.{EditError}
 use Rattle.example_tiles_edits.specs.Edits.{extent_of, first_misfit, source_of}
 use Rattle.example_tiles_edits.specs.Slices.{ArePlaces, index_of, place_in, shape_of, step_of, whole_view}
 use Rattle.example_tiles_edits.proofs.EditSteps.{IsRun, run_of_edits, source_of_within}
@@ -33,13 +31,13 @@ none_is_not_some : {A : Type 0} (x : A) → None ≡ Some x → ⊥
 none_is_not_some x e = cc
 
 -- ---- a position as an index
-is_index_of : (extent : Extent) (at : Position) → IsWithin extent at → is_index (shape_of extent) (index_of at) ≡ true
+pub is_index_of : (extent : Extent) (at : Position) → IsWithin extent at → is_index (shape_of extent) (index_of at) ≡ true
 is_index_of extent at within = rw (lt-ltb at.row extent.rows within.row_below, lt-ltb at.column extent.columns within.column_below) refl
 
-rank_of : (extent : Extent) (at : Position) → rank (shape_of extent) (index_of at) ≡ place_in extent at
+pub rank_of : (extent : Extent) (at : Position) → rank (shape_of extent) (index_of at) ≡ place_in extent at
 rank_of extent at = omega arith
 
-place_of_whole : (extent : Extent) (at : Position) → IsWithin extent at → place_at (whole_view extent) (index_of at) ≡ pos (place_in extent at)
+pub place_of_whole : (extent : Extent) (at : Position) → IsWithin extent at → place_at (whole_view extent) (index_of at) ≡ pos (place_in extent at)
 place_of_whole extent at within =
     rw (offset_of-default_strides (shape_of extent) (index_of at) (is_index_of extent at within)) (ap pos (zero-add _ ∙ rank_of extent at))
 
@@ -59,15 +57,15 @@ found left extent view source places at from shape keeps at_rank within inside s
     some_number (slice_get places (place_in left at)) (place_in extent from)
     (at_rank (place_in left at) small ∙ ap (λ (z : ℤ). Some z) (ap (place_at view) index ∙ kept.1 ∙ ap (place_at (whole_view extent)) same ∙ place_of_whole extent from inside))
 
-size_of : (extent : Extent) → size (shape_of extent) ≡ pixel_count extent
+pub size_of : (extent : Extent) → size (shape_of extent) ≡ pixel_count extent
 size_of extent = omega arith
 
-pub places_found : (edits : List Edit) (extent : Extent) (steps : List StepValue) (start view : View) (places : List ℕ) → first_misfit edits extent ≡ None → steps ≡ map step_of edits → start ≡ whole_view extent
+pub places_found : (edits : List Edit) (extent : Extent) (steps : List StepValue) (start view : View) (places : List ℕ) → first_misfit edits extent ≡ None → map Some steps ≡ map step_of edits → start ≡ whole_view extent
     → view ≡ (run_of steps start).view → KeepsPlaces (run_of steps start).source start view
     → ((r : ℕ) → r < size view.shape → option_map pos (slice_get places r) ≡ Some (place_at view (index_of_rank view.shape r))) → length places ≡ size view.shape → All (λ place. place < pixel_count extent) places
     → ArePlaces edits extent places
 places_found edits extent steps start view places fit same whole left keeps at_rank complete inside =
-    let ran : IsRun edits extent (run_of steps start) = rw same (run_of_edits edits extent start fit (ap (λ (v : View). v.shape) whole)) in
+    let ran : IsRun edits extent (run_of steps start) = run_of_edits edits steps extent start same fit (ap (λ (v : View). v.shape) whole) in
     let shape : view.shape ≡ shape_of (extent_of edits extent) = ap (λ (v : View). v.shape) left ∙ ran.shape in
     record {
       complete = complete ∙ ap size shape ∙ size_of (extent_of edits extent);
@@ -77,10 +75,10 @@ places_found edits extent steps start view places fit same whole left keeps at_r
     }
 
 -- a run of edits that fit ends for no fault of its own
-pub not_refused : (edits : List Edit) (extent : Extent) (steps : List StepValue) (start left : View) (fault : LayoutError) (kind : ErrorKind) (at : ℕ) → first_misfit edits extent ≡ None → steps ≡ map step_of edits → start ≡ whole_view extent
+pub not_refused : (edits : List Edit) (extent : Extent) (steps : List StepValue) (start left : View) (fault : LayoutError) (kind : ErrorKind) (at : ℕ) → first_misfit edits extent ≡ None → map Some steps ≡ map step_of edits → start ≡ whole_view extent
     → IsEndedBy (run_of steps start) at fault left → fault ≡ Shape kind → ⊥
 not_refused edits extent steps start left fault kind at fit same whole ended is =
-    let ran : IsRun edits extent (run_of steps start) = rw same (run_of_edits edits extent start fit (ap (λ (v : View). v.shape) whole)) in
+    let ran : IsRun edits extent (run_of steps start) = run_of_edits edits steps extent start same fit (ap (λ (v : View). v.shape) whole) in
     let refused : IsEndedBy (run_of steps start) at (Shape kind) left = subst (λ (f : LayoutError). IsEndedBy (run_of steps start) at f left) is ended in
     none_is_not_some kind (sym ran.fault ∙ refused.0)
 
@@ -97,20 +95,8 @@ read_at pixels stored places r q gathered at =
 pub length_gathered : (pixels stored places : List ℕ) → map Some pixels ≡ map (slice_get stored) places → length pixels ≡ length places
 length_gathered pixels stored places gathered = sym (length-map pixels Some) ∙ ap length gathered ∙ length-map places (slice_get stored)
 
-pub All-gathered : (P : ℕ → Type 0) (pixels stored places : List ℕ) → map Some pixels ≡ map (slice_get stored) places → All P stored → All P pixels
-All-gathered P pixels stored places gathered each k d h =
-    let place = slice_get-get_or places k 0 (omega (arith, length_gathered pixels stored places gathered)) in
-    let read : slice_get stored (get_or places k 0) ≡ Some (get_or pixels k d) = sym (read_at pixels stored places k (get_or places k 0) gathered place) ∙ slice_get-get_or pixels k d h in
-    subst P (get_or_from_slice_get stored (get_or places k 0) (get_or pixels k d) d read) (each (get_or places k 0) d (slice_get_within stored (get_or places k 0) (get_or pixels k d) read))
-
--- ---- the extent that edits leave, as the call answers it
-pub extent_left : (r : Result Extent ℕ) (s : Result Extent EditError) (x left : Extent) (A : Type 0) (B : ℕ → Type 0) (C : ℕ → EditError → Type 0) → MatchResult r (λ e. A × (e ≡ left)) B
-    → MatchResult r (λ e. s ≡ Ok e) (λ at. IsErrAnd s (C at)) → s ≡ Ok x → x ≡ left
-extent_left (Ok e) s x left A B C h k is = let same : e ≡ x = cc in sym same ∙ h.1
-extent_left (Err at) s x left A B C h k is = absurd (subst (λ (t : Result Extent EditError). IsErrAnd t (C at)) is k)
-
 -- ---- the places that a call answers
-pub of_places : {V E : Type 0} (items : V → List ℕ) (r : Result V E) (edits : List Edit) (extent : Extent) (steps : List StepValue) (start view : View) → first_misfit edits extent ≡ None → steps ≡ map step_of edits → start ≡ whole_view extent
+pub of_places : {V E : Type 0} (items : V → List ℕ) (r : Result V E) (edits : List Edit) (extent : Extent) (steps : List StepValue) (start view : View) → first_misfit edits extent ≡ None → map Some steps ≡ map step_of edits → start ≡ whole_view extent
     → view ≡ (run_of steps start).view → KeepsPlaces (run_of steps start).source start view → LiesWithin (pixel_count extent) view
     → IfOk r (λ v. map pos (items v) ≡ view_places RowMajor view)
     → IfOk r (λ v. (r : ℕ) → r < size view.shape → option_map pos (slice_get (items v) r) ≡ Some (place_at view (index_of_rank view.shape r)))

@@ -1,17 +1,25 @@
 -- The edit by which a call is refused.
 use Rattle.std.specs.Prelude.{◌≡◌, ℕ, Option, Some, None, Result, Ok, Err, refl}
+use Rattle.example_tiles_edits.specs.declared.edit.Edit.TheVariants.{FlipRows}
+use Rattle.example_tiles_edits.specs.declared.edit.Misfit.{Misfit}
 use Rattle.example_tiles_edits.specs.declared.editing.EditError.{EditError}
-use Rattle.example_tiles_edits.specs.declared.editing.EditError.TheVariants.{Misfit, Memory}
+use Rattle.example_tiles_edits.specs.declared.editing.EditError.TheVariants as error
 
--- the number of the edit that doesn't fit; none where memory is refused
-abbrev pub misfit_of : {A : Type 0} → Result A EditError → Option ℕ
+-- the edit that doesn't fit; none where memory is refused
+abbrev pub misfit_of : {A : Type 0} → Result A EditError → Option Misfit
 misfit_of (Ok x) = None
-misfit_of (Err (Misfit at)) = Some at
-misfit_of (Err Memory) = None
+misfit_of (Err (error.Misfit misfit)) = Some misfit
+misfit_of (Err error.Memory) = None
 
 -- examples
-second : misfit_of {A = ℕ} (Err (Misfit 1)) ≡ Some 1
+abbrev second_edit : Misfit
+second_edit = record { number = 2; edit = FlipRows; extent = record { rows = 3; columns = 2 } }
+
+second : misfit_of {A = ℕ} (Err (error.Misfit second_edit)) ≡ Some second_edit
 second = refl
 
-memory : misfit_of {A = ℕ} (Err Memory) ≡ None
+memory : misfit_of {A = ℕ} (Err error.Memory) ≡ None
 memory = refl
+
+edited : misfit_of {A = ℕ} (Ok 4) ≡ None
+edited = refl

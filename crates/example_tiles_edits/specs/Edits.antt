@@ -1,17 +1,33 @@
 -- What edits make of a picture: whether they fit, what extent they leave, and where in the source each pixel of the result comes from.
-use Rattle.std.specs.Prelude.{◌≡◌, ℕ, ◌+◌, ◌-◌, ◌*◌, Bool, true, false, ◌&&◌, nat_le, nat_lt, if◌then◌else◌}
-use Rattle.std.specs.Prelude.{Option, Some, None, List, [], ◌∷◌, refl}
+use Rattle.std.specs.Prelude.{◌≡◌, ℕ, zero, suc, ◌+◌, ◌-◌, ◌*◌, ◌/◌, ◌%◌, ◌<◌, ◌==◌, Bool, true, false, ◌&&◌, nat_eq, nat_le, nat_lt}
+use Rattle.std.specs.Prelude.{if◌then◌else◌, Option, Some, None, unwrap_or, List, [], ◌∷◌, map, slice_get, refl}
+use Rattle.std.proofs.Common.{ap, eq-eqb, lit<}
+use Rattle.std.proofs.Math.Nat.{not-suc-le-zero, le_of_suc-le-suc}
+use Rattle.std.proofs.lemmas.Bool.{both_ways}
 use Rattle.std.specs.Int.{div_ceil}
 use Rattle.std.specs.Option.{option_map}
 use Rattle.example_tiles_picture.specs.declared.Extent.{Extent}
 use Rattle.example_tiles_picture.specs.Picture.{Image, IsWithin, Position, pixel_at}
 use Rattle.example_tiles_edits.specs.declared.edit.Edit.{Edit}
-use Rattle.example_tiles_edits.specs.declared.edit.Edit.TheVariants.{Crop, FlipRows, FlipColumns, Every}
+use Rattle.example_tiles_edits.specs.declared.edit.Edit.TheVariants.{Crop, FlipRows, FlipColumns, Every, Mirror}
+use Rattle.example_tiles_edits.specs.declared.edit.Misfit.{Misfit}
 use Rattle.example_tiles_edits.specs.declared.edit.Span.{Span}
 
 -- no bound of a span is past so many rows or columns
 abbrev pub is_span : ℕ → Span → Bool
 is_span count span = nat_le span.start count && nat_le span.end count
+
+-- so many rows or columns are so many times as many
+abbrev pub divides : ℕ → ℕ → Bool
+divides count len = len % count == 0
+
+-- into how many parts by how many a picture is cut at most
+abbrev pub most_parts : ℕ
+most_parts = 64
+
+-- a picture of an extent can be cut into so many by so many parts of one extent
+abbrev pub can_cut : Extent → ℕ → Bool
+can_cut extent count = (nat_lt 0 count && nat_le count most_parts) && (divides count extent.rows && divides count extent.columns)
 
 -- whether an edit fits a picture of an extent
 abbrev pub fits : Extent → Edit → Bool
@@ -19,6 +35,7 @@ fits extent (Crop rows columns) = is_span extent.rows rows && is_span extent.col
 fits extent FlipRows = true
 fits extent FlipColumns = true
 fits extent (Every count) = nat_lt 0 count
+fits extent (Mirror count) = can_cut extent count
 
 -- the extent that an edit which fits leaves
 abbrev pub extent_after : Extent → Edit → Extent
@@ -26,6 +43,11 @@ extent_after extent (Crop rows columns) = record { rows = rows.end - rows.start;
 extent_after extent FlipRows = extent
 extent_after extent FlipColumns = extent
 extent_after extent (Every count) = record { rows = div_ceil extent.rows count; columns = div_ceil extent.columns count }
+extent_after extent (Mirror count) = extent
+
+-- the column that mirrors one where each so many columns from the first on are turned round
+abbrev pub mirrored : ℕ → ℕ → ℕ
+mirrored width column = column / width * width + (width - 1 - column % width)
 
 -- where in a picture of an extent the pixel of a position comes from that an edit leaves
 abbrev pub source : Extent → Edit → Position → Position
@@ -33,11 +55,18 @@ source extent (Crop rows columns) at = record { row = rows.start + at.row; colum
 source extent FlipRows at = record { row = extent.rows - 1 - at.row; column = at.column }
 source extent FlipColumns at = record { row = at.row; column = extent.columns - 1 - at.column }
 source extent (Every count) at = record { row = at.row * count; column = at.column * count }
+source extent (Mirror count) at = record { row = at.row; column = mirrored (extent.columns / count) at.column }
 
--- the number of the first edit that doesn't fit what those before it leave, from 0 on
-abbrev pub first_misfit : List Edit → Extent → Option ℕ
+-- a misfit among the edits after one, as it is counted with that one
+abbrev pub one_later : Misfit → Misfit
+one_later misfit = record { number = misfit.number + 1; edit = misfit.edit; extent = misfit.extent }
+
+-- the first edit that doesn't fit what those before it leave, counted from 1
+abbrev pub first_misfit : List Edit → Extent → Option Misfit
 first_misfit [] extent = None
-first_misfit (edit ∷ edits) extent = if fits extent edit then option_map (λ at. at + 1) (first_misfit edits (extent_after extent edit)) else Some 0
+first_misfit (edit ∷ edits) extent =
+    if fits extent edit then option_map one_later (first_misfit edits (extent_after extent edit))
+    else Some (record { number = 1; edit = edit; extent = extent })
 
 -- the extent that edits leave, one after another
 abbrev pub extent_of : List Edit → Extent → Extent
@@ -72,11 +101,35 @@ crop_past_the_end = refl
 every_none : fits four_by_six (Every 0) ≡ false
 every_none = refl
 
+in_halves : fits four_by_six (Mirror 2) ≡ true
+in_halves = refl
+
+no_thirds_of_four_rows : fits four_by_six (Mirror 3) ≡ false
+no_thirds_of_four_rows = refl
+
+no_quarters_of_six_columns : fits four_by_six (Mirror 4) ≡ false
+no_quarters_of_six_columns = refl
+
+in_no_parts : fits four_by_six (Mirror 0) ≡ false
+in_no_parts = refl
+
+in_too_many_parts : fits (record { rows = 65; columns = 65 }) (Mirror 65) ≡ false
+in_too_many_parts = refl
+
+in_most_parts : fits (record { rows = 64; columns = 0 }) (Mirror 64) ≡ true
+in_most_parts = refl
+
 every_fourth : extent_after four_by_six (Every 4) ≡ record { rows = 1; columns = 2 }
 every_fourth = refl
 
 last_row_first : source four_by_six FlipRows (record { row = 0; column = 2 }) ≡ record { row = 3; column = 2 }
 last_row_first = refl
+
+threes_turned_round : map (mirrored 3) (0 ∷ 1 ∷ 2 ∷ 3 ∷ 4 ∷ 5 ∷ []) ≡ 2 ∷ 1 ∷ 0 ∷ 5 ∷ 4 ∷ 3 ∷ []
+threes_turned_round = refl
+
+first_of_the_second_part : source four_by_six (Mirror 2) (record { row = 3; column = 3 }) ≡ record { row = 3; column = 5 }
+first_of_the_second_part = refl
 
 of_a_flipped_crop : source_of (Crop (span 1 4) (span 2 4) ∷ FlipColumns ∷ []) four_by_six (record { row = 0; column = 0 })
     ≡ record { row = 1; column = 3 }
@@ -85,8 +138,12 @@ of_a_flipped_crop = refl
 left_of_both : extent_of (Crop (span 1 4) (span 2 4) ∷ Every 2 ∷ []) four_by_six ≡ record { rows = 2; columns = 1 }
 left_of_both = refl
 
-second_misfit : first_misfit (Crop (span 1 4) (span 2 4) ∷ Crop (span 0 1) (span 0 3) ∷ []) four_by_six ≡ Some 1
+second_misfit : first_misfit (Crop (span 1 4) (span 2 4) ∷ Mirror 2 ∷ Every 0 ∷ []) four_by_six
+    ≡ Some (record { number = 2; edit = Mirror 2; extent = record { rows = 3; columns = 2 } })
 second_misfit = refl
+
+no_misfit : first_misfit (Mirror 2 ∷ Crop (span 1 4) (span 2 4) ∷ []) four_by_six ≡ None
+no_misfit = refl
 
 third_of_every_second : source four_by_six (Every 2) (record { row = 1; column = 2 }) ≡ record { row = 2; column = 4 }
 third_of_every_second = refl
@@ -99,3 +156,22 @@ end_before_start = refl
 
 rounded_up : extent_after (record { rows = 5; columns = 7 }) (Every 2) ≡ record { rows = 3; columns = 4 }
 rounded_up = refl
+
+abbrev pair : ℕ → ℕ → Image
+pair left right = record { extent = record { rows = 1; columns = 2 }; greatest = 9; pixels = left ∷ right ∷ [] }
+
+swapped : (row column : ℕ) → row < 1 → column < 2
+    → slice_get {X = ℕ} (4 ∷ 7 ∷ []) (row * 2 + column) ≡ slice_get {X = ℕ} (7 ∷ 4 ∷ []) (row * 2 + mirrored 2 column)
+swapped zero zero below left = refl
+swapped zero (suc zero) below left = refl
+swapped zero (suc (suc column)) below left = absurd (not-suc-le-zero (le_of_suc-le-suc (le_of_suc-le-suc left)))
+swapped (suc row) column below left = absurd (not-suc-le-zero (le_of_suc-le-suc below))
+
+pair_mirrored : IsEdited (Mirror 1 ∷ []) (pair 7 4) (pair 4 7)
+pair_mirrored = record { extent = refl; greatest = refl; pixels = λ at within. swapped at.row at.column within.row_below within.column_below }
+
+pair_as_it_was : IsEdited (Mirror 1 ∷ []) (pair 7 4) (pair 7 4) → ⊥
+pair_as_it_was is = both_ways (nat_eq 7 4) refl (eq-eqb 7 4 (ap (λ pixel. unwrap_or pixel 0) (is.pixels (record { row = 0; column = 0 }) (record { row_below = lit< tt; column_below = lit< tt }))))
+
+pair_cut_off : IsEdited [] (pair 7 4) (record { extent = record { rows = 1; columns = 1 }; greatest = 9; pixels = 7 ∷ [] }) → ⊥
+pair_cut_off is = both_ways (nat_eq 1 2) refl (eq-eqb 1 2 (ap (λ (extent : Extent). extent.columns) is.extent))

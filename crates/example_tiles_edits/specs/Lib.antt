@@ -1,3 +1,4 @@
 pub mod EditError
 pub mod Edits
+pub mod Parts
 pub mod Slices

@@ -3,6 +3,8 @@
 
 mod edit;
 mod editing;
+mod mirror;
+mod slices;
 
-pub use edit::{Edit, Span};
+pub use edit::{Edit, MOST_PARTS, Misfit, Span};
 pub use editing::{EditError, edited};

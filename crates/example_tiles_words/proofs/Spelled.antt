@@ -23,9 +23,11 @@ one_more words edits at taken edit spell first =
 
 -- ---- the word that can't be read
 pub stopped_at : (words : List (Bor (List ℕ))) (edits : List Edit) (at : ℕ) (found : Option (Edit × ℕ)) → Spell (map (λ word. word.now) words) edits (drop at (map (λ word. word.now) words)) → at < length words
-    → found ≡ edit_first (map (λ word. word.now) (drop at words)) → found ≡ None → IsUnreadable (map (λ word. word.now) words) at
+    → found ≡ edit_first (map (λ word. word.now) (drop at words)) → found ≡ None → IsUnreadable (map (λ word. word.now) words) (at + 1)
 stopped_at words edits at found spell below read none =
     record {
+      before = at;
+      next = refl;
       edits = edits;
       spelled = spell;
       within = rw (length-map words (λ (word : Bor (List ℕ)). word.now)) below;

@@ -1,12 +1,13 @@
 -- The edits that words spell, and the word by which a call is refused.
-use Rattle.std.specs.Prelude.{◌≡◌, ℕ, ◌<◌, ◌==◌, Bool, true, if◌then◌else◌, Option, Some, None}
+use Rattle.std.specs.Prelude.{◌≡◌, ℕ, ◌+◌, ◌<◌, ◌==◌, Bool, true, if◌then◌else◌, Option, Some, None}
 use Rattle.std.specs.Prelude.{List, [], ◌∷◌, drop, length, codes, refl}
 use Rattle.std.specs.List.{after_first, before_first}
 use Rattle.std.specs.Option.{option_map}
 use Rattle.std.specs.Str.{bytes_eq}
-use Rattle.std.proofs.Common.{lit<}
+use Rattle.std.proofs.Common.{ap, lit<, subst, sym}
+use Rattle.std.proofs.Math.Nat.{add_right_cancel}
 use Rattle.example_tiles_edits.specs.declared.edit.Edit.{Edit}
-use Rattle.example_tiles_edits.specs.declared.edit.Edit.TheVariants.{Crop, FlipRows, FlipColumns, Every}
+use Rattle.example_tiles_edits.specs.declared.edit.Edit.TheVariants.{Crop, FlipRows, FlipColumns, Every, Mirror}
 use Rattle.example_tiles_edits.specs.declared.edit.Span.{Span}
 use Rattle.example_tiles_text.specs.Numbers.{number_of}
 use Rattle.example_tiles_words.specs.declared.words.WordsError.{WordsError}
@@ -48,6 +49,10 @@ crop_of rows (columns ∷ words) = both Crop (span_of rows) (span_of columns)
 abbrev pub every_of : List ℕ → Option Edit
 every_of word = option_map Every (number_of word)
 
+-- the number of the parts, by as many, that are mirrored
+abbrev pub mirror_of : List ℕ → Option Edit
+mirror_of word = option_map Mirror (number_of word)
+
 -- the edit that words begin with, and how many of them spell it
 abbrev pub edit_first : List (List ℕ) → Option (Edit × ℕ)
 edit_first [] = None
@@ -56,6 +61,7 @@ edit_first (name ∷ first ∷ words) =
     if bytes_eq name (codes "crop") then by_words 3 (crop_of first words)
     else if bytes_eq name (codes "flip") then by_words 2 (flip_of first)
     else if bytes_eq name (codes "every") then by_words 2 (every_of first)
+    else if bytes_eq name (codes "mirror") then by_words 2 (mirror_of first)
     else None
 
 -- words spell edits, and some are left: they begin with the first edit, and those after it spell the others
@@ -63,16 +69,18 @@ abbrev pub Spell : List (List ℕ) → List Edit → List (List ℕ) → Type 0
 Spell words [] left = words ≡ left
 Spell words (edit ∷ edits) left = (taken : ℕ) × (edit_first words ≡ Some (edit, taken)) × Spell (drop taken words) edits left
 
--- the words before the one of this number spell edits, and no edit begins with it
-pub record IsUnreadable (words : List (List ℕ)) (at : ℕ) : Type 0 where
+-- the words before the one of this number, counted from 1, spell edits, and no edit begins with it
+pub record IsUnreadable (words : List (List ℕ)) (number : ℕ) : Type 0 where
+  pub before : ℕ
+  pub next : number ≡ before + 1
   pub edits : List Edit
-  pub spelled : Spell words edits (drop at words)
-  pub within : at < length words
-  pub none : edit_first (drop at words) ≡ None
+  pub spelled : Spell words edits (drop before words)
+  pub within : before < length words
+  pub none : edit_first (drop before words) ≡ None
 
 -- the word that an error names is the first that can't be read; where memory is refused, nothing is said
 abbrev pub IsRefusedBy : List (List ℕ) → WordsError → Type 0
-IsRefusedBy words (Unreadable at) = IsUnreadable words at
+IsRefusedBy words (Unreadable number) = IsUnreadable words number
 IsRefusedBy words Memory = Unit {0}
 
 -- examples
@@ -103,6 +111,15 @@ no_columns = refl
 every_zeroth : every_of (codes "0") ≡ Some (Every 0)
 every_zeroth = refl
 
+mirror_first : edit_first (codes "mirror" ∷ codes "4" ∷ codes "flip" ∷ []) ≡ Some (Mirror 4, 2)
+mirror_first = refl
+
+mirror_of_no_number : mirror_of (codes "four") ≡ None
+mirror_of_no_number = refl
+
+name_of_no_edit : edit_first (codes "mirrors" ∷ codes "4" ∷ []) ≡ None
+name_of_no_edit = refl
+
 crop_first : edit_first crop_and_flip ≡ Some (Crop (record { start = 1; end = 3 }) (record { start = 0; end = 2 }), 3)
 crop_first = refl
 
@@ -112,8 +129,21 @@ number_missing = refl
 both_spelled : Spell crop_and_flip (Crop (record { start = 1; end = 3 }) (record { start = 0; end = 2 }) ∷ FlipRows ∷ []) []
 both_spelled = (3, refl, (2, refl, refl))
 
-third_unreadable : IsRefusedBy (codes "flip" ∷ codes "rows" ∷ codes "flip" ∷ []) (Unreadable 2)
-third_unreadable = record { edits = FlipRows ∷ []; spelled = (2, refl, refl); within = lit< tt; none = refl }
+flip_left_over : Spell (codes "flip" ∷ codes "rows" ∷ []) [] [] → ⊥
+flip_left_over spell = let same : codes "flip" ∷ codes "rows" ∷ [] ≡ [] = spell in cc
 
-first_readable : IsRefusedBy (codes "flip" ∷ codes "rows" ∷ codes "flip" ∷ []) (Unreadable 0) → ⊥
-first_readable refused = let none : Some (FlipRows, 2) ≡ None = refused.none in cc
+two_flips : Some FlipRows ≡ Some FlipColumns → ⊥
+two_flips same = cc
+
+other_flip : Spell (codes "flip" ∷ codes "rows" ∷ []) (FlipColumns ∷ []) [] → ⊥
+other_flip (taken, first, left) = two_flips (ap (option_map (λ (found : Edit × ℕ). found.0)) first)
+
+third_unreadable : IsRefusedBy (codes "flip" ∷ codes "rows" ∷ codes "mirror" ∷ []) (Unreadable 3)
+third_unreadable = record { before = 2; next = refl; edits = FlipRows ∷ []; spelled = (2, refl, refl); within = lit< tt; none = refl }
+
+first_readable : IsUnreadable (codes "flip" ∷ codes "rows" ∷ []) 1 → ⊥
+first_readable refused =
+    let at : 0 ≡ refused.before = add_right_cancel 1 refused.next in
+    let none : Some (FlipRows, 2) ≡ None =
+    subst (λ n. edit_first (drop n (codes "flip" ∷ codes "rows" ∷ [])) ≡ None) (sym at) refused.none in
+    cc

@@ -10,8 +10,8 @@ use thiserror::Error;
 /// Why words were not read as edits.
 #[derive(Clone, Copy, Debug, PartialEq, Eq, Error)]
 pub enum WordsError {
-    /// No edit begins with the word of this number, from 0 on.
-    #[error("argument {0}: expected `crop A..B C..D`, `flip rows`, `flip columns` or `every N`")]
+    /// No edit begins with the word of this number, counted from 1.
+    #[error("argument {0}: expected `crop A..B C..D`, `flip rows`, `flip columns`, `every N` or `mirror N`")]
     Unreadable(usize),
     /// Memory was refused.
     #[error("out of memory")]
@@ -78,6 +78,9 @@ fn first_edit(words: &[&[u8]]) -> Option<(Edit, usize)>
     if *name == b"every".as_slice() {
         return Some((Edit::Every(number(first)?), 2));
     }
+    if *name == b"mirror".as_slice() {
+        return Some((Edit::Mirror(number(first)?), 2));
+    }
     None
 }
 
@@ -92,7 +95,7 @@ pub fn read_edits(alloc: Global, words: &[&[u8]]) -> Result<Vec<Edit>, WordsErro
     let mut at = 0;
     while at < words.len() {
         let Some((edit, taken)) = first_edit(&words[at..]) else {
-            return Err(WordsError::Unreadable(at));
+            return Err(WordsError::Unreadable(at + 1));
         };
         edits.push(edit)?;
         at += taken;

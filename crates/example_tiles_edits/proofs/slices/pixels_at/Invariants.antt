@@ -1,7 +1,7 @@
 -- The pixels at the places so far.
 use Rattle.std.proofs.Common.{◌≡◌, Some, map, take, length, vec_len, vec_capacity}
 use Rattle.std.specs.Prelude.{slice_get}
-use Rattle.example_tiles_edits.proofs.editing.pixels_at.Given as goal
+use Rattle.example_tiles_edits.proofs.slices.pixels_at.Given as goal
 
 abbrev pub invariant-loop-place : goal.invariant-loop-place
 invariant-loop-place l = record {

@@ -1,0 +1,17 @@
+-- What the edits that are left make of this picture, all edits make of the first one.
+use Rattle.std.proofs.Common.{◌≡◌, None, length}
+use Rattle.example_tiles_picture.specs.Picture.{Image, IsPicture, image}
+use Rattle.example_tiles_edits.specs.Edits.{IsEdited, first_misfit}
+use Rattle.example_tiles_edits.specs.Slices.{IsAtMirror}
+use Rattle.example_tiles_edits.proofs.editing.edited_in_turn.Given as goal
+
+abbrev pub invariant-loop-first : goal.invariant-loop-first
+invariant-loop-first l = record {
+  picture : IsPicture (image l.made);
+  fit : first_misfit l.left l.made.extent ≡ None;
+  at_mirror : IsAtMirror l.left;
+  goes_on : (after : Image) → IsEdited l.left (image l.made) after → IsEdited l.edits (image l.picture) after;
+}
+
+abbrev pub decreases-loop-first : goal.decreases-loop-first
+decreases-loop-first l = length l.left
