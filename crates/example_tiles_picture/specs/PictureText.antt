@@ -1,8 +1,8 @@
 -- The picture that a text in the format PGM (P2) spells, and what is wrong with a text that spells none.
-use Rattle.std.specs.Prelude.{◌≡◌, ◌≢◌, ℕ, ◌*◌, ◌-◌, ◌^◌, ◌≤◌, ◌⊎◌, nat_lt, if◌then◌else◌}
+use Rattle.std.specs.Prelude.{◌≡◌, ◌≢◌, ℕ, ◌*◌, ◌-◌, ◌^◌, ◌<◌, ◌≤◌, ◌⊎◌, nat_lt, if◌then◌else◌}
 use Rattle.std.specs.Prelude.{Option, Some, None, List, [], ◌∷◌, ◌++◌, length, map, take, slice_index, codes, refl}
 use Rattle.std.specs.List.{EachIndex}
-use Rattle.std.proofs.Common.{zero, suc, drop, ap, ◌∙◌, inl, inr, lit≤, arith}
+use Rattle.std.proofs.Common.{zero, suc, drop, ap, ◌∙◌, inl, inr, lit<, lit≤, arith}
 use Rattle.std.proofs.lemmas.List.{append-nil}
 use Rattle.std.specs.Option.{IsSomeAnd}
 use Rattle.example_tiles_text.specs.Numbers.{number_of}
@@ -102,10 +102,17 @@ IsFaultOf words (NotNumber line least greatest) = HasNoNumber words line (record
 IsFaultOf words Ended = (words ≡ []) ⊎ IsUnfinished words
 IsFaultOf words (NotEnded line) = GoesOn words line
 
--- a reader's error is what is wrong with the words; or memory is refused, of which nothing is said
+-- words that spell a pixel at least, for which memory is needed
+pub record HavePixel (words : List NumberedWord) : Type 0 where
+  pub numbers : List ℕ
+  pub left : List NumberedWord
+  pub begun : BeginWith words numbers left
+  pub some : 3 < length numbers
+
+-- a reader's error is what is wrong with the words; or memory is refused for pixels
 abbrev pub IsRefusedBy : List NumberedWord → ReadError → Type 0
 IsRefusedBy words (Text fault) = IsFaultOf words fault
-IsRefusedBy words Memory = Unit {0}
+IsRefusedBy words Memory = HavePixel words
 
 -- examples
 first_numbers : next_number (3 ∷ 2 ∷ []) ≡ Some (record { least = 1; greatest = 65535 })
@@ -187,3 +194,14 @@ too_many = record {
   begun = record { line = 1; spelled = (1, codes "1") ∷ (1, codes "1") ∷ (1, codes "9") ∷ (1, codes "5") ∷ []; parts = refl; spell = refl; allowed = numbers_of_dot };
   complete = refl;
 }
+
+for_a_pixel : IsRefusedBy (words_from 1 (codes "P2 1 1 9 5")) Memory
+for_a_pixel = record {
+  numbers = 1 ∷ 1 ∷ 9 ∷ 5 ∷ [];
+  left = [];
+  begun = record { line = 1; spelled = (1, codes "1") ∷ (1, codes "1") ∷ (1, codes "9") ∷ (1, codes "5") ∷ []; parts = refl; spell = refl; allowed = numbers_of_dot };
+  some = lit< tt;
+}
+
+for_no_pixel : IsRefusedBy [] Memory → ⊥
+for_no_pixel refused = let words = refused.begun.parts in cc

@@ -168,7 +168,7 @@ fn take_nothing(words: &mut Words<'_>) -> Result<(), Fault>
 /// The picture that a text spells: `P2`, the number of columns, that of rows, the value of white, and the pixels row by
 /// row, separated by white space. A comment goes from a `#` to the end of its line.
 ///
-/// Errors: the fault of the text; that memory is refused.
+/// Errors: the fault of the text; that memory for its pixels is refused.
 pub fn read_picture(alloc: Global, text: &[u8]) -> Result<Picture, ReadError>
     ensures read { IfOk result (λ picture. SpellPicture (words_from 1 text.now) (image picture)) }
     // Each text spells one picture or has one fault, and not both (`proofs/laws/PictureText.antt`).

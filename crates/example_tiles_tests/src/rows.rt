@@ -3,7 +3,8 @@ use crate::answers::{is_kept_by_a_flip, row_holds};
 use std::test::Fail;
 
 /// Texts, and words and an `@` before the text of the picture that is edited, each with what is printed: the text of a
-/// picture, or the message of why there is none. A `|` stands for a line feed.
+/// picture, or the message of why there is none. A `|` stands for a line feed, and `..` at the end for the rest of a
+/// message that another row has.
 const ROWS: &str = "\
 P2 1 1 9 5 => P2|1 1|9|5|
 P2|3 2|9|1 2 3|4 5 6| => P2|3 2|9|1 2 3|4 5 6|
@@ -67,6 +68,50 @@ flip columns every 3 @ P2 7 1 99 1 2 3 4 5 6 7 => P2|3 1|99|7 4 1|
 every 2 every 2 @ P2 7 1 99 1 2 3 4 5 6 7 => P2|2 1|99|1 5|
 crop 0..1 1..7 every 5 flip columns @ P2 7 1 99 1 2 3 4 5 6 7 => P2|2 1|99|7 2|
 flip columns every 7 @ P2 0 2 99 => P2|0 1|99||
+mirror 1 @ P2 3 2 99 1 2 3 4 5 6 => P2|3 2|99|3 2 1|6 5 4|
+mirror 2 @ P2 4 2 99 11 12 13 14 21 22 23 24 => P2|4 2|99|12 11 14 13|22 21 24 23|
+mirror 4 @ P2 8 4 99 1 2 3 4 5 6 7 8 8 7 6 5 4 3 2 1 8 7 6 5 4 3 2 1 8 7 6 5 4 3 2 1 => P2|8 4|99|2 1 4 3 6 5 8 7|7 8 5 6 3 4 1 2|7 8 5 6 3 4 1 2|7 8 5 6 3 4 1 2|
+mirror 2 crop 0..1 1..4 flip columns mirror 1 every 2 @ P2 4 2 99 11 12 13 14 21 22 23 24 => P2|2 1|99|11 13|
+flip rows mirror 2 mirror 2 @ P2 4 2 99 11 12 13 14 21 22 23 24 => P2|4 2|99|21 22 23 24|11 12 13 14|
+mirror 2 @ P2 0 2 99 => P2|0 2|99|||
+crop 0..3 0..3 @ P2 3 2 99 1 2 3 4 5 6 => edit 1 of a picture with 2 rows and 3 columns: `crop` takes bounds up to these
+crop 0..2 0..4 @ P2 3 2 99 1 2 3 4 5 6 => edit 1 of a picture with 2 rows and 3 columns: `crop` takes bounds up to these
+crop 3..0 0..1 @ P2 3 2 99 1 2 3 4 5 6 => edit 1 of a picture with 2 rows and 3 columns: `crop` takes bounds up to these
+every 0 @ P2 3 2 99 1 2 3 4 5 6 => edit 1 of a picture with 2 rows and 3 columns: `every` takes a number from 1 on
+flip rows flip columns every 0 crop 9..9 9..9 @ P2 3 2 99 1 2 3 4 5 6 => edit 3 of a picture with 2 rows and 3 columns: `every` takes a number from 1 on
+crop 0..1 0..1 flip rows crop 0..2 0..1 @ P2 3 2 99 1 2 3 4 5 6 => edit 3 of a picture with 1 rows and 1 columns: `crop` takes bounds up to these
+mirror 0 @ P2 3 2 99 1 2 3 4 5 6 => edit 1 of a picture with 2 rows and 3 columns: `mirror` takes a number from 1 to 64 that divides both
+mirror 2 @ P2 3 2 99 1 2 3 4 5 6 => edit 1 of a picture with 2 rows and 3 columns: `mirror` takes a number from 1 to 64 that divides both
+mirror 65 @ P2 65 0 99 => edit 1 of a picture with 0 rows and 65 columns: `mirror` takes a number from 1 to 64 that divides both
+every 2 mirror 2 @ P2 4 2 99 11 12 13 14 21 22 23 24 => edit 2 of a picture with 1 rows and 2 columns: `mirror` takes a number from 1 to 64 that divides both
+flop rows @ P2 1 1 99 5 => argument 1: expected `crop A..B C..D`, `flip rows`, `flip columns`, `every N` or `mirror N`
+rows @ P2 1 1 99 5 => argument 1: ..
+crop 0..1 @ P2 1 1 99 5 => argument 1: ..
+crop @ P2 1 1 99 5 => argument 1: ..
+flip @ P2 1 1 99 5 => argument 1: ..
+every @ P2 1 1 99 5 => argument 1: ..
+mirror @ P2 1 1 99 5 => argument 1: ..
+flip row @ P2 1 1 99 5 => argument 1: ..
+Flip rows @ P2 1 1 99 5 => argument 1: ..
+flip columns crop 0..1 0..1 every @ P2 1 1 99 5 => argument 6: ..
+crop 0.1 0..1 @ P2 1 1 99 5 => argument 1: ..
+crop 0.. 0..1 @ P2 1 1 99 5 => argument 1: ..
+crop 0..1 ..1 @ P2 1 1 99 5 => argument 1: ..
+crop +0..1 0..1 @ P2 1 1 99 5 => argument 1: ..
+crop 0..+1 0..1 @ P2 1 1 99 5 => argument 1: ..
+crop 0...1 0..1 @ P2 1 1 99 5 => argument 1: ..
+crop 0..1..1 0..1 @ P2 1 1 99 5 => argument 1: ..
+crop 0..4294967296 0..1 @ P2 1 1 99 5 => argument 1: ..
+crop 0..4294967295 0..1 @ P2 1 1 99 5 => edit 1 of a picture with 1 rows and 1 columns: `crop` takes bounds up to these
+every 4294967296 @ P2 1 1 99 5 => argument 1: ..
+every -1 @ P2 1 1 99 5 => argument 1: ..
+every 1x @ P2 1 1 99 5 => argument 1: ..
+mirror +1 @ P2 1 1 99 5 => argument 1: ..
+flip  rows @ P2 1 1 99 5 => argument 1: ..
+flip rows  @ P2 1 1 99 5 => argument 3: ..
+ flip rows @ P2 1 1 99 5 => argument 1: ..
+flip rows every 1 flip @ P2 1 1 99 5 => argument 5: ..
+every 00001 @ P2 1 1 99 5 => P2|1 1|99|5|
 ";
 
 #[test]
