@@ -1,6 +1,6 @@
 //! The rows of a slice: where each of them begins, and the items of all of them, read and written row by row.
 ghost use Rattle.std.specs.List.{All, AllPairs, flat_map};
-ghost use Rattle.std.specs.Prelude.{◌≡◌, ◌≢◌, ℕ, ◌+◌, ◌*◌, ◌<◌, ◌≤◌, ◌^◌, pos, Some, IfOk, IsOk, MatchOption, List, ◌++◌, length, map, vec_capacity, vec_len};
+ghost use Rattle.std.specs.Prelude.{◌≡◌, ◌≢◌, ℕ, ◌+◌, ◌*◌, ◌<◌, ◌≤◌, ◌^◌, pos, Some, IfOk, IsOk, IsTrue, MatchOption, List, ◌++◌, length, map, vec_capacity, vec_len};
 ghost use Rattle.ndarray_layout.specs.declared.Fit.TheVariants.{Strict};
 ghost use Rattle.ndarray_layout.specs.declared.Order.TheVariants.{RowMajor};
 ghost use Rattle.ndarray_layout.specs.ArgumentFault.{argument_fault};
@@ -117,6 +117,13 @@ impl Rows {
     }
 }
 
+/// Whether a row is copied as a whole: its places are neighbours, and so many that the copy is worth its call.
+fn is_copied(stride: usize, len: usize) -> bool
+    ensures { IsTrue result → stride ≡ 1 }
+{
+    stride == 1 && len >= 16
+}
+
 /// Appends the items at the places of a row to a list with room for them.
 fn read_row<T: Copy>(
     mut items: Vec<T>,
@@ -133,11 +140,11 @@ fn read_row<T: Copy>(
     ensures len { vec_len result ≡ vec_len items + len }
     ensures capacity { vec_capacity items ≤ vec_capacity result }
 {
-    if stride != 1 {
-        return read_apart(items, stored, start, stride, len);
+    if is_copied(stride, len) {
+        let _ = items.extend_from_slice(&stored[start..start + len]);
+        return items;
     }
-    let _ = items.extend_from_slice(&stored[start..start + len]);
-    items
+    read_apart(items, stored, start, stride, len)
 }
 
 /// The same, place by place. The list is passed by value: through a reference its length would be written at
@@ -172,7 +179,7 @@ fn write_row<T: Copy>(stored: &mut [T], start: usize, stride: usize, items: &[T]
     requires distinct { AllPairs (λ one other. one ≢ other) (row_places start (signed stride) (length items.now)) }
     ensures { HasWritten (row_places start (signed stride) (length items.now)) items.now stored.old stored.new }
 {
-    if stride == 1 {
+    if is_copied(stride, items.len()) {
         stored[start..start + items.len()].copy_from_slice(items);
     } else {
         write_apart(stored, start, stride, items);
