@@ -16,7 +16,8 @@ use Rattle.ndarray_layout.specs.declared.SliceInfoElem.{SliceInfoElem}
 use Rattle.ndarray_layout.specs.ArgumentFault.{argument_fault}
 use Rattle.ndarray_layout.specs.Meet.{Meet}
 use Rattle.ndarray_layout.specs.ShapeFault.{shape_fault}
-use Rattle.nd_owned.specs.Writes.{Write, AreApart, IsFaultBy, IsFaultOfWrites, IsMeetFault, IsMeetFaultOf, has_count, slices_fault}
+use Rattle.nd_owned.specs.Checks.{IsMeetFaultOf}
+use Rattle.nd_owned.specs.Writes.{Write, AreApart, IsFaultBy, IsFaultOfWrites, IsMeetFault, has_count, slices_fault}
 
 -- ---- a list that a function was applied to, at its next item
 within : {X Y : Type 0} (f : X → Y) (xs : List X) (i : ℕ) → i < length xs → i < length (map f xs)

@@ -1,3 +1,5 @@
 pub mod Faults
+pub mod LastAxis
 pub mod Placed
+pub mod RowPlaces
 pub mod Slices

@@ -1,19 +1,13 @@
--- What a write at a place, and writes at lists of places, leave of a list.
-use Rattle.std.proofs.Common.{◌≡◌, ◌≢◌, ℕ, zero, suc, ◌+◌, ◌<◌, ℤ, pos, Option, Some, List, [], ◌∷◌, ◌++◌, length, get_or, set, map, take, refl, sym, ap, subst, ◌∙◌, arith}
-use Rattle.std.specs.List.{All, AllPairs, Contains}
+-- Items that are written at one list of places after another, where no place is in two of them.
+use Rattle.std.proofs.Common.{◌≡◌, ◌≢◌, ℕ, zero, suc, ◌+◌, ◌<◌, ℤ, pos, negsuc, Some, List, [], ◌∷◌, ◌++◌, length, get_or, set, map, take, drop, append_assoc, refl, sym, ap, subst, ◌∙◌, arith}
+use Rattle.std.specs.List.{All, AllPairs, Contains, flat_map}
 use Rattle.std.specs.Prelude.{slice_get}
-use Rattle.std.proofs.lemmas.List.{get_or-take, length-take, map_more}
-use Rattle.std.proofs.lemmas.List.Elements.{All-head, All-tail, All-weaker, Contains-get_or}
+use Rattle.std.proofs.lemmas.Grind.{flat_map-append}
+use Rattle.std.proofs.lemmas.List.{append-nil, drop_more, get_or-append-add, get_or_append_left, length-append, map-append, take-append-drop, take_more}
+use Rattle.std.proofs.lemmas.List.Elements.{All-append, All-head, All-tail, Contains-append_left, Contains-append_right}
+use Rattle.ndarray_layout.specs.Inside.{IsInside}
 use Rattle.nd_owned.specs.Owned.{item_at_place}
-use Rattle.nd_owned.specs.Writes.{ShareNone}
-
--- the items at places, as numbers of either kind
-by_numbers : {X : Type 0} (stored : List X) (places : List ℕ) → map (slice_get stored) places ≡ map (item_at_place stored) (map pos places)
-by_numbers stored [] = refl
-by_numbers stored (place ∷ places) = ap (λ items. slice_get stored place ∷ items) (by_numbers stored places)
-
-pub by_places : {X : Type 0} (stored : List X) (places : List ℕ) (at : List ℤ) → map pos places ≡ at → map (slice_get stored) places ≡ map (item_at_place stored) at
-by_places stored places at same = by_numbers stored places ∙ ap (map (item_at_place stored)) same
+use Rattle.nd_owned.specs.Rows.{HasWritten}
 
 -- an item of a list is the same whatever stands for a missing one
 pub other_default : {X : Type 0} (xs : List X) (i : ℕ) (d e : X) → i < length xs → get_or xs i d ≡ get_or xs i e
@@ -27,55 +21,120 @@ map_same f g [] same = refl
 map_same f g (x ∷ xs) same =
     ap (λ y. y ∷ map f xs) (All-head (λ x. f x ≡ g x) x xs same) ∙ ap (λ ys. g x ∷ ys) (map_same f g xs (All-tail (λ x. f x ≡ g x) x xs same))
 
--- ---- one write
+-- ---- what holds of a list of two parts
+pub all_first : {X : Type 0} (P : X → Type 0) (xs ys : List X) → All P (xs ++ ys) → All P xs
+all_first P xs ys all = λ k d below. subst P (get_or_append_left xs ys d k below) (all k d (omega (arith, length-append xs ys)))
+
+pub all_second : {X : Type 0} (P : X → Type 0) (xs ys : List X) → All P (xs ++ ys) → All P ys
+all_second P xs ys all = λ k d below. subst P (get_or-append-add xs ys k d) (all (length xs + k) d (omega (arith, length-append xs ys)))
+
+pub pairs_first : {X : Type 0} (R : X → X → Type 0) (xs ys : List X) → AllPairs R (xs ++ ys) → AllPairs R xs
+pairs_first R xs ys pairs = λ i j d earlier below.
+    let first : get_or (xs ++ ys) i d ≡ get_or xs i d = get_or_append_left xs ys d i (omega arith) in
+    subst (λ x. R x (get_or xs j d)) first
+    (subst (R (get_or (xs ++ ys) i d)) (get_or_append_left xs ys d j below) (pairs i j d earlier (omega (arith, length-append xs ys))))
+
+pub pairs_second : {X : Type 0} (R : X → X → Type 0) (xs ys : List X) → AllPairs R (xs ++ ys) → AllPairs R ys
+pairs_second R xs ys pairs = λ i j d earlier below.
+    let from = length xs in
+    subst (λ x. R x (get_or ys j d)) (get_or-append-add xs ys i d)
+    (subst (R (get_or (xs ++ ys) (from + i) d)) (get_or-append-add xs ys j d) (pairs (from + i) (from + j) d (omega arith) (omega (arith, length-append xs ys))))
+
+-- where no item is there twice, none of the one part is in the other
+pub parts_apart : {X : Type 0} (xs ys : List X) → AllPairs (λ one other. one ≢ other) (xs ++ ys) → All (λ x. Contains ys x → ⊥) xs
+parts_apart xs ys distinct = λ k d below here.
+    distinct k (length xs + here.0) d (omega arith) (omega (arith, here.1, length-append xs ys))
+    (get_or_append_left xs ys d k below ∙ sym here.2 ∙ other_default ys here.0 (get_or xs k d) d here.1 ∙ sym (get_or-append-add xs ys here.0 d))
+
+-- ---- a list of lists, at one of them
+pub parts_of : {A X : Type 0} (f : A → List X) (xs : List A) (i : ℕ) (x : A) → i < length xs → x ≡ get_or xs i x
+    → flat_map f xs ≡ (flat_map f (take i xs) ++ f x) ++ flat_map f (drop (i + 1) xs)
+parts_of f xs i x below is =
+    let cut : xs ≡ (take i xs ++ x ∷ []) ++ drop (i + 1) xs =
+    sym (take-append-drop i xs)
+    ∙ ap (λ ys. take i xs ++ ys) (drop_more xs i x below ∙ ap (λ y. y ∷ drop (i + 1) xs) (sym is))
+    ∙ sym (append_assoc (take i xs) (x ∷ []) (drop (i + 1) xs)) in
+    ap (flat_map f) cut
+    ∙ flat_map-append f (take i xs ++ x ∷ []) (drop (i + 1) xs)
+    ∙ ap (λ ys. ys ++ flat_map f (drop (i + 1) xs)) (flat_map-append f (take i xs) (x ∷ []) ∙ ap (λ ys. flat_map f (take i xs) ++ ys) (append-nil (f x)))
+
+-- those so far, with one more
+pub parts_more : {A X : Type 0} (f : A → List X) (xs : List A) (i : ℕ) (x : A) → i < length xs → x ≡ get_or xs i x → flat_map f (take (i + 1) xs) ≡ flat_map f (take i xs) ++ f x
+parts_more f xs i x below is =
+    ap (flat_map f) (take_more xs i x below ∙ ap (λ y. take i xs ++ y ∷ []) (sym is))
+    ∙ flat_map-append f (take i xs) (x ∷ [])
+    ∙ ap (λ ys. flat_map f (take i xs) ++ ys) (append-nil (f x))
+
+pub all_of_part : {A X : Type 0} (P : X → Type 0) (f : A → List X) (xs : List A) (i : ℕ) (x : A) → i < length xs → x ≡ get_or xs i x → All P (flat_map f xs) → All P (f x)
+all_of_part P f xs i x below is all =
+    all_second P (flat_map f (take i xs)) (f x) (all_first P (flat_map f (take i xs) ++ f x) (flat_map f (drop (i + 1) xs)) (subst (All P) (parts_of f xs i x below is) all))
+
+pub pairs_of_part : {A X : Type 0} (R : X → X → Type 0) (f : A → List X) (xs : List A) (i : ℕ) (x : A) → i < length xs → x ≡ get_or xs i x → AllPairs R (flat_map f xs) → AllPairs R (f x)
+pairs_of_part R f xs i x below is pairs =
+    pairs_second R (flat_map f (take i xs)) (f x)
+    (pairs_first R (flat_map f (take i xs) ++ f x) (flat_map f (drop (i + 1) xs)) (subst (AllPairs R) (parts_of f xs i x below is) pairs))
+
+-- ---- writes
 set_same : {X : Type 0} (xs : List X) (i : ℕ) (x : X) → i < length xs → slice_get (set xs i x) i ≡ Some x
 set_same [] i x below = absurd (omega arith)
 set_same (y ∷ xs) zero x below = refl
 set_same (y ∷ xs) (suc i) x below = set_same xs i x (omega arith)
 
-pub set_other : {X : Type 0} (xs : List X) (i : ℕ) (x : X) (j : ℕ) → j ≢ i → slice_get (set xs i x) j ≡ slice_get xs j
+set_other : {X : Type 0} (xs : List X) (i : ℕ) (x : X) (j : ℕ) → j ≢ i → slice_get (set xs i x) j ≡ slice_get xs j
 set_other [] i x j apart = refl
 set_other (y ∷ xs) zero x zero apart = absurd (apart refl)
 set_other (y ∷ xs) zero x (suc j) apart = refl
 set_other (y ∷ xs) (suc i) x zero apart = refl
 set_other (y ∷ xs) (suc i) x (suc j) apart = set_other xs i x j (λ same. apart (ap suc same))
 
--- ---- one more place of a list that has none twice
-earlier_differ : (places : List ℕ) (n d : ℕ) → AllPairs (λ one other. one ≢ other) places → n < length places → All (λ earlier. earlier ≢ get_or places n d) (take n places)
-earlier_differ places n d distinct below = λ k e early same.
-    let before : k < n = omega (arith, length-take n places) in
-    distinct k n d before below (sym (get_or-take n places k d before) ∙ other_default (take n places) k d e early ∙ same)
+-- one item at one place
+pub one_written : {X : Type 0} (stored : List X) (place : ℕ) (x : X) → place < length stored → HasWritten (pos place ∷ []) (x ∷ []) stored (set stored place x)
+one_written stored place x below = record {
+  written = ap (λ item. item ∷ []) (set_same stored place x below);
+  kept = λ other spared. set_other stored place x other (λ same. spared (0, omega arith, ap pos (sym same)));
+}
 
-pub one_more_place : {X : Type 0} (stored : List X) (places : List ℕ) (items : List X) (n d : ℕ) (x : X) → AllPairs (λ one other. one ≢ other) places → n < length places → n < length items
-    → get_or places n d < length stored → x ≡ get_or items n x → map (slice_get stored) (take n places) ≡ map Some (take n items)
-    → map (slice_get (set stored (get_or places n d) x)) (take (n + 1) places) ≡ map Some (take (n + 1) items)
-one_more_place stored places items n d x distinct below there inside is written =
-    let place = get_or places n d in
-    let new = set stored place x in
-    let earlier : map (slice_get new) (take n places) ≡ map (slice_get stored) (take n places) =
-    map_same (slice_get new) (slice_get stored) (take n places) (All-weaker (λ other. other ≢ place) (λ other. slice_get new other ≡ slice_get stored other) (λ other apart. set_other stored place x other apart) (take n places) (earlier_differ places n d distinct below)) in
-    map_more (slice_get new) places n d below
-    ∙ ap (λ got. got ++ slice_get new place ∷ []) (earlier ∙ written)
-    ∙ ap (λ got. map Some (take n items) ++ got ∷ []) (set_same stored place x inside ∙ ap Some is)
-    ∙ sym (map_more Some items n x there)
+-- no item at no place
+pub none_written : {X : Type 0} (stored : List X) → HasWritten [] [] stored stored
+none_written stored = record { written = refl; kept = λ place spared. refl }
 
--- ---- one more list of places, where no place is in two lists
-pub one_more_list : {X W : Type 0} (items : W → List (Option X)) (old new : List X) (lists : List (List ℕ)) (writes : List W) (n : ℕ) (list : List ℕ) (write : W) → AllPairs ShareNone lists
-    → n < length lists → n < length writes → list ≡ get_or lists n list → write ≡ get_or writes n write → map (slice_get new) list ≡ items write
-    → ((place : ℕ) → (Contains list place → ⊥) → slice_get new place ≡ slice_get old place)
-    → map (map (slice_get old)) (take n lists) ≡ map items (take n writes)
-    → map (map (slice_get new)) (take (n + 1) lists) ≡ map items (take (n + 1) writes)
-one_more_list items old new lists writes n list write apart below there is are written kept before =
-    let earlier : map (map (slice_get new)) (take n lists) ≡ map (map (slice_get old)) (take n lists) =
-    map_same (map (slice_get new)) (map (slice_get old)) (take n lists) (λ k d early.
-    let first : k < n = omega (arith, length-take n lists) in
-    let one = get_or (take n lists) k d in
-    map_same (slice_get new) (slice_get old) one (λ i place within.
-    kept (get_or one i place) (λ here. apart k n d first below (get_or one i place)
-    (subst (λ those. Contains those (get_or one i place)) (get_or-take n lists k d first) (Contains-get_or one i place within))
-    (subst (λ those. Contains those (get_or one i place)) (is ∙ other_default lists n list d below) here)))) in
-    map_more (map (slice_get new)) lists n list below
-    ∙ ap (λ got. got ++ map (slice_get new) (get_or lists n list) ∷ []) (earlier ∙ before)
-    ∙ ap (λ those. map items (take n writes) ++ map (slice_get new) those ∷ []) (sym is)
-    ∙ ap (λ got. map items (take n writes) ++ got ∷ []) (written ∙ ap items are)
-    ∙ sym (map_more items writes n write there)
+-- what is at a place that a write spares stays
+stays : {X : Type 0} (count : ℕ) (places : List ℤ) (old new : List X) (z : ℤ) → ((place : ℕ) → (Contains places (pos place) → ⊥) → slice_get new place ≡ slice_get old place) → IsInside count z
+    → (Contains places z → ⊥) → item_at_place new z ≡ item_at_place old z
+stays count places old new (pos place) kept inside spared = kept place spared
+stays count places old new (negsuc n) kept inside spared = absurd inside
+
+-- one write after another, at places of their own
+pub both_written : {X : Type 0} (count : ℕ) (first second : List ℤ) (items more old mid new : List X) → All (IsInside count) first → AllPairs (λ one other. one ≢ other) (first ++ second)
+    → HasWritten first items old mid → HasWritten second more mid new → HasWritten (first ++ second) (items ++ more) old new
+both_written count first second items more old mid new inside distinct one other =
+    let apart = parts_apart first second distinct in
+    let earlier : map (item_at_place new) first ≡ map (item_at_place mid) first =
+    map_same (item_at_place new) (item_at_place mid) first (λ k d below. stays count second mid new (get_or first k d) other.kept (inside k d below) (apart k d below)) in
+    record {
+      written =
+          map-append (item_at_place new) first second
+          ∙ ap (λ got. got ++ map (item_at_place new) second) (earlier ∙ one.written)
+          ∙ ap (λ got. map Some items ++ got) other.written
+          ∙ sym (map-append Some items more);
+      kept = λ place spared. other.kept place (λ here. spared (Contains-append_right first second (pos place) here))
+          ∙ one.kept place (λ here. spared (Contains-append_left first second (pos place) here));
+    }
+
+-- one list more of lists of places
+pub one_more_written : {A X : Type 0} (count : ℕ) (f : A → List ℤ) (xs : List A) (i : ℕ) (x : A) (items more old mid new : List X) → i < length xs → x ≡ get_or xs i x
+    → All (IsInside count) (flat_map f xs) → AllPairs (λ one other. one ≢ other) (flat_map f xs)
+    → HasWritten (flat_map f (take i xs)) items old mid → HasWritten (f x) more mid new → HasWritten (flat_map f (take (i + 1) xs)) (items ++ more) old new
+one_more_written count f xs i x items more old mid new below is inside distinct one other =
+    let first = flat_map f (take i xs) in
+    let others = flat_map f (drop (i + 1) xs) in
+    let cut = parts_of f xs i x below is in
+    subst (λ places. HasWritten places (items ++ more) old new) (sym (parts_more f xs i x below is))
+    (both_written count first (f x) items more old mid new
+    (all_first (IsInside count) first (f x) (all_first (IsInside count) (first ++ f x) others (subst (All (IsInside count)) cut inside)))
+    (pairs_first (λ one other. one ≢ other) (first ++ f x) others (subst (AllPairs (λ one other. one ≢ other)) cut distinct)) one other)
+
+-- what holds of each list holds of all of them together
+pub all_together : {A X : Type 0} (P : X → Type 0) (f : A → List X) (xs : List A) → All (λ a. All P (f a)) xs → All P (flat_map f xs)
+all_together P f [] all = λ k d below. absurd (omega arith)
+all_together P f (x ∷ xs) all = All-append P (f x) (flat_map f xs) (All-head (λ a. All P (f a)) x xs all) (all_together P f xs (All-tail (λ a. All P (f a)) x xs all))

@@ -1,27 +1,31 @@
--- Slices of a view whose places are distinct: the lists of their places are such that items can be written at all of them, and what that leaves.
-use Rattle.std.proofs.Common.{◌≡◌, ◌≢◌, ℕ, ◌<◌, ℤ, pos, true, false, Bool, Some, None, List, [], ◌∷◌, length, get_or, map, refl, sym, ap, subst, ◌∙◌, arith, ◌&&◌}
-use Rattle.std.specs.List.{All, AllPairs, Contains, list_all}
-use Rattle.std.specs.Prelude.{slice_get}
+-- Slices of a view whose places are distinct: no place is listed twice by slices of which no two share an index, and what writes there leave.
+use Rattle.std.proofs.Common.{◌≡◌, ◌≢◌, ℕ, zero, suc, ◌+◌, ◌<◌, ℤ, pos, true, false, Bool, Some, None, inl, inr, List, [], ◌∷◌, ◌++◌, length, get_or, map, take, refl, sym, ap, subst, ◌∙◌, arith, ◌&&◌}
+use Rattle.std.specs.List.{All, AllPairs, Contains, flat_map, list_all}
 use Rattle.std.proofs.lemmas.Bool.{eqb-true}
-use Rattle.std.proofs.lemmas.List.{get_or-map, length-map}
-use Rattle.std.proofs.lemmas.List.Elements.{All-cons, All-head, All-tail}
+use Rattle.std.proofs.lemmas.List.{append_cancel_left, get_or-map, length-append, length-map, map-append, take_at}
+use Rattle.std.proofs.lemmas.List.Elements.{All-append, All-cons, All-head, All-tail, Contains-append_cases, Contains-get_or}
+use Rattle.std.proofs.lemmas.List.Folds.{flat_map-map}
+use Rattle.std.proofs.lemmas.List.Kept.{AllPairs-cons}
 use Rattle.ndarray_layout.specs.declared.Fit.TheVariants.{Strict}
 use Rattle.ndarray_layout.specs.declared.Order.{Order}
 use Rattle.ndarray_layout.specs.declared.Order.TheVariants.{RowMajor}
+use Rattle.ndarray_layout.specs.declared.SliceInfoElem.{SliceInfoElem}
 use Rattle.ndarray_layout.specs.ArgumentFault.{argument_fault}
 use Rattle.ndarray_layout.specs.DistinctPlaces.{HasDistinctPlaces}
-use Rattle.ndarray_layout.specs.Indices.{indices_in}
+use Rattle.ndarray_layout.specs.Indices.{indices_in, is_index}
 use Rattle.ndarray_layout.specs.Size.{size}
 use Rattle.ndarray_layout.specs.Sliced.{sliced_shape}
 use Rattle.ndarray_layout.specs.SlicedView.{slice_of}
 use Rattle.ndarray_layout.specs.View.{View, IsView, place_at, view_places}
 use Rattle.ndarray_layout.proofs.laws.Indices.{All-indices_in, AllPairs-indices_in}
-use Rattle.ndarray_layout.proofs.laws.SharePlace.{meet_of_shared_place, shared_place_of_lists}
+use Rattle.ndarray_layout.proofs.laws.SharePlace.{meet_of_shared_place}
 use Rattle.ndarray_layout.proofs.laws.SlicedView.{HasDistinctPlaces-slice_of}
 use Rattle.ndarray_layout.proofs.laws.View.{length-view_places}
-use Rattle.nd_owned.specs.Writes.{Write, AreApart, CanWrite, HasWritten, IsWritten, KeepsOthers, has_count, slices_fault, write_places}
+use Rattle.nd_owned.specs.Owned.{item_at_place}
+use Rattle.nd_owned.specs.Rows.{HasWritten}
+use Rattle.nd_owned.specs.Writes.{Write, AreApart, IsWritten, KeepsOthers, Spares, has_count, slices_fault, write_places}
 use Rattle.nd_owned.proofs.Faults.{both_none}
-use Rattle.nd_owned.proofs.Placed.{by_places}
+use Rattle.nd_owned.proofs.Placed.{other_default}
 
 -- what two lists have at one position, where functions of them are the same
 pub at_both : {A B C : Type 0} (f : A → C) (g : B → C) (xs : List A) (ys : List B) (k : ℕ) (x : A) (y : B) → map f xs ≡ map g ys → k < length xs → f (get_or xs k x) ≡ g (get_or ys k y)
@@ -29,24 +33,59 @@ at_both f g xs ys k x y same below =
     let there : k < length ys = omega (arith, length-map xs f, ap length same, length-map ys g) in
     sym (get_or-map f xs k x (f x) below) ∙ ap (λ zs. get_or zs k (f x)) same ∙ get_or-map g ys k y (f x) there
 
--- a write that stands for none
-no_write : {T : Type 0} → Write T
-no_write = record { slice = []; items = [] }
+-- ---- lists of lists
+-- what is in none of them is not in all of them together
+none_of_all : {A X : Type 0} (f : A → List X) (xs : List A) (x : X) → All (λ a. Contains (f a) x → ⊥) xs → Contains (flat_map f xs) x → ⊥
+none_of_all f [] x none here = absurd (omega (arith, here.1))
+none_of_all f (a ∷ xs) x none here =
+    elim (Contains-append_cases (f a) (flat_map f xs) x here) [
+      | inl one ↦ All-head (λ b. Contains (f b) x → ⊥) a xs none one
+      | inr more ↦ none_of_all f xs x (All-tail (λ b. Contains (f b) x → ⊥) a xs none) more
+    ]
+
+pairs_head : {X : Type 0} (R : X → X → Type 0) (x : X) (xs : List X) → AllPairs R (x ∷ xs) → All (R x) xs
+pairs_head R x xs pairs = λ k d below. pairs 0 (suc k) d (omega arith) (omega arith)
+
+pairs_tail : {X : Type 0} (R : X → X → Type 0) (x : X) (xs : List X) → AllPairs R (x ∷ xs) → AllPairs R xs
+pairs_tail R x xs pairs = λ i j d earlier below. pairs (suc i) (suc j) d (omega arith) (omega arith)
+
+-- two lists without a number twice, of which none is in both
+pairs_append : {X : Type 0} (xs ys : List X) → AllPairs (λ one other. one ≢ other) xs → AllPairs (λ one other. one ≢ other) ys → All (λ x. Contains ys x → ⊥) xs
+    → AllPairs (λ one other. one ≢ other) (xs ++ ys)
+pairs_append [] ys first second apart = second
+pairs_append (x ∷ xs) ys first second apart =
+    let none = All-head (λ x. Contains ys x → ⊥) x xs apart in
+    AllPairs-cons (λ one other. one ≢ other) x (xs ++ ys)
+    (All-append (λ other. x ≢ other) xs ys (pairs_head (λ one other. one ≢ other) x xs first)
+    (λ k d below same. none (k, below, other_default ys k x d below ∙ sym same)))
+    (pairs_append xs ys (pairs_tail (λ one other. one ≢ other) x xs first) second (All-tail (λ x. Contains ys x → ⊥) x xs apart))
+
+-- equal lists of two parts, the first ones as long as each other
+same_parts : {X : Type 0} (xs us ys vs : List X) → length xs ≡ length us → xs ++ ys ≡ us ++ vs → (xs ≡ us) × (ys ≡ vs)
+same_parts xs us ys vs long same =
+    let first : xs ≡ us = sym (take_at xs ys (length us) long) ∙ ap (take (length us)) same ∙ take_at us vs (length us) refl in
+    (first, append_cancel_left us ys vs (ap (λ front. front ++ ys) (sym first) ∙ same))
 
 -- ---- the places of one slice
 -- where no two indices of a view have one place, no place is listed twice
-distinct_places : (order : Order) (view : View) (places : List ℕ) → map pos places ≡ view_places order view → HasDistinctPlaces view → AllPairs (λ one other. one ≢ other) places
-distinct_places order view places same distinct i j d earlier below e =
+distinct_places : (order : Order) (view : View) → HasDistinctPlaces view → AllPairs (λ one other. one ≢ other) (view_places order view)
+distinct_places order view distinct = λ i j d earlier below same.
     let indices = indices_in order view.shape in
-    let long : length places ≡ length indices = omega (arith, length-map places pos, ap length same, length-map indices (place_at view)) in
-    let late : j < length indices = omega arith in
+    let late : j < length indices = omega (arith, length-map indices (place_at view)) in
     let early : i < length indices = omega arith in
     AllPairs-indices_in order view.shape i j [] earlier late (distinct (get_or indices i []) (get_or indices j [])
     (All-indices_in order view.shape i [] early) (All-indices_in order view.shape j [] late)
-    (sym (at_both pos (place_at view) places indices i d [] same (omega arith)) ∙ ap pos e ∙ at_both pos (place_at view) places indices j d [] same below))
+    (sym (get_or-map (place_at view) indices i [] d early) ∙ same ∙ get_or-map (place_at view) indices j [] d late))
+
+-- a place that is listed is that of an index
+listed : (order : Order) (view : View) (place : ℤ) → Contains (view_places order view) place → (index : List ℕ) × (is_index view.shape index ≡ true) × (place_at view index ≡ place)
+listed order view place here =
+    let indices = indices_in order view.shape in
+    let below : here.0 < length indices = omega (arith, length-map indices (place_at view), here.1) in
+    (get_or indices here.0 [], All-indices_in order view.shape here.0 [] below, sym (get_or-map (place_at view) indices here.0 [] place below) ∙ here.2)
 
 -- ---- what holds of each of the writes
-pub each_fits : {T : Type 0} (shape : List ℕ) (writes : List (Write T)) → slices_fault shape writes ≡ None → All (λ write. argument_fault Strict shape write.slice ≡ None) writes
+each_fits : {T : Type 0} (shape : List ℕ) (writes : List (Write T)) → slices_fault shape writes ≡ None → All (λ write. argument_fault Strict shape write.slice ≡ None) writes
 each_fits shape [] none = λ k d below. absurd (omega arith)
 each_fits shape (write ∷ writes) none =
     let parts = both_none (argument_fault Strict shape write.slice) (slices_fault shape writes) none in
@@ -56,72 +95,72 @@ both_true : (first second : Bool) → (first && second) ≡ true → (first ≡ 
 both_true true second both = (refl, both)
 both_true false second both = absurd (cc)
 
-each_count : {T : Type 0} (shape : List ℕ) (writes : List (Write T)) → list_all (has_count shape) writes ≡ true → All (λ write. length write.items ≡ size (sliced_shape Strict write.slice shape)) writes
-each_count shape [] all = λ k d below. absurd (omega arith)
-each_count shape (write ∷ writes) all =
-    let parts = both_true (has_count shape write) (list_all (has_count shape) writes) all in
-    All-cons (λ one. length one.items ≡ size (sliced_shape Strict one.slice shape)) write writes
-    (eqb-true (length write.items) (size (sliced_shape Strict write.slice shape)) parts.0) (each_count shape writes parts.1)
+-- as many items as places
+each_count : {T : Type 0} (view : View) (writes : List (Write T)) → list_all (has_count view.shape) writes ≡ true → All (λ write. length (write_places view write) ≡ length write.items) writes
+each_count view [] all = λ k d below. absurd (omega arith)
+each_count view (write ∷ writes) all =
+    let parts = both_true (has_count view.shape write) (list_all (has_count view.shape) writes) all in
+    All-cons (λ one. length (write_places view one) ≡ length one.items) write writes
+    (length-view_places RowMajor (slice_of Strict write.slice view) ∙ sym (eqb-true (length write.items) (size (sliced_shape Strict write.slice view.shape)) parts.0))
+    (each_count view writes parts.1)
 
--- ---- the lists of places of slices that fit, for as many items, of which no two share an index
-pub can_write : {T : Type 0} (len : ℕ) (view : View) (lists : List (List ℕ)) (writes : List (Write T)) → IsView view → HasDistinctPlaces view
-    → map (map pos) lists ≡ map (write_places view) writes → All (All (λ place. place < len)) lists → slices_fault view.shape writes ≡ None
-    → list_all (has_count view.shape) writes ≡ true → AllPairs (AreApart view.shape) writes → CanWrite len lists writes
-can_write len view lists writes v distinct same inside none counts apart =
-    let fit = each_fits view.shape writes none in
-    let long : length lists ≡ length writes = omega (arith, length-map lists (map pos), ap length same, length-map writes (write_places view)) in
-    record {
-      inside = inside;
-      distinct = λ k d below.
-          let write = get_or writes k no_write in
-          distinct_places RowMajor (slice_of Strict write.slice view) (get_or lists k d)
-          (at_both (map pos) (write_places view) lists writes k d no_write same below)
-          (HasDistinctPlaces-slice_of Strict write.slice view v (fit k no_write (omega arith)) distinct);
-      apart = λ i j d earlier below n here there.
-          let one = get_or writes i no_write in
-          let other = get_or writes j no_write in
-          let first : i < length lists = omega arith in
-          apart i j no_write earlier (omega arith)
-          (meet_of_shared_place Strict one.slice other.slice view v (fit i no_write (omega arith)) (fit j no_write (omega arith)) distinct
-          (shared_place_of_lists RowMajor RowMajor (slice_of Strict one.slice view) (slice_of Strict other.slice view) (get_or lists i d) (get_or lists j d) n
-          (at_both (map pos) (write_places view) lists writes i d no_write same first)
-          (at_both (map pos) (write_places view) lists writes j d no_write same below) here there));
-      counts =
-          lengths_of lists
-          ∙ ap (map length) same
-          ∙ lengths_at view writes (each_count view.shape writes counts);
-    }
+pub same_counts : {T : Type 0} (view : View) (writes : List (Write T)) → list_all (has_count view.shape) writes ≡ true → map length (map (write_places view) writes) ≡ map (λ write. length write.items) writes
+same_counts {T = T} view writes all = by writes (each_count view writes all)
   where
-    lengths_of : (lists : List (List ℕ)) → map length lists ≡ map length (map (map pos) lists)
-    lengths_of [] = refl
-    lengths_of (list ∷ lists) = ap (λ n. n ∷ map length lists) (sym (length-map list pos)) ∙ ap (λ ns. length (map pos list) ∷ ns) (lengths_of lists)
+    by : (writes : List (Write T)) → All (λ write. length (write_places view write) ≡ length write.items) writes → map length (map (write_places view) writes) ≡ map (λ write. length write.items) writes
+    by [] counts = refl
+    by (write ∷ writes) counts =
+        ap (λ n. n ∷ map length (map (write_places view) writes)) (All-head (λ one. length (write_places view one) ≡ length one.items) write writes counts)
+        ∙ ap (λ ns. length write.items ∷ ns) (by writes (All-tail (λ one. length (write_places view one) ≡ length one.items) write writes counts))
 
-    lengths_at : {T : Type 0} (view : View) (writes : List (Write T)) → All (λ write. length write.items ≡ size (sliced_shape Strict write.slice view.shape)) writes
-        → map length (map (write_places view) writes) ≡ map (λ write. length write.items) writes
-    lengths_at view [] counts = refl
-    lengths_at view (write ∷ writes) counts =
-        let first : length (write_places view write) ≡ length write.items =
-        length-view_places RowMajor (slice_of Strict write.slice view) ∙ sym (All-head (λ one. length one.items ≡ size (sliced_shape Strict one.slice view.shape)) write writes counts) in
-        ap (λ n. n ∷ map length (map (write_places view) writes)) first
-        ∙ ap (λ ns. length write.items ∷ ns) (lengths_at view writes (All-tail (λ one. length one.items ≡ size (sliced_shape Strict one.slice view.shape)) write writes counts))
+-- ---- the places of all of them
+-- those of slices that share no index have none in common
+no_shared_place : {T : Type 0} (view : View) (one other : Write T) (place : ℤ) → IsView view → HasDistinctPlaces view → argument_fault Strict view.shape one.slice ≡ None
+    → argument_fault Strict view.shape other.slice ≡ None → AreApart view.shape one other → Contains (write_places view one) place → Contains (write_places view other) place → ⊥
+no_shared_place view one other place v distinct fits also apart here there =
+    let first = listed RowMajor (slice_of Strict one.slice view) place here in
+    let second = listed RowMajor (slice_of Strict other.slice view) place there in
+    apart (meet_of_shared_place Strict one.slice other.slice view v fits also distinct (first.0, first.1, (second.0, second.1, first.2 ∙ sym second.2)))
+
+pub all_distinct : {T : Type 0} (view : View) (writes : List (Write T)) → IsView view → HasDistinctPlaces view → slices_fault view.shape writes ≡ None → AllPairs (AreApart view.shape) writes
+    → AllPairs (λ one other. one ≢ other) (flat_map (write_places view) writes)
+all_distinct {T = T} view writes v distinct none apart = by writes (each_fits view.shape writes none) apart
+  where
+    by : (writes : List (Write T)) → All (λ write. argument_fault Strict view.shape write.slice ≡ None) writes → AllPairs (AreApart view.shape) writes
+        → AllPairs (λ one other. one ≢ other) (flat_map (write_places view) writes)
+    by [] fit apart = λ i j d earlier below. absurd (omega arith)
+    by (write ∷ writes) fit apart =
+        let fits = All-head (λ one. argument_fault Strict view.shape one.slice ≡ None) write writes fit in
+        let others = All-tail (λ one. argument_fault Strict view.shape one.slice ≡ None) write writes fit in
+        let alone = pairs_head (AreApart view.shape) write writes apart in
+        pairs_append (write_places view write) (flat_map (write_places view) writes)
+        (distinct_places RowMajor (slice_of Strict write.slice view) (HasDistinctPlaces-slice_of Strict write.slice view v fits distinct))
+        (by writes others (pairs_tail (AreApart view.shape) write writes apart))
+        (λ k d below. none_of_all (write_places view) writes (get_or (write_places view write) k d) (λ j other there here.
+        no_shared_place view write (get_or writes j other) (get_or (write_places view write) k d) v distinct fits (others j other there) (alone j other there)
+        (Contains-get_or (write_places view write) k d below) here))
+
+-- lists of lists are the same together where each is
+pub together : {A B X : Type 0} (f : A → List X) (g : B → List X) (xs : List A) (ys : List B) → map f xs ≡ map g ys → flat_map f xs ≡ flat_map g ys
+together f g xs ys same = sym (flat_map-map (λ list. list) f xs) ∙ ap (flat_map (λ list. list)) same ∙ flat_map-map (λ list. list) g ys
 
 -- ---- what is left
-pub all_written : {T : Type 0} (view : View) (lists : List (List ℕ)) (writes : List (Write T)) (old new : List T) → map (map pos) lists ≡ map (write_places view) writes
-    → HasWritten lists writes old new → All (IsWritten view new) writes
-all_written view lists writes old new same left = λ k write below.
-    let there : k < length lists = omega (arith, length-map lists (map pos), ap length same, length-map writes (write_places view)) in
-    sym (by_places new (get_or lists k []) (write_places view (get_or writes k write)) (at_both (map pos) (write_places view) lists writes k [] write same there))
-    ∙ at_both (map (slice_get new)) (λ one. map Some one.items) lists writes k [] write left.written there
+pub all_written : {T : Type 0} (view : View) (writes : List (Write T)) (old new : List T) → list_all (has_count view.shape) writes ≡ true
+    → HasWritten (flat_map (write_places view) writes) (flat_map (λ write. write.items) writes) old new → All (IsWritten view new) writes
+all_written {T = T} view writes old new counts left = by writes (each_count view writes counts) left.written
+  where
+    by : (writes : List (Write T)) → All (λ write. length (write_places view write) ≡ length write.items) writes
+        → map (item_at_place new) (flat_map (write_places view) writes) ≡ map Some (flat_map (λ write. write.items) writes) → All (IsWritten view new) writes
+    by [] counts same = λ k d below. absurd (omega arith)
+    by (write ∷ writes) counts same =
+        let places = write_places view write in
+        let more = flat_map (write_places view) writes in
+        let items = flat_map (λ one. one.items) writes in
+        let long : length (map (item_at_place new) places) ≡ length (map Some write.items) =
+        length-map places (item_at_place new) ∙ All-head (λ one. length (write_places view one) ≡ length one.items) write writes counts ∙ sym (length-map write.items Some) in
+        let parts = same_parts (map (item_at_place new) places) (map Some write.items) (map (item_at_place new) more) (map Some items) long
+        (sym (map-append (item_at_place new) places more) ∙ same ∙ map-append Some write.items items) in
+        All-cons (IsWritten view new) write writes parts.0 (by writes (All-tail (λ one. length (write_places view one) ≡ length one.items) write writes counts) parts.1)
 
-listed : (places : List ℕ) (at : List ℤ) (place : ℕ) → map pos places ≡ at → Contains places place → Contains at (pos place)
-listed places at place same here =
-    subst (λ those. Contains those (pos place)) same
-    (here.0, omega (arith, length-map places pos, here.1), get_or-map pos places here.0 place (pos place) here.1 ∙ ap pos here.2)
-
-pub others_kept : {T : Type 0} (view : View) (lists : List (List ℕ)) (writes : List (Write T)) (old new : List T) → map (map pos) lists ≡ map (write_places view) writes
-    → HasWritten lists writes old new → KeepsOthers view writes old new
-others_kept view lists writes old new same left = λ place spared.
-    left.kept place (λ k d below here.
-    let there : k < length writes = omega (arith, length-map lists (map pos), ap length same, length-map writes (write_places view)) in
-    spared k no_write there
-    (listed (get_or lists k d) (write_places view (get_or writes k no_write)) place (at_both (map pos) (write_places view) lists writes k d no_write same below) here))
+pub others_kept : {T : Type 0} (view : View) (writes : List (Write T)) (items old new : List T) → HasWritten (flat_map (write_places view) writes) items old new → KeepsOthers view writes old new
+others_kept view writes items old new left = λ place spared. left.kept place (none_of_all (write_places view) writes (pos place) spared)

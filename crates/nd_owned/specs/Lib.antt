@@ -1,4 +1,6 @@
+pub mod Checks
 pub mod Owned
+pub mod Rows
 pub mod Writes
 pub use Rattle.ndarray_layout.specs.AcceptanceByStrides
 pub use Rattle.ndarray_layout.specs.ArgumentFault

@@ -28,10 +28,6 @@ pub record Write (T : Type 0) : Type 0 where
   pub slice : List SliceInfoElem
   pub items : List T
 
--- the items of a vector
-abbrev pub vec_list : {X A : Type 0} → Vec X A → List X
-vec_list v = v.items
-
 -- those of a pair of vectors
 abbrev pub write_of : {T A B : Type 0} → Vec SliceInfoElem A × Vec T B → Write T
 write_of pair = record { slice = pair.0.items; items = pair.1.items }
@@ -80,18 +76,6 @@ IsFaultBy None true shape writes fault = IsMeetFault shape writes fault
 abbrev pub IsFaultOfWrites : {T : Type 0} → List ℕ → List (Write T) → Option ErrorKind → Type 0
 IsFaultOfWrites shape writes fault = IsFaultBy (slices_fault shape writes) (list_all (has_count shape) writes) shape writes fault
 
--- a slice shares an index with one of those of a list
-pub record MeetsOneOf {T : Type 0} (shape : List ℕ) (slice : List SliceInfoElem) (writes : List (Write T)) : Type 0 where
-  pub at : ℕ
-  pub other : Write T
-  pub there : slice_get writes at ≡ Some other
-  pub meet : Meet Strict shape slice other.slice
-
--- a fault, or none, is that of a slice that shares an index with one of those of a list, where it does
-abbrev pub IsMeetFaultOf : {T : Type 0} → List ℕ → List SliceInfoElem → List (Write T) → Option ErrorKind → Type 0
-IsMeetFaultOf shape slice writes fault =
-    ((fault ≡ Some Unsupported) × MeetsOneOf shape slice writes) ⊎ ((fault ≡ None) × All (λ other. Meet Strict shape slice other.slice → ⊥) writes)
-
 -- the places of a slice of a view, the first axis moving slowest
 abbrev pub write_places : {T : Type 0} → View → Write T → List ℤ
 write_places view write = view_places RowMajor (slice_of Strict write.slice view)
@@ -107,23 +91,6 @@ Spares view place write = Contains (write_places view write) (pos place) → ⊥
 -- each place that no slice has holds the same item in both lists, and none is past the end of one alone
 abbrev pub KeepsOthers : {T : Type 0} → View → List (Write T) → List T → List T → Type 0
 KeepsOthers view writes old new = (place : ℕ) → All (Spares view place) writes → slice_get new place ≡ slice_get old place
-
--- no number is in both lists
-abbrev pub ShareNone : List ℕ → List ℕ → Type 0
-ShareNone one other = (n : ℕ) → Contains one n → Contains other n → ⊥
-
--- lists of places are such that items can be written at all of them, each list for the items of one write: no place is past the end of the items that
--- there are, or there twice
-pub record CanWrite {T : Type 0} (len : ℕ) (places : List (List ℕ)) (writes : List (Write T)) : Type 0 where
-  pub inside : All (All (λ place. place < len)) places
-  pub distinct : All (AllPairs (λ one other. one ≢ other)) places
-  pub apart : AllPairs ShareNone places
-  pub counts : map length places ≡ map (λ write. length write.items) writes
-
--- the items of each write are at the places of its list, and all others stay
-pub record HasWritten {T : Type 0} (places : List (List ℕ)) (writes : List (Write T)) (old new : List T) : Type 0 where
-  pub written : map (map (slice_get new)) places ≡ map (λ write. map Some write.items) writes
-  pub kept : (place : ℕ) → All (λ list. Contains list place → ⊥) places → slice_get new place ≡ slice_get old place
 
 -- examples
 abbrev two_by_three : View
@@ -181,9 +148,6 @@ row_meets_column = record {
 row_and_column : IsFaultOfWrites (2 ∷ 3 ∷ []) (first_row ∷ first_column ∷ []) (Some Unsupported)
 row_and_column = inl (refl, row_meets_column)
 
-row_meets_one : MeetsOneOf (2 ∷ 3 ∷ []) first_row.slice (first_column ∷ [])
-row_meets_one = record { at = 0; other = first_column; there = refl; meet = at_the_corner }
-
 row_and_column_apart : AreApart (2 ∷ 3 ∷ []) first_row first_column → ⊥
 row_and_column_apart apart = apart at_the_corner
 
@@ -198,14 +162,3 @@ place_of_the_row spares = spares (1, ltb-true 1 3 refl, refl)
 
 another_item : KeepsOthers {T = ℕ} two_by_three [] (7 ∷ []) (8 ∷ []) → ⊥
 another_item kept = both_ways (nat_eq 8 7) refl (eq-eqb 8 7 (ap (λ item. unwrap_or item 0) (kept 0 (λ k d below. absurd (not-suc-le-zero below)))))
-
-place_in_both : ShareNone (4 ∷ 5 ∷ []) (5 ∷ []) → ⊥
-place_in_both apart = apart 5 (1, ltb-true 1 2 refl, refl) (0, ltb-true 0 1 refl, refl)
-
-one_place_twice : CanWrite 9 ((4 ∷ 4 ∷ []) ∷ []) (first_column ∷ []) → ⊥
-one_place_twice can = can.distinct 0 [] (ltb-true 0 1 refl) 0 1 0 (ltb-true 0 1 refl) (ltb-true 1 2 refl) refl
-
-item_not_there : HasWritten ((1 ∷ []) ∷ []) (short_column ∷ []) (7 ∷ 7 ∷ []) (7 ∷ 7 ∷ []) → ⊥
-item_not_there left =
-    both_ways (nat_eq 7 20) refl
-    (eq-eqb 7 20 (ap (λ lists. unwrap_or (slice_index_or (slice_index_or lists 0 []) 0 None) 0) left.written))

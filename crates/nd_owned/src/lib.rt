@@ -3,6 +3,7 @@
 #![tactic(auto)]
 
 mod owned;
+mod rows;
 mod writes;
 
 pub use owned::OwnedArray;

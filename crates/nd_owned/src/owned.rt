@@ -1,7 +1,7 @@
 //! An array that owns its items.
 ghost use Rattle.std.specs.List.{All};
 ghost use Rattle.std.specs.Option.{IsSome};
-ghost use Rattle.std.specs.Prelude.{◌≡◌, ◌<◌, ◌↔◌, IsTrue, Some, None, IfErr, IfOk, IsOk, OnErr, OnOk, length, map, slice_get, vec_len};
+ghost use Rattle.std.specs.Prelude.{◌≡◌, ◌↔◌, IsTrue, Some, None, IfErr, IfOk, IsOk, OnErr, OnOk, length, map, slice_get, vec_len};
 ghost use Rattle.ndarray_layout.specs.declared.CanIndexCheckMode.TheVariants.{OwnedMutable};
 ghost use Rattle.ndarray_layout.specs.declared.Fit.TheVariants.{Strict};
 ghost use Rattle.ndarray_layout.specs.declared.Order.TheVariants.{RowMajor};
@@ -18,12 +18,13 @@ ghost use Rattle.ndarray_layout.specs.View.{view_of, view_places};
 ghost use Rattle.nd_owned.specs.Owned.{IsOwned, item_at, item_at_place, shape_fault_of, with_item};
 ghost use Rattle.nd_owned.specs.Writes.{IsFaultOfWrites, IsOfNone, IsWritten, KeepsOthers, write_of};
 
-use crate::writes::{check_writes, places_of, slice_places, write_all};
+use crate::rows::rows_of;
+use crate::writes::{check_writes, rows_of_each, write_all};
 use ndarray_layout::{
     CanIndexCheckMode, LayoutError, Lengths, NdIndex, SliceElems, SliceInfoElem, StrideShape,
     Strided,
 };
-use std::alloc::{AllocError, Global};
+use std::alloc::Global;
 use std::marker::Model;
 
 /// An array that owns its items: each index of its shape has one of them to itself, at its place in the
@@ -43,19 +44,6 @@ impl<T: Copy, D: Lengths> Model for OwnedArray<T, D> {
     ghost view = { λ a. record { items = a.items.items; view = a.view } };
 
     ghost invariant = { λ a. IsOwned (length a.items.items) a.view };
-}
-
-/// The items at places of a list, in the order of the places.
-fn items_at<T: Copy>(alloc: Global, stored: &[T], places: &[usize]) -> Result<Vec<T>, AllocError>
-    requires { All (λ place. place < length stored.now) places.now }
-    ensures items { IfOk result (λ v. map Some v.items ≡ map (slice_get stored.now) places.now) }
-    ensures memory { length places.now ≡ 0 → IsOk result }
-{
-    let mut items = Vec::with_capacity(alloc, places.len())?;
-    for place in places {
-        items.push_reserved(stored[*place]);
-    }
-    Ok(items)
 }
 
 impl<T: Copy, D: Lengths> OwnedArray<T, D> {
@@ -136,8 +124,8 @@ impl<T: Copy, D: Lengths> OwnedArray<T, D> {
             (view_places RowMajor (slice_of Strict (S.list slices.now) self.now.view))) }
         ensures memory { IsOfNone self.now.view.shape (S.list slices.now) → IsOk result }
     {
-        let places = slice_places(alloc, &self.view, slices)?;
-        Ok(items_at(alloc, self.items.as_slice(), places.as_slice())?)
+        let rows = rows_of(alloc, &self.view, slices)?;
+        Ok(rows.read(alloc, self.items.as_slice())?)
     }
 
     /// Writes items at several slices at once, each with the list of items for its indices, the first axis
@@ -145,7 +133,7 @@ impl<T: Copy, D: Lengths> OwnedArray<T, D> {
     /// none, and no slices at all is no fault.
     ///
     /// Each slice is compared once with each one after it, so that of `k` slices `k * (k - 1) / 2` pairs are
-    /// compared, each on all axes. The places of all slices are listed before the first write.
+    /// compared, each on all axes. Where the rows of all slices begin is listed before the first write.
     ///
     /// Errors, which change nothing: that of `check_slice` on the shape for the first slice that doesn't fit; then
     /// `IncompatibleShape` where a list has more items or fewer than its slice picks; then `Unsupported` where two
@@ -164,8 +152,8 @@ impl<T: Copy, D: Lengths> OwnedArray<T, D> {
         ensures kept { OnOk result (KeepsOthers self.old.view (map write_of writes.now) self.old.items self.new.items) }
     {
         check_writes(&self.view, writes)?;
-        let places = places_of(alloc, &self.view, writes)?;
-        write_all(self.items.as_mut_slice(), places.as_slice(), writes);
+        let rows = rows_of_each(alloc, &self.view, writes)?;
+        write_all(self.items.as_mut_slice(), rows.as_slice(), writes);
         Ok(())
     }
 }

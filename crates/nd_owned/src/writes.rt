@@ -1,21 +1,20 @@
 //! Items that are to be written at slices of a view: whether that is refused, their places, and the writes.
-ghost use Rattle.std.specs.List.{All, AllPairs, Contains, list_all};
-ghost use Rattle.std.specs.Prelude.{◌≡◌, ◌<◌, ◌≢◌, ◌↔◌, ℕ, if◌then◌else◌, Some, None, IfErr, IfOk, IsOk, IsTrue, OnErr, OnOk, length, map, pos, slice_get, vec_len};
+ghost use Rattle.std.specs.List.{All, AllPairs, flat_map, list_all};
+ghost use Rattle.std.specs.Prelude.{◌≡◌, ◌≢◌, ℕ, if◌then◌else◌, Some, None, IfOk, IsOk, length, map};
 ghost use Rattle.std.specs.Result.{result_err};
 ghost use Rattle.ndarray_layout.specs.declared.ErrorKind.TheVariants.{IncompatibleShape, Unsupported};
 ghost use Rattle.ndarray_layout.specs.declared.Fit.TheVariants.{Strict};
-ghost use Rattle.ndarray_layout.specs.declared.Order.TheVariants.{RowMajor};
 ghost use Rattle.ndarray_layout.specs.ArgumentFault.{argument_fault};
 ghost use Rattle.ndarray_layout.specs.ShapeFault.{shape_fault};
-ghost use Rattle.ndarray_layout.specs.Size.{size};
-ghost use Rattle.ndarray_layout.specs.Sliced.{sliced_shape};
-ghost use Rattle.ndarray_layout.specs.SlicedView.{slice_of};
-ghost use Rattle.ndarray_layout.specs.View.{LiesWithin, view_places};
-ghost use Rattle.nd_owned.specs.Writes.{IsOfNone, CanWrite, HasWritten, IsFaultOfWrites, IsMeetFault, IsMeetFaultOf, has_count, slices_fault, vec_list, write_of, write_places};
+ghost use Rattle.ndarray_layout.specs.View.{LiesWithin};
+ghost use Rattle.nd_owned.specs.Rows.{AreInside, HasWritten, rows_places};
+ghost use Rattle.nd_owned.specs.Checks.{IsMeetFaultOf};
+ghost use Rattle.nd_owned.specs.Writes.{IsFaultOfWrites, IsMeetFault, has_count, slices_fault, write_of, write_places};
 
+use crate::rows::{Rows, rows_of};
 use ndarray_layout::{
-    ErrorKind, Fit, IxDyn, LayoutError, Lengths, Order, ShapeError, SliceElems, SliceInfoElem,
-    Strided, check_slice, from_kind,
+    ErrorKind, Fit, LayoutError, Lengths, ShapeError, SliceInfoElem, Strided, check_slice,
+    from_kind,
 };
 use std::alloc::Global;
 
@@ -97,64 +96,36 @@ pub(crate) fn check_writes<T: Copy, D: Lengths>(
     check_apart(view, writes)
 }
 
-/// The places of a slice, the first axis moving slowest.
-pub(crate) fn slice_places<D: Lengths, S: SliceElems>(
-    alloc: Global,
-    view: &Strided<D>,
-    slice: &S,
-) -> Result<Vec<usize>, LayoutError>
-    ensures fault { shape_fault result ≡ argument_fault Strict view.now.shape (S.list slice.now) }
-    ensures places { IfOk result (λ v. map pos v.items
-        ≡ view_places RowMajor (slice_of Strict (S.list slice.now) view.now)) }
-    ensures inside { IfOk result (λ v. (len : ℕ) → LiesWithin len view.now → All (λ place. place < len) v.items) }
-    ensures len { IfOk result (λ v. vec_len v ≡ size (sliced_shape Strict (S.list slice.now) view.now.shape)) }
-    ensures memory { IsOfNone view.now.shape (S.list slice.now) → IsOk result }
-{
-    let slice: Strided<IxDyn> = view.slice(alloc, slice, Fit::Strict)?;
-    Ok(slice.places(alloc, Order::RowMajor)?)
-}
-
-/// The places of each slice.
-pub(crate) fn places_of<T: Copy, D: Lengths>(
+/// The rows of each slice.
+pub(crate) fn rows_of_each<T: Copy, D: Lengths>(
     alloc: Global,
     view: &Strided<D>,
     writes: &[SliceItems<T>],
-) -> Result<Vec<Vec<usize>>, LayoutError>
+) -> Result<Vec<Rows>, LayoutError>
     requires { slices_fault view.now.shape (map write_of writes.now) ≡ None }
     ensures fault { shape_fault result ≡ None }
     ensures memory { length writes.now ≡ 0 → IsOk result }
-    ensures places { IfOk result (λ v. map (map pos) (map vec_list v.items)
+    ensures places { IfOk result (λ v. map rows_places v.items
         ≡ map (write_places view.now) (map write_of writes.now)) }
-    ensures inside { IfOk result (λ v. (len : ℕ) → LiesWithin len view.now →
-        All (All (λ place. place < len)) (map vec_list v.items)) }
+    ensures inside { IfOk result (λ v. (len : ℕ) → LiesWithin len view.now → All (AreInside len) v.items) }
 {
-    let mut places = Vec::with_capacity(alloc, writes.len())?;
+    let mut rows = Vec::with_capacity(alloc, writes.len())?;
     for (slice, _) in writes {
-        places.push_reserved(slice_places(alloc, view, slice)?);
+        rows.push_reserved(rows_of(alloc, view, slice)?);
     }
-    Ok(places)
+    Ok(rows)
 }
 
-/// Writes items at places of a list, one at each.
-fn write_at<T: Copy>(stored: &mut [T], places: &[usize], items: &[T])
-    requires inside { All (λ place. place < length stored.old) places.now }
-    requires distinct { AllPairs (λ one other. one ≢ other) places.now }
-    requires counts { length places.now ≡ length items.now }
-    ensures written { map (slice_get stored.new) places.now ≡ map Some items.now }
-    ensures kept { (place : ℕ) → (Contains places.now place → ⊥) →
-        slice_get stored.new place ≡ slice_get stored.old place }
-{
-    for (at, place) in places.iter().enumerate() {
-        stored[*place] = items[at];
-    }
-}
-
-/// Writes the items of each slice at its places.
-pub(crate) fn write_all<T: Copy>(stored: &mut [T], places: &[Vec<usize>], writes: &[SliceItems<T>])
-    requires { CanWrite (length stored.old) (map vec_list places.now) (map write_of writes.now) }
-    ensures { HasWritten (map vec_list places.now) (map write_of writes.now) stored.old stored.new }
+/// Writes the items of each slice at the places of its rows.
+pub(crate) fn write_all<T: Copy>(stored: &mut [T], rows: &[Rows], writes: &[SliceItems<T>])
+    requires inside { All (AreInside (length stored.old)) rows.now }
+    requires distinct { AllPairs (λ one other. one ≢ other) (flat_map rows_places rows.now) }
+    requires counts { map length (map rows_places rows.now)
+        ≡ map (λ write. length write.items) (map write_of writes.now) }
+    ensures { HasWritten (flat_map rows_places rows.now)
+        (flat_map (λ write. write.items) (map write_of writes.now)) stored.old stored.new }
 {
     for (at, (_, items)) in writes.iter().enumerate() {
-        write_at(stored, places[at].as_slice(), items.as_slice());
+        rows[at].write(stored, items.as_slice());
     }
 }

@@ -1,4 +1,5 @@
 pub mod Broadcasts
+pub mod ByRows
 pub mod Collapses
 pub mod LongerSteps
 pub mod Merged

@@ -1,17 +1,22 @@
 -- Laws of views of which one entry of an axis was taken.
-use Rattle.std.proofs.Common.{◌≡◌, ℕ, ◌<◌, ℤ, pos, negsuc, ◌≤ℤ◌, Bool, true, false, cond, None, Some, List, length, get_or, nat_lt, refl, arith}
+use Rattle.std.proofs.Common.{◌≡◌, ℕ, ◌+◌, ◌<◌, ℤ, pos, negsuc, ◌+ℤ◌, ◌*ℤ◌, ◌≤ℤ◌, Bool, true, false, cond, None, Some, List, length, get_or, set, map, nat_lt, refl, sym, ap, ◌∙◌, arith}
 use Rattle.std.proofs.lemmas.Bool.{and_parts, ltb-true}
 use Rattle.std.proofs.lemmas.Int.{ints}
+use Rattle.std.proofs.lemmas.List.Folds.{flat_map-map}
 use Rattle.nd_base.specs.declared.error.ErrorKind.TheVariants.{OutOfBounds}
+use Rattle.nd_base.specs.declared.order.Order.TheVariants.{RowMajor}
+use Rattle.nd_base.specs.Indices.{below, indices}
 use Rattle.nd_base.specs.Signed.{magnitude}
 use Rattle.nd_base.specs.Size.{limit}
 use Rattle.nd_base.proofs.laws.Span.{low_high_span}
 use Rattle.ndarray_layout_views.specs.CollapsedView.{collapse_fault, collapsed_start, collapse_of, collapse_source}
 use Rattle.ndarray_layout_views.specs.DistinctPlaces.{HasDistinctPlaces}
 use Rattle.ndarray_layout_views.specs.KeepsPlaces.{KeepsPlaces}
-use Rattle.ndarray_layout_views.specs.View.{View, IsView, LiesWithin}
+use Rattle.ndarray_layout_views.specs.View.{View, IsView, LiesWithin, view_places}
+use Rattle.ndarray_layout_views.proofs.ByRows.{by_rows, places_from, row_from}
 use Rattle.ndarray_layout_views.proofs.Collapses.{CollapseKept, collapse_kept, source_kept, source_injective}
 use Rattle.ndarray_layout_views.proofs.laws.KeepsPlaces.{LiesWithin-kept, HasDistinctPlaces-kept}
+use Rattle.std.specs.List.{flat_map}
 use Rattle.std.specs.Prelude.{◌&&◌}
 
 fits : (here : Bool) → cond here None (Some OutOfBounds) ≡ None → here ≡ true
@@ -76,3 +81,21 @@ pub HasDistinctPlaces-collapse_of : (axis index : ℕ) (view : View) → IsView 
 HasDistinctPlaces-collapse_of axis index view v none distinct =
     let entry = entry_of_no_fault view.shape axis index none in
     HasDistinctPlaces-kept (collapse_source axis index) view (collapse_of axis index view) (KeepsPlaces-collapse_of axis index view v none) (λ entries others here there same. source_injective view.shape axis index entries others entry.0 here there same) distinct
+
+first_entry : (start : ℕ) (stride : ℤ) → pos start +ℤ (pos 0 *ℤ stride) ≡ pos start
+first_entry start (pos s) = omega (arith, ints)
+first_entry start (negsuc s) = omega (arith, ints)
+
+-- where the last axis has its first entry alone, the places left begin the rows that it makes: the places of the view are those of the rows, in order
+pub places-collapse_of_last : (view : View) (last : ℕ) (starts : List ℕ) → length view.shape ≡ last + 1 → length view.strides ≡ last + 1
+    → map pos starts ≡ view_places RowMajor (collapse_of last 0 view)
+    → view_places RowMajor view
+    ≡ flat_map (λ start. map (λ entry. pos start +ℤ (pos entry *ℤ get_or view.strides last (pos 0))) (below (get_or view.shape last 0))) starts
+places-collapse_of_last view last starts long also same =
+    let stride = get_or view.strides last (pos 0) in
+    let row = λ (start : ℤ). row_from start stride (get_or view.shape last 0) in
+    let begins : magnitude (collapsed_start last 0 view) ≡ view.start = ap magnitude (first_entry view.start stride) in
+    by_rows (pos view.start) view.shape view.strides last long also
+    ∙ ap (λ n. flat_map row (places_from (pos n) view.strides (indices (set view.shape last 1)))) (sym begins)
+    ∙ ap (flat_map row) (sym same)
+    ∙ flat_map-map row pos starts

@@ -1,9 +1,26 @@
--- The items are those at the places of the slice.
-use Rattle.std.proofs.Common.{◌∙◌}
-use Rattle.nd_owned.proofs.Placed.{by_places}
+-- The items are those at the places of the slice; where it has none, no memory is refused.
+use Rattle.std.proofs.Common.{◌≡◌, length, map, sym, ap, subst, ◌∙◌}
+use Rattle.std.proofs.lemmas.Bool.{false≢true}
+use Rattle.ndarray_layout.specs.declared.Fit.TheVariants.{Strict}
+use Rattle.ndarray_layout.specs.declared.Order.TheVariants.{RowMajor}
+use Rattle.ndarray_layout.specs.Size.{size}
+use Rattle.ndarray_layout.specs.Sliced.{sliced_shape}
+use Rattle.ndarray_layout.specs.SlicedView.{slice_of}
+use Rattle.ndarray_layout.proofs.laws.View.{length-view_places}
+use Rattle.nd_owned.specs.Owned.{item_at_place}
+use Rattle.nd_owned.specs.Rows.{rows_places}
 use Rattle.nd_owned.proofs.owned.OwnedArray.items.Goals as goal
 
 pub returns-clause-items : goal.returns-clause-items
 returns-clause-items g c =
-    let known = rw (c.as_slice.ensures.value, c.as_slice-2.ensures.value) at c.in_ok-items_at.ensures.items in
-    rw (← c.self.view_is) (known ∙ by_places c.self.inside.items.items c.in_ok-places.places.items _ c.in_ok-places.ensures.places)
+    let known = rw (c.as_slice.ensures.value) at c.in_ok-read.ensures.items in
+    rw (← c.self.view_is) (known ∙ ap (map (item_at_place c.self.inside.items.items)) c.in_ok-rows.ensures.places)
+
+pub returns-in_err-read-clause-memory : goal.returns-in_err-read-clause-memory
+returns-in_err-read-clause-memory g c = λ none.
+    let elems = g.S.SliceElems.list c.args.slices.now in
+    let empty : length (rows_places c.in_ok-rows.rows) ≡ 0 =
+    ap length c.in_ok-rows.ensures.places
+    ∙ length-view_places RowMajor (slice_of Strict elems c.self.inside.view)
+    ∙ subst (λ array. size (sliced_shape Strict elems array.view.shape) ≡ 0) (sym c.self.view_is) none.none in
+    absurd (false≢true (c.in_err-read.ensures.memory empty))

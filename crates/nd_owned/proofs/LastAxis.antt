@@ -1,0 +1,72 @@
+-- What taking the first entry of the last axis leaves of a view: where its rows begin.
+use Rattle.std.proofs.Common.{◌≡◌, ℕ, zero, suc, ◌+◌, ◌*◌, ◌<◌, ℤ, pos, Bool, true, false, cond, Result, Ok, Err, Some, None, List, [], ◌∷◌, length, get_or, set, map, nat_lt, refl, sym, ap, subst, ◌∙◌, arith}
+use Rattle.std.specs.List.{flat_map}
+use Rattle.std.specs.Prelude.{OnErr, OnOk, ◌&&◌}
+use Rattle.std.specs.Result.{result_err}
+use Rattle.std.proofs.lemmas.Bool.{lt-ltb}
+use Rattle.ndarray_layout.specs.declared.ErrorKind.TheVariants.{OutOfBounds}
+use Rattle.ndarray_layout.specs.declared.Order.TheVariants.{RowMajor}
+use Rattle.ndarray_layout.specs.declared.ShapeError.{ShapeError}
+use Rattle.ndarray_layout.specs.CollapsedView.{collapse_fault, collapse_of}
+use Rattle.ndarray_layout.specs.Size.{size}
+use Rattle.ndarray_layout.specs.View.{View, IsView, view_places}
+use Rattle.ndarray_layout.proofs.laws.CollapsedView.{entry_of_no_fault, places-collapse_of_last}
+use Rattle.ndarray_layout.proofs.laws.View.{no_places}
+use Rattle.nd_owned.specs.Rows.{IsLastAxis, row_places}
+use Rattle.nd_owned.proofs.RowPlaces.{rows_of_none}
+
+-- a size by one of the axes
+size_by_axis : (shape : List ℕ) (axis : ℕ) → axis < length shape → size shape ≡ get_or shape axis 0 * size (set shape axis 1)
+size_by_axis [] axis below = absurd (omega arith)
+size_by_axis (len ∷ lens) zero below =
+    let alone : 1 * size lens ≡ size lens = omega arith in
+    ap (λ n. len * n) (sym alone)
+size_by_axis (len ∷ lens) (suc axis) below =
+    let others = size_by_axis lens axis (omega arith) in
+    ap (λ n. len * n) others ∙ turned len (get_or lens axis 0) (size (set lens axis 1))
+  where
+    turned : (a b c : ℕ) → a * (b * c) ≡ b * (a * c)
+    turned a b c = omega arith
+
+none_of_product : (a b : ℕ) → 0 < a → a * b ≡ 0 → b ≡ 0
+none_of_product a zero some none = refl
+none_of_product a (suc b) some none = absurd (omega arith)
+
+-- an axis of which no first entry can be taken has none
+no_entry : (shape : List ℕ) (axis : ℕ) → axis < length shape → (collapse_fault shape axis 0 ≡ None → ⊥) → get_or shape axis 0 ≡ 0
+no_entry shape axis below refused = by (get_or shape axis 0) refused
+  where
+    by : (len : ℕ) → (cond (nat_lt axis (length shape) && nat_lt 0 len) None (Some OutOfBounds) ≡ None → ⊥) → len ≡ 0
+    by zero refused = refl
+    by (suc len) refused =
+        absurd (refused
+        (ap (λ here. cond (here && nat_lt 0 (suc len)) None (Some OutOfBounds)) (lt-ltb axis (length shape) below)
+        ∙ ap (λ here. cond here None (Some OutOfBounds)) (lt-ltb 0 (suc len) (omega arith))))
+
+-- what is left, by whether there was an entry
+pub rows_left : (view left : View) (axis : ℕ) (stride : ℤ) (len : ℕ) (taken : Result (Unit {0}) ShapeError) → IsView view → IsLastAxis view axis stride len
+    → result_err taken ≡ collapse_fault view.shape axis 0 → OnErr taken (left ≡ view) → OnOk taken (left ≡ collapse_of axis 0 view)
+    → (starts : List ℕ) → map pos starts ≡ view_places RowMajor left → flat_map (λ start. row_places start stride len) starts ≡ view_places RowMajor view
+rows_left view left axis stride len (Ok u) v last fault stays collapsed starts same =
+    let rows = λ (s : ℤ) (n : ℕ). flat_map (λ start. row_places start s n) starts in
+    ap (λ s. rows s len) last.is_stride
+    ∙ ap (λ n. rows (get_or view.strides axis (pos 0)) n) last.is_len
+    ∙ sym (places-collapse_of_last view axis starts last.last (sym v.valid.same_count ∙ last.last) (same ∙ ap (view_places RowMajor) collapsed))
+rows_left view left axis stride len (Err e) v last fault stays collapsed starts same =
+    let none = no_entry view.shape axis (omega (arith, last.last)) (λ no. some_none (fault ∙ no)) in
+    let zero : 0 * size (set view.shape axis 1) ≡ 0 = omega arith in
+    let empty : size view.shape ≡ 0 = size_by_axis view.shape axis (omega (arith, last.last)) ∙ ap (λ n. n * size (set view.shape axis 1)) none ∙ zero in
+    ap (λ n. flat_map (λ start. row_places start stride n) starts) (last.is_len ∙ none)
+    ∙ rows_of_none stride starts
+    ∙ sym (no_places RowMajor view empty)
+  where
+    some_none : {X : Type 0} {x : X} → Some x ≡ None → ⊥
+    some_none same = absurd (cc)
+
+pub none_left : (view left : View) (axis : ℕ) (stride : ℤ) (len : ℕ) (taken : Result (Unit {0}) ShapeError) → IsLastAxis view axis stride len
+    → result_err taken ≡ collapse_fault view.shape axis 0 → OnErr taken (left ≡ view) → OnOk taken (left ≡ collapse_of axis 0 view) → size view.shape ≡ 0 → size left.shape ≡ 0
+none_left view left axis stride len (Ok u) last fault stays collapsed none =
+    let entry = entry_of_no_fault view.shape axis 0 (sym fault) in
+    ap (λ v. size v.shape) collapsed
+    ∙ none_of_product (get_or view.shape axis 0) (size (set view.shape axis 1)) entry.1 (sym (size_by_axis view.shape axis entry.0) ∙ none)
+none_left view left axis stride len (Err e) last fault stays collapsed none = ap (λ v. size v.shape) stays ∙ none

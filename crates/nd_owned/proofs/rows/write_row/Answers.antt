@@ -1,0 +1,40 @@
+-- A row of neighbours is one copy.
+use Rattle.std.proofs.Common.{rules, ◌≡◌, ◌+◌, ◌-◌, ◌≤◌, ◌<◌, ◌++◌, ◌^◌, pos, length, take, drop, sym, ap, subst, ◌∙◌, arith}
+use Rattle.std.specs.List.{All}
+use Rattle.ndarray_layout.specs.Inside.{IsInside}
+use Rattle.ndarray_layout.specs.Signed.{signed}
+use Rattle.nd_owned.specs.Rows.{HasWritten, row_places}
+use Rattle.nd_owned.proofs.RowPlaces.{neighbours_within, write_neighbours}
+use Rattle.nd_owned.proofs.rows.write_row.Goals as goal
+
+pub overflow_add-start : goal.overflow_add-start
+overflow_add-start g c =
+    let count = length c.args.stored.now in
+    let within : c.args.start + length c.args.items.now ≤ count =
+    neighbours_within count c.args.start (length c.args.items.now) c.requires.begins
+    (subst (λ stride. All (IsInside count) (row_places c.args.start (signed stride) (length c.args.items.now))) (c.is_copied.ensures c.if-is_copied.true) c.requires.inside) in
+    let small : count < 2 ^ 64 = search rules in
+    omega arith
+
+pub slice_bounds-copy_from_slice-end : goal.slice_bounds-copy_from_slice-end
+slice_bounds-copy_from_slice-end g c =
+    let count = length c.args.stored.now in
+    let within : c.args.start + length c.args.items.now ≤ count =
+    neighbours_within count c.args.start (length c.args.items.now) c.requires.begins
+    (subst (λ stride. All (IsInside count) (row_places c.args.start (signed stride) (length c.args.items.now))) (c.is_copied.ensures c.if-is_copied.true) c.requires.inside) in
+    search rules
+
+pub returns-then-is_copied : goal.returns-then-is_copied
+returns-then-is_copied g c =
+    let count = length c.args.stored.now in
+    let start = c.args.start in
+    let items = c.args.items.now in
+    let old = c.args.stored.now in
+    let within : start + length items ≤ count =
+    neighbours_within count start (length items) c.requires.begins
+    (subst (λ stride. All (IsInside count) (row_places start (signed stride) (length items))) (c.is_copied.ensures c.if-is_copied.true) c.requires.inside) in
+    let same : start + length items - start ≡ length items = omega arith in
+    subst (λ stride. HasWritten (row_places start (signed stride) (length items)) items old (take start old ++ (c.copy_from_slice.new.self ++ drop (start + length items - start) (drop start old)))) (sym (c.is_copied.ensures c.if-is_copied.true))
+    (subst (λ n. HasWritten (row_places start (pos 1) (length items)) items old (take start old ++ (c.copy_from_slice.new.self ++ drop n (drop start old)))) (sym same)
+    (subst (λ new. HasWritten (row_places start (pos 1) (length items)) items old (take start old ++ (new ++ drop (length items) (drop start old)))) (sym c.copy_from_slice.ensures.after)
+    (write_neighbours old items start within)))

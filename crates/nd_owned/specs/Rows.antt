@@ -1,0 +1,53 @@
+-- Rows of places, and items that are written there: what the contracts of private functions speak of.
+use Rattle.std.specs.Prelude.{◌≡◌, ℕ, ◌+◌, ◌<◌, ℤ, pos, negsuc, ◌+ℤ◌, ◌*ℤ◌, Some, None, List, [], ◌∷◌, length, map, slice_get, slice_index, slice_index_or, unwrap_or, nat_eq, refl}
+use Rattle.std.proofs.Common.{ap, eq-eqb}
+use Rattle.std.proofs.Math.Nat.{not-suc-le-zero}
+use Rattle.std.proofs.lemmas.Bool.{both_ways}
+use Rattle.std.specs.List.{All, Contains, flat_map}
+use Rattle.ndarray_layout.specs.Indices.{below}
+use Rattle.ndarray_layout.specs.Inside.{IsInside}
+use Rattle.ndarray_layout.specs.Signed.{signed}
+use Rattle.ndarray_layout.specs.View.{View}
+use Rattle.nd_owned.specs.declared.rows.Rows.{Rows}
+use Rattle.nd_owned.specs.Owned.{item_at_place}
+
+-- the places of a row, which lie a stride apart
+abbrev pub row_places : ℕ → ℤ → ℕ → List ℤ
+row_places start stride len = map (λ entry. pos start +ℤ (pos entry *ℤ stride)) (below len)
+
+-- those of rows, one row after another
+abbrev pub rows_places : Rows → List ℤ
+rows_places rows = flat_map (λ start. row_places start (signed rows.stride) rows.len) rows.starts.items
+
+-- the last axis of a view has this number, this stride and this length
+pub record IsLastAxis (view : View) (axis : ℕ) (stride : ℤ) (len : ℕ) : Type 0 where
+  pub last : length view.shape ≡ axis + 1
+  pub is_len : len ≡ slice_index view.shape axis
+  pub is_stride : stride ≡ slice_index_or view.strides axis (pos 0)
+
+-- all of them lie among so many elements, and so does where a row without places begins
+pub record AreInside (count : ℕ) (rows : Rows) : Type 0 where
+  pub starts : All (λ start. start < count) rows.starts.items
+  pub places : All (IsInside count) (rows_places rows)
+
+-- items are at places, and all others stay
+pub record HasWritten {T : Type 0} (places : List ℤ) (items old new : List T) : Type 0 where
+  pub written : map (item_at_place new) places ≡ map Some items
+  pub kept : (place : ℕ) → (Contains places (pos place) → ⊥) → slice_get new place ≡ slice_get old place
+
+-- examples
+backwards : row_places 5 (negsuc 1) 3 ≡ pos 5 ∷ pos 3 ∷ pos 1 ∷ []
+backwards = refl
+
+without_places : row_places 5 (pos 1) 0 ≡ []
+without_places = refl
+
+of_columns : IsLastAxis (record { start = 0; shape = 2 ∷ 3 ∷ []; strides = pos 3 ∷ pos 1 ∷ [] }) 1 (pos 1) 3
+of_columns = record { last = refl; is_len = refl; is_stride = refl }
+
+item_not_there : HasWritten {T = ℕ} (pos 1 ∷ []) (20 ∷ []) (7 ∷ 7 ∷ []) (7 ∷ 7 ∷ []) → ⊥
+item_not_there left =
+    both_ways (nat_eq 7 20) refl (eq-eqb 7 20 (ap (λ items. unwrap_or (slice_index_or items 0 None) 0) left.written))
+
+another_changed : HasWritten {T = ℕ} [] [] (7 ∷ []) (8 ∷ []) → ⊥
+another_changed left = both_ways (nat_eq 8 7) refl (eq-eqb 8 7 (ap (λ item. unwrap_or item 0) (left.kept 0 (λ here. absurd (not-suc-le-zero here.1)))))

@@ -1,0 +1,201 @@
+//! The rows of a slice: where each of them begins, and the items of all of them, read and written row by row.
+ghost use Rattle.std.specs.List.{All, AllPairs, flat_map};
+ghost use Rattle.std.specs.Prelude.{◌≡◌, ◌≢◌, ℕ, ◌+◌, ◌*◌, ◌<◌, ◌≤◌, ◌^◌, pos, Some, IfOk, IsOk, IsTrue, MatchOption, List, ◌++◌, length, map, vec_capacity, vec_len};
+ghost use Rattle.ndarray_layout.specs.declared.Fit.TheVariants.{Strict};
+ghost use Rattle.ndarray_layout.specs.declared.Order.TheVariants.{RowMajor};
+ghost use Rattle.ndarray_layout.specs.ArgumentFault.{argument_fault};
+ghost use Rattle.ndarray_layout.specs.Inside.{IsInside};
+ghost use Rattle.ndarray_layout.specs.ShapeFault.{shape_fault};
+ghost use Rattle.ndarray_layout.specs.Signed.{signed};
+ghost use Rattle.ndarray_layout.specs.Size.{size};
+ghost use Rattle.ndarray_layout.specs.SlicedView.{slice_of};
+ghost use Rattle.ndarray_layout.specs.View.{IsView, LiesWithin, view_places};
+ghost use Rattle.nd_owned.specs.Owned.{item_at_place};
+ghost use Rattle.nd_owned.specs.Rows.{AreInside, HasWritten, IsLastAxis, row_places, rows_places};
+ghost use Rattle.nd_owned.specs.Writes.{IsOfNone};
+
+use ndarray_layout::{Axis, Fit, IxDyn, LayoutError, Lengths, Order, SliceElems, Strided};
+use std::alloc::{AllocError, Global};
+
+/// The rows of a slice: the place where each begins, how far its places lie apart, and how many it has.
+#[derive(Drop)]
+pub(crate) struct Rows {
+    starts: Vec<usize>,
+    // Kept as the `usize` of the same bits.
+    stride: usize,
+    len: usize,
+}
+
+/// The rows of a slice of a view, in the order of its places.
+pub(crate) fn rows_of<D: Lengths, S: SliceElems>(
+    alloc: Global,
+    view: &Strided<D>,
+    slice: &S,
+) -> Result<Rows, LayoutError>
+    ensures fault { shape_fault result ≡ argument_fault Strict view.now.shape (S.list slice.now) }
+    ensures places { IfOk result (λ rows. rows_places rows
+        ≡ view_places RowMajor (slice_of Strict (S.list slice.now) view.now)) }
+    ensures inside { IfOk result (λ rows. (len : ℕ) → LiesWithin len view.now → AreInside len rows) }
+    ensures fits { IfOk result (λ rows. vec_len rows.starts * rows.len < 2 ^ 64) }
+    ensures memory { IsOfNone view.now.shape (S.list slice.now) → IsOk result }
+{
+    let slice: Strided<IxDyn> = view.slice(alloc, slice, Fit::Strict)?;
+    Ok(rows_of_view(alloc, slice)?)
+}
+
+/// The rows of a view: its last axis gives their places, and its other axes where they begin.
+fn rows_of_view<D: Lengths>(alloc: Global, mut view: Strided<D>) -> Result<Rows, AllocError>
+    ensures places { IfOk result (λ rows. rows_places rows ≡ view_places RowMajor view) }
+    ensures inside { IfOk result (λ rows. (len : ℕ) → LiesWithin len view → AreInside len rows) }
+    ensures fits { IfOk result (λ rows. vec_len rows.starts * rows.len < 2 ^ 64) }
+    ensures memory { size view.shape ≡ 0 → IsOk result }
+{
+    let (stride, len) = take_last_axis(&mut view);
+    let starts = view.places(alloc, Order::RowMajor)?;
+    Ok(Rows {
+        starts,
+        stride,
+        len,
+    })
+}
+
+/// Leaves of a view where its rows begin, and answers how far the places of each lie apart, and how many it has.
+/// A view without axes is one row of one place.
+fn take_last_axis<D: Lengths>(view: &mut Strided<D>) -> (usize, usize)
+    ensures places { (starts : List ℕ) → map pos starts ≡ view_places RowMajor view.new →
+        flat_map (λ start. row_places start (signed result.0) result.1) starts ≡ view_places RowMajor view.old }
+    ensures inside { (len : ℕ) → LiesWithin len view.old → LiesWithin len view.new }
+    ensures none { size view.old.shape ≡ 0 → size view.new.shape ≡ 0 }
+    ensures fits { size view.old.shape < 2 ^ 64 }
+{
+    let Some((axis, stride, len)) = last_axis(view) else {
+        return (1, 1);
+    };
+    // Refused where the axis has no entry: then the view stays, and no row begins anywhere.
+    let _ = view.collapse(axis, 0);
+    (stride, len)
+}
+
+/// The last axis of a view, with its stride and its length.
+fn last_axis<D: Lengths>(view: &Strided<D>) -> Option<(Axis, usize, usize)>
+    ensures last { MatchOption result (length view.now.shape ≡ 0) (λ last. IsLastAxis view.now last.0.0 (signed last.1) last.2) }
+    ensures is_view { IsView view.now }
+{
+    let (len, others) = view.dim().slice().split_last()?;
+    let (stride, _) = view.strides().slice().split_last()?;
+    Some((Axis(others.len()), *stride, *len))
+}
+
+impl Rows {
+    /// The items at the places of the rows of a list, one row after another.
+    pub(crate) fn read<T: Copy>(&self, alloc: Global, stored: &[T]) -> Result<Vec<T>, AllocError>
+        requires inside { AreInside (length stored.now) self.now }
+        requires fits { vec_len self.now.starts * self.now.len < 2 ^ 64 }
+        ensures items { IfOk result (λ v. map Some v.items ≡ map (item_at_place stored.now) (rows_places self.now)) }
+        ensures memory { length (rows_places self.now) ≡ 0 → IsOk result }
+    {
+        let mut items = Vec::with_capacity(alloc, self.starts.len() * self.len)?;
+        for start in &self.starts {
+            items = read_row(items, stored, *start, self.stride, self.len);
+        }
+        Ok(items)
+    }
+
+    /// Writes items at the places of the rows of a list, one row after another.
+    pub(crate) fn write<T: Copy>(&self, stored: &mut [T], items: &[T])
+        requires inside { AreInside (length stored.old) self.now }
+        requires distinct { AllPairs (λ one other. one ≢ other) (rows_places self.now) }
+        requires counts { length (rows_places self.now) ≡ length items.now }
+        ensures { HasWritten (rows_places self.now) items.now stored.old stored.new }
+    {
+        let mut left = items;
+        for start in &self.starts {
+            let (row, others) = left.split_at(self.len);
+            write_row(stored, *start, self.stride, row);
+            left = others;
+        }
+    }
+}
+
+/// Whether a row is copied as a whole: its places are neighbours, and so many that the copy is worth its call.
+fn is_copied(stride: usize, len: usize) -> bool
+    ensures { IsTrue result → stride ≡ 1 }
+{
+    stride == 1 && len >= 16
+}
+
+/// Appends the items at the places of a row to a list with room for them.
+fn read_row<T: Copy>(
+    mut items: Vec<T>,
+    stored: &[T],
+    start: usize,
+    stride: usize,
+    len: usize,
+) -> Vec<T>
+    requires begins { start < length stored.now }
+    requires inside { All (IsInside (length stored.now)) (row_places start (signed stride) len) }
+    requires room { vec_len items + len ≤ vec_capacity items }
+    ensures items { map Some result.items ≡ map Some items.items
+        ++ map (item_at_place stored.now) (row_places start (signed stride) len) }
+    ensures len { vec_len result ≡ vec_len items + len }
+    ensures capacity { vec_capacity items ≤ vec_capacity result }
+{
+    if is_copied(stride, len) {
+        let _ = items.extend_from_slice(&stored[start..start + len]);
+        return items;
+    }
+    read_apart(items, stored, start, stride, len)
+}
+
+/// The same, place by place. The list is passed by value: through a reference its length would be written at
+/// each place.
+fn read_apart<T: Copy>(
+    mut items: Vec<T>,
+    stored: &[T],
+    start: usize,
+    stride: usize,
+    len: usize,
+) -> Vec<T>
+    requires begins { start < length stored.now }
+    requires inside { All (IsInside (length stored.now)) (row_places start (signed stride) len) }
+    requires room { vec_len items + len ≤ vec_capacity items }
+    ensures items { map Some result.items ≡ map Some items.items
+        ++ map (item_at_place stored.now) (row_places start (signed stride) len) }
+    ensures len { vec_len result ≡ vec_len items + len }
+    ensures capacity { vec_capacity items ≤ vec_capacity result }
+{
+    let mut place = start;
+    for _entry in 0..len {
+        items.push_reserved(stored[place]);
+        place = place.wrapping_add(stride);
+    }
+    items
+}
+
+/// Writes items at the places of a row, one at each.
+fn write_row<T: Copy>(stored: &mut [T], start: usize, stride: usize, items: &[T])
+    requires begins { start < length stored.old }
+    requires inside { All (IsInside (length stored.old)) (row_places start (signed stride) (length items.now)) }
+    requires distinct { AllPairs (λ one other. one ≢ other) (row_places start (signed stride) (length items.now)) }
+    ensures { HasWritten (row_places start (signed stride) (length items.now)) items.now stored.old stored.new }
+{
+    if is_copied(stride, items.len()) {
+        stored[start..start + items.len()].copy_from_slice(items);
+    } else {
+        write_apart(stored, start, stride, items);
+    }
+}
+
+/// The same, place by place.
+fn write_apart<T: Copy>(stored: &mut [T], start: usize, stride: usize, items: &[T])
+    requires begins { start < length stored.old }
+    requires inside { All (IsInside (length stored.old)) (row_places start (signed stride) (length items.now)) }
+    requires distinct { AllPairs (λ one other. one ≢ other) (row_places start (signed stride) (length items.now)) }
+    ensures { HasWritten (row_places start (signed stride) (length items.now)) items.now stored.old stored.new }
+{
+    let mut place = start;
+    for item in items {
+        stored[place] = *item;
+        place = place.wrapping_add(stride);
+    }
+}
