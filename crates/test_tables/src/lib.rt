@@ -1,4 +1,4 @@
-//! What the tests of several crates share: the names of faults, which values are equal, refused requests for
+//! What the tests of several crates share: the names of faults, which values are equal, requests for
 //! memory, tables as text, and questions asked at a type that a row names.
 #![tactic(auto)]
 
@@ -12,6 +12,6 @@ mod types;
 pub use equality::{are_distinct, hash_of};
 pub use faults::{fault_of, layout_fault_name, name_of, or_fault};
 pub use lists::{List, Lists, made};
-pub use memory::{asked, grants};
+pub use memory::grants;
 pub use table::{Row, TableError, rows};
 pub use types::{AtType, at_type};
