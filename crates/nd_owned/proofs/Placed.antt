@@ -15,6 +15,12 @@ other_default [] i d e below = absurd (omega arith)
 other_default (x ∷ xs) zero d e below = refl
 other_default (x ∷ xs) (suc i) d e below = other_default xs i d e (omega arith)
 
+-- the number of one turn of a loop over a list that is another one
+pub number_of_turn : (given xs : List ℕ) (i : ℕ) → given ≡ xs → i < length given → (i < length xs) × (get_or given i 0 ≡ get_or xs i (get_or given i 0))
+number_of_turn given xs i same below =
+    let under : i < length xs = subst (λ those. i < length those) same below in
+    (under, ap (λ those. get_or those i 0) same ∙ other_default xs i 0 (get_or given i 0) under)
+
 -- a function of each item of a list that is the same as another one there
 pub map_same : {X Y : Type 0} (f g : X → Y) (xs : List X) → All (λ x. f x ≡ g x) xs → map f xs ≡ map g xs
 map_same f g [] same = refl

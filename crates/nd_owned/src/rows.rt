@@ -124,7 +124,8 @@ fn is_copied(stride: usize, len: usize) -> bool
     stride == 1 && len >= 16
 }
 
-/// Appends the items at the places of a row to a list with room for them.
+/// Appends the items at the places of a row to a list with room for them. The list is passed by value: through a
+/// reference its length would be written at each place.
 fn read_row<T: Copy>(
     mut items: Vec<T>,
     stored: &[T],
@@ -144,26 +145,6 @@ fn read_row<T: Copy>(
         let _ = items.extend_from_slice(&stored[start..start + len]);
         return items;
     }
-    read_apart(items, stored, start, stride, len)
-}
-
-/// The same, place by place. The list is passed by value: through a reference its length would be written at
-/// each place.
-fn read_apart<T: Copy>(
-    mut items: Vec<T>,
-    stored: &[T],
-    start: usize,
-    stride: usize,
-    len: usize,
-) -> Vec<T>
-    requires begins { start < length stored.now }
-    requires inside { All (IsInside (length stored.now)) (row_places start (signed stride) len) }
-    requires room { vec_len items + len ≤ vec_capacity items }
-    ensures items { map Some result.items ≡ map Some items.items
-        ++ map (item_at_place stored.now) (row_places start (signed stride) len) }
-    ensures len { vec_len result ≡ vec_len items + len }
-    ensures capacity { vec_capacity items ≤ vec_capacity result }
-{
     let mut place = start;
     for _entry in 0..len {
         items.push_reserved(stored[place]);
@@ -181,18 +162,8 @@ fn write_row<T: Copy>(stored: &mut [T], start: usize, stride: usize, items: &[T]
 {
     if is_copied(stride, items.len()) {
         stored[start..start + items.len()].copy_from_slice(items);
-    } else {
-        write_apart(stored, start, stride, items);
+        return;
     }
-}
-
-/// The same, place by place.
-fn write_apart<T: Copy>(stored: &mut [T], start: usize, stride: usize, items: &[T])
-    requires begins { start < length stored.old }
-    requires inside { All (IsInside (length stored.old)) (row_places start (signed stride) (length items.now)) }
-    requires distinct { AllPairs (λ one other. one ≢ other) (row_places start (signed stride) (length items.now)) }
-    ensures { HasWritten (row_places start (signed stride) (length items.now)) items.now stored.old stored.new }
-{
     let mut place = start;
     for item in items {
         stored[place] = *item;

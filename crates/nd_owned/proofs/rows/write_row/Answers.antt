@@ -1,10 +1,10 @@
--- A row of neighbours is one copy.
+-- A row of neighbours is one copy; else it is one more item at each turn.
 use Rattle.std.proofs.Common.{rules, ◌≡◌, ◌+◌, ◌-◌, ◌≤◌, ◌<◌, ◌++◌, ◌^◌, pos, length, take, drop, sym, ap, subst, ◌∙◌, arith}
 use Rattle.std.specs.List.{All}
 use Rattle.ndarray_layout.specs.Inside.{IsInside}
 use Rattle.ndarray_layout.specs.Signed.{signed}
 use Rattle.nd_owned.specs.Rows.{HasWritten, row_places}
-use Rattle.nd_owned.proofs.RowPlaces.{neighbours_within, write_neighbours}
+use Rattle.nd_owned.proofs.RowPlaces.{entry_inside, neighbours_within, next_place, write_more, write_neighbours}
 use Rattle.nd_owned.proofs.rows.write_row.Goals as goal
 
 pub overflow_add-start : goal.overflow_add-start
@@ -38,3 +38,30 @@ returns-then-is_copied g c =
     (subst (λ n. HasWritten (row_places start (pos 1) (length items)) items old (take start old ++ (c.copy_from_slice.new.self ++ drop n (drop start old)))) (sym same)
     (subst (λ new. HasWritten (row_places start (pos 1) (length items)) items old (take start old ++ (new ++ drop (length items) (drop start old)))) (sym c.copy_from_slice.ensures.after)
     (write_neighbours old items start within)))
+
+pub bounds-stored-place : goal.bounds-stored-place
+bounds-stored-place g c =
+    let count = length c.args.stored.now in
+    let under : c.loop-item.place < count = subst (IsInside count) (sym (c.loop-item.invariant.place c.loop-item-test.true))
+    (entry_inside count c.args.start (signed c.args.stride) (length c.args.items.now) c.loop-item.item-index c.requires.inside c.loop-item-test.true) in
+    omega (arith, under, c.loop-item.auto.stored)
+
+pub offset_bounds-stored-place : goal.offset_bounds-stored-place
+offset_bounds-stored-place g c =
+    let within : c.loop-item.place < length c.loop-item.stored = bounds-stored-place g c in
+    search rules
+
+pub loop-item-preserved : goal.loop-item-preserved
+loop-item-preserved g c =
+    let count = length c.args.stored.now in
+    let i = c.loop-item.item-index in
+    let items = c.args.items.now in
+    let within : c.loop-item.place < length c.loop-item.stored = bounds-stored-place g c in
+    let here = c.loop-item.invariant.place c.loop-item-test.true in
+    let small : count < 2 ^ 64 = search rules in
+    record {
+      place = λ more. next_place count c.args.start c.args.stride i c.loop-item.place c.ranges.stride.fits small (omega (arith, within, c.loop-item.auto.stored)) here
+          (entry_inside count c.args.start (signed c.args.stride) (length items) (i + 1) c.requires.inside more);
+      written = write_more count c.args.start (signed c.args.stride) i c.loop-item.place items c.args.stored.now c.loop-item.stored c.item-item.result c.requires.inside c.requires.distinct
+          c.loop-item-test.true c.item-item.is within here c.loop-item.invariant.written;
+    }

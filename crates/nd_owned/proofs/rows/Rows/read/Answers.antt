@@ -7,7 +7,7 @@ use Rattle.ndarray_layout.specs.Inside.{IsInside}
 use Rattle.ndarray_layout.specs.Signed.{signed}
 use Rattle.nd_owned.specs.Owned.{item_at_place}
 use Rattle.nd_owned.specs.Rows.{row_places, rows_places}
-use Rattle.nd_owned.proofs.Placed.{all_of_part, other_default, parts_more}
+use Rattle.nd_owned.proofs.Placed.{all_of_part, number_of_turn, parts_more}
 use Rattle.nd_owned.proofs.RowPlaces.{length-rows}
 use Rattle.nd_owned.proofs.rows.Rows.read.Goals as goal
 
@@ -24,10 +24,8 @@ read_row-items-requires-clause-inside g c =
     let starts = rows.starts.items in
     let i = c.loop-start.start-index in
     let start = get_or c.deref-start-items.result.now i 0 in
-    let same = c.deref-start-items.ensures.value in
-    let under : i < length starts = subst (λ xs. i < length xs) same c.loop-start-test.true in
-    all_of_part (IsInside (length c.args.stored.now)) (λ begin. row_places begin (signed rows.stride) rows.len) starts i start under
-    (ap (λ xs. get_or xs i 0) same ∙ other_default starts i 0 start under) c.requires.inside.places
+    let turn = number_of_turn c.deref-start-items.result.now starts i c.deref-start-items.ensures.value c.loop-start-test.true in
+    all_of_part (IsInside (length c.args.stored.now)) (λ begin. row_places begin (signed rows.stride) rows.len) starts i start turn.0 turn.1 c.requires.inside.places
 
 pub loop-start-preserved : goal.loop-start-preserved
 loop-start-preserved g c =
@@ -35,8 +33,7 @@ loop-start-preserved g c =
     let starts = rows.starts.items in
     let i = c.loop-start.start-index in
     let start = get_or c.deref-start-items.result.now i 0 in
-    let same = c.deref-start-items.ensures.value in
-    let under : i < length starts = subst (λ xs. i < length xs) same c.loop-start-test.true in
+    let turn = number_of_turn c.deref-start-items.result.now starts i c.deref-start-items.ensures.value c.loop-start-test.true in
     let row = λ (begin : ℕ). row_places begin (signed rows.stride) rows.len in
     let got = item_at_place c.args.stored.now in
     record {
@@ -44,7 +41,7 @@ loop-start-preserved g c =
           c.read_row-items.ensures.items
           ∙ ap (λ xs. xs ++ map got (row start)) c.loop-start.invariant.items
           ∙ sym (map-append got (flat_map row (take i starts)) (row start))
-          ∙ ap (map got) (sym (parts_more row starts i start under (ap (λ xs. get_or xs i 0) same ∙ other_default starts i 0 start under)));
+          ∙ ap (map got) (sym (parts_more row starts i start turn.0 turn.1));
       len = omega (arith, c.read_row-items.ensures.len, c.loop-start.invariant.len);
       capacity = omega (arith, c.read_row-items.ensures.capacity, c.loop-start.invariant.capacity);
     }

@@ -7,7 +7,7 @@ use Rattle.std.proofs.lemmas.List.{drop-drop, length-drop, take_all}
 use Rattle.ndarray_layout.specs.Inside.{IsInside}
 use Rattle.ndarray_layout.specs.Signed.{signed}
 use Rattle.nd_owned.specs.Rows.{HasWritten, row_places, rows_places}
-use Rattle.nd_owned.proofs.Placed.{all_of_part, one_more_written, other_default, pairs_of_part}
+use Rattle.nd_owned.proofs.Placed.{all_of_part, one_more_written, number_of_turn, pairs_of_part}
 use Rattle.nd_owned.proofs.RowPlaces.{length-rows}
 use Rattle.nd_owned.proofs.rows.Rows.write.Goals as goal
 
@@ -16,8 +16,7 @@ split_at-requires g c =
     let rows = c.args.self.now in
     let starts = rows.starts.items in
     let i = c.loop-start.start-index in
-    let under : i < length starts = subst (λ xs. i < length xs) c.deref-start-items.ensures.value c.loop-start-test.true in
-    let more : i + 1 ≤ length starts = omega arith in
+    let more : i + 1 ≤ length starts = omega (arith, (number_of_turn c.deref-start-items.result.now starts i c.deref-start-items.ensures.value c.loop-start-test.true).0) in
     omega (arith, ap length c.loop-start.invariant.left, length-drop (i * rows.len) c.args.items.now, c.requires.counts, length-rows (signed rows.stride) rows.len starts, mul-le-mul_right rows.len more)
 
 pub write_row-requires-clause-inside : goal.write_row-requires-clause-inside
@@ -26,12 +25,10 @@ write_row-requires-clause-inside g c =
     let starts = rows.starts.items in
     let i = c.loop-start.start-index in
     let start = get_or c.deref-start-items.result.now i 0 in
-    let same = c.deref-start-items.ensures.value in
-    let under : i < length starts = subst (λ xs. i < length xs) same c.loop-start-test.true in
+    let turn = number_of_turn c.deref-start-items.result.now starts i c.deref-start-items.ensures.value c.loop-start-test.true in
     subst (λ n. All (IsInside (length c.loop-start.stored)) (row_places start (signed rows.stride) n)) (sym c.split_at.ensures.front_len)
     (subst (λ n. All (IsInside n) (row_places start (signed rows.stride) rows.len)) (sym c.loop-start.auto.stored)
-    (all_of_part (IsInside (length c.args.stored.now)) (λ begin. row_places begin (signed rows.stride) rows.len) starts i start under
-    (ap (λ xs. get_or xs i 0) same ∙ other_default starts i 0 start under) c.requires.inside.places))
+    (all_of_part (IsInside (length c.args.stored.now)) (λ begin. row_places begin (signed rows.stride) rows.len) starts i start turn.0 turn.1 c.requires.inside.places))
 
 pub write_row-requires-clause-distinct : goal.write_row-requires-clause-distinct
 write_row-requires-clause-distinct g c =
@@ -39,11 +36,9 @@ write_row-requires-clause-distinct g c =
     let starts = rows.starts.items in
     let i = c.loop-start.start-index in
     let start = get_or c.deref-start-items.result.now i 0 in
-    let same = c.deref-start-items.ensures.value in
-    let under : i < length starts = subst (λ xs. i < length xs) same c.loop-start-test.true in
+    let turn = number_of_turn c.deref-start-items.result.now starts i c.deref-start-items.ensures.value c.loop-start-test.true in
     subst (λ n. AllPairs (λ one other. one ≢ other) (row_places start (signed rows.stride) n)) (sym c.split_at.ensures.front_len)
-    (pairs_of_part (λ one other. one ≢ other) (λ begin. row_places begin (signed rows.stride) rows.len) starts i start under
-    (ap (λ xs. get_or xs i 0) same ∙ other_default starts i 0 start under) c.requires.distinct)
+    (pairs_of_part (λ one other. one ≢ other) (λ begin. row_places begin (signed rows.stride) rows.len) starts i start turn.0 turn.1 c.requires.distinct)
 
 pub loop-start-preserved : goal.loop-start-preserved
 loop-start-preserved g c =
@@ -52,8 +47,7 @@ loop-start-preserved g c =
     let items = c.args.items.now in
     let i = c.loop-start.start-index in
     let start = get_or c.deref-start-items.result.now i 0 in
-    let same = c.deref-start-items.ensures.value in
-    let under : i < length starts = subst (λ xs. i < length xs) same c.loop-start-test.true in
+    let turn = number_of_turn c.deref-start-items.result.now starts i c.deref-start-items.ensures.value c.loop-start-test.true in
     let row = λ (begin : ℕ). row_places begin (signed rows.stride) rows.len in
     let first = c.split_at.result.0.now in
     let new = c.write_row.new.stored in
@@ -67,8 +61,7 @@ loop-start-preserved g c =
     record {
       left = c.split_at.ensures.back ∙ ap (drop rows.len) c.loop-start.invariant.left ∙ drop-drop rows.len (i * rows.len) items ∙ ap (λ n. drop n items) next;
       written = subst (λ xs. HasWritten (flat_map row (take (i + 1) starts)) xs c.args.stored.now new) done
-          (one_more_written (length c.args.stored.now) row starts i start (take (i * rows.len) items) first c.args.stored.now c.loop-start.stored new under
-          (ap (λ xs. get_or xs i 0) same ∙ other_default starts i 0 start under) c.requires.inside.places c.requires.distinct c.loop-start.invariant.written here);
+          (one_more_written (length c.args.stored.now) row starts i start (take (i * rows.len) items) first c.args.stored.now c.loop-start.stored new turn.0 turn.1 c.requires.inside.places c.requires.distinct c.loop-start.invariant.written here);
     }
 
 pub returns : goal.returns
