@@ -2,7 +2,7 @@
 use Rattle.std.proofs.Common.{◌≡◌, ℕ, ◌+◌, ◌-◌, ◌*◌, ◌/◌, ◌%◌, ◌<◌, ◌≤◌, ℤ, pos, negsuc, true, inl, inr, Option, Some, None, List, [], ◌∷◌, ◌++◌, length, get_or, map, refl, sym, ap, ◌∙◌, subst, arith}
 use Rattle.std.specs.Prelude.{slice_get, IsSomeAnd, MatchOption}
 use Rattle.std.specs.List.{All, AllZip, Contains, list_all, range_with_len}
-use Rattle.std.specs.Option.{option_map, option_or}
+use Rattle.std.specs.Option.{option_map}
 use Rattle.std.proofs.lemmas.Bool.{eq-eqb, le-leb}
 use Rattle.std.proofs.lemmas.Grind.{get_or_default_zero}
 use Rattle.std.proofs.lemmas.List.{length-map}
@@ -10,7 +10,7 @@ use Rattle.std.proofs.lemmas.List.Elements.{All-head, All-tail}
 use Rattle.std.proofs.lemmas.List.FromFn.{get_or-range_with_len, length-map-range_with_len, length-range_with_len, map-range_with_len_more}
 use Rattle.std.proofs.lemmas.List.Sums.{list_all-from_AllPass}
 use Rattle.std.proofs.lemmas.Nat.{div-add-mod', div-mul-add, div_below, mod-mul-add, mod_below, mul-add-lt}
-use Rattle.std.proofs.lemmas.Option.{get_or_from_slice_get, slice_get-get_or, slice_get-map, slice_get_within}
+use Rattle.std.proofs.lemmas.Option.{slice_get-get_or, slice_get-map, slice_get_within}
 use Rattle.std.proofs.lemmas.Slice.Zip.{AllZip-left, AllZip-long}
 use Rattle.ndarray_layout.specs.declared.ErrorKind.{ErrorKind}
 use Rattle.ndarray_layout.specs.declared.Fit.TheVariants.{Strict}
@@ -18,7 +18,7 @@ use Rattle.ndarray_layout.specs.declared.Order.TheVariants.{RowMajor}
 use Rattle.ndarray_layout.specs.declared.Slice.{Slice}
 use Rattle.ndarray_layout.specs.ArgumentFault.{argument_fault}
 use Rattle.ndarray_layout.specs.Indices.{indices_in, is_index}
-use Rattle.ndarray_layout.specs.Meet.{Meet, axis_picks}
+use Rattle.ndarray_layout.specs.Meet.{Meet}
 use Rattle.ndarray_layout.specs.Picks.{picks, slice_with}
 use Rattle.ndarray_layout.specs.Rank.{rank}
 use Rattle.ndarray_layout.specs.Size.{size}
@@ -36,9 +36,9 @@ use Rattle.example_tiles_edits.specs.declared.edit.Span.{Span}
 use Rattle.example_tiles_edits.specs.declared.edit.Edit.TheVariants.{Mirror}
 use Rattle.example_tiles_edits.specs.Edits.{IsEdited, mirrored}
 use Rattle.example_tiles_edits.specs.Parts.{AreMirrored, IsArrayOf, IsMirrored, elems_of_part, mirrored_elems, part_of, part_span, parts_of, picked_pixels}
-use Rattle.example_tiles_edits.specs.Slices.{index_of, place_in, shape_of, whole_view}
+use Rattle.example_tiles_edits.specs.Slices.{index_of, shape_of, whole_view}
 use Rattle.example_tiles_edits.proofs.Axes.{IsPick, back_over, of_span}
-use Rattle.example_tiles_edits.proofs.Cuts.{CanCut, IsCut, IsPart, is_in, is_part}
+use Rattle.example_tiles_edits.proofs.Cuts.{CanCut, IsCut, is_in, is_part}
 use Rattle.example_tiles_edits.proofs.EditSteps.{elem_of, left, no_fault, pick_within, stands_for}
 use Rattle.example_tiles_edits.proofs.Pixels.{is_index_of, place_of_whole, rank_of}
 

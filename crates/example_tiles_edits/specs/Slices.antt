@@ -1,5 +1,5 @@
 -- Edits as steps from one view of the pixels to the next.
-use Rattle.std.specs.Prelude.{◌≡◌, ℕ, ◌+◌, ◌*◌, ◌<◌, ℤ, pos, negsuc, Bool, true, false, is_some, nat_eq, Option, Some, None}
+use Rattle.std.specs.Prelude.{◌≡◌, ℕ, ◌+◌, ◌*◌, ◌<◌, ℤ, pos, negsuc, Bool, false, is_some, nat_eq, Option, Some, None}
 use Rattle.std.specs.Prelude.{List, [], ◌∷◌, ◌++◌, length, map, slice_get, unwrap_or, refl}
 use Rattle.std.specs.List.{All, AllPass}
 use Rattle.std.specs.Option.{option_map}

@@ -1,8 +1,7 @@
 -- The parts are written, and nothing but memory can be refused.
-use Rattle.std.proofs.Common.{◌≡◌, ◌∷◌, [], ◌∙◌, length, map, ap, subst, sym}
-use Rattle.std.specs.List.{All}
+use Rattle.std.proofs.Common.{◌∷◌, [], ◌∙◌, length, map, ap, subst, sym}
 use Rattle.ndarray_layout.specs.View.{IsView}
-use Rattle.nd_owned.specs.Writes.{IsWritten, write_of}
+use Rattle.nd_owned.specs.Writes.{write_of}
 use Rattle.example_tiles_picture.specs.Picture.{image}
 use Rattle.example_tiles_edits.specs.declared.edit.Edit.TheVariants.{Mirror}
 use Rattle.example_tiles_edits.specs.Edits.{IsEdited}
