@@ -99,8 +99,8 @@ impl<T: Copy, D: Lengths> OwnedArray<T, D> {
         Some(self.items[place])
     }
 
-    /// Puts an item in the place of that of an index, and answers whether it is an index of the shape; where it
-    /// is none nothing changes. ndarray's `get_mut`, with the write.
+    /// Replaces the item of an index, and answers whether it is an index of the shape; else nothing changes.
+    /// ndarray's `get_mut`, with the write.
     pub fn set<I: NdIndex<D>>(&mut self, index: &I, item: T) -> bool
         ensures is_index { result ≡ is_index self.old.view.shape (I.index_list index.now) }
         ensures written { self.new ≡ with_item self.old (I.index_list index.now) item }
@@ -116,8 +116,8 @@ impl<T: Copy, D: Lengths> OwnedArray<T, D> {
 
     /// Copies of the items that a slice picks, the first axis moving slowest.
     ///
-    /// Errors: those of `check_slice` on the shape, then that memory is refused, but not where the slice picks
-    /// nothing and leaves at most 4 axes.
+    /// Errors: those of `check_slice` on the shape, then out of memory, never where the slice picks nothing and
+    /// leaves at most 4 axes.
     pub fn items<S: SliceElems>(&self, alloc: Global, slices: &S) -> Result<Vec<T>, LayoutError>
         ensures fault { shape_fault result ≡ argument_fault Strict self.now.view.shape (S.list slices.now) }
         ensures items { IfOk result (λ v. map Some v.items ≡ map (item_at_place self.now.items)
@@ -129,15 +129,15 @@ impl<T: Copy, D: Lengths> OwnedArray<T, D> {
     }
 
     /// Writes items at several slices at once, each with the list of items for its indices, the first axis
-    /// moving slowest. All other items stay, those at no place of the layout too. Slices that pick nothing meet
-    /// none, and no slices at all is no fault.
+    /// moving slowest. All other items stay, those at no place of the layout too. A slice that picks nothing meets
+    /// no other, and an empty list of writes is no fault.
     ///
     /// Each slice is compared once with each one after it, so that of `k` slices `k * (k - 1) / 2` pairs are
     /// compared, each on all axes. Where the rows of all slices begin is listed before the first write.
     ///
     /// Errors, which change nothing: that of `check_slice` on the shape for the first slice that doesn't fit; then
     /// `IncompatibleShape` where a list has more items or fewer than its slice picks; then `Unsupported` where two
-    /// slices share an index; at last that memory is refused. ndarray's `multi_slice_move`, with the writes.
+    /// slices share an index; at last out of memory. ndarray's `multi_slice_move`, with the writes.
     pub fn multi_set(
         &mut self,
         alloc: Global,

@@ -128,7 +128,7 @@ static CALLS: [(&str, Named); 53] = [
     ("Strided::broadcast", View(OfView::Broadcast)),
     ("Strided::duplicate", View(OfView::Duplicate)),
     ("Strided::from_shape", View(OfView::FromShape)),
-    ("Strided::reshape_dim", View(OfView::ReshapeDim)),
+    ("reshape_dim", View(OfView::ReshapeDim)),
     ("Strided::places", View(OfView::Places)),
     ("Lengths::zeros", Lengths(OfLengths::Zeros)),
     ("Lengths::duplicate", Lengths(OfLengths::Duplicate)),

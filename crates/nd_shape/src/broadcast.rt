@@ -42,8 +42,8 @@ fn common_of<Output: Lengths>(
 /// The caller ensures that `Output` has as many axes as the shape of the greater count.
 ///
 /// Errors: `IncompatibleShape` where two unequal lengths stand at one axis and neither is 1; then
-/// memory is refused, but never where `Output` fixes its count of axes or there are at most 4.
-/// ndarray's `co_broadcast`.
+/// out of memory, never where `Output` fixes its count of axes or there are at most 4. ndarray's
+/// `co_broadcast`.
 #[inline]
 pub fn co_broadcast<D1: Lengths, D2: Lengths, Output: Lengths>(
     alloc: Global,

@@ -21,7 +21,7 @@ pub use walk::{IndicesIter, IndicesIterF};
 ///
 /// The caller ensures that the product of the lengths is less than 2^64 (`size_checked`).
 ///
-/// Errors: memory is refused; never where the type fixes the count of axes or there are at most 4.
+/// Errors: out of memory; none where the type fixes the count of axes or there are at most 4.
 pub fn all_indices<D: Lengths, T: IntoDimension<Dim = D>>(
     alloc: Global,
     shape: T,
@@ -38,7 +38,7 @@ pub fn all_indices<D: Lengths, T: IntoDimension<Dim = D>>(
 ///
 /// The caller ensures that the product of the lengths is less than 2^64 (`size_checked`).
 ///
-/// Errors: memory is refused; never where the type fixes the count of axes or there are at most 4.
+/// Errors: out of memory; none where the type fixes the count of axes or there are at most 4.
 pub fn indices_iter_f<D: Lengths, T: IntoDimension<Dim = D>>(
     alloc: Global,
     shape: T,

@@ -93,7 +93,7 @@ impl<D: Lengths> StrideShape<D> {
     /// The shape that is built, with the strides of its order. In place of ndarray's
     /// `From<T> for StrideShape<D>`.
     ///
-    /// Errors: memory is refused; never where the type fixes the count of axes or there are at most 4.
+    /// Errors: out of memory; none where the type fixes the count of axes or there are at most 4.
     pub fn from_builder<T: ShapeBuilder<Dim = D>>(
         alloc: Global,
         builder: T,
@@ -129,7 +129,7 @@ impl<D> Strides<D> {
     /// The caller ensures that the product of the lengths is less than 2^64
     /// (`size_of_shape_checked`), and that strides that are given are as many as the axes.
     ///
-    /// Errors: memory is refused; never where the strides are given, the type fixes the count of axes
+    /// Errors: out of memory; none where the strides are given, the type fixes the count of axes
     /// or there are at most 4.
     pub fn strides_for_dim(self, alloc: Global, dim: &D) -> Result<D, AllocError>
     where
@@ -177,7 +177,7 @@ pub trait ShapeBuilder {
 
     /// The shape with its order. ndarray's `into_shape_with_order`.
     ///
-    /// Errors: memory is refused; never where the type fixes the count of axes or there are at most 4.
+    /// Errors: out of memory; none where the type fixes the count of axes or there are at most 4.
     fn into_shape_with_order(self, alloc: Global) -> Result<Shape<Self::Dim>, AllocError>
     where
         Self: Sized,
@@ -187,7 +187,7 @@ pub trait ShapeBuilder {
 
     /// The shape in column-major order. ndarray's `f`.
     ///
-    /// Errors: memory is refused; never where the type fixes the count of axes or there are at most 4.
+    /// Errors: out of memory; none where the type fixes the count of axes or there are at most 4.
     fn f(self, alloc: Global) -> Result<Shape<Self::Dim>, AllocError>
     where
         Self: Sized,
@@ -201,7 +201,7 @@ pub trait ShapeBuilder {
     /// The shape in column-major order where the answer is yes, and else in row-major order.
     /// ndarray's `set_f`.
     ///
-    /// Errors: memory is refused; never where the type fixes the count of axes or there are at most 4.
+    /// Errors: out of memory; none where the type fixes the count of axes or there are at most 4.
     fn set_f(self, alloc: Global, is_f: bool) -> Result<Shape<Self::Dim>, AllocError>
     where
         Self: Sized,
@@ -217,7 +217,7 @@ pub trait ShapeBuilder {
 
     /// The shape with these strides. ndarray's `strides`.
     ///
-    /// Errors: memory is refused; never where the type fixes the count of axes, or there are at most
+    /// Errors: out of memory; none where the type fixes the count of axes, or there are at most
     /// 4 axes and at most 4 strides.
     fn strides(
         self,

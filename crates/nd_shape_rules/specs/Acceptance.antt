@@ -15,7 +15,8 @@ abbrev pub is_owned : CanIndexCheckMode → Bool
 is_owned OwnedMutable = true
 is_owned ReadOnly = false
 
--- the fault of a layout apart from any data: no stride for each length, or a size or a span past the limit
+-- the fault of a layout apart from any data: no stride for each length, or past the limit the product of the lengths that are not
+-- 0, or the span, in elements or in bytes
 abbrev pub size_fault : ℕ → List ℕ → List ℤ → Option ErrorKind
 size_fault elem_size shape strides =
     if not (length shape == length strides) then Some IncompatibleLayout

@@ -29,8 +29,8 @@ ElementsFit fit (len ∷ shape) (elem.Index index ∷ elems) = IndexFits len ind
 
 -- a step fits a view. A slice has an element for each axis, and each fits; an entry that is taken is one of an axis that there is; two different
 -- axes that there are can be merged where some stride has every entry of both; places can be read along another shape where some
--- strides keep their list; a view can be read as one of a shape that it and the view's own have in common. The size of either shape
--- is within the limit
+-- strides keep their list; a view can be read as one of a shape that it and the view's own have in common. Of either shape the
+-- product of the lengths that are not 0 is within the limit
 abbrev pub StepFits : View → StepValue → Type 0
 StepFits view (SliceBy elems fit) = (in_count elems ≡ length view.shape) × ElementsFit fit view.shape elems
 StepFits view (CollapseTo axis index) = (axis < length view.shape) × (index < slice_index view.shape axis)
@@ -39,7 +39,8 @@ StepFits view (ReshapeTo shape order) = ReshapeFits order shape view
 StepFits view (BroadcastTo shape) = BroadcastFits shape view.shape
 
 -- what is known where memory was refused to a step: a slice or a broadcast fits and leaves more than four axes; a reshape, whether
--- it fits or not, leaves more than four, with a size within the limit, and no shape alone has no index; the others want none
+-- it fits or not, leaves more than four, whose product without those of 0 is within the limit, and no shape alone has no index; the
+-- others want none
 abbrev pub MayRefuseMemory : View → StepValue → Type 0
 MayRefuseMemory view (SliceBy elems fit) = StepFits view (SliceBy elems fit) × (INLINE_AXES < out_count elems)
 MayRefuseMemory view (CollapseTo axis index) = ⊥

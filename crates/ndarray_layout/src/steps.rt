@@ -63,8 +63,8 @@ fn step_to(view: &mut Strided<IxDyn>, next: Strided<IxDyn>)
 
 /// Takes one step. A refusal leaves the view.
 ///
-/// Errors: why the step is refused; memory is not where it leaves at most four axes. The view given is
-/// one.
+/// Errors: why the step is refused, never memory where it leaves at most 4 axes. The caller ensures
+/// that the view is one.
 fn take_step(alloc: Global, view: &mut Strided<IxDyn>, step: &Step) -> Result<(), LayoutError>
     requires { IsView view.old }
     ensures fits { OnOk result (step_fault view.old (step_value step.now) ≡ None) }
@@ -99,8 +99,8 @@ fn take_step(alloc: Global, view: &mut Strided<IxDyn>, step: &Step) -> Result<()
 /// Errors of a step: those of `Strided::slice`; `OutOfBounds` for a collapse of no such axis or
 /// entry; for a merge `OutOfBounds` where an axis is missing, then `Unsupported` for one axis twice,
 /// then `IncompatibleLayout` where no stride has the entries of both; those of `Strided::reshape` and
-/// `Strided::broadcast`. That memory is refused comes last, in a reshape before the fault of its strides,
-/// and not where the step leaves at most 4 axes. The project's own.
+/// `Strided::broadcast`. Out of memory comes last, in a reshape before the fault of its strides, and
+/// never where the step leaves at most 4 axes. The project's own.
 pub fn run(alloc: Global, view: Strided<IxDyn>, steps: &[Step]) -> Result<Strided<IxDyn>, Stopped>
     ensures fits { IfOk result (λ v. (run_of (map step_value steps.now) view).fault ≡ None) }
     ensures each_fits { IsOk result → AllFit (map step_value steps.now) view }

@@ -30,8 +30,8 @@ strides_of_ones lens strides product = map (λ axis. slice_index_or strides axis
 abbrev pub ones_before : List ℕ → ℕ → ℕ → ℕ
 ones_before lens product axis = length (filter (is_one_at lens product) (below axis))
 
--- the stride of an axis of length 1: where the old shape has a joint at the same product, that of its axis of length 1 in the
--- same place among those there, or 1 where it has fewer; elsewhere that of the axis read just before
+-- the stride of an axis of length 1: where the old shape reaches the same product, that of its axis of length 1 in the
+-- same position among those there, or 1 where it has fewer; elsewhere that of the axis read just before
 abbrev pub stride_of_one : List ℕ → List ℤ → List ℕ → ℕ → ℤ → ℤ
 stride_of_one from strides to axis previous =
     (if list_any (λ product. product == size (take axis to)) (cumulative_products from)

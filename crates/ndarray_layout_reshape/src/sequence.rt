@@ -12,7 +12,7 @@ pub struct Forward<D>(pub D);
 #[derive(Drop)]
 pub struct Reverse<D>(pub D);
 
-/// A list of numbers that are read by their place. ndarray's `Sequence`.
+/// A list of numbers that are read by their position. ndarray's `Sequence`.
 pub trait Sequence: Index<usize, Output = usize> {
     // The numbers, in order.
     ghost items: { Self → List ℕ };
@@ -21,7 +21,7 @@ pub trait Sequence: Index<usize, Output = usize> {
     fn len(&self) -> usize
         ensures { result ≡ length (items self.now) };
 
-    // Each place can be indexed,
+    // Each position can be indexed,
     ghost can_index_below: { (s : Self) (k : ℕ) → k < length (items s) → Self.can_index s k };
 
     // and shows its number.
@@ -29,12 +29,12 @@ pub trait Sequence: Index<usize, Output = usize> {
         slice_get (items s) k ≡ Some item };
 }
 
-/// A list of numbers that are read and written by their place. ndarray's `SequenceMut`.
+/// A list of numbers that are read and written by their position. ndarray's `SequenceMut`.
 pub trait SequenceMut: Sequence + IndexMut<usize> {
     // The later value writes to what the earlier one does.
     ghost same_target: { Self → Self → Type 0 };
 
-    /// Writes the number at a place. The caller ensures that there is one. A write by index does so as
+    /// Writes the number at a position. The caller ensures that there is one. A write by index does so as
     /// well, but no contract says of it what is left.
     fn set(&mut self, k: usize, item: usize)
         requires { k < length (Self.items self.old) }

@@ -28,7 +28,7 @@ struct Block {
     step: usize,
 }
 
-/// The item at a place of a sequence.
+/// The item at a position of a sequence.
 #[inline(always)]
 fn item<S: Sequence>(items: &S, k: usize) -> usize
     requires { k < length (S.items items.now) }

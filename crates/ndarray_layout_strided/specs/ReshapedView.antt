@@ -21,8 +21,8 @@ use Rattle.ndarray_layout_views.specs.View.{View}
 abbrev pub ReshapeFits : Order → List ℕ → View → Type 0
 ReshapeFits order shape view = (nonzero_size shape ≤ limit) × ((strides : List ℤ) × Keeps order view.shape view.strides shape strides)
 
--- the fault of reading a view as one of a shape: the size first; then one of the two shapes alone has no index; then that of
--- the strides. Where neither shape has an index, any strides do
+-- the fault of reading a view as one of a shape: the product of its lengths that are not 0 first; then one of the two shapes
+-- alone has no index; then that of the strides. Where neither shape has an index, any strides do
 abbrev pub reshape_refusal : Order → List ℕ → View → Option ErrorKind
 reshape_refusal order shape view =
     if nat_lt limit (nonzero_size shape) then Some Overflow
@@ -30,7 +30,7 @@ reshape_refusal order shape view =
     else if is_empty view.shape || is_empty shape then Some IncompatibleShape
     else reshape_fault order view.shape view.strides shape
 
--- memory may be asked for: the size is within the limit, and both shapes or neither have an index
+-- memory may be asked for: the product of the lengths that are not 0 is within the limit, and both shapes or neither have an index
 abbrev pub MayAskForMemory : List ℕ → View → Type 0
 MayAskForMemory shape view = (nonzero_size shape ≤ limit) × (is_empty shape ≡ is_empty view.shape)
 

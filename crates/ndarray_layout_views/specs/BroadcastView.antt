@@ -15,7 +15,8 @@ use Rattle.ndarray_layout_views.specs.View.{View}
 abbrev pub takes_in : List ℕ → List ℕ → Bool
 takes_in shape other = option_map_or (λ common. pointwise nat_eq common shape) (common_shape other shape) false
 
--- a view of a shape can be read as one of another: that is the one that both have in common, and its size is within the limit
+-- a view of a shape can be read as one of another: that is the one that both have in common, and the product of its lengths that
+-- are not 0 is within the limit
 abbrev pub BroadcastFits : List ℕ → List ℕ → Type 0
 BroadcastFits shape view_shape = (common_shape view_shape shape ≡ Some shape) × (nonzero_size shape ≤ limit)
 
@@ -90,6 +91,9 @@ too_many = refl
 
 too_many_of_a_shape_that_does_not_fit : broadcast_fault (4611686018427387904 ∷ 2 ∷ []) (3 ∷ []) ≡ Some IncompatibleShape
 too_many_of_a_shape_that_does_not_fit = refl
+
+too_many_beside_none : broadcast_fault (0 ∷ 9223372036854775808 ∷ []) (1 ∷ 1 ∷ []) ≡ Some Overflow
+too_many_beside_none = refl
 
 one_entry_to_none : broadcast_fault (0 ∷ 3 ∷ []) (1 ∷ 3 ∷ []) ≡ None
 one_entry_to_none = refl

@@ -66,7 +66,7 @@ fn stretch_strides(
 
 /// The same as a value of the type of the shape.
 ///
-/// Errors: that memory is refused, but not where the type fixes the count or there are at most 4 axes.
+/// Errors: out of memory; none where the type fixes the count or there are at most 4 axes.
 #[inline(always)]
 fn stretched<E: Lengths>(
     alloc: Global,
@@ -86,8 +86,8 @@ fn stretched<E: Lengths>(
 }
 
 /// The lengths and the strides with which a view is read as one of a shape. Refused as `check_broadcast`
-/// refuses it, and then where memory is refused, but not where the type fixes the count or there are at
-/// most 4 axes. The caller ensures that the view has a stride for each length.
+/// refuses it, and then out of memory, never where the type fixes the count or there are at most 4
+/// axes. The caller ensures that the view has a stride for each length.
 #[inline(always)]
 pub fn broadcast_axes<E: Lengths>(
     alloc: Global,

@@ -141,8 +141,7 @@ fn check_before_memory(
 /// lies after the first index of the shape. The caller ensures that the layout is valid. Fails with
 /// `IncompatibleShape` where the argument is for more axes or fewer than the shape has, or leaves more or
 /// fewer than the type `E` fixes; then as the first element at fault does, with `OutOfBounds` or
-/// `Unsupported`; and then where memory is refused, never for at most four axes or a type that fixes their
-/// count.
+/// `Unsupported`; and then out of memory, never for at most 4 axes or a type that fixes their count.
 #[inline(always)]
 pub fn sliced_axes<E: Lengths>(
     alloc: Global,

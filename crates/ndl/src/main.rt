@@ -1,5 +1,5 @@
-//! Reads a script from standard input, a layout and the steps to take from it, and prints where the elements that are left
-//! lie. The exit status is that of `session`.
+//! Reads a script from standard input, a layout and the steps to take from it, and prints the places of the elements that
+//! remain. The exit status is that of `session`.
 #![tactic(auto)]
 
 use ndl_session::{Watched, session};

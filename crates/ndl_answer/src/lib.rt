@@ -1,4 +1,4 @@
-//! The answer to a script: a layout and steps from it in, and the places of the elements that are left out.
+//! The answer to a script: takes a layout and steps from it, and gives the places of the elements that remain.
 #![tactic(auto)]
 
 mod answer;

@@ -19,7 +19,7 @@ fn keep_strides(kept: &mut [usize], strides: &[isize])
 
 /// The strides of a layout, as a view keeps them.
 ///
-/// Errors: out of memory, not for at most four axes.
+/// Errors: out of memory; none where there are at most 4 axes.
 pub(crate) fn kept_strides(alloc: Global, strides: &[isize]) -> Result<IxDyn, AllocError>
     ensures bits { IfOk result (λ kept. lengths kept ≡ map unsigned_bits strides.now) }
     ensures back { IfOk result (λ kept. all_signed (lengths kept) ≡ strides.now) }

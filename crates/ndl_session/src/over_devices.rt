@@ -26,8 +26,8 @@ const OUT_OF_MEMORY: u8 = 3;
 /// The status where a read or a write failed.
 const DEVICE_FAILED: u8 = 4;
 
-/// Reads the whole input, writes the whole text of the answer to it, and answers its status, which is
-/// 0, 1 or 2.
+/// Reads the whole input, writes the whole text of the answer to it, and answers its status: 0, 1 or 2,
+/// and 3 or 4 where something fails.
 ///
 /// The caller ensures that no read or write of either device has failed before.
 ///
@@ -89,7 +89,7 @@ pub fn session<R: io::Read, W: io::Write>(
     if write_failed { DEVICE_FAILED } else { status }
 }
 
-// The answer to all the bytes that are left to read.
+/// The answer to all the bytes that are left to read.
 fn answer_input<R: io::Read>(alloc: Global, reader: &mut Watched<R>) -> Result<Answer, InputError>
     requires { has_failed reader.old ≡ false }
     ensures answer { IfOk result (λ answer. IfSome (R.remaining (device reader.old)) (λ input.

@@ -52,7 +52,7 @@ impl<O: WalkOrder> Cursor<O> {
     ///
     /// The caller ensures that the product of the lengths is less than 2^64 (`size_checked`).
     ///
-    /// Errors: memory is refused; never where there are at most 4 axes.
+    /// Errors: out of memory; none where there are at most 4 axes.
     pub fn new(alloc: Global, dim: IxDyn) -> Result<Self, AllocError>
         requires { size (lengths dim) < 2 ^ 64 }
         ensures items { IfOk result (λ cursor. cursor ≡ indices_in O.order (lengths dim)) }

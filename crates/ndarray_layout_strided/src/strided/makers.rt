@@ -53,8 +53,8 @@ impl<D: Lengths> Strided<D> {
 
     /// The view of a shape by its own strides or by given ones, over data of `len` elements of
     /// `elem_size` bytes, with the lowest element of the view first in the data. Refused as
-    /// `can_index_slice_with_strides` refuses it, and then where memory is refused: not where the strides
-    /// are given, where the type fixes the count or where there are at most 4 axes.
+    /// `can_index_slice_with_strides` refuses it, and then out of memory: never where the strides are
+    /// given, where the type fixes the count or where there are at most 4 axes.
     pub fn from_shape(
         alloc: Global,
         shape: StrideShape<D>,
@@ -92,7 +92,7 @@ impl<D: Lengths> Strided<D> {
 
     /// The same view, with a shape and strides of its own. In place of `Clone` in ndarray.
     ///
-    /// Errors: that memory is refused, but not where the type fixes the count or there are at most 4 axes.
+    /// Errors: out of memory; none where the type fixes the count or there are at most 4 axes.
     pub fn duplicate(&self, alloc: Global) -> Result<Self, AllocError>
         ensures view { IfOk result (λ v. v ≡ self.now) }
         ensures is_view { IfOk result (λ v. IsView v) }

@@ -72,7 +72,7 @@ impl<D: Lengths> Strided<D> {
 
     /// The places of all indices of the shape, in an order.
     ///
-    /// Errors: that memory is refused, but not where there is no index.
+    /// Errors: out of memory; none where there is no index.
     pub fn places(&self, alloc: Global, order: Order) -> Result<Vec<usize>, AllocError>
         ensures items { IfOk result (λ v. map pos v.items ≡ view_places order self.now) }
         ensures len { IfOk result (λ v. vec_len v ≡ size self.now.shape) }
@@ -102,6 +102,7 @@ impl<D: Lengths> Strided<D> {
         check_elems(shape, elems, fit)?;
         Ok(picked_size(shape, elems, fit))
     }
+
     /// Whether two slices of the view share an index: one whose entry on every axis is among the picks of
     /// both arguments. Before two parts of an array are written at once, this says whether they share an
     /// element: where no two indices of the view have one place, the answer is true exactly where the two

@@ -45,11 +45,12 @@ impl<D: Lengths> Strided<D> {
     /// The same places along another shape: each index of it has the place of the index of the view
     /// before which as many come in the order. The start stays, and no element is moved. Refused with
     /// `Overflow` where the product of the lengths that are not 0 passes the greatest `isize`, then with
-    /// `IncompatibleShape` where one of the two shapes alone has an index. Then memory may be refused,
-    /// but not where the type fixes the count or there are at most 4 axes. At last `IncompatibleLayout`,
+    /// `IncompatibleShape` where one of the two shapes alone has an index. Then it may be out of memory,
+    /// never where the type fixes the count or there are at most 4 axes. At last `IncompatibleLayout`,
     /// where two axes would have to step as one and don't, and `IncompatibleShape`, where the sizes
-    /// differ: so it is refused exactly where no strides at all have these places. Where there is no index
-    /// the strides are 0. What `to_shape` of ndarray does where it copies nothing.
+    /// differ: so a shape of permitted size is refused exactly where no strides at all have these places,
+    /// memory aside. Where there is no index the strides are 0. What `to_shape` of ndarray does where it
+    /// copies nothing.
     pub fn reshape<E: Lengths>(
         &self,
         alloc: Global,

@@ -25,8 +25,8 @@ impl<D: Lengths> Strided<D> {
     /// where the argument is for more axes or fewer, or leaves more or fewer than the type `E`
     /// fixes; then as the first element at fault is: with `OutOfBounds` for an index that is not on its
     /// axis, or a bound that is not and is not to be clamped, with `Unsupported` for a step of 0; and
-    /// then where memory is refused, but not where `E` fixes the count or at most 4 axes are left.
-    /// `slice` and `slice_collapse` of ndarray.
+    /// then out of memory, never where `E` fixes the count or at most 4 axes are left. `slice` and
+    /// `slice_collapse` of ndarray.
     #[inline]
     pub fn slice<E: Lengths, S: SliceElems>(
         &self,
@@ -99,8 +99,8 @@ impl<D: Lengths> Strided<D> {
     /// and along them and along axes of length 1 that have another length now all entries are one. Their
     /// strides are 0; the other axes keep theirs. Refused with `IncompatibleShape` where the shape is not the
     /// one that it and the view's have in common, then with `Overflow` where the product of its lengths
-    /// that are not 0 passes the greatest `isize`; and then where memory is refused, but not where the type
-    /// fixes the count or there are at most 4 axes. `broadcast` of ndarray.
+    /// that are not 0 passes the greatest `isize`; and then out of memory, never where the type fixes the
+    /// count or there are at most 4 axes. `broadcast` of ndarray.
     pub fn broadcast<E: Lengths>(&self, alloc: Global, shape: &E) -> Result<Strided<E>, LayoutError>
         ensures refusal { shape_fault result ≡ broadcast_fault (E.list shape.now) self.now.shape }
         ensures memory { broadcast_fault (E.list shape.now) self.now.shape ≡ None →
