@@ -1,5 +1,7 @@
 -- What an owned array holds: its items, and a view by which each index of its shape has one of them to itself.
-use Rattle.std.specs.Prelude.{◌≡◌, ℕ, ℤ, negsuc, Option, Some, None, Result, Ok, Err, if◌then◌else◌, List, [], ◌∷◌, slice_get, slice_set, refl}
+use Rattle.std.specs.Prelude.{◌≡◌, ℕ, ℤ, pos, negsuc, Option, Some, None, Result, Ok, Err, if◌then◌else◌, List, [], ◌∷◌, nat_eq, slice_get, slice_index, slice_set, refl}
+use Rattle.std.proofs.Common.{ap, eq-eqb}
+use Rattle.std.proofs.lemmas.Bool.{both_ways}
 use Rattle.ndarray_layout.specs.declared.ErrorKind.{ErrorKind}
 use Rattle.ndarray_layout.specs.declared.LayoutError.{LayoutError}
 use Rattle.ndarray_layout.specs.declared.LayoutError.TheVariants.{Shape, Memory}
@@ -41,6 +43,10 @@ shape_fault_of (Err (Shape kind, y)) = Some kind
 shape_fault_of (Err (Memory e, y)) = None
 
 -- examples
+item_of_two_indices : IsOwned 2 (record { start = 0; shape = 2 ∷ []; strides = pos 0 ∷ [] }) → ⊥
+item_of_two_indices owned =
+    both_ways (nat_eq 0 1) refl (eq-eqb 0 1 (ap (λ index. slice_index index 0) (owned.distinct (0 ∷ []) (1 ∷ []) refl refl refl)))
+
 abbrev back_to_front : Owned ℕ
 back_to_front = record { items = 7 ∷ 8 ∷ 9 ∷ []; view = record { start = 1; shape = 2 ∷ []; strides = negsuc 0 ∷ [] } }
 

@@ -129,6 +129,12 @@ count_before_meeting = refl
 no_row : IsOfNone (2 ∷ 3 ∷ []) (elem.Slice (pos 0) (Some (pos 0)) (pos 1) ∷ all_of_axis ∷ [])
 no_row = record { fits = refl; few = lit≤ tt; none = refl }
 
+some_row : IsOfNone (2 ∷ 3 ∷ []) first_row.slice → ⊥
+some_row is = both_ways (nat_eq 3 0) refl (eq-eqb 3 0 is.none)
+
+meeting_before_count : IsFaultOfWrites (2 ∷ 3 ∷ []) (first_row ∷ short_column ∷ []) (Some Unsupported) → ⊥
+meeting_before_count fault = let same : Some Unsupported ≡ Some IncompatibleShape = fault in cc
+
 at_the_corner : Meet Strict (2 ∷ 3 ∷ []) first_row.slice first_column.slice
 at_the_corner =
     (0 ∷ 0 ∷ [], refl, ((0, ltb-true 0 1 refl, refl), ((0, ltb-true 0 3 refl, refl), tt)), ((0, ltb-true 0 2 refl, refl), ((0, ltb-true 0 1 refl, refl), tt)))
@@ -156,6 +162,9 @@ nothing_to_write = inr (refl, λ i j d earlier below. absurd (not-suc-le-zero be
 
 row_written : IsWritten two_by_three (10 ∷ 11 ∷ 12 ∷ 3 ∷ 4 ∷ 5 ∷ 6 ∷ []) first_row
 row_written = refl
+
+last_item_missing : IsWritten two_by_three (10 ∷ 11 ∷ 2 ∷ 3 ∷ 4 ∷ 5 ∷ 6 ∷ []) first_row → ⊥
+last_item_missing is = both_ways (nat_eq 2 12) refl (eq-eqb 2 12 (ap (λ items. unwrap_or (slice_index_or items 2 None) 0) is))
 
 place_of_the_row : Spares two_by_three 1 first_row → ⊥
 place_of_the_row spares = spares (1, ltb-true 1 3 refl, refl)

@@ -142,6 +142,7 @@ fn read_row<T: Copy>(
     ensures capacity { vec_capacity items ≤ vec_capacity result }
 {
     if is_copied(stride, len) {
+        // Never refused, since the list has room.
         let _ = items.extend_from_slice(&stored[start..start + len]);
         return items;
     }

@@ -1,7 +1,9 @@
 //! Runs of steps from the view of a shape of three axes, and where they stop.
 use crate::view::owned::{Left, is_left, owned};
 use SliceInfoElem::Slice;
-use ndarray_layout::{Axis, Fit, IxDyn, SliceInfoElem, Step, Stopped, Strided, new_ixdyn, run};
+use ndarray_layout::{
+    Axis, Fit, IxDyn, Order, SliceInfoElem, Step, Stopped, Strided, new_ixdyn, run,
+};
 use std::alloc::{AllocError, Global};
 use std::process::Abort;
 use test_tables::layout_fault_name;
@@ -71,6 +73,20 @@ fn r8_rows(rt: HostRuntime) {
             whole
         )
     );
+}
+
+/// The view after two steps, whose places no stride gives along one axis.
+#[test]
+fn stops_at_a_reshape(rt: HostRuntime) {
+    let eight = new_ixdyn(rt.alloc(), &[8]).expect(&rt, "a shape");
+    let steps = [
+        Step::Collapse(Axis(1), 2),
+        Step::Merge(Axis(0), Axis(1)),
+        Step::Reshape(eight, Order::RowMajor),
+    ];
+    let left: Left<'_> = (8, &[1, 2, 4], &[12, 12, 1]);
+    let taken = Some((2, "IncompatibleLayout"));
+    assert!(rt; stops(&rt, rt.alloc(), &steps, taken, left));
 }
 
 /// Every other entry of the first two axes from the back, and of the last one.
