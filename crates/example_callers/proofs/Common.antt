@@ -40,6 +40,13 @@ fault_of_none one other fault is refused = by (common_shape one other) refl
     by None found = is ∙ rw found refl
     by (Some s) found = absurd (refused (rw found refl))
 
+pub fault_if_none : (one other : List ℕ) (kind : ErrorKind) → common_shape_fault one other ≡ Some kind → fault_of_both one other ≡ Some kind
+fault_if_none one other kind fault =
+    sym (fault_of_none one other (common_shape_fault one other) refl (λ none. cc)) ∙ fault
+
+pub fault_with_none : (one other : List ℕ) → common_shape one other ≡ None → common_shape_fault one other ≡ Some IncompatibleShape
+fault_with_none one other none = rw none refl
+
 -- an error that is handed on has the same fault
 pub handed_on : {X : Type 0} (Y : Type 0) (result : Result X LayoutError) (error : LayoutError) (fault : Option ErrorKind) → IsErrAnd result (λ e. e ≡ error) → shape_fault {X = Y} (Err error) ≡ fault
     → shape_fault result ≡ fault

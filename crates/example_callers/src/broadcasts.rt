@@ -1,6 +1,7 @@
 //! Reads two views as views of the shape that both have in common.
 ghost use Rattle.std.specs.Option.{option_map_or};
 ghost use Rattle.std.specs.Prelude.{◌≡◌, ℕ, IfOk, IsOk, None, Some, length, max};
+ghost use Rattle.ndarray_layout.specs.declared.ErrorKind.{ErrorKind};
 ghost use Rattle.ndarray_layout.specs.declared.ErrorKind.TheVariants.{IncompatibleShape};
 ghost use Rattle.ndarray_layout.specs.BroadcastView.{broadcast_fault, broadcast_of};
 ghost use Rattle.ndarray_layout.specs.CommonShape.{common_shape};
@@ -15,7 +16,8 @@ use std::alloc::Global;
 /// greater of their counts of axes: any type that fixes a count does, and `IxDyn`.
 ///
 /// Errors: `IncompatibleShape` where they have no shape in common, `Overflow` where its size passes the greatest `isize`;
-/// that memory is refused, but not where the type fixes the count or there are at most four axes.
+/// that memory is refused, for the shape before its size is looked at, but not where the type fixes the count or there are at
+/// most four axes.
 pub fn on_common_shape<D: Lengths>(
     alloc: Global,
     one: &Strided<D>,
@@ -27,6 +29,12 @@ pub fn on_common_shape<D: Lengths>(
         (λ common. broadcast_fault common one.now.shape)
         (common_shape one.now.shape other.now.shape)
         (Some IncompatibleShape) }
+    ensures refused { (kind : ErrorKind) → shape_fault result ≡ Some kind → option_map_or
+        (λ common. broadcast_fault common one.now.shape)
+        (common_shape one.now.shape other.now.shape)
+        (Some IncompatibleShape) ≡ Some kind }
+    ensures none { common_shape one.now.shape other.now.shape ≡ None →
+        shape_fault result ≡ Some IncompatibleShape }
     ensures memory { NeedsNoMemory D.NDIM (max (length one.now.shape) (length other.now.shape)) →
         shape_fault result ≡ None → IsOk result }
     ensures common { IfOk result (λ both. common_shape one.now.shape other.now.shape ≡ Some both.0.shape) }

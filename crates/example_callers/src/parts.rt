@@ -1,6 +1,6 @@
 //! Takes two parts of a view that can be written in any order, since they share no place.
 ghost use Rattle.std.specs.Option.{option_or};
-ghost use Rattle.std.specs.Prelude.{◌≡◌, ℕ, pos, Contains, IfNone, IfOk, IfSome, map};
+ghost use Rattle.std.specs.Prelude.{◌≡◌, ℕ, pos, Contains, IfNone, IfOk, IfSome, IsOk, None, map};
 ghost use Rattle.ndarray_layout.specs.declared.Fit.TheVariants.{Strict};
 ghost use Rattle.ndarray_layout.specs.declared.Order.TheVariants.{RowMajor};
 ghost use Rattle.ndarray_layout.specs.ArgumentFault.{argument_fault};
@@ -48,6 +48,8 @@ pub fn separate_places<D: Lengths, A: SliceElems, B: SliceElems>(
         (n : ℕ) → Contains places.0.items n → Contains places.1.items n → ⊥)) }
     ensures meet { IfOk result (λ parts. IfNone parts
         (Meet Strict view.now.shape (A.list first.now) (B.list second.now))) }
+    ensures memory { shape_fault result ≡ None →
+        Meet Strict view.now.shape (A.list first.now) (B.list second.now) → IsOk result }
 {
     if view.meets(first, second, Fit::Strict)? {
         return Ok(None);

@@ -1,5 +1,5 @@
 //! Lays out data, and reads a place of it.
-ghost use Rattle.std.specs.Prelude.{◌≡◌, ◌↔◌, [], ◌∷◌, IfOk, IfSome, IsSome, IsTrue, Some, length, slice_get};
+ghost use Rattle.std.specs.Prelude.{◌≡◌, ◌↔◌, ℕ, ◌+◌, ◌*◌, pos, [], ◌∷◌, IfOk, IfSome, IsSome, IsTrue, Some, length, slice_get};
 ghost use Rattle.std.specs.Result.{result_err};
 ghost use Rattle.ndarray_layout.specs.declared.CanIndexCheckMode.TheVariants.{OwnedMutable};
 ghost use Rattle.ndarray_layout.specs.Acceptance.{acceptance};
@@ -12,11 +12,14 @@ use ndarray_layout::{CanIndexCheckMode, Ix2, Lengths, NdIndex, ShapeError, Strid
 
 /// A picture whose pixels lie row after row in a list.
 ///
-/// Errors: `Overflow` where the size passes the greatest `isize`, `OutOfBounds` where the list has fewer pixels.
+/// Errors: those of `can_index_slice`: `Overflow` for the size, then `OutOfBounds` where the layout spans more than the list,
+/// as 0 rows of 5 columns do over an empty one.
 pub fn picture(pixels: &[u8], rows: usize, columns: usize) -> Result<Strided<Ix2>, ShapeError>
     ensures fault { result_err result ≡ acceptance 1 (length pixels.now) OwnedMutable
         (rows ∷ columns ∷ []) (all_signed (columns ∷ 1 ∷ [])) }
     ensures shape { IfOk result (λ picture. picture.shape ≡ rows ∷ columns ∷ []) }
+    ensures place { IfOk result (λ picture. (row column : ℕ) →
+        place_at picture (row ∷ column ∷ []) ≡ pos (row * columns + column)) }
     ensures distinct { IfOk result (λ picture. HasDistinctPlaces picture) }
     ensures inside { IfOk result (λ picture. LiesWithin (length pixels.now) picture) }
 {

@@ -1,8 +1,8 @@
 //! Reads a view along another shape, or learns that no strides would do.
-ghost use Rattle.std.specs.Prelude.{◌≡◌, IfNone, IfOk, IfSome, IsOk, length};
+ghost use Rattle.std.specs.Prelude.{◌≡◌, IfNone, IfOk, IfSome, IsOk, OnErr, length};
 ghost use Rattle.ndarray_layout.specs.declared.Order.TheVariants.{RowMajor};
 ghost use Rattle.ndarray_layout.specs.Lengths.{NeedsNoMemory};
-ghost use Rattle.ndarray_layout.specs.ReshapedView.{ReshapeFits};
+ghost use Rattle.ndarray_layout.specs.ReshapedView.{MayAskForMemory, ReshapeFits};
 ghost use Rattle.ndarray_layout.specs.View.{view_places};
 
 use ndarray_layout::{LayoutError, Lengths, Order, Strided};
@@ -11,7 +11,8 @@ use std::alloc::{AllocError, Global};
 /// The places of a view along another shape, in row-major order, or `None` where no strides keep that list: then the
 /// elements have to be copied.
 ///
-/// Errors: that memory is refused, but not where the type fixes the count of axes or there are at most four.
+/// Errors: that memory is refused, but not where the type fixes the count of axes or there are at most four, nor where the
+/// size is past the limit.
 pub fn along_shape<D: Lengths, E: Lengths>(
     alloc: Global,
     view: &Strided<D>,
@@ -23,6 +24,7 @@ pub fn along_shape<D: Lengths, E: Lengths>(
     ensures none { IfOk result (λ found. IfNone found
         (ReshapeFits RowMajor (E.list shape.now) view.now → ⊥)) }
     ensures memory { NeedsNoMemory E.NDIM (length (E.list shape.now)) → IsOk result }
+    ensures asked { OnErr result (MayAskForMemory (E.list shape.now) view.now) }
 {
     match view.reshape(alloc, shape, Order::RowMajor) {
         Ok(same) => Ok(Some(same)),

@@ -26,7 +26,9 @@ pub fn write_parts<D: Lengths>(
     ensures kept { IfOk result (λ done. IsTrue done →
         KeepsOthers picture.old.view (map write_of parts.now) picture.old.items picture.new.items) }
     ensures refused { IfOk result (λ done. done ≡ false → picture.new ≡ picture.old) }
+    ensures view { picture.new.view ≡ picture.old.view }
     ensures no_memory { OnErr result (picture.new ≡ picture.old) }
+    ensures asked { OnErr result (IsFaultOfWrites picture.old.view.shape (map write_of parts.now) None) }
     ensures memory { length parts.now ≡ 0 → IsOk result }
 {
     match picture.multi_set(alloc, parts) {

@@ -1,5 +1,5 @@
 //! Texts that spell pictures, texts that are refused, and edits of small pictures.
-use crate::answers::{is_kept_by_a_flip, row_holds};
+use crate::tiles::answers::{is_kept_by_a_flip, row_holds};
 use std::test::Fail;
 
 /// Texts, and words and an `@` before the text of the picture that is edited, each with what is printed: the text of a

@@ -1,0 +1,8 @@
+//! Tests of the examples above the layer, `example_callers` and the parts of `example_tiles`. They stand in one crate, since a crate
+//! of tests costs the check some 20 seconds before its first test.
+#![tactic(auto)]
+
+#[cfg(test)]
+mod callers;
+#[cfg(test)]
+mod tiles;
