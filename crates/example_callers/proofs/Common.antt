@@ -1,5 +1,5 @@
 -- Two views are read as views of the shape that they have in common exactly where there is one, and its size fits.
-use Rattle.std.proofs.Common.{◌≡◌, ℕ, true, Option, Some, None, Result, Ok, Err, List, length, max, refl, sym, ap, ◌∙◌}
+use Rattle.std.proofs.Common.{◌≡◌, ℕ, true, Option, Some, None, Result, Ok, Err, List, refl, sym, ap, ◌∙◌}
 use Rattle.std.specs.Option.{option_and_then, option_map_or}
 use Rattle.std.specs.Result.{IsErrAnd}
 use Rattle.ndarray_layout.specs.declared.ErrorKind.{ErrorKind}
