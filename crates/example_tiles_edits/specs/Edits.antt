@@ -12,6 +12,7 @@ use Rattle.example_tiles_edits.specs.declared.edit.Edit.{Edit}
 use Rattle.example_tiles_edits.specs.declared.edit.Edit.TheVariants.{Crop, FlipRows, FlipColumns, Every, Mirror}
 use Rattle.example_tiles_edits.specs.declared.edit.Misfit.{Misfit}
 use Rattle.example_tiles_edits.specs.declared.edit.Span.{Span}
+use Rattle.example_tiles_edits.specs.declared.edit.TheConstants.{MOST_PARTS}
 
 -- no bound of a span is past so many rows or columns
 abbrev pub is_span : ℕ → Span → Bool
@@ -21,13 +22,9 @@ is_span count span = nat_le span.start count && nat_le span.end count
 abbrev pub divides : ℕ → ℕ → Bool
 divides count len = len % count == 0
 
--- into how many parts by how many a picture is cut at most
-abbrev pub most_parts : ℕ
-most_parts = 64
-
--- a picture of an extent can be cut into so many by so many parts of one extent
+-- a picture of an extent can be cut into so many by so many parts of one extent, at most as many as there may be
 abbrev pub can_cut : Extent → ℕ → Bool
-can_cut extent count = (nat_lt 0 count && nat_le count most_parts) && (divides count extent.rows && divides count extent.columns)
+can_cut extent count = (nat_lt 0 count && nat_le count MOST_PARTS) && (divides count extent.rows && divides count extent.columns)
 
 -- whether an edit fits a picture of an extent
 abbrev pub fits : Extent → Edit → Bool
