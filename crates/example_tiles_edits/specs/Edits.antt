@@ -18,7 +18,7 @@ use Rattle.example_tiles_edits.specs.declared.edit.TheConstants.{MOST_PARTS}
 abbrev pub is_span : ℕ → Span → Bool
 is_span count span = nat_le span.start count && nat_le span.end count
 
--- so many rows or columns are so many times as many
+-- a number of rows or columns is a multiple of a count
 abbrev pub divides : ℕ → ℕ → Bool
 divides count len = len % count == 0
 

@@ -28,20 +28,20 @@ abbrev pub by_step : ℤ → SliceInfoElem
 by_step step = Slice (pos 0) None step
 
 -- what an edit picks of the rows and of the columns, where it is one slice
-abbrev pub elems_of : Edit → Option (List SliceInfoElem)
-elems_of (Crop rows columns) = Some (of_span rows (pos 1) ∷ of_span columns (pos 1) ∷ [])
-elems_of FlipRows = Some (by_step (negsuc 0) ∷ by_step (pos 1) ∷ [])
-elems_of FlipColumns = Some (by_step (pos 1) ∷ by_step (negsuc 0) ∷ [])
-elems_of (Every count) = Some (by_step (pos count) ∷ by_step (pos count) ∷ [])
-elems_of (Mirror count) = None
+abbrev pub elements_of : Edit → Option (List SliceInfoElem)
+elements_of (Crop rows columns) = Some (of_span rows (pos 1) ∷ of_span columns (pos 1) ∷ [])
+elements_of FlipRows = Some (by_step (negsuc 0) ∷ by_step (pos 1) ∷ [])
+elements_of FlipColumns = Some (by_step (pos 1) ∷ by_step (negsuc 0) ∷ [])
+elements_of (Every count) = Some (by_step (pos count) ∷ by_step (pos count) ∷ [])
+elements_of (Mirror count) = None
 
 -- whether an edit is one slice
 abbrev pub is_slice : Edit → Bool
-is_slice edit = is_some (elems_of edit)
+is_slice edit = is_some (elements_of edit)
 
 -- an edit as a step, where it is one slice
 abbrev pub step_of : Edit → Option StepValue
-step_of edit = option_map (λ elems. SliceBy elems Strict) (elems_of edit)
+step_of edit = option_map (λ elements. SliceBy elements Strict) (elements_of edit)
 
 -- there are no edits, or the first isn't one slice
 abbrev pub IsAtMirror : List Edit → Type 0
@@ -77,7 +77,7 @@ pub record ArePlaces (edits : List Edit) (extent : Extent) (places : List ℕ) :
       → slice_get places (place_in (extent_of edits extent) at) ≡ Some (place_in extent (source_of edits extent at))
 
 -- examples
-rows_turned_round : elems_of FlipRows ≡ Some (Slice (pos 0) None (negsuc 0) ∷ Slice (pos 0) None (pos 1) ∷ [])
+rows_turned_round : elements_of FlipRows ≡ Some (Slice (pos 0) None (negsuc 0) ∷ Slice (pos 0) None (pos 1) ∷ [])
 rows_turned_round = refl
 
 mirror_is_no_slice : is_slice (Mirror 4) ≡ false

@@ -6,7 +6,7 @@ ghost use Rattle.nd_owned.specs.Writes.{write_of};
 ghost use Rattle.example_tiles_picture.specs.Picture.{IsPicture, image};
 ghost use Rattle.example_tiles_edits.specs.declared.edit.Edit.TheVariants.{Mirror};
 ghost use Rattle.example_tiles_edits.specs.Edits.{IsEdited, can_cut};
-ghost use Rattle.example_tiles_edits.specs.Parts.{AreMirrored, IsArrayOf, IsMirrored, elems_of_part, mirrored_elems, part_of, part_span};
+ghost use Rattle.example_tiles_edits.specs.Parts.{AreMirrored, IsArrayOf, IsMirrored, elements_of_part, mirrored_elements, part_of, part_span};
 ghost use Rattle.example_tiles_edits.specs.Slices.{whole_view};
 
 use crate::edit::Span;
@@ -31,15 +31,15 @@ struct Part {
 
 impl Part {
     /// What it picks of the rows and of the columns.
-    fn elems(self) -> [SliceInfoElem; 2]
-        ensures { result ≡ elems_of_part self }
+    fn elements(self) -> [SliceInfoElem; 2]
+        ensures { result ≡ elements_of_part self }
     {
         [of_span(self.rows, 1), of_span(self.columns, 1)]
     }
 
     /// The same, with the columns from the last to the first.
     fn mirrored(self) -> [SliceInfoElem; 2]
-        ensures { result ≡ mirrored_elems self }
+        ensures { result ≡ mirrored_elements self }
     {
         [of_span(self.rows, 1), of_span(self.columns, -1)]
     }
@@ -88,10 +88,10 @@ fn array_of(alloc: Global, picture: &Picture) -> Result<Pixels, AllocError>
 
 /// The pixels of a part, mirrored, and where they are to be written.
 fn mirrored_part(alloc: Global, array: &Pixels, part: Part) -> Result<Write, AllocError>
-    requires { argument_fault Strict array.now.view.shape (mirrored_elems part) ≡ None }
+    requires { argument_fault Strict array.now.view.shape (mirrored_elements part) ≡ None }
     ensures { IfOk result (λ write. IsMirrored array.now part (write_of write)) }
 {
-    let slice = Vec::from_slice(alloc, &part.elems())?;
+    let slice = Vec::from_slice(alloc, &part.elements())?;
     match array.items(alloc, &part.mirrored()) {
         Ok(pixels) => Ok((slice, pixels)),
         Err(LayoutError::Memory(error)) => Err(error),
