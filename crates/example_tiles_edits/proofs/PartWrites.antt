@@ -265,10 +265,14 @@ array_is image array is =
     let same : Owned ℕ → Owned ℕ = λ a. a in
     ap (λ items. same (record { items = items; view = array.view })) is.items ∙ ap (λ view. same (record { items = image.pixels; view = view })) is.view
 
-pub not_refused : (image : Image) (array : Owned ℕ) (count : ℕ) (writes : List (Write ℕ)) (kind : ErrorKind) → CanCut image.extent count → IsArrayOf image array → AreMirrored array image.extent count writes → IsFaultOfWrites array.view.shape writes (Some kind) → ⊥
+not_refused : (image : Image) (array : Owned ℕ) (count : ℕ) (writes : List (Write ℕ)) (kind : ErrorKind) → CanCut image.extent count → IsArrayOf image array → AreMirrored array image.extent count writes → IsFaultOfWrites array.view.shape writes (Some kind) → ⊥
 not_refused image array count writes kind can is are fault =
     not_refused_at image.extent count image.pixels writes kind can (subst (λ a. AreMirrored a image.extent count writes) (array_is image array is) are)
     (subst (λ (v : View). IsFaultOfWrites v.shape writes (Some kind)) is.view fault)
+
+pub none_refused : (image : Image) (array : Owned ℕ) (count : ℕ) (writes : List (Write ℕ)) (fault : Option ErrorKind) → CanCut image.extent count → IsArrayOf image array → AreMirrored array image.extent count writes → IsFaultOfWrites array.view.shape writes fault → fault ≡ None
+none_refused image array count writes None can is are fault = refl
+none_refused image array count writes (Some kind) can is are fault = absurd (not_refused image array count writes kind can is are fault)
 
 pub IsEdited-written : (image : Image) (array : Owned ℕ) (count : ℕ) (writes : List (Write ℕ)) (new : List ℕ) → CanCut image.extent count → IsView array.view → IsArrayOf image array → AreMirrored array image.extent count writes → All (IsWritten array.view new) writes
     → IsEdited (Mirror count ∷ []) image (record { extent = image.extent; greatest = image.greatest; pixels = new })

@@ -8,12 +8,13 @@ use Rattle.std.proofs.lemmas.List.{length-map}
 use Rattle.std.proofs.lemmas.Option.{slice_get-map}
 use Rattle.ndarray_layout.specs.declared.ErrorKind.{ErrorKind}
 use Rattle.ndarray_layout.specs.declared.LayoutError.{LayoutError}
-use Rattle.ndarray_layout.specs.declared.LayoutError.TheVariants.{Shape}
+use Rattle.ndarray_layout.specs.declared.LayoutError.TheVariants.{Shape, Memory}
 use Rattle.ndarray_layout.specs.declared.Order.TheVariants.{RowMajor}
 use Rattle.ndarray_layout.specs.Indices.{is_index}
 use Rattle.ndarray_layout.specs.KeepsPlaces.{KeepsPlaces}
 use Rattle.ndarray_layout.specs.Rank.{index_of_rank, rank}
 use Rattle.ndarray_layout.specs.Run.{IsEndedBy, run_of}
+use Rattle.ndarray_layout.specs.ShapeFault.{shape_fault}
 use Rattle.ndarray_layout.specs.Size.{size}
 use Rattle.ndarray_layout.specs.Step.{StepValue}
 use Rattle.ndarray_layout.specs.View.{LiesWithin, View, place_at, view_places}
@@ -81,6 +82,10 @@ not_refused edits extent steps start left fault kind at fit same whole ended is 
     let ran : IsRun edits extent (run_of steps start) = run_of_edits edits steps extent start same fit (ap (λ (v : View). v.shape) whole) in
     let refused : IsEndedBy (run_of steps start) at (Shape kind) left = subst (λ (f : LayoutError). IsEndedBy (run_of steps start) at f left) is ended in
     none_is_not_some kind (sym ran.fault ∙ refused.0)
+
+pub no_shape_fault : (X : Type 0) (fault : LayoutError) → ((kind : ErrorKind) → fault ≡ Shape kind → ⊥) → shape_fault {X = X} (Err fault) ≡ None
+no_shape_fault X (Shape kind) none = absurd (none kind refl)
+no_shape_fault X (Memory error) none = refl
 
 -- ---- pixels at places
 of_some : (o x : Option ℕ) → option_map Some o ≡ Some x → o ≡ x

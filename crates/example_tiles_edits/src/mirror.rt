@@ -10,10 +10,11 @@ ghost use Rattle.example_tiles_edits.specs.Parts.{AreMirrored, IsArrayOf, IsMirr
 ghost use Rattle.example_tiles_edits.specs.Slices.{whole_view};
 
 use crate::edit::Span;
+use crate::memory::memory_alone;
 use crate::slices::of_span;
 use example_tiles_picture::{Extent, Picture};
 use nd_owned::OwnedArray;
-use ndarray_layout::{Ix2, LayoutError, SliceInfoElem, StrideShape, Strides, new_ix2};
+use ndarray_layout::{Ix2, SliceInfoElem, StrideShape, Strides, new_ix2};
 use std::alloc::{AllocError, Global};
 
 /// The pixels of a picture by rows and columns.
@@ -81,8 +82,7 @@ fn array_of(alloc: Global, picture: &Picture) -> Result<Pixels, AllocError>
     let pixels = Vec::from_slice(alloc, picture.pixels.as_slice())?;
     match Pixels::from_shape_vec(alloc, shape, pixels) {
         Ok(array) => Ok(array),
-        Err((LayoutError::Memory(error), _)) => Err(error),
-        Err((LayoutError::Shape(_), _)) => unreachable!(),
+        Err((fault, _pixels)) => memory_alone(Err(fault)),
     }
 }
 
@@ -92,11 +92,8 @@ fn mirrored_part(alloc: Global, array: &Pixels, part: Part) -> Result<Write, All
     ensures { IfOk result (λ write. IsMirrored array.now part (write_of write)) }
 {
     let slice = Vec::from_slice(alloc, &part.elements())?;
-    match array.items(alloc, &part.mirrored()) {
-        Ok(pixels) => Ok((slice, pixels)),
-        Err(LayoutError::Memory(error)) => Err(error),
-        Err(LayoutError::Shape(_)) => unreachable!(),
-    }
+    let pixels = memory_alone(array.items(alloc, &part.mirrored()))?;
+    Ok((slice, pixels))
 }
 
 /// The pixels of each part, mirrored.
@@ -126,13 +123,10 @@ pub(crate) fn mirrored(alloc: Global, picture: &Picture, count: u32) -> Result<P
 {
     let mut array = array_of(alloc, picture)?;
     let writes = mirrored_parts(alloc, &array, picture.extent, count)?;
-    match array.multi_set(alloc, writes.as_slice()) {
-        Ok(()) => Ok(Picture {
-            extent: picture.extent,
-            greatest: picture.greatest,
-            pixels: Vec::from_slice(alloc, array.stored())?,
-        }),
-        Err(LayoutError::Memory(error)) => Err(error),
-        Err(LayoutError::Shape(_)) => unreachable!(),
-    }
+    memory_alone(array.multi_set(alloc, writes.as_slice()))?;
+    Ok(Picture {
+        extent: picture.extent,
+        greatest: picture.greatest,
+        pixels: Vec::from_slice(alloc, array.stored())?,
+    })
 }

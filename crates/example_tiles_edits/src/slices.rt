@@ -8,10 +8,11 @@ ghost use Rattle.example_tiles_edits.specs.Edits.{IsEdited, first_misfit};
 ghost use Rattle.example_tiles_edits.specs.Slices.{ArePlaces, by_step, elements_of, is_slice, of_span, step_of, whole_view};
 
 use crate::edit::{Edit, Span, extent_of_edits};
+use crate::memory::memory_alone;
 use example_tiles_picture::{Extent, Picture};
 use ndarray_layout::{
-    CanIndexCheckMode, Fit, IxDyn, LayoutError, Order, SliceInfoElem, Step, StrideShape, Strided,
-    Strides, new_ixdyn, run,
+    CanIndexCheckMode, Fit, IxDyn, Order, SliceInfoElem, Step, StrideShape, Strided, Strides,
+    new_ixdyn, run,
 };
 use std::alloc::{AllocError, Global};
 
@@ -84,11 +85,7 @@ fn whole_view(alloc: Global, extent: Extent) -> Result<Strided<IxDyn>, AllocErro
         strides: Strides::C,
     };
     let (len, mode) = (extent.pixel_count(), CanIndexCheckMode::ReadOnly);
-    match Strided::from_shape(alloc, shape, 1, len, mode) {
-        Ok(view) => Ok(view),
-        Err(LayoutError::Memory(error)) => Err(error),
-        Err(LayoutError::Shape(_)) => unreachable!(),
-    }
+    memory_alone(Strided::from_shape(alloc, shape, 1, len, mode))
 }
 
 /// Where the pixels that edits leave lie among those of a picture, row by row.
@@ -102,10 +99,7 @@ fn places_of(alloc: Global, extent: Extent, edits: &[Edit]) -> Result<Vec<usize>
     let steps = steps_of(alloc, edits)?;
     match run(alloc, view, steps.as_slice()) {
         Ok(view) => view.places(alloc, Order::RowMajor),
-        Err(stopped) => match &stopped.fault {
-            LayoutError::Memory(_) => Err(AllocError),
-            LayoutError::Shape(_) => unreachable!(),
-        },
+        Err(stopped) => memory_alone(Err(stopped.fault)),
     }
 }
 
