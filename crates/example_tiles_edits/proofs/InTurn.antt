@@ -6,7 +6,7 @@ use Rattle.std.proofs.lemmas.Option.{get_or_from_slice_get, slice_get-get_or, sl
 use Rattle.example_tiles_picture.specs.declared.Extent.{Extent}
 use Rattle.example_tiles_picture.specs.Picture.{Image, IsPicture, IsWithin, Position, pixel_at, pixel_count}
 use Rattle.example_tiles_edits.specs.declared.edit.Edit.{Edit}
-use Rattle.example_tiles_edits.specs.Edits.{IsEdited, extent_after, extent_of, first_misfit, source, source_of}
+use Rattle.example_tiles_edits.specs.Edits.{AreBegun, IsEdited, extent_after, extent_of, first_misfit, source, source_of}
 use Rattle.example_tiles_edits.specs.Slices.{ArePlaces, place_in}
 use Rattle.example_tiles_edits.proofs.EditSteps.{source_of_within}
 use Rattle.example_tiles_edits.proofs.Misfits.{no_misfit-append}
@@ -84,6 +84,13 @@ fits_after edits some others before between whole fit edited =
 pub goes_on : (edits some others : List Edit) (before between after : Image) → edits ≡ some ++ others → first_misfit edits before.extent ≡ None → IsEdited some before between → IsEdited others between after → IsEdited edits before after
 goes_on edits some others before between after whole fit edited rest =
     subst (λ es. IsEdited es before after) (sym whole) (IsEdited-append some others before between after (fits_after edits some others before between whole fit edited) edited rest)
+
+-- the first edits are made, and the others are left
+pub fits_left : (edits left : List Edit) (before after : Image) → first_misfit edits before.extent ≡ None → AreBegun edits before after left → first_misfit left after.extent ≡ None
+fits_left edits left before after fit begun = fits_after edits begun.made left before after begun.whole fit begun.edited
+
+pub goes_on_left : (edits left : List Edit) (before after last : Image) → first_misfit edits before.extent ≡ None → AreBegun edits before after left → IsEdited left after last → IsEdited edits before last
+goes_on_left edits left before after last fit begun rest = goes_on edits begun.made left before after last begun.whole fit begun.edited rest
 
 pub nothing_left : (edits : List Edit) → length edits ≡ 0 → edits ≡ []
 nothing_left [] none = refl

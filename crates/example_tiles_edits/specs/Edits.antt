@@ -1,6 +1,6 @@
 -- What edits make of a picture: whether they fit, what extent they leave, and where in the source each pixel of the result comes from.
 use Rattle.std.specs.Prelude.{◌≡◌, ℕ, zero, suc, ◌+◌, ◌-◌, ◌*◌, ◌/◌, ◌%◌, ◌<◌, ◌==◌, Bool, true, false, ◌&&◌, nat_eq, nat_le, nat_lt}
-use Rattle.std.specs.Prelude.{if◌then◌else◌, Option, Some, None, unwrap_or, List, [], ◌∷◌, map, slice_get, refl}
+use Rattle.std.specs.Prelude.{if◌then◌else◌, Option, Some, None, unwrap_or, List, [], ◌∷◌, ◌++◌, length, map, slice_get, refl}
 use Rattle.std.proofs.Common.{ap, eq-eqb, lit<}
 use Rattle.std.proofs.Math.Nat.{not-suc-le-zero, le_of_suc-le-suc}
 use Rattle.std.proofs.lemmas.Bool.{both_ways}
@@ -81,6 +81,13 @@ pub record IsEdited (edits : List Edit) (before after : Image) : Type 0 where
   pub extent : after.extent ≡ extent_of edits before.extent
   pub greatest : after.greatest ≡ before.greatest
   pub pixels : (at : Position) → IsWithin after.extent at → pixel_at after at ≡ pixel_at before (source_of edits before.extent at)
+
+-- the first of some edits, one at least, make a picture of another, and the others are left
+pub record AreBegun (edits : List Edit) (before after : Image) (left : List Edit) : Type 0 where
+  pub made : List Edit
+  pub whole : edits ≡ made ++ left
+  pub fewer : length left < length edits
+  pub edited : IsEdited made before after
 
 -- examples
 abbrev four_by_six : Extent
@@ -172,3 +179,9 @@ pair_as_it_was is = both_ways (nat_eq 7 4) refl (eq-eqb 7 4 (ap (λ pixel. unwra
 
 pair_cut_off : IsEdited [] (pair 7 4) (record { extent = record { rows = 1; columns = 1 }; greatest = 9; pixels = 7 ∷ [] }) → ⊥
 pair_cut_off is = both_ways (nat_eq 1 2) refl (eq-eqb 1 2 (ap (λ (extent : Extent). extent.columns) is.extent))
+
+first_of_two : AreBegun (Mirror 1 ∷ FlipRows ∷ []) (pair 7 4) (pair 4 7) (FlipRows ∷ [])
+first_of_two = record { made = Mirror 1 ∷ []; whole = refl; fewer = lit< tt; edited = pair_mirrored }
+
+none_begun : AreBegun [] (pair 7 4) (pair 7 4) [] → ⊥
+none_begun are = not-suc-le-zero are.fewer
