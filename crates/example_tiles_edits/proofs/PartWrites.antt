@@ -38,9 +38,9 @@ use Rattle.example_tiles_edits.specs.Edits.{IsEdited, mirrored}
 use Rattle.example_tiles_edits.specs.Parts.{AreMirrored, IsArrayOf, IsMirrored, elements_of_part, mirrored_elements, part_of, part_span, parts_of, picked_pixels}
 use Rattle.example_tiles_edits.specs.Slices.{index_of, shape_of, whole_view}
 use Rattle.example_tiles_edits.proofs.Axes.{IsPick, back_over, of_span}
-use Rattle.example_tiles_edits.proofs.Cuts.{CanCut, IsCut, is_in, is_part}
+use Rattle.example_tiles_edits.proofs.Cuts.{CanCut, IsCut, is_in, is_part, mirrored_below}
 use Rattle.example_tiles_edits.proofs.EditSteps.{element_of, left, no_fault, pick_within, stands_for}
-use Rattle.example_tiles_edits.proofs.Pixels.{is_index_of, place_of_whole, rank_of}
+use Rattle.example_tiles_edits.proofs.Pixels.{is_index_of, pixel_within, place_of_whole, rank_of}
 
 -- ---- what a part picks of the rows and of the columns
 abbrev slice_of_span : Span → ℤ → Slice
@@ -279,7 +279,11 @@ pub IsEdited-written : (image : Image) (array : Owned ℕ) (count : ℕ) (writes
 IsEdited-written image array count writes new can is_view is are written = record {
   extent = refl;
   greatest = refl;
-  pixels = λ at within.
-      mirrored_pixel image.extent count image.pixels new writes at (subst IsView is.view is_view) can (subst (λ a. AreMirrored a image.extent count writes) (array_is image array is) are)
-      (subst (λ v. All (IsWritten v new) writes) is.view written) within;
+  pixels = λ at within. (
+      let from : Position = record { row = at.row; column = mirrored (image.extent.columns / count) at.column } in
+      let from_within : IsWithin image.extent from = record { row_below = within.row_below; column_below = mirrored_below image.extent.columns count at.column can.columns within.column_below } in
+      pixel_within (record { extent = image.extent; greatest = image.greatest; pixels = new }) at within
+      ∙ mirrored_pixel image.extent count image.pixels new writes at (subst IsView is.view is_view) can (subst (λ a. AreMirrored a image.extent count writes) (array_is image array is) are)
+      (subst (λ v. All (IsWritten v new) writes) is.view written) within
+      ∙ sym (pixel_within image from from_within));
 }

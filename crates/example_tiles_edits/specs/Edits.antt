@@ -1,6 +1,6 @@
 -- What edits make of a picture: whether they fit, what extent they leave, and where in the source each pixel of the result comes from.
 use Rattle.std.specs.Prelude.{◌≡◌, ℕ, zero, suc, ◌+◌, ◌-◌, ◌*◌, ◌/◌, ◌%◌, ◌<◌, ◌==◌, Bool, true, false, ◌&&◌, nat_eq, nat_le, nat_lt}
-use Rattle.std.specs.Prelude.{if◌then◌else◌, Option, Some, None, unwrap_or, List, [], ◌∷◌, ◌++◌, length, map, slice_get, refl}
+use Rattle.std.specs.Prelude.{if◌then◌else◌, Option, Some, None, unwrap_or, List, [], ◌∷◌, ◌++◌, length, map, refl}
 use Rattle.std.proofs.Common.{ap, eq-eqb, lit<}
 use Rattle.std.proofs.Math.Nat.{not-suc-le-zero, le_of_suc-le-suc}
 use Rattle.std.proofs.lemmas.Bool.{both_ways}
@@ -165,7 +165,7 @@ abbrev pair : ℕ → ℕ → Image
 pair left right = record { extent = record { rows = 1; columns = 2 }; greatest = 9; pixels = left ∷ right ∷ [] }
 
 swapped : (row column : ℕ) → row < 1 → column < 2
-    → slice_get {X = ℕ} (4 ∷ 7 ∷ []) (row * 2 + column) ≡ slice_get {X = ℕ} (7 ∷ 4 ∷ []) (row * 2 + mirrored 2 column)
+    → pixel_at (pair 4 7) (record { row = row; column = column }) ≡ pixel_at (pair 7 4) (record { row = row; column = mirrored 2 column })
 swapped zero zero below left = refl
 swapped zero (suc zero) below left = refl
 swapped zero (suc (suc column)) below left = absurd (not-suc-le-zero (le_of_suc-le-suc (le_of_suc-le-suc left)))

@@ -1,5 +1,5 @@
 -- Edits as steps from one view of the pixels to the next.
-use Rattle.std.specs.Prelude.{◌≡◌, ℕ, ◌+◌, ◌*◌, ◌<◌, ℤ, pos, negsuc, Bool, false, is_some, nat_eq, Option, Some, None}
+use Rattle.std.specs.Prelude.{◌≡◌, ℕ, ◌<◌, ℤ, pos, negsuc, Bool, false, is_some, nat_eq, Option, Some, None}
 use Rattle.std.specs.Prelude.{List, [], ◌∷◌, ◌++◌, length, map, slice_get, unwrap_or, refl}
 use Rattle.std.specs.List.{All, AllPass}
 use Rattle.std.specs.Option.{option_map}
@@ -13,7 +13,7 @@ use Rattle.ndarray_layout.specs.Step.{StepValue, SliceBy}
 use Rattle.ndarray_layout.specs.Strides.{default_strides}
 use Rattle.ndarray_layout.specs.View.{View}
 use Rattle.example_tiles_picture.specs.declared.Extent.{Extent}
-use Rattle.example_tiles_picture.specs.Picture.{IsWithin, Position, pixel_count}
+use Rattle.example_tiles_picture.specs.Picture.{IsWithin, Position, pixel_count, place_in}
 use Rattle.example_tiles_edits.specs.declared.edit.Edit.{Edit}
 use Rattle.example_tiles_edits.specs.declared.edit.Edit.TheVariants.{Crop, FlipRows, FlipColumns, Every, Mirror}
 use Rattle.example_tiles_edits.specs.declared.edit.Span.{Span}
@@ -65,10 +65,6 @@ index_of at = at.row ∷ at.column ∷ []
 abbrev pub whole_view : Extent → View
 whole_view extent = record { start = 0; shape = shape_of extent; strides = map pos (default_strides (shape_of extent)) }
 
--- the place of a position among the pixels
-abbrev pub place_in : Extent → Position → ℕ
-place_in extent at = at.row * extent.columns + at.column
-
 -- places of the pixels that edits leave, row by row: each is the one that the edits say
 pub record ArePlaces (edits : List Edit) (extent : Extent) (places : List ℕ) : Type 0 where
   pub complete : length places ≡ pixel_count (extent_of edits extent)
@@ -103,9 +99,6 @@ back_over_a_span = refl
 
 rows_of_three : (whole_view (record { rows = 2; columns = 3 })).strides ≡ pos 3 ∷ pos 1 ∷ []
 rows_of_three = refl
-
-second_of_the_second_row : place_in (record { rows = 2; columns = 3 }) (record { row = 1; column = 1 }) ≡ 4
-second_of_the_second_row = refl
 
 abbrev pair : Extent
 pair = record { rows = 1; columns = 2 }
