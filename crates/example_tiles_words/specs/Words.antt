@@ -2,7 +2,7 @@
 use Rattle.std.specs.Prelude.{◌≡◌, ℕ, ◌+◌, ◌<◌, ◌==◌, Bool, true, if◌then◌else◌, IsSome, Option, Some, None}
 use Rattle.std.specs.Prelude.{List, [], ◌∷◌, drop, length, codes, refl}
 use Rattle.std.specs.List.{after_first, before_first}
-use Rattle.std.specs.Option.{option_map}
+use Rattle.std.specs.Option.{option_map, option_zip}
 use Rattle.std.specs.Str.{bytes_eq}
 use Rattle.std.proofs.Common.{ap, lit<, subst, sym}
 use Rattle.std.proofs.Math.Nat.{add_right_cancel}
@@ -19,9 +19,7 @@ is_dot b = b == 46
 
 -- what is made of two readings, where both read something
 abbrev pub both : {A B C : Type 0} → (A → B → C) → Option A → Option B → Option C
-both together (Some first) (Some second) = Some (together first second)
-both together (Some first) None = None
-both together None second = None
+both together first second = option_map (λ pair. together pair.0 pair.1) (option_zip first second)
 
 -- the span of its first number, and of the rest of the word, which is a dot and the second
 abbrev pub span_between : Option ℕ → List ℕ → Option Span
@@ -38,8 +36,7 @@ flip_of word = if bytes_eq word (codes "rows") then Some FlipRows else if bytes_
 
 -- an edit, where there is one, and how many words spell it
 abbrev pub by_words : ℕ → Option Edit → Option (Edit × ℕ)
-by_words count None = None
-by_words count (Some edit) = Some (edit, count)
+by_words count edit = option_map (λ edit. (edit, count)) edit
 
 -- the crop of two words, the rows and the columns, that come first
 abbrev pub crop_of : List ℕ → List (List ℕ) → Option Edit
