@@ -12,10 +12,7 @@ use std::{env, io};
 
 /// The edits that the arguments spell.
 fn edits_of_arguments<R: Env + AllocGlobal>(rt: &R) -> Result<Vec<Edit>> {
-    let mut arguments = Vec::new(rt.alloc());
-    for argument in env::args(rt)?.skip(1) {
-        arguments.push(argument)?;
-    }
+    let arguments: Vec<String> = env::args(rt)?.skip(1).collect(rt.alloc())?;
     let mut words = Vec::new(rt.alloc());
     for argument in &arguments {
         words.push(argument.as_bytes())?;

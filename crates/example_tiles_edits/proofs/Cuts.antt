@@ -2,10 +2,11 @@
 use Rattle.std.proofs.Common.{◌≡◌, ℕ, zero, suc, ◌+◌, ◌-◌, ◌*◌, ◌/◌, ◌%◌, ◌<◌, ◌≤◌, true, refl, ap, arith}
 use Rattle.std.specs.Prelude.{nat_le, nat_lt, ◌&&◌}
 use Rattle.std.proofs.Math.Nat.{mul-le-mul_right}
-use Rattle.std.proofs.lemmas.Bool.{and_parts, eqb-true, leb-true, ltb-true}
+use Rattle.std.proofs.lemmas.Bool.{and_parts, eqb-true, ltb-true}
 use Rattle.std.proofs.lemmas.Nat.{div-add-mod', div_below, mod_below}
 use Rattle.example_tiles_picture.specs.declared.Extent.{Extent}
-use Rattle.example_tiles_edits.specs.Edits.{can_cut, divides, mirrored, most_parts}
+use Rattle.example_tiles_edits.specs.declared.edit.TheConstants.{MOST_PARTS}
+use Rattle.example_tiles_edits.specs.Edits.{can_cut, divides, mirrored}
 
 -- so many are as many parts of one size
 pub record IsCut (len count : ℕ) : Type 0 where
@@ -19,17 +20,16 @@ of_divides len count some even =
 
 -- a picture that can be cut is cut along both axes
 pub record CanCut (extent : Extent) (count : ℕ) : Type 0 where
-  pub few : count ≤ 64
   pub rows : IsCut extent.rows count
   pub columns : IsCut extent.columns count
 
 pub can_cut_parts : (extent : Extent) (count : ℕ) → can_cut extent count ≡ true → CanCut extent count
 can_cut_parts extent count can =
-    let both = and_parts (nat_lt 0 count && nat_le count most_parts) (divides count extent.rows && divides count extent.columns) can in
-    let range = and_parts (nat_lt 0 count) (nat_le count most_parts) both.0 in
+    let both = and_parts (nat_lt 0 count && nat_le count MOST_PARTS) (divides count extent.rows && divides count extent.columns) can in
+    let range = and_parts (nat_lt 0 count) (nat_le count MOST_PARTS) both.0 in
     let even = and_parts (divides count extent.rows) (divides count extent.columns) both.1 in
     let some = ltb-true 0 count range.0 in
-    record { few = leb-true count most_parts range.1; rows = of_divides extent.rows count some even.0; columns = of_divides extent.columns count some even.1 }
+    record { rows = of_divides extent.rows count some even.0; columns = of_divides extent.columns count some even.1 }
 
 -- the part that one of them is in, and where in the part it is
 pub record IsIn (len count at : ℕ) : Type 0 where

@@ -20,25 +20,25 @@ use Rattle.example_tiles_picture.specs.Picture.{IsWithin, Position}
 use Rattle.example_tiles_edits.specs.declared.edit.Edit.{Edit}
 use Rattle.example_tiles_edits.specs.declared.edit.Edit.TheVariants.{Crop, FlipRows, FlipColumns, Every, Mirror}
 use Rattle.example_tiles_edits.specs.Edits.{extent_after, extent_of, first_misfit, fits, source, source_of}
-use Rattle.example_tiles_edits.specs.Slices.{elems_of, index_of, shape_of, step_of}
+use Rattle.example_tiles_edits.specs.Slices.{elements_of, index_of, shape_of, step_of}
 use Rattle.example_tiles_edits.proofs.Axes.{IsPick, all, by_step, of_span, turned}
 use Rattle.example_tiles_edits.proofs.Cuts.{can_cut_parts, mirrored_below}
 use Rattle.example_tiles_edits.proofs.Misfits.{fits_first}
 
 -- a range of an axis, as an element
-abbrev pub elem_of : Slice → SliceInfoElem
-elem_of s = elem.Slice s.start s.end s.step
+abbrev pub element_of : Slice → SliceInfoElem
+element_of s = elem.Slice s.start s.end s.step
 
 -- ---- what two slices leave of two axes
-pub no_fault : (rows columns : ℕ) (one other : Slice) (r c : ℕ) (f g : ℕ → ℕ) → IsPick rows one r f → IsPick columns other c g → argument_fault Strict (rows ∷ columns ∷ []) (elem_of one ∷ elem_of other ∷ []) ≡ None
+pub no_fault : (rows columns : ℕ) (one other : Slice) (r c : ℕ) (f g : ℕ → ℕ) → IsPick rows one r f → IsPick columns other c g → argument_fault Strict (rows ∷ columns ∷ []) (element_of one ∷ element_of other ∷ []) ≡ None
 no_fault rows columns one other r c f g first second =
     rw (no_fault_of_fits Strict rows one first.fits, no_fault_of_fits Strict columns other second.fits) refl
 
-pub left : (rows columns : ℕ) (one other : Slice) (r c : ℕ) (f g : ℕ → ℕ) → IsPick rows one r f → IsPick columns other c g → sliced_shape Strict (elem_of one ∷ elem_of other ∷ []) (rows ∷ columns ∷ []) ≡ r ∷ c ∷ []
+pub left : (rows columns : ℕ) (one other : Slice) (r c : ℕ) (f g : ℕ → ℕ) → IsPick rows one r f → IsPick columns other c g → sliced_shape Strict (element_of one ∷ element_of other ∷ []) (rows ∷ columns ∷ []) ≡ r ∷ c ∷ []
 left rows columns one other r c f g first second = rw (first.count, second.count) refl
 
 pub stands_for : (rows columns : ℕ) (one other : Slice) (r c i j : ℕ) (f g : ℕ → ℕ) → IsPick rows one r f → IsPick columns other c g → i < r → j < c
-    → selected Strict (elem_of one ∷ elem_of other ∷ []) (rows ∷ columns ∷ []) (i ∷ j ∷ []) ≡ f i ∷ g j ∷ []
+    → selected Strict (element_of one ∷ element_of other ∷ []) (rows ∷ columns ∷ []) (i ∷ j ∷ []) ≡ f i ∷ g j ∷ []
 stands_for rows columns one other r c i j f g first second below right = rw (first.entry i below, second.entry j right) refl
 
 pub pick_within : (len : ℕ) (slice : Slice) (count : ℕ) (f : ℕ → ℕ) (j : ℕ) → IsPick len slice count f → j < count → f j < len
@@ -46,15 +46,15 @@ pick_within len slice count f j pick below =
     subst (λ n. n < len) (pick.entry j below) (pick_below Strict len slice j pick.fits (subst (λ n. j < n) (sym pick.count) below))
 
 -- ---- what an edit leaves that is one slice
-pub record Leaves (extent : Extent) (edit : Edit) (elems : List SliceInfoElem) : Type 0 where
-  pub none : argument_fault Strict (shape_of extent) elems ≡ None
-  pub shape : sliced_shape Strict elems (shape_of extent) ≡ shape_of (extent_after extent edit)
-  pub sources : (at : Position) → IsWithin (extent_after extent edit) at → selected Strict elems (shape_of extent) (index_of at) ≡ index_of (source extent edit at)
+pub record Leaves (extent : Extent) (edit : Edit) (elements : List SliceInfoElem) : Type 0 where
+  pub none : argument_fault Strict (shape_of extent) elements ≡ None
+  pub shape : sliced_shape Strict elements (shape_of extent) ≡ shape_of (extent_after extent edit)
+  pub sources : (at : Position) → IsWithin (extent_after extent edit) at → selected Strict elements (shape_of extent) (index_of at) ≡ index_of (source extent edit at)
   pub within : (at : Position) → IsWithin (extent_after extent edit) at → IsWithin extent (source extent edit at)
 
 leaves_of : (extent : Extent) (edit : Edit) (one other : Slice) (f g : ℕ → ℕ)
     → IsPick extent.rows one (extent_after extent edit).rows f → IsPick extent.columns other (extent_after extent edit).columns g
-    → ((at : Position) → (f at.row ≡ (source extent edit at).row) × (g at.column ≡ (source extent edit at).column)) → Leaves extent edit (elem_of one ∷ elem_of other ∷ [])
+    → ((at : Position) → (f at.row ≡ (source extent edit at).row) × (g at.column ≡ (source extent edit at).column)) → Leaves extent edit (element_of one ∷ element_of other ∷ [])
 leaves_of extent edit one other f g first second from = record {
   none = no_fault _ _ one other _ _ f g first second;
   shape = left _ _ one other _ _ f g first second;
@@ -65,23 +65,23 @@ leaves_of extent edit one other f g first second from = record {
   };
 }
 
-same_elems : (extent : Extent) (edit : Edit) (one other : List SliceInfoElem) → Some one ≡ Some other → Leaves extent edit one → Leaves extent edit other
-same_elems extent edit one other is here = let same : one ≡ other = cc in subst (Leaves extent edit) same here
+same_elements : (extent : Extent) (edit : Edit) (one other : List SliceInfoElem) → Some one ≡ Some other → Leaves extent edit one → Leaves extent edit other
+same_elements extent edit one other is here = let same : one ≡ other = cc in subst (Leaves extent edit) same here
 
-leaves : (extent : Extent) (edit : Edit) (elems : List SliceInfoElem) → elems_of edit ≡ Some elems → fits extent edit ≡ true → Leaves extent edit elems
-leaves extent (Crop rows columns) elems is fit =
+leaves : (extent : Extent) (edit : Edit) (elements : List SliceInfoElem) → elements_of edit ≡ Some elements → fits extent edit ≡ true → Leaves extent edit elements
+leaves extent (Crop rows columns) elements is fit =
     let both = and_parts _ _ fit in
     let first = and_parts _ _ both.0 in
     let second = and_parts _ _ both.1 in
-    same_elems extent (Crop rows columns) _ elems is (leaves_of extent (Crop rows columns) (slice_with (pos rows.start) (Some (pos rows.end)) (pos 1)) (slice_with (pos columns.start) (Some (pos columns.end)) (pos 1)) (λ j. rows.start + j) (λ j. columns.start + j)
+    same_elements extent (Crop rows columns) _ elements is (leaves_of extent (Crop rows columns) (slice_with (pos rows.start) (Some (pos rows.end)) (pos 1)) (slice_with (pos columns.start) (Some (pos columns.end)) (pos 1)) (λ j. rows.start + j) (λ j. columns.start + j)
     (of_span extent.rows rows.start rows.end first.0 first.1) (of_span extent.columns columns.start columns.end second.0 second.1) (λ at. (refl, refl)))
-leaves extent FlipRows elems is fit =
-    same_elems extent FlipRows _ elems is (leaves_of extent FlipRows (slice_with (pos 0) None (negsuc 0)) (slice_with (pos 0) None (pos 1)) (λ j. extent.rows - 1 - j) (λ j. j) (turned extent.rows) (all extent.columns) (λ at. (refl, refl)))
-leaves extent FlipColumns elems is fit =
-    same_elems extent FlipColumns _ elems is (leaves_of extent FlipColumns (slice_with (pos 0) None (pos 1)) (slice_with (pos 0) None (negsuc 0)) (λ j. j) (λ j. extent.columns - 1 - j) (all extent.rows) (turned extent.columns) (λ at. (refl, refl)))
-leaves extent (Every count) elems is fit =
-    same_elems extent (Every count) _ elems is (leaves_of extent (Every count) (slice_with (pos 0) None (pos count)) (slice_with (pos 0) None (pos count)) (λ j. j * count) (λ j. j * count) (by_step extent.rows count fit) (by_step extent.columns count fit) (λ at. (refl, refl)))
-leaves extent (Mirror count) elems is fit = absurd (cc)
+leaves extent FlipRows elements is fit =
+    same_elements extent FlipRows _ elements is (leaves_of extent FlipRows (slice_with (pos 0) None (negsuc 0)) (slice_with (pos 0) None (pos 1)) (λ j. extent.rows - 1 - j) (λ j. j) (turned extent.rows) (all extent.columns) (λ at. (refl, refl)))
+leaves extent FlipColumns elements is fit =
+    same_elements extent FlipColumns _ elements is (leaves_of extent FlipColumns (slice_with (pos 0) None (pos 1)) (slice_with (pos 0) None (negsuc 0)) (λ j. j) (λ j. extent.columns - 1 - j) (all extent.rows) (turned extent.columns) (λ at. (refl, refl)))
+leaves extent (Every count) elements is fit =
+    same_elements extent (Every count) _ elements is (leaves_of extent (Every count) (slice_with (pos 0) None (pos count)) (slice_with (pos 0) None (pos count)) (λ j. j * count) (λ j. j * count) (by_step extent.rows count fit) (by_step extent.columns count fit) (λ at. (refl, refl)))
+leaves extent (Mirror count) elements is fit = absurd (cc)
 
 -- ---- the source of a position lies within the picture
 source_within : (extent : Extent) (edit : Edit) (at : Position) → fits extent edit ≡ true → IsWithin (extent_after extent edit) at → IsWithin extent (source extent edit at)
@@ -109,25 +109,25 @@ run_of_more step steps view none = rw none refl
 
 -- an edit that has a step is a slice
 record IsStep (edit : Edit) (step : StepValue) : Type 0 where
-  elems : List SliceInfoElem
-  slice : elems_of edit ≡ Some elems
-  is : step ≡ SliceBy elems Strict
+  elements : List SliceInfoElem
+  slice : elements_of edit ≡ Some elements
+  is : step ≡ SliceBy elements Strict
 
-step_is : (edit : Edit) (o : Option (List SliceInfoElem)) (step : StepValue) → elems_of edit ≡ o → option_map (λ elems. SliceBy elems Strict) o ≡ Some step → IsStep edit step
+step_is : (edit : Edit) (o : Option (List SliceInfoElem)) (step : StepValue) → elements_of edit ≡ o → option_map (λ elements. SliceBy elements Strict) o ≡ Some step → IsStep edit step
 step_is edit None step slice e = absurd (cc)
-step_is edit (Some elems) step slice e = record { elems = elems; slice = slice; is = cc }
+step_is edit (Some elements) step slice e = record { elements = elements; slice = slice; is = cc }
 
 pub run_of_edits : (edits : List Edit) (steps : List StepValue) (extent : Extent) (view : View) → map Some steps ≡ map step_of edits → first_misfit edits extent ≡ None → view.shape ≡ shape_of extent → IsRun edits extent (run_of steps view)
 run_of_edits [] [] extent view are none same = record { fault = refl; shape = same; sources = λ at within. refl }
 run_of_edits [] (step ∷ steps) extent view are none same = absurd (cc)
 run_of_edits (edit ∷ edits) [] extent view are none same = absurd (cc)
 run_of_edits (edit ∷ edits) (step ∷ steps) extent view are none same =
-    let first : option_map (λ elems. SliceBy elems Strict) (elems_of edit) ≡ Some step = cc in
+    let first : option_map (λ elements. SliceBy elements Strict) (elements_of edit) ≡ Some step = cc in
     let others : map Some steps ≡ map step_of edits = cc in
-    let slice = step_is edit (elems_of edit) step refl first in
+    let slice = step_is edit (elements_of edit) step refl first in
     let fit = fits_first edit edits extent none in
-    let here = leaves extent edit slice.elems slice.slice fit.0 in
-    let by_slice = SliceBy slice.elems Strict in
+    let here = leaves extent edit slice.elements slice.slice fit.0 in
+    let by_slice = SliceBy slice.elements Strict in
     let after = view_after view by_slice in
     let shape : after.shape ≡ shape_of (extent_after extent edit) = rw same here.shape in
     let rest = run_of_edits edits steps (extent_after extent edit) after others fit.1 shape in
@@ -136,7 +136,7 @@ run_of_edits (edit ∷ edits) (step ∷ steps) extent view are none same =
       shape = rest.shape;
       sources = λ at within. (let last = source_of edits (extent_after extent edit) at in
           ap (source_index view by_slice) (rest.sources at within)
-          ∙ ap (λ s. selected Strict slice.elems s (index_of last)) same
+          ∙ ap (λ s. selected Strict slice.elements s (index_of last)) same
           ∙ here.sources last (source_of_within edits (extent_after extent edit) at fit.1 within));
     } in
     let run : IsRun (edit ∷ edits) extent (run_of (by_slice ∷ steps) view) = subst (IsRun (edit ∷ edits) extent) (run_of_more by_slice steps view (rw same here.none)) whole in

@@ -1,16 +1,16 @@
 -- Pictures that edits make, one after another.
-use Rattle.std.proofs.Common.{◌≡◌, ℕ, ◌+◌, ◌*◌, ◌/◌, ◌%◌, ◌<◌, ◌≤◌, zero, suc, None, Some, List, [], ◌∷◌, ◌++◌, length, get_or, map, refl, sym, ap, ◌∙◌, subst, arith}
+use Rattle.std.proofs.Common.{◌≡◌, ℕ, ◌*◌, ◌/◌, ◌%◌, ◌<◌, ◌≤◌, zero, suc, None, Some, List, [], ◌∷◌, ◌++◌, length, get_or, map, refl, sym, ap, ◌∙◌, subst, arith}
 use Rattle.std.specs.Prelude.{slice_get}
 use Rattle.std.proofs.lemmas.Nat.{div-add-mod', div_below, mod_below}
 use Rattle.std.proofs.lemmas.Option.{get_or_from_slice_get, slice_get-get_or, slice_get_within}
 use Rattle.example_tiles_picture.specs.declared.Extent.{Extent}
-use Rattle.example_tiles_picture.specs.Picture.{Image, IsPicture, IsWithin, Position, pixel_at, pixel_count}
+use Rattle.example_tiles_picture.specs.Picture.{Image, IsPicture, IsWithin, Position, pixel_at, pixel_count, place_in}
 use Rattle.example_tiles_edits.specs.declared.edit.Edit.{Edit}
-use Rattle.example_tiles_edits.specs.Edits.{IsEdited, extent_after, extent_of, first_misfit, source, source_of}
-use Rattle.example_tiles_edits.specs.Slices.{ArePlaces, place_in}
+use Rattle.example_tiles_edits.specs.Edits.{AreBegun, IsEdited, extent_after, extent_of, first_misfit, source, source_of}
+use Rattle.example_tiles_edits.specs.Slices.{ArePlaces}
 use Rattle.example_tiles_edits.proofs.EditSteps.{source_of_within}
 use Rattle.example_tiles_edits.proofs.Misfits.{no_misfit-append}
-use Rattle.example_tiles_edits.proofs.Pixels.{read_at}
+use Rattle.example_tiles_edits.proofs.Pixels.{pixel_there, pixel_within, read_at}
 
 -- ---- some edits and those after them
 extent_of-append : (edits others : List Edit) (extent : Extent) → extent_of (edits ++ others) extent ≡ extent_of others (extent_of edits extent)
@@ -42,7 +42,7 @@ IsEdited-none image = record { extent = refl; greatest = refl; pixels = λ at wi
 -- ---- each pixel is one of the source
 record IsPlaced (extent : Extent) (place : ℕ) (at : Position) : Type 0 where
   within : IsWithin extent at
-  there : at.row * extent.columns + at.column ≡ place
+  there : place_in extent at ≡ place
 
 position_of : (extent : Extent) (place : ℕ) → place < pixel_count extent → (at : Position) × IsPlaced extent place at
 position_of extent place below = by extent.columns refl
@@ -66,10 +66,10 @@ IsPicture-edited edits before after edited complete picture = record {
       let at = found.0 in
       let from = source_of edits before.extent at in
       let value = get_or after.pixels k d in
-      let here : slice_get before.pixels (from.row * before.extent.columns + from.column) ≡ Some value =
-      sym (edited.pixels at found.1.within) ∙ ap (slice_get after.pixels) found.1.there ∙ slice_get-get_or after.pixels k d below in
+      let here : slice_get before.pixels (place_in before.extent from) ≡ Some value =
+      pixel_there before from value (sym (edited.pixels at found.1.within) ∙ pixel_within after at found.1.within ∙ ap (slice_get after.pixels) found.1.there ∙ slice_get-get_or after.pixels k d below) in
       let below_there = slice_get_within before.pixels _ value here in
-      let in_range : get_or before.pixels (from.row * before.extent.columns + from.column) d ≤ before.greatest = picture.in_range _ d below_there in
+      let in_range : get_or before.pixels (place_in before.extent from) d ≤ before.greatest = picture.in_range _ d below_there in
       rw (edited.greatest, sym (get_or_from_slice_get before.pixels _ value d here)) in_range);
 }
 
@@ -85,17 +85,27 @@ pub goes_on : (edits some others : List Edit) (before between after : Image) →
 goes_on edits some others before between after whole fit edited rest =
     subst (λ es. IsEdited es before after) (sym whole) (IsEdited-append some others before between after (fits_after edits some others before between whole fit edited) edited rest)
 
+-- the first edits are made, and the others are left
+pub fits_left : (edits left : List Edit) (before after : Image) → first_misfit edits before.extent ≡ None → AreBegun edits before after left → first_misfit left after.extent ≡ None
+fits_left edits left before after fit begun = fits_after edits begun.made left before after begun.whole fit begun.edited
+
+pub goes_on_left : (edits left : List Edit) (before after last : Image) → first_misfit edits before.extent ≡ None → AreBegun edits before after left → IsEdited left after last → IsEdited edits before last
+goes_on_left edits left before after last fit begun rest = goes_on edits begun.made left before after last begun.whole fit begun.edited rest
+
 pub nothing_left : (edits : List Edit) → length edits ≡ 0 → edits ≡ []
 nothing_left [] none = refl
 nothing_left (edit ∷ edits) none = absurd (omega arith)
 
 -- ---- pixels at places that edits name
-pub IsEdited-gathered : (edits : List Edit) (before : Image) (extent : Extent) (pixels places : List ℕ) → extent ≡ extent_of edits before.extent → map Some pixels ≡ map (slice_get before.pixels) places → ArePlaces edits before.extent places
+pub IsEdited-gathered : (edits : List Edit) (before : Image) (extent : Extent) (pixels places : List ℕ) → first_misfit edits before.extent ≡ None → extent ≡ extent_of edits before.extent → map Some pixels ≡ map (slice_get before.pixels) places → ArePlaces edits before.extent places
     → IsEdited edits before (record { extent = extent; greatest = before.greatest; pixels = pixels })
-IsEdited-gathered edits before extent pixels places left gathered found = record {
+IsEdited-gathered edits before extent pixels places fit left gathered found = record {
   extent = left;
   greatest = refl;
-  pixels = λ at within.
-      ap (λ (e : Extent). slice_get pixels (place_in e at)) left
-      ∙ read_at pixels before.pixels places _ _ gathered (found.from_source at (subst (λ (e : Extent). IsWithin e at) left within));
+  pixels = λ at within. (
+      let here : IsWithin (extent_of edits before.extent) at = subst (λ (e : Extent). IsWithin e at) left within in
+      pixel_within (record { extent = extent; greatest = before.greatest; pixels = pixels }) at within
+      ∙ ap (λ (e : Extent). slice_get pixels (place_in e at)) left
+      ∙ read_at pixels before.pixels places _ _ gathered (found.from_source at here)
+      ∙ sym (pixel_within before (source_of edits before.extent at) (source_of_within edits before.extent at fit here)));
 }

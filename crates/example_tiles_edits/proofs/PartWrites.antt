@@ -35,12 +35,12 @@ use Rattle.example_tiles_picture.specs.Picture.{Image, IsWithin, Position}
 use Rattle.example_tiles_edits.specs.declared.edit.Span.{Span}
 use Rattle.example_tiles_edits.specs.declared.edit.Edit.TheVariants.{Mirror}
 use Rattle.example_tiles_edits.specs.Edits.{IsEdited, mirrored}
-use Rattle.example_tiles_edits.specs.Parts.{AreMirrored, IsArrayOf, IsMirrored, elems_of_part, mirrored_elems, part_of, part_span, parts_of, picked_pixels}
+use Rattle.example_tiles_edits.specs.Parts.{AreMirrored, IsArrayOf, IsMirrored, elements_of_part, mirrored_elements, part_of, part_span, parts_of, picked_pixels}
 use Rattle.example_tiles_edits.specs.Slices.{index_of, shape_of, whole_view}
 use Rattle.example_tiles_edits.proofs.Axes.{IsPick, back_over, of_span}
-use Rattle.example_tiles_edits.proofs.Cuts.{CanCut, IsCut, is_in, is_part}
-use Rattle.example_tiles_edits.proofs.EditSteps.{elem_of, left, no_fault, pick_within, stands_for}
-use Rattle.example_tiles_edits.proofs.Pixels.{is_index_of, place_of_whole, rank_of}
+use Rattle.example_tiles_edits.proofs.Cuts.{CanCut, IsCut, is_in, is_part, mirrored_below}
+use Rattle.example_tiles_edits.proofs.EditSteps.{element_of, left, no_fault, pick_within, stands_for}
+use Rattle.example_tiles_edits.proofs.Pixels.{is_index_of, pixel_within, place_of_whole, rank_of}
 
 -- ---- what a part picks of the rows and of the columns
 abbrev slice_of_span : Span → ℤ → Slice
@@ -71,24 +71,24 @@ picks_of extent count number can below =
     record { rows = up extent.rows count (number / count) can.rows row; columns = up extent.columns count (number % count) can.columns column; turned = back extent.columns count (number % count) can.columns column }
 
 -- a part fits, and so does the part turned round
-pub part_fits : (extent : Extent) (count number : ℕ) → CanCut extent count → number < count * count → argument_fault Strict (shape_of extent) (elems_of_part (part_of extent count number)) ≡ None
+pub part_fits : (extent : Extent) (count number : ℕ) → CanCut extent count → number < count * count → argument_fault Strict (shape_of extent) (elements_of_part (part_of extent count number)) ≡ None
 part_fits extent count number can below = let pick = picks_of extent count number can below in no_fault _ _ _ _ _ _ _ _ pick.rows pick.columns
 
-pub mirrored_fits : (extent : Extent) (count number : ℕ) → CanCut extent count → number < count * count → argument_fault Strict (shape_of extent) (mirrored_elems (part_of extent count number)) ≡ None
+pub mirrored_fits : (extent : Extent) (count number : ℕ) → CanCut extent count → number < count * count → argument_fault Strict (shape_of extent) (mirrored_elements (part_of extent count number)) ≡ None
 mirrored_fits extent count number can below = let pick = picks_of extent count number can below in no_fault _ _ _ _ _ _ _ _ pick.rows pick.turned
 
-part_shape : (extent : Extent) (count number : ℕ) → CanCut extent count → number < count * count → sliced_shape Strict (elems_of_part (part_of extent count number)) (shape_of extent) ≡ extent.rows / count ∷ extent.columns / count ∷ []
+part_shape : (extent : Extent) (count number : ℕ) → CanCut extent count → number < count * count → sliced_shape Strict (elements_of_part (part_of extent count number)) (shape_of extent) ≡ extent.rows / count ∷ extent.columns / count ∷ []
 part_shape extent count number can below = let pick = picks_of extent count number can below in left _ _ _ _ _ _ _ _ pick.rows pick.columns
 
-mirrored_shape : (extent : Extent) (count number : ℕ) → CanCut extent count → number < count * count → sliced_shape Strict (mirrored_elems (part_of extent count number)) (shape_of extent) ≡ extent.rows / count ∷ extent.columns / count ∷ []
+mirrored_shape : (extent : Extent) (count number : ℕ) → CanCut extent count → number < count * count → sliced_shape Strict (mirrored_elements (part_of extent count number)) (shape_of extent) ≡ extent.rows / count ∷ extent.columns / count ∷ []
 mirrored_shape extent count number can below = let pick = picks_of extent count number can below in left _ _ _ _ _ _ _ _ pick.rows pick.turned
 
 -- ---- the place that a slice has at a rank
 picked_at : (extent : Extent) (one other : Slice) (r c i j : ℕ) (f g : ℕ → ℕ) → IsView (whole_view extent) → IsPick extent.rows one r f → IsPick extent.columns other c g → i < r → j < c
-    → slice_get (view_places RowMajor (slice_of Strict (elem_of one ∷ elem_of other ∷ []) (whole_view extent))) (i * c + j) ≡ Some (pos (f i * extent.columns + g j))
+    → slice_get (view_places RowMajor (slice_of Strict (element_of one ∷ element_of other ∷ []) (whole_view extent))) (i * c + j) ≡ Some (pos (f i * extent.columns + g j))
 picked_at extent one other r c i j f g is_view first second below right =
-    let elems = elem_of one ∷ elem_of other ∷ [] in
-    let view = slice_of Strict elems (whole_view extent) in
+    let elements = element_of one ∷ element_of other ∷ [] in
+    let view = slice_of Strict elements (whole_view extent) in
     let extent_left : Extent = record { rows = r; columns = c } in
     let at : Position = record { row = i; column = j } in
     let from : Position = record { row = f i; column = g j } in
@@ -97,7 +97,7 @@ picked_at extent one other r c i j f g is_view first second below right =
     let shape : view.shape ≡ shape_of extent_left = left extent.rows extent.columns one other r c f g first second in
     let is : is_index view.shape (index_of at) ≡ true = ap (λ s. is_index s (index_of at)) shape ∙ is_index_of extent_left at within in
     let ranks : rank view.shape (index_of at) ≡ i * c + j = ap (λ s. rank s (index_of at)) shape ∙ rank_of extent_left at in
-    let kept = KeepsPlaces-slice_of Strict elems (whole_view extent) is_view (no_fault extent.rows extent.columns one other r c f g first second) (index_of at) is in
+    let kept = KeepsPlaces-slice_of Strict elements (whole_view extent) is_view (no_fault extent.rows extent.columns one other r c f g first second) (index_of at) is in
     ap (slice_get (view_places RowMajor view)) (sym ranks)
     ∙ slice_get-map (place_at view) (indices_in RowMajor view.shape) (rank view.shape (index_of at))
     ∙ ap (option_map (place_at view)) (slice_get-rank_in RowMajor view.shape (index_of at) is)
@@ -137,7 +137,7 @@ slices_fit shape (write ∷ writes) fit =
 
 counted : (extent : Extent) (count k : ℕ) (items : List ℕ) (write : Write ℕ) → CanCut extent count → k < count * count → IsMirrored (record { items = items; view = whole_view extent }) (part_of extent count k) write → has_count (shape_of extent) write ≡ true
 counted extent count k items write can below is =
-    let mirrored_view = slice_of Strict (mirrored_elems (part_of extent count k)) (whole_view extent) in
+    let mirrored_view = slice_of Strict (mirrored_elements (part_of extent count k)) (whole_view extent) in
     let listed : length write.items ≡ size (extent.rows / count ∷ extent.columns / count ∷ []) =
     sym (length-map write.items Some)
     ∙ ap length is.pixels
@@ -145,7 +145,7 @@ counted extent count k items write can below is =
     ∙ length-view_places RowMajor mirrored_view
     ∙ ap size (mirrored_shape extent count k can below) in
     let picked : size (sliced_shape Strict write.slice (shape_of extent)) ≡ size (extent.rows / count ∷ extent.columns / count ∷ []) =
-    ap (λ elems. size (sliced_shape Strict elems (shape_of extent))) is.slice ∙ ap size (part_shape extent count k can below) in
+    ap (λ elements. size (sliced_shape Strict elements (shape_of extent))) is.slice ∙ ap size (part_shape extent count k can below) in
     eq-eqb (length write.items) (size (sliced_shape Strict write.slice (shape_of extent))) (listed ∙ sym picked)
 
 -- an entry that a part picks tells which part it is
@@ -166,7 +166,7 @@ same_number : (count one other : ℕ) → one / count ≡ other / count → one 
 same_number count one other rows columns =
     sym (div-add-mod' one count) ∙ ap (λ n. n * count + one % count) rows ∙ ap (λ n. other / count * count + n) columns ∙ div-add-mod' other count
 
-meet_in_one : (extent : Extent) (count one other : ℕ) → PartPicks extent count one → PartPicks extent count other → Meet Strict (shape_of extent) (elems_of_part (part_of extent count one)) (elems_of_part (part_of extent count other)) → one ≡ other
+meet_in_one : (extent : Extent) (count one other : ℕ) → PartPicks extent count one → PartPicks extent count other → Meet Strict (shape_of extent) (elements_of_part (part_of extent count one)) (elements_of_part (part_of extent count other)) → one ≡ other
 meet_in_one extent count one other first second ([], is, p, q) = absurd p
 meet_in_one extent count one other first second (x ∷ [], is, p, q) = absurd p.1
 meet_in_one extent count one other first second (x ∷ y ∷ z ∷ index, is, p, q) = absurd p.1.1
@@ -182,8 +182,8 @@ none_meet extent count items writes can are some =
     let array : Owned ℕ = record { items = items; view = whole_view extent } in
     let first = each array extent count writes some.first some.one are some.one_there in
     let second = each array extent count writes some.second some.other are some.other_there in
-    let meet : Meet Strict (shape_of extent) (elems_of_part (part_of extent count some.first)) (elems_of_part (part_of extent count some.second)) =
-    subst (λ e. Meet Strict (shape_of extent) e (elems_of_part (part_of extent count some.second))) first.1.slice (subst (λ e. Meet Strict (shape_of extent) some.one.slice e) second.1.slice some.meet) in
+    let meet : Meet Strict (shape_of extent) (elements_of_part (part_of extent count some.first)) (elements_of_part (part_of extent count some.second)) =
+    subst (λ e. Meet Strict (shape_of extent) e (elements_of_part (part_of extent count some.second))) first.1.slice (subst (λ e. Meet Strict (shape_of extent) some.one.slice e) second.1.slice some.meet) in
     let same = meet_in_one extent count some.first some.second (picks_of extent count some.first can first.0) (picks_of extent count some.second can second.0) meet in
     omega (arith, some.earlier, same)
 
@@ -214,8 +214,8 @@ part_pixel : (extent : Extent) (count k i j : ℕ) (items new : List ℕ) (write
     ≡ slice_get items ((extent.rows / count * (k / count) + i) * extent.columns + (extent.columns / count * (k % count + 1) - 1 - j))
 part_pixel extent count k i j items new write is_view pick is written below right =
     let rank_there = i * (extent.columns / count) + j in
-    let same : map (item_at_place new) (view_places RowMajor (slice_of Strict (elems_of_part (part_of extent count k)) (whole_view extent))) ≡ picked_pixels (record { items = items; view = whole_view extent }) (mirrored_elems (part_of extent count k)) =
-    ap (λ elems. map (item_at_place new) (view_places RowMajor (slice_of Strict elems (whole_view extent)))) (sym is.slice) ∙ written ∙ is.pixels in
+    let same : map (item_at_place new) (view_places RowMajor (slice_of Strict (elements_of_part (part_of extent count k)) (whole_view extent))) ≡ picked_pixels (record { items = items; view = whole_view extent }) (mirrored_elements (part_of extent count k)) =
+    ap (λ elements. map (item_at_place new) (view_places RowMajor (slice_of Strict elements (whole_view extent)))) (sym is.slice) ∙ written ∙ is.pixels in
     same_some _ _
     (sym (item_of new _ rank_there _ (picked_at extent _ _ _ _ i j _ _ is_view pick.rows pick.columns below right))
     ∙ ap (λ (xs : List (Option ℕ)). slice_get xs rank_there) same
@@ -265,17 +265,25 @@ array_is image array is =
     let same : Owned ℕ → Owned ℕ = λ a. a in
     ap (λ items. same (record { items = items; view = array.view })) is.items ∙ ap (λ view. same (record { items = image.pixels; view = view })) is.view
 
-pub not_refused : (image : Image) (array : Owned ℕ) (count : ℕ) (writes : List (Write ℕ)) (kind : ErrorKind) → CanCut image.extent count → IsArrayOf image array → AreMirrored array image.extent count writes → IsFaultOfWrites array.view.shape writes (Some kind) → ⊥
+not_refused : (image : Image) (array : Owned ℕ) (count : ℕ) (writes : List (Write ℕ)) (kind : ErrorKind) → CanCut image.extent count → IsArrayOf image array → AreMirrored array image.extent count writes → IsFaultOfWrites array.view.shape writes (Some kind) → ⊥
 not_refused image array count writes kind can is are fault =
     not_refused_at image.extent count image.pixels writes kind can (subst (λ a. AreMirrored a image.extent count writes) (array_is image array is) are)
     (subst (λ (v : View). IsFaultOfWrites v.shape writes (Some kind)) is.view fault)
+
+pub none_refused : (image : Image) (array : Owned ℕ) (count : ℕ) (writes : List (Write ℕ)) (fault : Option ErrorKind) → CanCut image.extent count → IsArrayOf image array → AreMirrored array image.extent count writes → IsFaultOfWrites array.view.shape writes fault → fault ≡ None
+none_refused image array count writes None can is are fault = refl
+none_refused image array count writes (Some kind) can is are fault = absurd (not_refused image array count writes kind can is are fault)
 
 pub IsEdited-written : (image : Image) (array : Owned ℕ) (count : ℕ) (writes : List (Write ℕ)) (new : List ℕ) → CanCut image.extent count → IsView array.view → IsArrayOf image array → AreMirrored array image.extent count writes → All (IsWritten array.view new) writes
     → IsEdited (Mirror count ∷ []) image (record { extent = image.extent; greatest = image.greatest; pixels = new })
 IsEdited-written image array count writes new can is_view is are written = record {
   extent = refl;
   greatest = refl;
-  pixels = λ at within.
-      mirrored_pixel image.extent count image.pixels new writes at (subst IsView is.view is_view) can (subst (λ a. AreMirrored a image.extent count writes) (array_is image array is) are)
-      (subst (λ v. All (IsWritten v new) writes) is.view written) within;
+  pixels = λ at within. (
+      let from : Position = record { row = at.row; column = mirrored (image.extent.columns / count) at.column } in
+      let from_within : IsWithin image.extent from = record { row_below = within.row_below; column_below = mirrored_below image.extent.columns count at.column can.columns within.column_below } in
+      pixel_within (record { extent = image.extent; greatest = image.greatest; pixels = new }) at within
+      ∙ mirrored_pixel image.extent count image.pixels new writes at (subst IsView is.view is_view) can (subst (λ a. AreMirrored a image.extent count writes) (array_is image array is) are)
+      (subst (λ v. All (IsWritten v new) writes) is.view written) within
+      ∙ sym (pixel_within image from from_within));
 }

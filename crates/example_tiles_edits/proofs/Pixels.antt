@@ -1,5 +1,5 @@
 -- The places of the pixels that edits leave.
-use Rattle.std.proofs.Common.{◌≡◌, ℕ, ◌<◌, ℤ, pos, true, Option, Some, None, Result, Ok, Err, IfOk, List, length, map, refl, sym, ap, ◌∙◌, subst, zero-add, arith}
+use Rattle.std.proofs.Common.{◌≡◌, ℕ, ◌<◌, ℤ, pos, Bool, true, false, cond, Option, Some, None, Result, Ok, Err, IfOk, List, length, map, refl, sym, ap, ◌∙◌, subst, zero-add, arith}
 use Rattle.std.specs.List.{All}
 use Rattle.std.specs.Option.{option_map}
 use Rattle.std.specs.Prelude.{slice_get}
@@ -8,12 +8,13 @@ use Rattle.std.proofs.lemmas.List.{length-map}
 use Rattle.std.proofs.lemmas.Option.{slice_get-map}
 use Rattle.ndarray_layout.specs.declared.ErrorKind.{ErrorKind}
 use Rattle.ndarray_layout.specs.declared.LayoutError.{LayoutError}
-use Rattle.ndarray_layout.specs.declared.LayoutError.TheVariants.{Shape}
+use Rattle.ndarray_layout.specs.declared.LayoutError.TheVariants.{Shape, Memory}
 use Rattle.ndarray_layout.specs.declared.Order.TheVariants.{RowMajor}
 use Rattle.ndarray_layout.specs.Indices.{is_index}
 use Rattle.ndarray_layout.specs.KeepsPlaces.{KeepsPlaces}
 use Rattle.ndarray_layout.specs.Rank.{index_of_rank, rank}
 use Rattle.ndarray_layout.specs.Run.{IsEndedBy, run_of}
+use Rattle.ndarray_layout.specs.ShapeFault.{shape_fault}
 use Rattle.ndarray_layout.specs.Size.{size}
 use Rattle.ndarray_layout.specs.Step.{StepValue}
 use Rattle.ndarray_layout.specs.View.{LiesWithin, View, place_at, view_places}
@@ -21,14 +22,25 @@ use Rattle.ndarray_layout.proofs.laws.Rank.{index_of_rank-rank, rank-lt-size}
 use Rattle.ndarray_layout.proofs.laws.Strides.{offset_of-default_strides}
 use Rattle.ndarray_layout.proofs.laws.View.{length-view_places}
 use Rattle.example_tiles_picture.specs.declared.Extent.{Extent}
-use Rattle.example_tiles_picture.specs.Picture.{IsWithin, Position, pixel_count}
+use Rattle.example_tiles_picture.specs.Picture.{Image, IsWithin, Position, is_within, pixel_at, pixel_count, place_in}
 use Rattle.example_tiles_edits.specs.declared.edit.Edit.{Edit}
 use Rattle.example_tiles_edits.specs.Edits.{extent_of, first_misfit, source_of}
-use Rattle.example_tiles_edits.specs.Slices.{ArePlaces, index_of, place_in, shape_of, step_of, whole_view}
+use Rattle.example_tiles_edits.specs.Slices.{ArePlaces, index_of, shape_of, step_of, whole_view}
 use Rattle.example_tiles_edits.proofs.EditSteps.{IsRun, run_of_edits, source_of_within}
 
 none_is_not_some : {A : Type 0} (x : A) → None ≡ Some x → ⊥
 none_is_not_some x e = cc
+
+-- ---- the pixel at a position
+pub pixel_within : (image : Image) (at : Position) → IsWithin image.extent at → pixel_at image at ≡ slice_get image.pixels (place_in image.extent at)
+pixel_within image at within = rw (lt-ltb at.row image.extent.rows within.row_below, lt-ltb at.column image.extent.columns within.column_below) refl
+
+where_so : (so : Bool) (o : Option ℕ) (value : ℕ) → cond so o None ≡ Some value → o ≡ Some value
+where_so true o value e = e
+where_so false o value e = absurd (cc)
+
+pub pixel_there : (image : Image) (at : Position) (value : ℕ) → pixel_at image at ≡ Some value → slice_get image.pixels (place_in image.extent at) ≡ Some value
+pixel_there image at value e = where_so (is_within image.extent at) _ value e
 
 -- ---- a position as an index
 pub is_index_of : (extent : Extent) (at : Position) → IsWithin extent at → is_index (shape_of extent) (index_of at) ≡ true
@@ -81,6 +93,10 @@ not_refused edits extent steps start left fault kind at fit same whole ended is 
     let ran : IsRun edits extent (run_of steps start) = run_of_edits edits steps extent start same fit (ap (λ (v : View). v.shape) whole) in
     let refused : IsEndedBy (run_of steps start) at (Shape kind) left = subst (λ (f : LayoutError). IsEndedBy (run_of steps start) at f left) is ended in
     none_is_not_some kind (sym ran.fault ∙ refused.0)
+
+pub no_shape_fault : (X : Type 0) (fault : LayoutError) → ((kind : ErrorKind) → fault ≡ Shape kind → ⊥) → shape_fault {X = X} (Err fault) ≡ None
+no_shape_fault X (Shape kind) none = absurd (none kind refl)
+no_shape_fault X (Memory error) none = refl
 
 -- ---- pixels at places
 of_some : (o x : Option ℕ) → option_map Some o ≡ Some x → o ≡ x

@@ -1,6 +1,6 @@
 -- What edits make of a picture: whether they fit, what extent they leave, and where in the source each pixel of the result comes from.
 use Rattle.std.specs.Prelude.{◌≡◌, ℕ, zero, suc, ◌+◌, ◌-◌, ◌*◌, ◌/◌, ◌%◌, ◌<◌, ◌==◌, Bool, true, false, ◌&&◌, nat_eq, nat_le, nat_lt}
-use Rattle.std.specs.Prelude.{if◌then◌else◌, Option, Some, None, unwrap_or, List, [], ◌∷◌, map, slice_get, refl}
+use Rattle.std.specs.Prelude.{if◌then◌else◌, Option, Some, None, unwrap_or, List, [], ◌∷◌, ◌++◌, length, map, refl}
 use Rattle.std.proofs.Common.{ap, eq-eqb, lit<}
 use Rattle.std.proofs.Math.Nat.{not-suc-le-zero, le_of_suc-le-suc}
 use Rattle.std.proofs.lemmas.Bool.{both_ways}
@@ -12,22 +12,19 @@ use Rattle.example_tiles_edits.specs.declared.edit.Edit.{Edit}
 use Rattle.example_tiles_edits.specs.declared.edit.Edit.TheVariants.{Crop, FlipRows, FlipColumns, Every, Mirror}
 use Rattle.example_tiles_edits.specs.declared.edit.Misfit.{Misfit}
 use Rattle.example_tiles_edits.specs.declared.edit.Span.{Span}
+use Rattle.example_tiles_edits.specs.declared.edit.TheConstants.{MOST_PARTS}
 
 -- no bound of a span is past so many rows or columns
 abbrev pub is_span : ℕ → Span → Bool
 is_span count span = nat_le span.start count && nat_le span.end count
 
--- so many rows or columns are so many times as many
+-- a number of rows or columns is a multiple of a count
 abbrev pub divides : ℕ → ℕ → Bool
 divides count len = len % count == 0
 
--- into how many parts by how many a picture is cut at most
-abbrev pub most_parts : ℕ
-most_parts = 64
-
--- a picture of an extent can be cut into so many by so many parts of one extent
+-- a picture of an extent can be cut into so many by so many parts of one extent, at most as many as there may be
 abbrev pub can_cut : Extent → ℕ → Bool
-can_cut extent count = (nat_lt 0 count && nat_le count most_parts) && (divides count extent.rows && divides count extent.columns)
+can_cut extent count = (nat_lt 0 count && nat_le count MOST_PARTS) && (divides count extent.rows && divides count extent.columns)
 
 -- whether an edit fits a picture of an extent
 abbrev pub fits : Extent → Edit → Bool
@@ -84,6 +81,13 @@ pub record IsEdited (edits : List Edit) (before after : Image) : Type 0 where
   pub extent : after.extent ≡ extent_of edits before.extent
   pub greatest : after.greatest ≡ before.greatest
   pub pixels : (at : Position) → IsWithin after.extent at → pixel_at after at ≡ pixel_at before (source_of edits before.extent at)
+
+-- the first of some edits, one at least, make a picture of another, and the others are left
+pub record AreBegun (edits : List Edit) (before after : Image) (left : List Edit) : Type 0 where
+  pub made : List Edit
+  pub whole : edits ≡ made ++ left
+  pub fewer : length left < length edits
+  pub edited : IsEdited made before after
 
 -- examples
 abbrev four_by_six : Extent
@@ -161,7 +165,7 @@ abbrev pair : ℕ → ℕ → Image
 pair left right = record { extent = record { rows = 1; columns = 2 }; greatest = 9; pixels = left ∷ right ∷ [] }
 
 swapped : (row column : ℕ) → row < 1 → column < 2
-    → slice_get {X = ℕ} (4 ∷ 7 ∷ []) (row * 2 + column) ≡ slice_get {X = ℕ} (7 ∷ 4 ∷ []) (row * 2 + mirrored 2 column)
+    → pixel_at (pair 4 7) (record { row = row; column = column }) ≡ pixel_at (pair 7 4) (record { row = row; column = mirrored 2 column })
 swapped zero zero below left = refl
 swapped zero (suc zero) below left = refl
 swapped zero (suc (suc column)) below left = absurd (not-suc-le-zero (le_of_suc-le-suc (le_of_suc-le-suc left)))
@@ -175,3 +179,9 @@ pair_as_it_was is = both_ways (nat_eq 7 4) refl (eq-eqb 7 4 (ap (λ pixel. unwra
 
 pair_cut_off : IsEdited [] (pair 7 4) (record { extent = record { rows = 1; columns = 1 }; greatest = 9; pixels = 7 ∷ [] }) → ⊥
 pair_cut_off is = both_ways (nat_eq 1 2) refl (eq-eqb 1 2 (ap (λ (extent : Extent). extent.columns) is.extent))
+
+first_of_two : AreBegun (Mirror 1 ∷ FlipRows ∷ []) (pair 7 4) (pair 4 7) (FlipRows ∷ [])
+first_of_two = record { made = Mirror 1 ∷ []; whole = refl; fewer = lit< tt; edited = pair_mirrored }
+
+none_begun : AreBegun [] (pair 7 4) (pair 7 4) [] → ⊥
+none_begun are = not-suc-le-zero are.fewer

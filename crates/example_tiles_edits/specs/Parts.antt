@@ -25,12 +25,12 @@ abbrev pub part_of : Extent → ℕ → ℕ → Part
 part_of extent count number = record { rows = part_span extent.rows count (number / count); columns = part_span extent.columns count (number % count) }
 
 -- what a part picks of the rows and of the columns
-abbrev pub elems_of_part : Part → List SliceInfoElem
-elems_of_part part = of_span part.rows (pos 1) ∷ of_span part.columns (pos 1) ∷ []
+abbrev pub elements_of_part : Part → List SliceInfoElem
+elements_of_part part = of_span part.rows (pos 1) ∷ of_span part.columns (pos 1) ∷ []
 
 -- the same, with the columns from the last to the first
-abbrev pub mirrored_elems : Part → List SliceInfoElem
-mirrored_elems part = of_span part.rows (pos 1) ∷ of_span part.columns (negsuc 0) ∷ []
+abbrev pub mirrored_elements : Part → List SliceInfoElem
+mirrored_elements part = of_span part.rows (pos 1) ∷ of_span part.columns (negsuc 0) ∷ []
 
 -- an array has the pixels of a picture, row by row
 pub record IsArrayOf (image : Image) (array : Owned ℕ) : Type 0 where
@@ -39,12 +39,12 @@ pub record IsArrayOf (image : Image) (array : Owned ℕ) : Type 0 where
 
 -- the pixels that a slice of an array picks, row by row
 abbrev pub picked_pixels : Owned ℕ → List SliceInfoElem → List (Option ℕ)
-picked_pixels array elems = map (item_at_place array.items) (view_places RowMajor (slice_of Strict elems array.view))
+picked_pixels array elements = map (item_at_place array.items) (view_places RowMajor (slice_of Strict elements array.view))
 
 -- pixels to be written at a part: those that are there, mirrored
 pub record IsMirrored (array : Owned ℕ) (part : Part) (write : Write ℕ) : Type 0 where
-  pub slice : write.slice ≡ elems_of_part part
-  pub pixels : map Some write.items ≡ picked_pixels array (mirrored_elems part)
+  pub slice : write.slice ≡ elements_of_part part
+  pub pixels : map Some write.items ≡ picked_pixels array (mirrored_elements part)
 
 -- the parts of a picture of an extent that is cut into so many by so many, in the order of their numbers
 abbrev pub parts_of : Extent → ℕ → List Part
@@ -74,18 +74,18 @@ first_of_the_second_row :
     part_of extent 2 2 ≡ record { rows = record { start = 1; end = 2 }; columns = record { start = 0; end = 2 } }
 first_of_the_second_row = refl
 
-pixels_of_it : picked_pixels two_by_four (elems_of_part (part_of extent 2 2)) ≡ Some 4 ∷ Some 5 ∷ []
+pixels_of_it : picked_pixels two_by_four (elements_of_part (part_of extent 2 2)) ≡ Some 4 ∷ Some 5 ∷ []
 pixels_of_it = refl
 
-and_mirrored : picked_pixels two_by_four (mirrored_elems (part_of extent 2 2)) ≡ Some 5 ∷ Some 4 ∷ []
+and_mirrored : picked_pixels two_by_four (mirrored_elements (part_of extent 2 2)) ≡ Some 5 ∷ Some 4 ∷ []
 and_mirrored = refl
 
 last_mirrored : IsMirrored two_by_four (part_of extent 2 3)
-    (record { slice = elems_of_part (part_of extent 2 3); items = 7 ∷ 6 ∷ [] })
+    (record { slice = elements_of_part (part_of extent 2 3); items = 7 ∷ 6 ∷ [] })
 last_mirrored = record { slice = refl; pixels = refl }
 
 last_as_it_was : IsMirrored two_by_four (part_of extent 2 3)
-    (record { slice = elems_of_part (part_of extent 2 3); items = 6 ∷ 7 ∷ [] }) → ⊥
+    (record { slice = elements_of_part (part_of extent 2 3); items = 6 ∷ 7 ∷ [] }) → ⊥
 last_as_it_was is = both_ways (nat_eq 6 7) refl (eq-eqb 6 7 (ap (λ pixels. unwrap_or (slice_index_or pixels 0 (Some 0)) 0) is.pixels))
 
 part_left_out : AreMirrored two_by_four extent 1 [] → ⊥

@@ -1,5 +1,5 @@
 -- Edits as steps from one view of the pixels to the next.
-use Rattle.std.specs.Prelude.{◌≡◌, ℕ, ◌+◌, ◌*◌, ◌<◌, ℤ, pos, negsuc, Bool, false, is_some, nat_eq, Option, Some, None}
+use Rattle.std.specs.Prelude.{◌≡◌, ℕ, ◌<◌, ℤ, pos, negsuc, Bool, false, is_some, nat_eq, Option, Some, None}
 use Rattle.std.specs.Prelude.{List, [], ◌∷◌, ◌++◌, length, map, slice_get, unwrap_or, refl}
 use Rattle.std.specs.List.{All, AllPass}
 use Rattle.std.specs.Option.{option_map}
@@ -13,7 +13,7 @@ use Rattle.ndarray_layout.specs.Step.{StepValue, SliceBy}
 use Rattle.ndarray_layout.specs.Strides.{default_strides}
 use Rattle.ndarray_layout.specs.View.{View}
 use Rattle.example_tiles_picture.specs.declared.Extent.{Extent}
-use Rattle.example_tiles_picture.specs.Picture.{IsWithin, Position, pixel_count}
+use Rattle.example_tiles_picture.specs.Picture.{IsWithin, Position, pixel_count, place_in}
 use Rattle.example_tiles_edits.specs.declared.edit.Edit.{Edit}
 use Rattle.example_tiles_edits.specs.declared.edit.Edit.TheVariants.{Crop, FlipRows, FlipColumns, Every, Mirror}
 use Rattle.example_tiles_edits.specs.declared.edit.Span.{Span}
@@ -28,20 +28,20 @@ abbrev pub by_step : ℤ → SliceInfoElem
 by_step step = Slice (pos 0) None step
 
 -- what an edit picks of the rows and of the columns, where it is one slice
-abbrev pub elems_of : Edit → Option (List SliceInfoElem)
-elems_of (Crop rows columns) = Some (of_span rows (pos 1) ∷ of_span columns (pos 1) ∷ [])
-elems_of FlipRows = Some (by_step (negsuc 0) ∷ by_step (pos 1) ∷ [])
-elems_of FlipColumns = Some (by_step (pos 1) ∷ by_step (negsuc 0) ∷ [])
-elems_of (Every count) = Some (by_step (pos count) ∷ by_step (pos count) ∷ [])
-elems_of (Mirror count) = None
+abbrev pub elements_of : Edit → Option (List SliceInfoElem)
+elements_of (Crop rows columns) = Some (of_span rows (pos 1) ∷ of_span columns (pos 1) ∷ [])
+elements_of FlipRows = Some (by_step (negsuc 0) ∷ by_step (pos 1) ∷ [])
+elements_of FlipColumns = Some (by_step (pos 1) ∷ by_step (negsuc 0) ∷ [])
+elements_of (Every count) = Some (by_step (pos count) ∷ by_step (pos count) ∷ [])
+elements_of (Mirror count) = None
 
 -- whether an edit is one slice
 abbrev pub is_slice : Edit → Bool
-is_slice edit = is_some (elems_of edit)
+is_slice edit = is_some (elements_of edit)
 
 -- an edit as a step, where it is one slice
 abbrev pub step_of : Edit → Option StepValue
-step_of edit = option_map (λ elems. SliceBy elems Strict) (elems_of edit)
+step_of edit = option_map (λ elements. SliceBy elements Strict) (elements_of edit)
 
 -- there are no edits, or the first isn't one slice
 abbrev pub IsAtMirror : List Edit → Type 0
@@ -65,10 +65,6 @@ index_of at = at.row ∷ at.column ∷ []
 abbrev pub whole_view : Extent → View
 whole_view extent = record { start = 0; shape = shape_of extent; strides = map pos (default_strides (shape_of extent)) }
 
--- the place of a position among the pixels
-abbrev pub place_in : Extent → Position → ℕ
-place_in extent at = at.row * extent.columns + at.column
-
 -- places of the pixels that edits leave, row by row: each is the one that the edits say
 pub record ArePlaces (edits : List Edit) (extent : Extent) (places : List ℕ) : Type 0 where
   pub complete : length places ≡ pixel_count (extent_of edits extent)
@@ -77,7 +73,7 @@ pub record ArePlaces (edits : List Edit) (extent : Extent) (places : List ℕ) :
       → slice_get places (place_in (extent_of edits extent) at) ≡ Some (place_in extent (source_of edits extent at))
 
 -- examples
-rows_turned_round : elems_of FlipRows ≡ Some (Slice (pos 0) None (negsuc 0) ∷ Slice (pos 0) None (pos 1) ∷ [])
+rows_turned_round : elements_of FlipRows ≡ Some (Slice (pos 0) None (negsuc 0) ∷ Slice (pos 0) None (pos 1) ∷ [])
 rows_turned_round = refl
 
 mirror_is_no_slice : is_slice (Mirror 4) ≡ false
@@ -103,9 +99,6 @@ back_over_a_span = refl
 
 rows_of_three : (whole_view (record { rows = 2; columns = 3 })).strides ≡ pos 3 ∷ pos 1 ∷ []
 rows_of_three = refl
-
-second_of_the_second_row : place_in (record { rows = 2; columns = 3 }) (record { row = 1; column = 1 }) ≡ 4
-second_of_the_second_row = refl
 
 abbrev pair : Extent
 pair = record { rows = 1; columns = 2 }

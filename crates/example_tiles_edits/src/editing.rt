@@ -1,7 +1,7 @@
 //! Edits a picture.
-ghost use Rattle.std.specs.Prelude.{◌≡◌, IfOk, None};
+ghost use Rattle.std.specs.Prelude.{◌≡◌, ◌<◌, IfOk, None, length};
 ghost use Rattle.example_tiles_picture.specs.Picture.{IsPicture, image};
-ghost use Rattle.example_tiles_edits.specs.Edits.{IsEdited, first_misfit};
+ghost use Rattle.example_tiles_edits.specs.Edits.{AreBegun, IsEdited, first_misfit};
 ghost use Rattle.example_tiles_edits.specs.EditError.{misfit_of};
 ghost use Rattle.example_tiles_edits.specs.Slices.{IsSplit};
 
@@ -41,7 +41,43 @@ fn before_mirror(edits: &[Edit]) -> (&[Edit], &[Edit])
     edits.split_at(count)
 }
 
-/// The picture that edits make of another that they fit: the slices before the first mirror by one run, then a mirror and
+/// The same picture once more.
+fn copied(alloc: Global, picture: &Picture) -> Result<Picture, AllocError>
+    ensures { IfOk result (λ made. image made ≡ image picture.now) }
+{
+    Ok(Picture {
+        extent: picture.extent,
+        greatest: picture.greatest,
+        pixels: Vec::from_slice(alloc, picture.pixels.as_slice())?,
+    })
+}
+
+/// The picture that the first edits make of another, the slices before a mirror or a mirror, and the edits after them.
+fn begun<'a>(
+    alloc: Global,
+    picture: &Picture,
+    edits: &'a [Edit],
+) -> Result<(Picture, &'a [Edit]), AllocError>
+    requires some { 0 < length edits.now }
+    requires picture { IsPicture (image picture.now) }
+    requires fit { first_misfit edits.now picture.now.extent ≡ None }
+    ensures begun { IfOk result (λ made. AreBegun edits.now (image picture.now) (image made.0) made.1.now) }
+    ensures picture { IfOk result (λ made. IsPicture (image made.0)) }
+{
+    let (slices, others) = before_mirror(edits);
+    if !slices.is_empty() {
+        return Ok((sliced(alloc, picture, slices)?, others));
+    }
+    let Some((first, after)) = others.split_first() else {
+        unreachable!();
+    };
+    let Edit::Mirror(count) = *first else {
+        unreachable!();
+    };
+    Ok((mirrored(alloc, picture, count)?, after))
+}
+
+/// The picture that edits make of another that they fit: the slices before the first mirror by one run, then a mirror, then
 /// the slices after it, and so on.
 fn edited_in_turn(alloc: Global, picture: &Picture, edits: &[Edit]) -> Result<Picture, AllocError>
     requires picture { IsPicture (image picture.now) }
@@ -49,16 +85,12 @@ fn edited_in_turn(alloc: Global, picture: &Picture, edits: &[Edit]) -> Result<Pi
     ensures edited { IfOk result (λ made. IsEdited edits.now (image picture.now) (image made)) }
     ensures picture { IfOk result (λ made. IsPicture (image made)) }
 {
-    let (slices, others) = before_mirror(edits);
-    let mut made = sliced(alloc, picture, slices)?;
-    let mut left = others;
-    while let Some((first, after)) = left.split_first() {
-        let Edit::Mirror(count) = *first else {
-            unreachable!();
-        };
-        let (slices, others) = before_mirror(after);
-        made = sliced(alloc, &mirrored(alloc, &made, count)?, slices)?;
-        left = others;
+    if edits.is_empty() {
+        return copied(alloc, picture);
+    }
+    let (mut made, mut left) = begun(alloc, picture, edits)?;
+    while !left.is_empty() {
+        (made, left) = begun(alloc, &made, left)?;
     }
     Ok(made)
 }

@@ -3,6 +3,7 @@
 
 mod edit;
 mod editing;
+mod memory;
 mod mirror;
 mod slices;
 

@@ -6,14 +6,15 @@ ghost use Rattle.nd_owned.specs.Writes.{write_of};
 ghost use Rattle.example_tiles_picture.specs.Picture.{IsPicture, image};
 ghost use Rattle.example_tiles_edits.specs.declared.edit.Edit.TheVariants.{Mirror};
 ghost use Rattle.example_tiles_edits.specs.Edits.{IsEdited, can_cut};
-ghost use Rattle.example_tiles_edits.specs.Parts.{AreMirrored, IsArrayOf, IsMirrored, elems_of_part, mirrored_elems, part_of, part_span};
+ghost use Rattle.example_tiles_edits.specs.Parts.{AreMirrored, IsArrayOf, IsMirrored, elements_of_part, mirrored_elements, part_of, part_span};
 ghost use Rattle.example_tiles_edits.specs.Slices.{whole_view};
 
 use crate::edit::Span;
+use crate::memory::memory_alone;
 use crate::slices::of_span;
 use example_tiles_picture::{Extent, Picture};
 use nd_owned::OwnedArray;
-use ndarray_layout::{Ix2, LayoutError, SliceInfoElem, StrideShape, Strides, new_ix2};
+use ndarray_layout::{Ix2, SliceInfoElem, StrideShape, Strides, new_ix2};
 use std::alloc::{AllocError, Global};
 
 /// The pixels of a picture by rows and columns.
@@ -31,15 +32,15 @@ struct Part {
 
 impl Part {
     /// What it picks of the rows and of the columns.
-    fn elems(self) -> [SliceInfoElem; 2]
-        ensures { result ≡ elems_of_part self }
+    fn elements(self) -> [SliceInfoElem; 2]
+        ensures { result ≡ elements_of_part self }
     {
         [of_span(self.rows, 1), of_span(self.columns, 1)]
     }
 
     /// The same, with the columns from the last to the first.
     fn mirrored(self) -> [SliceInfoElem; 2]
-        ensures { result ≡ mirrored_elems self }
+        ensures { result ≡ mirrored_elements self }
     {
         [of_span(self.rows, 1), of_span(self.columns, -1)]
     }
@@ -81,22 +82,18 @@ fn array_of(alloc: Global, picture: &Picture) -> Result<Pixels, AllocError>
     let pixels = Vec::from_slice(alloc, picture.pixels.as_slice())?;
     match Pixels::from_shape_vec(alloc, shape, pixels) {
         Ok(array) => Ok(array),
-        Err((LayoutError::Memory(error), _)) => Err(error),
-        Err((LayoutError::Shape(_), _)) => unreachable!(),
+        Err((fault, _pixels)) => memory_alone(Err(fault)),
     }
 }
 
 /// The pixels of a part, mirrored, and where they are to be written.
 fn mirrored_part(alloc: Global, array: &Pixels, part: Part) -> Result<Write, AllocError>
-    requires { argument_fault Strict array.now.view.shape (mirrored_elems part) ≡ None }
+    requires { argument_fault Strict array.now.view.shape (mirrored_elements part) ≡ None }
     ensures { IfOk result (λ write. IsMirrored array.now part (write_of write)) }
 {
-    let slice = Vec::from_slice(alloc, &part.elems())?;
-    match array.items(alloc, &part.mirrored()) {
-        Ok(pixels) => Ok((slice, pixels)),
-        Err(LayoutError::Memory(error)) => Err(error),
-        Err(LayoutError::Shape(_)) => unreachable!(),
-    }
+    let slice = Vec::from_slice(alloc, &part.elements())?;
+    let pixels = memory_alone(array.items(alloc, &part.mirrored()))?;
+    Ok((slice, pixels))
 }
 
 /// The pixels of each part, mirrored.
@@ -126,13 +123,10 @@ pub(crate) fn mirrored(alloc: Global, picture: &Picture, count: u32) -> Result<P
 {
     let mut array = array_of(alloc, picture)?;
     let writes = mirrored_parts(alloc, &array, picture.extent, count)?;
-    match array.multi_set(alloc, writes.as_slice()) {
-        Ok(()) => Ok(Picture {
-            extent: picture.extent,
-            greatest: picture.greatest,
-            pixels: Vec::from_slice(alloc, array.stored())?,
-        }),
-        Err(LayoutError::Memory(error)) => Err(error),
-        Err(LayoutError::Shape(_)) => unreachable!(),
-    }
+    memory_alone(array.multi_set(alloc, writes.as_slice()))?;
+    Ok(Picture {
+        extent: picture.extent,
+        greatest: picture.greatest,
+        pixels: Vec::from_slice(alloc, array.stored())?,
+    })
 }

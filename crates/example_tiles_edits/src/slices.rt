@@ -5,13 +5,14 @@ ghost use Rattle.ndarray_layout.specs.Step.{step_value};
 ghost use Rattle.ndarray_layout.specs.View.{LiesWithin};
 ghost use Rattle.example_tiles_picture.specs.Picture.{IsPicture, image, pixel_count};
 ghost use Rattle.example_tiles_edits.specs.Edits.{IsEdited, first_misfit};
-ghost use Rattle.example_tiles_edits.specs.Slices.{ArePlaces, by_step, elems_of, is_slice, of_span, step_of, whole_view};
+ghost use Rattle.example_tiles_edits.specs.Slices.{ArePlaces, by_step, elements_of, is_slice, of_span, step_of, whole_view};
 
 use crate::edit::{Edit, Span, extent_of_edits};
+use crate::memory::memory_alone;
 use example_tiles_picture::{Extent, Picture};
 use ndarray_layout::{
-    CanIndexCheckMode, Fit, IxDyn, LayoutError, Order, SliceInfoElem, Step, StrideShape, Strided,
-    Strides, new_ixdyn, run,
+    CanIndexCheckMode, Fit, IxDyn, Order, SliceInfoElem, Step, StrideShape, Strided, Strides,
+    new_ixdyn, run,
 };
 use std::alloc::{AllocError, Global};
 
@@ -38,8 +39,8 @@ fn by_step(step: isize) -> SliceInfoElem
 }
 
 /// What an edit picks of the rows and of the columns; `None` where it isn't one slice.
-fn elems_of(edit: Edit) -> Option<[SliceInfoElem; 2]>
-    ensures { result ≡ elems_of edit }
+fn elements_of(edit: Edit) -> Option<[SliceInfoElem; 2]>
+    ensures { result ≡ elements_of edit }
 {
     match edit {
         Edit::Crop(rows, columns) => Some([of_span(rows, 1), of_span(columns, 1)]),
@@ -54,7 +55,7 @@ fn elems_of(edit: Edit) -> Option<[SliceInfoElem; 2]>
 pub(crate) fn is_slice(edit: Edit) -> bool
     ensures { result ≡ is_slice edit }
 {
-    elems_of(edit).is_some()
+    elements_of(edit).is_some()
 }
 
 /// The edits as steps of a run.
@@ -64,10 +65,10 @@ fn steps_of(alloc: Global, edits: &[Edit]) -> Result<Vec<Step>, AllocError>
 {
     let mut steps = Vec::new(alloc);
     for edit in edits {
-        let Some(elems) = elems_of(*edit) else {
+        let Some(elements) = elements_of(*edit) else {
             unreachable!();
         };
-        steps.push(Step::Slice(Vec::from_slice(alloc, &elems)?, Fit::Strict))?;
+        steps.push(Step::Slice(Vec::from_slice(alloc, &elements)?, Fit::Strict))?;
     }
     Ok(steps)
 }
@@ -84,11 +85,7 @@ fn whole_view(alloc: Global, extent: Extent) -> Result<Strided<IxDyn>, AllocErro
         strides: Strides::C,
     };
     let (len, mode) = (extent.pixel_count(), CanIndexCheckMode::ReadOnly);
-    match Strided::from_shape(alloc, shape, 1, len, mode) {
-        Ok(view) => Ok(view),
-        Err(LayoutError::Memory(error)) => Err(error),
-        Err(LayoutError::Shape(_)) => unreachable!(),
-    }
+    memory_alone(Strided::from_shape(alloc, shape, 1, len, mode))
 }
 
 /// Where the pixels that edits leave lie among those of a picture, row by row.
@@ -102,10 +99,7 @@ fn places_of(alloc: Global, extent: Extent, edits: &[Edit]) -> Result<Vec<usize>
     let steps = steps_of(alloc, edits)?;
     match run(alloc, view, steps.as_slice()) {
         Ok(view) => view.places(alloc, Order::RowMajor),
-        Err(stopped) => match &stopped.fault {
-            LayoutError::Memory(_) => Err(AllocError),
-            LayoutError::Shape(_) => unreachable!(),
-        },
+        Err(stopped) => memory_alone(Err(stopped.fault)),
     }
 }
 

@@ -1,6 +1,6 @@
 -- The picture that a text in the format PGM (P2) spells, and what is wrong with a text that spells none.
 use Rattle.std.specs.Prelude.{◌≡◌, ◌≢◌, ℕ, ◌*◌, ◌-◌, ◌^◌, ◌<◌, ◌≤◌, ◌⊎◌, nat_lt, if◌then◌else◌}
-use Rattle.std.specs.Prelude.{Option, Some, None, List, [], ◌∷◌, ◌++◌, length, map, take, slice_index, codes, refl}
+use Rattle.std.specs.Prelude.{Option, Some, None, List, [], ◌∷◌, ◌++◌, length, map, take, slice_index, slice_index_or, codes, refl}
 use Rattle.std.specs.List.{EachIndex}
 use Rattle.std.proofs.Common.{zero, suc, drop, ap, ◌∙◌, inl, inr, lit<, lit≤, arith}
 use Rattle.std.proofs.lemmas.List.{append-nil}
@@ -164,6 +164,22 @@ not_p2 = record { word = codes "P5"; rest = (2, codes "1") ∷ (2, codes "1") �
 
 line_before : IsFaultOf (words_from 1 (codes "\nP5 1 1")) (NotPgm 1) → ⊥
 line_before fault = let lines = ap (map (λ (word : NumberedWord). word.0)) fault.first in cc
+
+-- words that begin otherwise have no other fault
+begun_otherwise : (numbers : List ℕ) (left : List NumberedWord) → BeginWith (words_from 1 (codes "P5 1")) numbers left → ⊥
+begun_otherwise numbers left begun =
+    let second : 53 ≡ 50 = ap (λ (words : List NumberedWord). slice_index (slice_index_or words 0 (0, [])).1 1) begun.parts in
+    absurd (omega (arith, second))
+
+no_number_after_p5 : IsFaultOf (words_from 1 (codes "P5 1")) (NotNumber 1 0 9) → ⊥
+no_number_after_p5 fault = begun_otherwise fault.numbers ((1, fault.word) ∷ fault.rest) fault.begun
+
+unfinished_after_p5 : IsFaultOf (words_from 1 (codes "P5 1")) Ended → ⊥
+unfinished_after_p5 (inl none) = cc
+unfinished_after_p5 (inr fault) = begun_otherwise fault.numbers [] fault.begun
+
+more_after_p5 : IsFaultOf (words_from 1 (codes "P5 1")) (NotEnded 1) → ⊥
+more_after_p5 fault = begun_otherwise fault.numbers ((1, fault.word) ∷ fault.rest) fault.begun
 
 too_white : IsFaultOf (words_from 1 (codes "P2 1 1\n9\n10")) (NotNumber 3 0 9)
 too_white = record {

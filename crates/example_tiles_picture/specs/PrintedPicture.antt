@@ -1,6 +1,6 @@
 -- The text that a picture is printed as.
 use Rattle.std.specs.Prelude.{◌≡◌, ℕ, zero, suc, List, [], ◌∷◌, ◌++◌, take, drop, codes, refl}
-use Rattle.std.specs.Fmt.{decimal}
+use Rattle.std.specs.Fmt.{decimal, digits}
 use Rattle.std.specs.List.{flat_map, join_by}
 use Rattle.example_tiles_picture.specs.Picture.{Image}
 
@@ -28,3 +28,11 @@ no_columns = refl
 
 row_of_none : row_text [] ≡ codes "\n"
 row_of_none = refl
+
+row_of_three : row_text (4 ∷ 50 ∷ 6 ∷ []) ≡ codes "4 50 6\n"
+unfolding digits
+row_of_three = refl
+
+two_by_two : text_of (record { extent = record { rows = 2; columns = 2 }; greatest = 10; pixels = 1 ∷ 2 ∷ 3 ∷ 10 ∷ [] }) ≡ codes "P2\n2 2\n10\n1 2\n3 10\n"
+unfolding digits
+two_by_two = refl

@@ -1,5 +1,5 @@
 -- One edit more of those that words spell, and the span of a word by its parts at its first dot.
-use Rattle.std.proofs.Common.{◌≡◌, ◌≢◌, ◌⊎◌, inl, inr, eqb, ℕ, ◌+◌, ◌<◌, Bool, true, false, cond, Option, Some, None, List, [], ◌∷◌, ◌++◌, Bor, length, get_or, map, take, drop, drop_of_length-le, refl, sym, ap, ◌∙◌, subst, arith}
+use Rattle.std.proofs.Common.{◌≡◌, ◌≢◌, ◌⊎◌, inl, inr, eqb, ℕ, ◌+◌, ◌<◌, Bool, true, false, cond, IsSome, is_some, Option, Some, None, List, [], ◌∷◌, ◌++◌, Bor, length, get_or, map, take, drop, drop_of_length-le, refl, sym, ap, ◌∙◌, subst, arith}
 use Rattle.std.specs.List.{before_first, position, position_or_len}
 use Rattle.std.proofs.lemmas.Bool.{ltb-false}
 use Rattle.std.proofs.lemmas.Bool.Decides.{eqb_tells}
@@ -20,6 +20,16 @@ spell_more words left (e ∷ edits) edit taken spell first = (spell.0, spell.1, 
 pub one_more : (words : List (List ℕ)) (edits : List Edit) (at taken : ℕ) (edit : Edit) → Spell words edits (drop at words) → edit_first (drop at words) ≡ Some (edit, taken) → Spell words (edits ++ edit ∷ []) (drop (at + taken) words)
 one_more words edits at taken edit spell first =
     subst (Spell words (edits ++ edit ∷ [])) (drop-drop taken at words) (spell_more words (drop at words) edits edit taken spell first)
+
+-- where an edit more is spelled, words begin with one
+begins : (words left : List (List ℕ)) (edits : List Edit) (found : Edit × ℕ) → Spell words edits left → edit_first left ≡ Some found → IsSome (edit_first words)
+begins words left [] found spell first = ap is_some (ap edit_first spell ∙ first)
+begins words left (e ∷ edits) found spell first = ap is_some spell.1
+
+pub begins_with : (words : List (Bor (List ℕ))) (edits : List Edit) (at : ℕ) (first : Edit × ℕ) (found : Option (Edit × ℕ)) → Spell (map (λ word. word.now) words) edits (drop at (map (λ word. word.now) words))
+    → found ≡ edit_first (map (λ word. word.now) (drop at words)) → found ≡ Some first → IsSome (edit_first (map (λ word. word.now) words))
+begins_with words edits at first found spell read is =
+    begins (map (λ word. word.now) words) (drop at (map (λ word. word.now) words)) edits first spell (ap edit_first (drop-map (λ (word : Bor (List ℕ)). word.now) at words) ∙ sym read ∙ is)
 
 -- ---- the word that can't be read
 pub stopped_at : (words : List (Bor (List ℕ))) (edits : List Edit) (at : ℕ) (found : Option (Edit × ℕ)) → Spell (map (λ word. word.now) words) edits (drop at (map (λ word. word.now) words)) → at < length words

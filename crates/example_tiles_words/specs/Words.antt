@@ -1,11 +1,12 @@
 -- The edits that words spell, and the word by which a call is refused.
-use Rattle.std.specs.Prelude.{◌≡◌, ℕ, ◌+◌, ◌<◌, ◌==◌, Bool, true, if◌then◌else◌, Option, Some, None}
+use Rattle.std.specs.Prelude.{◌≡◌, ℕ, ◌+◌, ◌<◌, ◌==◌, Bool, true, if◌then◌else◌, IsSome, Option, Some, None}
 use Rattle.std.specs.Prelude.{List, [], ◌∷◌, drop, length, codes, refl}
 use Rattle.std.specs.List.{after_first, before_first}
-use Rattle.std.specs.Option.{option_map}
+use Rattle.std.specs.Option.{option_map, option_zip}
 use Rattle.std.specs.Str.{bytes_eq}
 use Rattle.std.proofs.Common.{ap, lit<, subst, sym}
 use Rattle.std.proofs.Math.Nat.{add_right_cancel}
+use Rattle.std.proofs.lemmas.Bool.{false≢true}
 use Rattle.example_tiles_edits.specs.declared.edit.Edit.{Edit}
 use Rattle.example_tiles_edits.specs.declared.edit.Edit.TheVariants.{Crop, FlipRows, FlipColumns, Every, Mirror}
 use Rattle.example_tiles_edits.specs.declared.edit.Span.{Span}
@@ -18,9 +19,7 @@ is_dot b = b == 46
 
 -- what is made of two readings, where both read something
 abbrev pub both : {A B C : Type 0} → (A → B → C) → Option A → Option B → Option C
-both together (Some first) (Some second) = Some (together first second)
-both together (Some first) None = None
-both together None second = None
+both together first second = option_map (λ pair. together pair.0 pair.1) (option_zip first second)
 
 -- the span of its first number, and of the rest of the word, which is a dot and the second
 abbrev pub span_between : Option ℕ → List ℕ → Option Span
@@ -37,8 +36,7 @@ flip_of word = if bytes_eq word (codes "rows") then Some FlipRows else if bytes_
 
 -- an edit, where there is one, and how many words spell it
 abbrev pub by_words : ℕ → Option Edit → Option (Edit × ℕ)
-by_words count None = None
-by_words count (Some edit) = Some (edit, count)
+by_words count edit = option_map (λ edit. (edit, count)) edit
 
 -- the crop of two words, the rows and the columns, that come first
 abbrev pub crop_of : List ℕ → List (List ℕ) → Option Edit
@@ -78,10 +76,10 @@ pub record IsUnreadable (words : List (List ℕ)) (number : ℕ) : Type 0 where
   pub within : before < length words
   pub none : edit_first (drop before words) ≡ None
 
--- the word that an error names is the first that can't be read; where memory is refused, nothing is said
+-- the word that an error names is the first that can't be read; where memory is refused, words begin with an edit
 abbrev pub IsRefusedBy : List (List ℕ) → WordsError → Type 0
 IsRefusedBy words (Unreadable number) = IsUnreadable words number
-IsRefusedBy words Memory = Unit {0}
+IsRefusedBy words Memory = IsSome (edit_first words)
 
 -- examples
 abbrev crop_and_flip : List (List ℕ)
@@ -147,3 +145,12 @@ first_readable refused =
     let none : Some (FlipRows, 2) ≡ None =
     subst (λ n. edit_first (drop n (codes "flip" ∷ codes "rows" ∷ [])) ≡ None) (sym at) refused.none in
     cc
+
+for_an_edit : IsRefusedBy crop_and_flip Memory
+for_an_edit = refl
+
+for_no_words : IsRefusedBy [] Memory → ⊥
+for_no_words refused = false≢true refused
+
+for_no_edit : IsRefusedBy (codes "mirrors" ∷ codes "4" ∷ []) Memory → ⊥
+for_no_edit refused = false≢true refused

@@ -1,7 +1,7 @@
 -- What a session writes.
-use Rattle.std.specs.Prelude.{◌≡◌, ℕ, ◌++◌, List, [], ◌∷◌, ◌⊎◌, codes, Option, Some, None, IfSome, refl}
+use Rattle.std.specs.Prelude.{◌≡◌, ℕ, zero, suc, ◌++◌, List, [], ◌∷◌, ◌⊎◌, codes, length, slice_index_or, Option, Some, None, IfSome, refl}
 use Rattle.std.specs.Fmt.{digits}
-use Rattle.std.proofs.Common.{inl, inr, lit<}
+use Rattle.std.proofs.Common.{ap, arith, inl, inr, lit<, suc-ne-zero}
 use Rattle.ndl_answer.specs.Answer.{answer_of}
 use Rattle.ndl_text.specs.Bytes.{line_feed}
 use Rattle.ndl_text.specs.Device.{AppendsBeginning}
@@ -27,7 +27,7 @@ failed_read_ends_its_line = refl
 refused_memory_ends_its_line : out_of_memory_text ≡ codes "out of memory" ++ line_feed ∷ []
 refused_memory_ends_its_line = refl
 
-three_bytes_of_refused_memory : AppendsAnswerBeginning (Some []) (Some (codes "out")) None
+three_bytes_of_refused_memory : AppendsAnswerBeginning (Some []) (Some (codes "out")) (Some [])
 three_bytes_of_refused_memory = inl (3, lit< tt, refl)
 
 six_bytes_of_an_answer : AppendsAnswerBeginning (Some []) (Some (codes "line 1")) (Some [])
@@ -37,3 +37,10 @@ six_bytes_of_an_answer = inr (6, lit< tt, refl)
 lost_bytes : AppendsAnswerBeginning (Some []) None (Some []) → ⊥
 lost_bytes (inl beginning) = beginning.2
 lost_bytes (inr beginning) = beginning.2
+
+bytes_of_neither_text : AppendsAnswerBeginning (Some []) (Some (codes "in")) (Some []) → ⊥
+unfolding digits
+bytes_of_neither_text (inl (zero, small, same)) = suc-ne-zero 1 (ap length same)
+bytes_of_neither_text (inl (suc n, small, same)) = let first : 105 ≡ 111 = ap (λ bytes. slice_index_or bytes 0 0) same in absurd (omega (arith, first))
+bytes_of_neither_text (inr (zero, small, same)) = suc-ne-zero 1 (ap length same)
+bytes_of_neither_text (inr (suc n, small, same)) = let first : 105 ≡ 108 = ap (λ bytes. slice_index_or bytes 0 0) same in absurd (omega (arith, first))

@@ -2,16 +2,14 @@
 use Rattle.std.proofs.Common.{◌≡◌, None, length}
 use Rattle.example_tiles_picture.specs.Picture.{Image, IsPicture, image}
 use Rattle.example_tiles_edits.specs.Edits.{IsEdited, first_misfit}
-use Rattle.example_tiles_edits.specs.Slices.{IsAtMirror}
 use Rattle.example_tiles_edits.proofs.editing.edited_in_turn.Given as goal
 
-abbrev pub invariant-loop-first : goal.invariant-loop-first
-invariant-loop-first l = record {
+abbrev pub invariant-loop-left : goal.invariant-loop-left
+invariant-loop-left l = record {
   picture : IsPicture (image l.made);
   fit : first_misfit l.left l.made.extent ≡ None;
-  at_mirror : IsAtMirror l.left;
   goes_on : (after : Image) → IsEdited l.left (image l.made) after → IsEdited l.edits (image l.picture) after;
 }
 
-abbrev pub decreases-loop-first : goal.decreases-loop-first
-decreases-loop-first l = length l.left
+abbrev pub decreases-loop-left : goal.decreases-loop-left
+decreases-loop-left l = length l.left
