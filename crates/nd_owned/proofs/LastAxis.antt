@@ -1,5 +1,5 @@
 -- What taking the first entry of the last axis leaves of a view: where its rows begin.
-use Rattle.std.proofs.Common.{◌≡◌, ℕ, zero, suc, ◌+◌, ◌*◌, ◌<◌, ℤ, pos, Bool, true, false, cond, Result, Ok, Err, Some, None, List, [], ◌∷◌, length, get_or, set, map, nat_lt, refl, sym, ap, subst, ◌∙◌, arith}
+use Rattle.std.proofs.Common.{◌≡◌, ℕ, zero, suc, ◌*◌, ◌<◌, ℤ, pos, cond, Result, Ok, Err, Some, None, List, [], ◌∷◌, length, get_or, set, map, nat_lt, refl, sym, ap, ◌∙◌, arith}
 use Rattle.std.specs.List.{flat_map}
 use Rattle.std.specs.Prelude.{OnErr, OnOk, ◌&&◌}
 use Rattle.std.specs.Result.{result_err}

@@ -1,5 +1,5 @@
 -- Lists of items that are to be written at slices of an array: for which fault that is refused, and what it leaves.
-use Rattle.std.specs.Prelude.{◌≡◌, ◌≢◌, ℕ, ◌<◌, ℤ, pos, Bool, true, false, ◌==◌, ◌⊎◌, Option}
+use Rattle.std.specs.Prelude.{◌≡◌, ℕ, ◌<◌, ℤ, pos, Bool, true, false, ◌==◌, ◌⊎◌, Option}
 use Rattle.std.specs.Prelude.{Some, None, List, [], ◌∷◌, length, map, slice_get, slice_index_or, unwrap_or, nat_eq, refl}
 use Rattle.std.proofs.Common.{ap, eq-eqb, inl, inr}
 use Rattle.std.proofs.Math.Dec.{lit≤}

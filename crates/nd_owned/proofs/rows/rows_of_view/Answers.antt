@@ -1,5 +1,5 @@
 -- The rows have the places of the view, in order.
-use Rattle.std.proofs.Common.{◌≡◌, ◌*◌, length, sym, ap, subst, ◌∙◌, arith}
+use Rattle.std.proofs.Common.{◌≡◌, ◌*◌, length, sym, ap, subst, arith}
 use Rattle.std.specs.List.{All}
 use Rattle.ndarray_layout.specs.declared.Order.TheVariants.{RowMajor}
 use Rattle.ndarray_layout.specs.Inside.{IsInside}

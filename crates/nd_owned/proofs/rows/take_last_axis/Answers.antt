@@ -1,5 +1,5 @@
 -- The rows begin where the last axis has its first entry.
-use Rattle.std.proofs.Common.{◌≡◌, ◌∙◌}
+use Rattle.std.proofs.Common.{◌∙◌}
 use Rattle.ndarray_layout.specs.Signed.{signed}
 use Rattle.ndarray_layout.proofs.laws.View.{size_fits}
 use Rattle.nd_owned.proofs.LastAxis.{none_left, rows_left}

@@ -1,5 +1,5 @@
 -- One more slice has its rows; only memory is refused.
-use Rattle.std.proofs.Common.{◌≡◌, ◌<◌, Vec, Global, length, map, ◌∙◌, arith}
+use Rattle.std.proofs.Common.{◌<◌, Vec, Global, length, map, ◌∙◌, arith}
 use Rattle.std.proofs.lemmas.List.{length-map}
 use Rattle.nd_owned.specs.declared.rows.Rows.{Rows}
 use Rattle.nd_owned.specs.Rows.{AreInside, rows_places}

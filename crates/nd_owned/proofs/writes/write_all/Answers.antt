@@ -1,7 +1,7 @@
 -- The items of one more write are at their places.
 use Rattle.std.proofs.Common.{◌≡◌, ◌≢◌, ◌+◌, ◌<◌, ◌++◌, ℕ, List, length, get_or, map, take, sym, ap, subst, ◌∙◌, arith}
 use Rattle.std.proofs.lemmas.List.{length-map, take_all}
-use Rattle.std.specs.List.{All, AllPairs, flat_map}
+use Rattle.std.specs.List.{flat_map}
 use Rattle.ndarray_layout.specs.Inside.{IsInside}
 use Rattle.nd_owned.specs.Rows.{AreInside, HasWritten, rows_places}
 use Rattle.nd_owned.specs.Writes.{write_of}

@@ -1,12 +1,12 @@
 -- The items of one more row are at their places.
-use Rattle.std.proofs.Common.{◌≡◌, ◌≢◌, ℕ, ◌+◌, ◌*◌, ◌≤◌, ◌<◌, ◌++◌, length, get_or, take, drop, sym, ap, subst, ◌∙◌, arith}
+use Rattle.std.proofs.Common.{◌≡◌, ◌≢◌, ℕ, ◌+◌, ◌*◌, ◌≤◌, ◌++◌, length, get_or, take, drop, sym, ap, subst, ◌∙◌, arith}
 use Rattle.std.specs.List.{All, AllPairs, flat_map}
 use Rattle.std.proofs.Math.Nat.{mul-le-mul_right}
 use Rattle.std.proofs.Math.Seq.{take-add}
 use Rattle.std.proofs.lemmas.List.{drop-drop, length-drop, take_all}
 use Rattle.ndarray_layout.specs.Inside.{IsInside}
 use Rattle.ndarray_layout.specs.Signed.{signed}
-use Rattle.nd_owned.specs.Rows.{HasWritten, row_places, rows_places}
+use Rattle.nd_owned.specs.Rows.{HasWritten, row_places}
 use Rattle.nd_owned.proofs.Placed.{all_of_part, one_more_written, number_of_turn, pairs_of_part}
 use Rattle.nd_owned.proofs.RowPlaces.{length-rows}
 use Rattle.nd_owned.proofs.rows.Rows.write.Goals as goal
