@@ -117,10 +117,10 @@ no_quarters_of_six_columns = refl
 in_no_parts : fits four_by_six (Mirror 0) ≡ false
 in_no_parts = refl
 
-in_too_many_parts : fits (record { rows = 41; columns = 41 }) (Mirror 41) ≡ false
+in_too_many_parts : fits (record { rows = 65; columns = 65 }) (Mirror 65) ≡ false
 in_too_many_parts = refl
 
-in_most_parts : fits (record { rows = 40; columns = 0 }) (Mirror 40) ≡ true
+in_most_parts : fits (record { rows = 64; columns = 0 }) (Mirror 64) ≡ true
 in_most_parts = refl
 
 every_fourth : extent_after four_by_six (Every 4) ≡ record { rows = 1; columns = 2 }

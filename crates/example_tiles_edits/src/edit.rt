@@ -32,9 +32,8 @@ pub enum Edit {
     Mirror(u32),
 }
 
-/// Into how many parts by how many a picture is cut at most. Each part is compared with each one after it, so that the time
-/// grows with the fourth power of this number: for 40 it is half of that for reading and printing a million pixels.
-pub const MOST_PARTS: u32 = 40;
+/// Into how many parts by how many a picture is cut at most. Each part is compared with each one after it.
+pub const MOST_PARTS: u32 = 64;
 
 /// An edit that doesn't fit the picture that those before it leave.
 #[derive(Clone, Copy, Debug, PartialEq, Eq)]
