@@ -15,9 +15,9 @@ use std::alloc::Global;
 /// Two views as views of the shape that NumPy's rule gives them in common. The caller ensures that the type allows the
 /// greater of their counts of axes: any type that fixes a count does, and `IxDyn`.
 ///
-/// Errors: `IncompatibleShape` where they have no shape in common, `Overflow` where its size passes the greatest `isize`;
-/// that memory is refused, for the shape before its size is looked at, but not where the type fixes the count or there are at
-/// most four axes.
+/// Errors: `IncompatibleShape` where they have no shape in common, `Overflow` where the product of its lengths that are not 0
+/// passes the greatest `isize`; out of memory, for the shape before that product is looked at, but never where the type fixes
+/// the count or there are at most four axes.
 pub fn on_common_shape<D: Lengths>(
     alloc: Global,
     one: &Strided<D>,

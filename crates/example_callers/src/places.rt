@@ -12,8 +12,8 @@ use ndarray_layout::{CanIndexCheckMode, Ix2, Lengths, NdIndex, ShapeError, Strid
 
 /// A picture whose pixels lie row after row in a list.
 ///
-/// Errors: those of `can_index_slice`: `Overflow` for the size, then `OutOfBounds` where the layout spans more than the list,
-/// as 0 rows of 5 columns do over an empty one.
+/// Errors: those of `can_index_slice`: `Overflow` where the layout is too large, then `OutOfBounds` where it spans more than
+/// the list, as 0 rows of 5 columns do over an empty one.
 pub fn picture(pixels: &[u8], rows: usize, columns: usize) -> Result<Strided<Ix2>, ShapeError>
     ensures fault { result_err result ≡ acceptance 1 (length pixels.now) OwnedMutable
         (rows ∷ columns ∷ []) (all_signed (columns ∷ 1 ∷ [])) }

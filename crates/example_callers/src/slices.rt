@@ -32,7 +32,7 @@ pub fn alternate_rows(alloc: Global, picture: &Strided<Ix2>) -> Result<Strided<I
 
 /// Copies of the pixels of a view, in row-major order.
 ///
-/// Errors: that memory is refused, but not where the view has no index.
+/// Errors: out of memory; none where the view has no index.
 pub fn pixels_of<D: Lengths>(
     alloc: Global,
     pixels: &[u8],

@@ -11,7 +11,7 @@ use std::alloc::{AllocError, Global};
 /// Writes pixels at several parts of a picture, and answers whether they were written: not where a part doesn't fit, has
 /// another count of pixels than are given for it, or shares an index with another part. Then the picture stays.
 ///
-/// Errors: that memory is refused, but not where there are no parts. The picture stays then as well.
+/// Errors: out of memory; none where there are no parts, or where they are refused. The picture stays then as well.
 pub fn write_parts<D: Lengths>(
     alloc: Global,
     picture: &mut OwnedArray<u8, D>,
