@@ -1,6 +1,11 @@
 pub mod Answered
 pub mod AxesWalk
+pub mod CommonShape
 pub mod FirstLeast
 pub mod IndicesWalk
+pub mod MergedStride
 pub mod OrderRule
+pub mod OwnedRule
+pub mod SumLoop
+pub mod WalkOrder
 pub mod laws

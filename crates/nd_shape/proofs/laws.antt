@@ -1,7 +1,14 @@
+pub mod Acceptance
 pub mod AcceptanceByStrides
 pub mod Axes
+pub mod CommonShape
 pub mod DefaultStrides
+pub mod DistinctOffsets
 pub mod IndicesLeft
 pub mod LayoutOrder
+pub mod Merge
+pub mod OwnedRule
+pub mod OwnedWalk
 pub mod ShapeBuilder
 pub mod StandardStrides
+pub mod Stretches

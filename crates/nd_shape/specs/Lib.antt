@@ -1,9 +1,14 @@
+pub mod Acceptance
 pub mod AcceptanceByStrides
 pub mod Axes
+pub mod CommonShape
 pub mod IndicesLeft
 pub mod Layout
 pub mod LayoutOrder
+pub mod Merge
 pub mod MinStride
+pub mod OwnedRule
+pub mod OwnedWalk
 pub mod ShapeBuilder
 pub use Rattle.nd_base.specs.Dim
 pub use Rattle.nd_base.specs.DistinctOffsets
@@ -18,8 +23,3 @@ pub use Rattle.nd_base.specs.Size
 pub use Rattle.nd_base.specs.Span
 pub use Rattle.nd_base.specs.ValidLayout
 pub use Rattle.nd_dim.specs.AxisOrder
-pub use Rattle.nd_shape_rules.specs.Acceptance
-pub use Rattle.nd_shape_rules.specs.CommonShape
-pub use Rattle.nd_shape_rules.specs.Merge
-pub use Rattle.nd_shape_rules.specs.OwnedRule
-pub use Rattle.nd_shape_rules.specs.OwnedWalk

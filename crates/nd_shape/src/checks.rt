@@ -1,23 +1,100 @@
 //! Tests of a shape and its strides against the type limits and the data.
-ghost use Rattle.std.specs.Prelude.{◌≡◌, IfOk, OnOk, Some, None, nat_lt, if◌then◌else◌};
-ghost use Rattle.std.specs.Int.{is_negative};
-ghost use Rattle.std.specs.List.{list_any};
+ghost use Rattle.std.specs.Prelude.{◌≡◌, ◌*◌, ◌≤◌, IfOk, SomeIff, Some, None, nat_lt, if◌then◌else◌, OnOk};
 ghost use Rattle.std.specs.Result.{result_err};
-ghost use Rattle.nd_base.specs.Signed.{signed as signed_reading, all_signed};
+ghost use Rattle.nd_base.specs.Signed.{all_signed, signed as signed_reading};
 ghost use Rattle.nd_base.specs.Size.{size, nonzero_size, limit};
 ghost use Rattle.nd_base.specs.Span.{span, low_span};
-ghost use Rattle.nd_base.specs.ValidLayout.{IsValidLayout};
 ghost use Rattle.nd_base.specs.declared.error.ErrorKind.TheVariants.{Overflow};
+ghost use Rattle.nd_shape.specs.Acceptance.{size_fault, acceptance};
+ghost use Rattle.std.specs.Int.{is_negative};
+ghost use Rattle.std.specs.List.{list_any};
+ghost use Rattle.nd_base.specs.ValidLayout.{IsValidLayout};
 ghost use Rattle.nd_base.specs.declared.order.Order.{Order};
-ghost use Rattle.nd_shape_rules.specs.Acceptance.{size_fault, acceptance};
 ghost use Rattle.nd_shape.specs.AcceptanceByStrides.{acceptance_of_standard, acceptance_by_strides, sign_fault};
 ghost use Rattle.nd_base.specs.DistinctOffsets.{HasDistinctOffsets};
 ghost use Rattle.nd_base.specs.Inside.{LiesInside};
 ghost use Rattle.nd_shape.specs.ShapeBuilder.{standard_strides, strides_list};
 
+use crate::limits::{checked_nonzero_size, checked_span, multiply};
+use crate::overlap::has_overlap;
 use crate::shape_builder::Strides;
 use nd_dim::{ErrorKind, Lengths, ShapeError, from_kind, signed};
-use nd_shape_rules::{CanIndexCheckMode, accept, size_of_lengths, span_of_lengths};
+
+/// How a layout is going to be used. ndarray's `CanIndexCheckMode`.
+#[derive(Clone, Copy, PartialEq)]
+pub enum CanIndexCheckMode {
+    /// Elements are owned or written: no two indices may share one.
+    OwnedMutable,
+    /// Elements are only read.
+    ReadOnly,
+}
+
+/// The span of a layout, where the product of the lengths that are not 0, the span, and the span
+/// in bytes are each at most the greatest `isize`.
+#[inline(always)]
+fn span_within_limits(elem_size: usize, shape: &[usize], strides: &[usize]) -> Option<usize>
+    ensures { SomeIff result
+        ((nonzero_size shape.now ≤ limit)
+        × (span shape.now (all_signed strides.now) ≤ limit)
+        × (span shape.now (all_signed strides.now) * elem_size ≤ limit))
+        (span shape.now (all_signed strides.now)) }
+{
+    checked_nonzero_size(shape)?;
+    let span = checked_span(shape, strides)?;
+    multiply(span, elem_size)?;
+    Some(span)
+}
+
+/// The span of a layout: how many elements lie from its lowest to its highest index, where one is
+/// of `elem_size` bytes.
+///
+/// Refused with `IncompatibleLayout` where there are not as many strides as lengths, and then with
+/// `Overflow` where the product of the lengths that are not 0, the span, or the span in bytes
+/// passes the greatest `isize`. The rule over lists of ndarray's
+/// `max_abs_offset_check_overflow`.
+#[inline(always)]
+pub fn span_of_lengths(
+    elem_size: usize,
+    shape: &[usize],
+    strides: &[usize],
+) -> Result<usize, ShapeError>
+    ensures fault { result_err result ≡ size_fault elem_size shape.now (all_signed strides.now) }
+    ensures span { IfOk result (λ n. n ≡ span shape.now (all_signed strides.now)) }
+{
+    if shape.len() != strides.len() {
+        return Err(from_kind(ErrorKind::IncompatibleLayout));
+    }
+    span_within_limits(elem_size, shape, strides).ok_or(from_kind(ErrorKind::Overflow))
+}
+
+/// Whether a layout is accepted over data of `len` elements of `elem_size` bytes.
+///
+/// Refused as `span_of_lengths` is; then with `OutOfBounds` where an index would leave the data, or
+/// where a layout without an index spans more than the data; then with `Unsupported` where elements
+/// are owned or written and two indices may share one (`has_overlap`). The rule over lists of
+/// ndarray's `can_index_slice`.
+#[inline(always)]
+pub fn accept(
+    elem_size: usize,
+    len: usize,
+    shape: &[usize],
+    strides: &[usize],
+    mode: CanIndexCheckMode,
+) -> Result<(), ShapeError>
+    ensures fault { result_err result ≡
+        acceptance elem_size len mode shape.now (all_signed strides.now) }
+{
+    let span = span_of_lengths(elem_size, shape, strides)?;
+    let is_empty = shape.contains(&0);
+    let leaves_data = if is_empty { len < span } else { len <= span };
+    if leaves_data {
+        return Err(from_kind(ErrorKind::OutOfBounds));
+    }
+    if mode == CanIndexCheckMode::OwnedMutable && has_overlap(shape, strides) {
+        return Err(from_kind(ErrorKind::Unsupported));
+    }
+    Ok(())
+}
 
 /// The number of indices of a shape: the product of its lengths, which is 0 with a zero axis.
 ///
@@ -28,7 +105,9 @@ pub fn size_of_shape_checked<D: Lengths>(dim: &D) -> Result<usize, ShapeError>
     ensures fault { result_err result ≡
         (if nat_lt limit (nonzero_size (D.list dim.now)) then Some Overflow else None) }
 {
-    size_of_lengths(dim.slice())
+    let shape = dim.slice();
+    let size = checked_nonzero_size(shape).ok_or(from_kind(ErrorKind::Overflow))?;
+    Ok(if shape.contains(&0) { 0 } else { size })
 }
 
 /// The span of a layout: how many elements lie from its lowest to its highest index.

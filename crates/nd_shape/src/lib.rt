@@ -8,6 +8,7 @@ mod checks;
 mod indexes;
 mod layout;
 mod layout_order;
+mod limits;
 mod merge;
 mod min_stride;
 mod ndindex;
@@ -16,20 +17,20 @@ mod overlap;
 mod shape_builder;
 
 pub use axes::{Axes, AxisDescription, axes_of};
-pub use broadcast::co_broadcast;
+pub use broadcast::{co_broadcast, fill_common_shape, have_common_shape};
 pub use checks::{
-    can_index_slice, can_index_slice_not_custom, can_index_slice_with_strides,
-    max_abs_offset_check_overflow, size_of_shape_checked, strides_non_negative,
+    CanIndexCheckMode, accept, can_index_slice, can_index_slice_not_custom,
+    can_index_slice_with_strides, max_abs_offset_check_overflow, size_of_shape_checked,
+    span_of_lengths, strides_non_negative,
 };
 pub use indexes::{
     IndexCursor, IndexCursorF, Indices, IndicesIter, IndicesIterF, all_indices, indices_iter_f,
 };
 pub use layout::Layout;
 pub use layout_order::{is_layout_c, is_layout_f};
-pub use merge::merge_axes;
+pub use merge::{merge_axes, merge_fitting};
 pub use min_stride::move_min_stride_axis_to_last;
-pub use nd_shape_rules::CanIndexCheckMode;
 pub use ndindex::NdIndex;
-pub use offsets::offset_from_low_addr_ptr_to_logical_ptr;
-pub use overlap::dim_stride_overlap;
+pub use offsets::{low_span, offset_from_low_addr_ptr_to_logical_ptr};
+pub use overlap::{dim_stride_overlap, has_overlap};
 pub use shape_builder::{Shape, ShapeBuilder, StrideShape, Strides};

@@ -1,12 +1,65 @@
 //! Two axes as one.
 ghost use Rattle.std.specs.Bool.{OnTrue};
-ghost use Rattle.std.specs.Prelude.{◌≡◌, ◌≢◌, ◌<◌, ◌↔◌, if◌then◌else◌, IsTrue, length, slice_index};
+ghost use Rattle.std.specs.Prelude.{◌≡◌, ◌≢◌, ◌<◌, ◌^◌, ◌↔◌, pos, ◌*ℤ◌, if◌then◌else◌, IsTrue, length, slice_index};
 ghost use Rattle.nd_base.specs.Signed.{signed as signed_reading, all_signed};
 ghost use Rattle.nd_base.specs.ValidLayout.{IsValidLayout};
-ghost use Rattle.nd_shape_rules.specs.Merge.{IsMergedStride, MergeFits, merged_shape, merged_strides};
+ghost use Rattle.nd_shape.specs.Merge.{IsMergedStride, MergeFits, merged_shape, merged_strides};
 
-use nd_dim::{Axis, Lengths};
-use nd_shape_rules::merge_fitting;
+use nd_dim::{Axis, Lengths, signed};
+
+/// Whether a stride is as long as that many steps of another.
+#[inline(always)]
+fn is_multiple(stride: usize, count: usize, step: usize) -> bool
+    requires { count < 2 ^ 63 }
+    ensures { IsTrue result ↔ (signed_reading stride ≡ pos count *ℤ signed_reading step) }
+{
+    // (128 bits hold the product of any two numbers of 64; two signed ones take one instruction)
+    signed(stride) as i128 == signed(count) as i128 * signed(step) as i128
+}
+
+/// Merges the axis `take` into the axis `into` where one stride serves for the entries of both, and
+/// answers whether it did; else nothing changes. The rule over lists of ndarray's `merge_axes`.
+///
+/// The caller ensures that the layout is valid (`span_of_lengths`), and that the axes are two
+/// different ones that it has.
+#[inline(always)]
+pub fn merge_fitting(shape: &mut [usize], strides: &mut [usize], take: usize, into: usize) -> bool
+    requires valid { IsValidLayout shape.old (all_signed strides.old) }
+    requires take { take < length shape.old }
+    requires into { into < length shape.old }
+    requires apart { take ≢ into }
+    ensures fits { IsTrue result ↔ MergeFits
+        (slice_index shape.old take)
+        (signed_reading (slice_index strides.old take))
+        (slice_index shape.old into)
+        (signed_reading (slice_index strides.old into)) }
+    ensures shape { shape.new ≡ (if result then merged_shape take into shape.old else shape.old) }
+    ensures strides { strides.new ≡
+        (if result then merged_strides take into shape.old strides.old else strides.old) }
+    ensures serves { OnTrue result (IsMergedStride
+        (slice_index shape.old take)
+        (signed_reading (slice_index strides.old take))
+        (slice_index shape.old into)
+        (signed_reading (slice_index strides.old into))
+        (signed_reading (slice_index strides.new into))) }
+{
+    let (take_len, into_len) = (shape[take], shape[into]);
+    let (take_stride, into_stride) = (strides[take], strides[into]);
+    // (one test of both lengths, since each is a branch that is hard to foresee)
+    if take_len.min(into_len) <= 1 {
+        strides[into] = if take_len <= 1 {
+            into_stride
+        } else {
+            take_stride
+        };
+    } else if !is_multiple(take_stride, into_len, into_stride) {
+        return false;
+    }
+    let merged_len = into_len * take_len;
+    shape[into] = merged_len;
+    shape[take] = if merged_len == 0 { 0 } else { 1 };
+    true
+}
 
 /// Merges the axis `take` into the axis `into` where one stride serves for the entries of both:
 /// then the axis `into` has them all, that of `take` moving slowest among them, and `take` keeps one

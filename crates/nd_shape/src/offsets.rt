@@ -1,11 +1,38 @@
 //! Where the indices of a layout lie from its first index.
-ghost use Rattle.std.specs.Prelude.{◌≡◌};
-ghost use Rattle.nd_base.specs.Signed.{all_signed};
-ghost use Rattle.nd_base.specs.Span.{low_span as low_span_of_layout};
+ghost use Rattle.std.specs.Prelude.{◌≡◌, ◌≤◌};
+ghost use Rattle.nd_base.specs.Signed.{signed as signed_reading, all_signed};
+ghost use Rattle.nd_base.specs.Size.{limit};
+ghost use Rattle.nd_base.specs.Span.{reach_down as reach_down_of_axis, span, low_span as low_span_of_layout};
 ghost use Rattle.nd_base.specs.ValidLayout.{IsValidLayout};
 
-use nd_dim::Lengths;
-use nd_shape_rules::low_span;
+use crate::limits::reach;
+use nd_dim::{Lengths, signed};
+
+/// How many elements lie between the lowest entry of an axis and the first one.
+#[inline(always)]
+fn reach_down(len: usize, stride: usize) -> usize
+    requires { reach_down_of_axis len (signed_reading stride) ≤ limit }
+    ensures { result ≡ reach_down_of_axis len (signed_reading stride) }
+{
+    let stride = signed(stride);
+    if stride < 0 { reach(len, stride) } else { 0 }
+}
+
+/// How many elements lie between the lowest index and the first one. The rule over lists of
+/// ndarray's `offset_from_low_addr_ptr_to_logical_ptr`.
+///
+/// The caller ensures that the span is at most the greatest `isize` (`span_of_lengths`).
+#[inline(always)]
+pub fn low_span(shape: &[usize], strides: &[usize]) -> usize
+    requires { span shape.now (all_signed strides.now) ≤ limit }
+    ensures { result ≡ low_span_of_layout shape.now (all_signed strides.now) }
+{
+    let mut total = 0usize;
+    for (len, stride) in shape.iter().zip(strides) {
+        total += reach_down(*len, *stride);
+    }
+    total
+}
 
 /// How many elements lie between the lowest element of a layout and that of its first index: the
 /// place of the first index in data that begins at the lowest element.

@@ -1,15 +1,158 @@
 //! Whether two indices of a layout may share an element.
-ghost use Rattle.std.specs.Prelude.{◌≡◌, ℕ, List, ◌↔◌, ◌⊎◌, IsTrue, IsFalse, not, ◌&&◌};
-ghost use Rattle.nd_base.specs.DistinctOffsets.{HasDistinctOffsets};
-ghost use Rattle.nd_base.specs.Signed.{all_signed};
-ghost use Rattle.nd_base.specs.Size.{is_empty};
-ghost use Rattle.nd_base.specs.ValidLayout.{IsValidLayout};
+ghost use Rattle.std.specs.Option.{IfSome};
+ghost use Rattle.std.specs.Prelude.{◌≡◌, ℕ, List, ◌<◌, ◌≤◌, ◌-◌, not, ◌&&◌, if◌then◌else◌, [], ◌∷◌, length, ◌↔◌, ◌⊎◌, IsTrue, IsFalse};
+ghost use Rattle.nd_base.specs.declared.order.Order.TheVariants.{RowMajor, ColumnMajor};
+ghost use Rattle.nd_base.specs.Signed.{signed as signed_reading, all_signed};
+ghost use Rattle.nd_base.specs.Size.{is_empty, limit};
+ghost use Rattle.nd_base.specs.Span.{reach as reach_of_axis, span};
 ghost use Rattle.nd_dim.specs.AxisOrder.{IsStrideOrder};
-ghost use Rattle.nd_shape_rules.specs.OwnedRule.{MeetsOwnedRule, meets_owned_rule};
-ghost use Rattle.nd_shape_rules.specs.OwnedWalk.{meets_owned_walk};
+ghost use Rattle.nd_shape.specs.OwnedRule.{meets_owned_rule, steps_over_others, span_up_to as span_up_to_magnitude, MeetsOwnedRule};
+ghost use Rattle.nd_shape.specs.OwnedWalk.{meets_owned_walk};
+ghost use Rattle.nd_base.specs.DistinctOffsets.{HasDistinctOffsets};
+ghost use Rattle.nd_base.specs.ValidLayout.{IsValidLayout};
 
-use nd_dim::Lengths;
-use nd_shape_rules::has_overlap;
+use crate::limits::reach;
+use nd_dim::{Lengths, Order, signed};
+
+/// How many elements lie between the first and the last entry of an axis, or 0 where its stride is
+/// of a magnitude past `magnitude`.
+#[inline(always)]
+fn reach_up_to(len: usize, stride: usize, magnitude: usize) -> usize
+    requires { reach_of_axis len (signed_reading stride) ≤ limit }
+    ensures { result ≡ span_up_to_magnitude magnitude (len ∷ []) (signed_reading stride ∷ []) }
+{
+    let stride = signed(stride);
+    let far = reach(len, stride);
+    if stride.unsigned_abs() <= magnitude {
+        far
+    } else {
+        0
+    }
+}
+
+/// The summed spans of the axes whose strides are of magnitude at most `magnitude`.
+#[inline(always)]
+fn span_up_to(shape: &[usize], strides: &[usize], magnitude: usize) -> usize
+    requires { span shape.now (all_signed strides.now) ≤ limit }
+    ensures { result ≡ span_up_to_magnitude magnitude shape.now (all_signed strides.now) }
+{
+    let mut total = 0usize;
+    for (len, stride) in shape.iter().zip(strides) {
+        total += reach_up_to(*len, *stride, magnitude);
+    }
+    total
+}
+
+/// Whether the stride of an axis of more than one entry steps over no more than the axes of no
+/// greater stride span together.
+#[inline(always)]
+fn overlaps_others(shape: &[usize], strides: &[usize], axis: usize) -> bool
+    requires axis { axis < length shape.now }
+    requires same_count { length shape.now ≡ length strides.now }
+    requires span_fits { span shape.now (all_signed strides.now) ≤ limit }
+    ensures { result ≡ not (steps_over_others shape.now (all_signed strides.now) axis) }
+{
+    let len = shape[axis];
+    let stride = signed(strides[axis]);
+    let magnitude = stride.unsigned_abs();
+    len > 1 && magnitude <= span_up_to(shape, strides, magnitude) - reach(len, stride)
+}
+
+/// Whether some axis of more than one entry has a stride that steps over no more than the axes of
+/// no greater stride span together.
+#[inline(always)]
+fn some_overlaps_others(shape: &[usize], strides: &[usize]) -> bool
+    requires same_count { length shape.now ≡ length strides.now }
+    requires span_fits { span shape.now (all_signed strides.now) ≤ limit }
+    ensures { result ≡ not (meets_owned_rule shape.now (all_signed strides.now)) }
+{
+    for axis in 0..shape.len() {
+        if overlaps_others(shape, strides, axis) {
+            return true;
+        }
+    }
+    false
+}
+
+/// The axis that a walk over `count` axes comes to after `place` others.
+#[inline(always)]
+fn axis_on_walk(count: usize, place: usize, order: Order) -> usize
+    requires { place < count }
+    ensures by_rows { order ≡ RowMajor → result ≡ count - 1 - place }
+    ensures by_columns { order ≡ ColumnMajor → result ≡ place }
+{
+    match order {
+        Order::RowMajor => count - 1 - place,
+        Order::ColumnMajor => place,
+    }
+}
+
+/// Whether a walk along the axes, by rows from the last one on, by columns from the first, comes to one of more than
+/// one entry whose stride is no longer than those before it span together. `None` where it comes to
+/// a stride that is shorter than one before it, since such a walk doesn't decide it.
+#[inline(always)]
+fn overlap_on_walk(shape: &[usize], strides: &[usize], order: Order) -> Option<bool>
+    requires same_count { length shape.now ≡ length strides.now }
+    requires span_fits { span shape.now (all_signed strides.now) ≤ limit }
+    ensures { IfSome result
+        (λ overlaps. overlaps ≡ not (meets_owned_rule shape.now (all_signed strides.now))) }
+{
+    let mut reached = 0usize;
+    let mut longest = 0usize;
+    for place in 0..shape.len() {
+        let axis = axis_on_walk(shape.len(), place, order);
+        let (len, stride) = (shape[axis], signed(strides[axis]));
+        let magnitude = stride.unsigned_abs();
+        if len > 1 {
+            if magnitude <= reached {
+                return (magnitude >= longest).then_some(true);
+            }
+            longest = magnitude;
+            reached += reach(len, stride);
+        }
+    }
+    Some(false)
+}
+
+/// Whether an axis of more than one entry has a stride that steps over no more than the axes of no
+/// greater stride span together.
+///
+/// One walk decides it along axes in the order of their strides; others are compared one by one,
+/// and two axes at once.
+#[inline(always)]
+fn breaks_owned_rule(shape: &[usize], strides: &[usize]) -> bool
+    requires same_count { length shape.now ≡ length strides.now }
+    requires span_fits { span shape.now (all_signed strides.now) ≤ limit }
+    ensures { result ≡ not (meets_owned_rule shape.now (all_signed strides.now)) }
+{
+    if shape.len() > 2 {
+        if let Some(overlaps) = overlap_on_walk(shape, strides, Order::RowMajor) {
+            return overlaps;
+        }
+        if let Some(overlaps) = overlap_on_walk(shape, strides, Order::ColumnMajor) {
+            return overlaps;
+        }
+    }
+    some_overlaps_others(shape, strides)
+}
+
+/// Whether two indices of a layout may share an element: it has an index, and breaks the rule for
+/// owned data. One walk along the axes in the order of their strides would answer the same.
+///
+/// The caller ensures that there is a stride for each length, and that the span is at most the
+/// greatest `isize`. The rule over lists of ndarray's `dim_stride_overlap`.
+#[inline(always)]
+pub fn has_overlap(shape: &[usize], strides: &[usize]) -> bool
+    requires same_count { length shape.now ≡ length strides.now }
+    requires span_fits { span shape.now (all_signed strides.now) ≤ limit }
+    ensures rule { result ≡
+        (not (is_empty shape.now) && not (meets_owned_rule shape.now (all_signed strides.now))) }
+    ensures walk { (order : List ℕ) → IsStrideOrder (all_signed strides.now) order →
+        result ≡ (not (is_empty shape.now)
+        && not (meets_owned_walk shape.now (all_signed strides.now) order)) }
+{
+    breaks_owned_rule(shape, strides) && !shape.contains(&0)
+}
 
 /// Whether two indices of a layout may share an element: it has an index, and some axis of more
 /// than one entry has a stride no longer than the summed spans of the other axes of no greater

@@ -1,3 +1,8 @@
 pub mod ArgumentFault
-pub mod Selected
+pub mod Between
 pub mod Meet
+pub mod PickSequences
+pub mod Picked
+pub mod Picks
+pub mod Selected
+pub mod SliceFault

@@ -6,10 +6,10 @@ use Rattle.std.proofs.Math.Nat.{not-suc-le-zero, le_of_suc-le-suc}
 use Rattle.std.proofs.lemmas.Bool.{both_ways, ltb-true}
 use Rattle.nd_base.specs.Indices.{is_index}
 use Rattle.nd_base.specs.Signed.{magnitude}
-use Rattle.nd_slice_axis.specs.declared.fit.Fit.{Fit}
-use Rattle.nd_slice_axis.specs.declared.fit.Fit.TheVariants.{Strict}
-use Rattle.nd_slice_axis.specs.Picks.{slice_with, meaning, picks}
-use Rattle.nd_slice_axis.specs.SliceFault.{SliceFits, IndexFits}
+use Rattle.nd_slice.specs.declared.fit.Fit.{Fit}
+use Rattle.nd_slice.specs.declared.fit.Fit.TheVariants.{Strict}
+use Rattle.nd_slice.specs.Picks.{slice_with, meaning, picks}
+use Rattle.nd_slice.specs.SliceFault.{SliceFits, IndexFits}
 use Rattle.nd_slice.specs.declared.elem.SliceInfoElem.{SliceInfoElem}
 use Rattle.nd_slice.specs.declared.elem.SliceInfoElem.TheVariants as elem
 

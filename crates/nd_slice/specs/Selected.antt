@@ -1,11 +1,11 @@
 -- Which index of a shape an index of its slice stands for.
 use Rattle.std.specs.Prelude.{◌≡◌, ℕ, pos, negsuc, Some, None, List, [], ◌∷◌, slice_index, refl}
 use Rattle.nd_base.specs.Signed.{magnitude}
-use Rattle.nd_slice_axis.specs.declared.fit.Fit.{Fit}
-use Rattle.nd_slice_axis.specs.declared.fit.Fit.TheVariants.{Strict, Clamp}
+use Rattle.nd_slice.specs.declared.fit.Fit.{Fit}
+use Rattle.nd_slice.specs.declared.fit.Fit.TheVariants.{Strict, Clamp}
 use Rattle.nd_slice.specs.declared.elem.SliceInfoElem.{SliceInfoElem}
 use Rattle.nd_slice.specs.declared.elem.SliceInfoElem.TheVariants as elem
-use Rattle.nd_slice_axis.specs.Picks.{slice_with, meaning, picks}
+use Rattle.nd_slice.specs.Picks.{slice_with, meaning, picks}
 
 -- the index of a shape that an index of its slice stands for, read along the elements of an argument without fault: for a range
 -- the entry is a position among its picks, for a new axis it says nothing, and an index has none, since it names the entry itself

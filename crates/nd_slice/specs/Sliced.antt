@@ -1,11 +1,11 @@
 -- The lengths, the strides and the offset that a slice argument leaves of a layout.
 use Rattle.std.specs.Prelude.{◌≡◌, ℕ, ℤ, pos, negsuc, ◌+ℤ◌, ◌*ℤ◌, Some, None, List, [], ◌∷◌, length, refl}
-use Rattle.nd_slice_axis.specs.declared.fit.Fit.{Fit}
-use Rattle.nd_slice_axis.specs.declared.fit.Fit.TheVariants.{Strict, Clamp}
+use Rattle.nd_slice.specs.declared.fit.Fit.{Fit}
+use Rattle.nd_slice.specs.declared.fit.Fit.TheVariants.{Strict, Clamp}
 use Rattle.nd_slice.specs.declared.elem.SliceInfoElem.{SliceInfoElem}
 use Rattle.nd_slice.specs.declared.elem.SliceInfoElem.TheVariants as elem
-use Rattle.nd_slice_axis.specs.Picked.{picked_stride, first_offset}
-use Rattle.nd_slice_axis.specs.Picks.{slice_with, meaning, picks}
+use Rattle.nd_slice.specs.Picked.{picked_stride, first_offset}
+use Rattle.nd_slice.specs.Picks.{slice_with, meaning, picks}
 
 -- the lengths that an argument without fault leaves of a shape
 abbrev pub sliced_shape : Fit → List SliceInfoElem → List ℕ → List ℕ

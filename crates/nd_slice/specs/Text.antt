@@ -1,24 +1,39 @@
--- How the elements of a slice argument are written.
-use Rattle.std.specs.Prelude.{◌≡◌, ℕ, pos, negsuc, None, List, codes, refl}
+-- How slices are written.
+use Rattle.std.specs.Prelude.{◌≡◌, ℕ, zero, suc, ℤ, pos, negsuc, Option, Some, None, List, [], ◌++◌, codes, refl}
+use Rattle.std.specs.Option.{option_map_or}
 use Rattle.std.specs.Fmt.{digits, signed_decimal}
-use Rattle.nd_slice_axis.specs.Picks.{slice_with}
-use Rattle.nd_slice_axis.specs.Text.{slice_text}
-use Rattle.nd_slice.specs.declared.elem.SliceInfoElem.{SliceInfoElem}
-use Rattle.nd_slice.specs.declared.elem.SliceInfoElem.TheVariants as elem
+use Rattle.nd_slice.specs.declared.slice.Slice.{Slice}
 
--- the text of an element: a range as its slice, an index as its number, a new axis by its name
-abbrev pub elem_text : SliceInfoElem → List ℕ
-elem_text (elem.Slice start end step) = slice_text (slice_with start end step)
-elem_text (elem.Index index) = signed_decimal index
-elem_text elem.NewAxis = codes "NewAxis"
+-- the text of a start: nothing for 0
+abbrev pub start_text : ℤ → List ℕ
+start_text (pos zero) = []
+start_text start = signed_decimal start
+
+-- the text of an end: nothing where there is none
+abbrev pub end_text : Option ℤ → List ℕ
+end_text end = option_map_or signed_decimal end []
+
+-- the text of a step: nothing for 1
+abbrev pub step_text : ℤ → List ℕ
+step_text (pos (suc zero)) = []
+step_text step = codes ";" ++ signed_decimal step
+
+-- the text of a slice
+abbrev pub slice_text : Slice → List ℕ
+slice_text slice = start_text slice.start ++ codes ".." ++ end_text slice.end ++ step_text slice.step
 
 -- examples
-whole_axis : elem_text (elem.Slice (pos 0) None (pos 1)) ≡ codes ".."
+whole_axis : slice_text (record { start = pos 0; end = None; step = pos 1 }) ≡ codes ".."
 whole_axis = refl
 
-last_entry : elem_text (elem.Index (negsuc 0)) ≡ codes "-1"
+all_three : slice_text (record { start = negsuc 2; end = Some (negsuc 0); step = pos 2 }) ≡ codes "-3..-1;2"
 unfolding digits
-last_entry = refl
+all_three = refl
 
-new_axis : elem_text elem.NewAxis ≡ codes "NewAxis"
-new_axis = refl
+end_of_zero : slice_text (record { start = pos 0; end = Some (pos 0); step = pos 1 }) ≡ codes "..0"
+unfolding digits
+end_of_zero = refl
+
+step_of_zero : slice_text (record { start = pos 9; end = None; step = pos 0 }) ≡ codes "9..;0"
+unfolding digits
+step_of_zero = refl

@@ -3,9 +3,9 @@ ghost use Rattle.std.specs.Prelude.{◌≡◌, ℤ, ◌+◌, ◌<◌, ◌≤◌,
 ghost use Rattle.std.specs.List.{All};
 ghost use Rattle.std.specs.Option.{option_or};
 ghost use Rattle.std.specs.Result.{result_err};
-ghost use Rattle.nd_slice_axis.specs.declared.fit.Fit.{Fit as AnyFit};
-ghost use Rattle.nd_slice_axis.specs.Picks.{picks};
-ghost use Rattle.nd_slice_axis.specs.SliceFault.{SliceFits};
+ghost use Rattle.nd_slice.specs.declared.fit.Fit.{Fit as AnyFit};
+ghost use Rattle.nd_slice.specs.Picks.{picks};
+ghost use Rattle.nd_slice.specs.SliceFault.{SliceFits};
 ghost use Rattle.nd_slice.specs.ArgumentFault.{argument_fault};
 ghost use Rattle.nd_slice.specs.Meet.{elem_picks, ElemFits, IndexFitsIn, without_new_axes, Meet};
 
@@ -13,8 +13,10 @@ use crate::checks::check_slice;
 use crate::elem::SliceInfoElem;
 use crate::elems::SliceElems;
 use nd_base::{Lengths, ShapeError};
-use nd_slice_axis::{Fit, Slice, abs_index};
-use nd_slice_meet::picks_intersect;
+use crate::axis_slice::abs_index;
+use crate::fit::Fit;
+use crate::picks::picks_intersect;
+use crate::slice::Slice;
 
 /// The place of the next element that is for an axis, from a place on; the count of elements where
 /// there is none.

@@ -2,12 +2,21 @@
 #![tactic(auto)]
 
 mod arg;
+mod axis;
+mod axis_slice;
 mod checks;
 mod collapse;
 mod elem;
 mod elems;
+mod equation;
+mod euclid;
+mod fit;
 mod info;
 mod intersect;
+mod multiplier;
+mod picks;
+mod sequence;
+mod slice;
 
 pub use arg::SliceArg;
 pub use checks::{check_elems, check_slice, in_ndim_of, out_ndim_of};
@@ -16,8 +25,10 @@ pub use elem::{NewAxis, SliceInfoElem};
 pub use elems::SliceElems;
 pub use info::SliceInfo;
 pub use intersect::slices_intersect;
-pub use nd_slice_axis::{
-    Fit, Slice, abs_index, count_of_picks, do_slice, entry_of, first_pick, pick_count,
-    slice_min_max, to_abs_slice,
-};
-pub use nd_slice_meet::{arith_seq_intersect, extended_gcd, solve_linear_diophantine_eq};
+pub use axis::do_slice;
+pub use axis_slice::{abs_index, count_of_picks, entry_of, first_pick, pick_count, slice_min_max, to_abs_slice};
+pub use equation::solve_linear_diophantine_eq;
+pub use euclid::extended_gcd;
+pub use fit::Fit;
+pub use sequence::arith_seq_intersect;
+pub use slice::Slice;

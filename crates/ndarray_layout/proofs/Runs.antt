@@ -17,9 +17,9 @@ use Rattle.nd_base.specs.declared.error.LayoutError.TheVariants.{Shape, Memory}
 use Rattle.nd_base.specs.declared.order.Order.{Order}
 use Rattle.nd_base.specs.Lengths.{NeedsNoMemory}
 use Rattle.nd_base.specs.ShapeFault.{shape_fault}
-use Rattle.ndarray_layout_strided.specs.ReshapedView.{IsReshapeRefusal}
+use Rattle.ndarray_layout.specs.ReshapedView.{IsReshapeRefusal}
 use Rattle.ndarray_layout.specs.Run.{AllFit, IsEndedBy, IsRefusedBy, NeedNoMemory, Outcome, stayed, stepped, unless_fault, run_of_step, joined, in_turn, run_of}
-use Rattle.ndarray_layout_views.specs.View.{View, IsView}
+use Rattle.ndarray_layout.specs.View.{View, IsView}
 
 -- a run after no steps
 after_none : (second : Outcome) (view : View) → second ≡ joined None (stayed None view) second

@@ -9,7 +9,7 @@ use Rattle.nd_base.specs.declared.error.LayoutError.{LayoutError}
 use Rattle.nd_base.specs.declared.error.LayoutError.TheVariants.{Shape, Memory}
 use Rattle.ndarray_layout.specs.Step.{StepValue, CollapseTo, MergeInto, BroadcastTo, step_fault, view_after, source_index, may_want_memory, is_broadcast}
 use Rattle.ndarray_layout.specs.StepFits.{StepFits, MayRefuseMemory}
-use Rattle.ndarray_layout_views.specs.View.{View}
+use Rattle.ndarray_layout.specs.View.{View}
 
 -- what became of a view: how many steps were taken, the view that they left, which index of the first view an index of
 -- that one stands for, and the fault of the next step, where it doesn't fit

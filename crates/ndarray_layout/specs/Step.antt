@@ -6,20 +6,20 @@ use Rattle.nd_base.specs.declared.order.Order.{Order}
 use Rattle.nd_base.specs.declared.order.Order.TheVariants.{RowMajor, ColumnMajor}
 use Rattle.nd_base.specs.Dim.{lengths}
 use Rattle.nd_base.specs.declared.lengths.TheConstants.{INLINE_AXES}
-use Rattle.nd_slice_axis.specs.declared.fit.Fit.{Fit}
-use Rattle.nd_slice_axis.specs.declared.fit.Fit.TheVariants.{Strict}
+use Rattle.nd_slice.specs.declared.fit.Fit.{Fit}
+use Rattle.nd_slice.specs.declared.fit.Fit.TheVariants.{Strict}
 use Rattle.nd_slice.specs.declared.elem.SliceInfoElem.{SliceInfoElem}
 use Rattle.nd_slice.specs.declared.elem.SliceInfoElem.TheVariants as elem
 use Rattle.nd_slice.specs.Selected.{selected}
 use Rattle.nd_slice.specs.ArgumentFault.{out_count}
 use Rattle.ndarray_layout.specs.declared.steps.Step.{Step}
 use Rattle.ndarray_layout.specs.declared.steps.Step.TheVariants as step
-use Rattle.ndarray_layout_views.specs.BroadcastView.{broadcast_fault, broadcast_of, broadcast_source}
-use Rattle.ndarray_layout_strided.specs.ReshapedView.{reshape_of, reshape_refusal, reshape_source}
-use Rattle.ndarray_layout_views.specs.CollapsedView.{collapse_fault, collapse_of, collapse_source}
-use Rattle.ndarray_layout_views.specs.MergedView.{merge_fault, merge_of, merge_source}
-use Rattle.ndarray_layout_views.specs.SlicedView.{slice_of, slice_refusal}
-use Rattle.ndarray_layout_views.specs.View.{View}
+use Rattle.ndarray_layout.specs.BroadcastView.{broadcast_fault, broadcast_of, broadcast_source}
+use Rattle.ndarray_layout.specs.ReshapedView.{reshape_of, reshape_refusal, reshape_source}
+use Rattle.ndarray_layout.specs.CollapsedView.{collapse_fault, collapse_of, collapse_source}
+use Rattle.ndarray_layout.specs.MergedView.{merge_fault, merge_of, merge_source}
+use Rattle.ndarray_layout.specs.SlicedView.{slice_of, slice_refusal}
+use Rattle.ndarray_layout.specs.View.{View}
 
 -- a step, without where it lies in memory
 pub data StepValue : Type 0 where

@@ -5,18 +5,18 @@ use Rattle.std.proofs.Math.Dec.{lit<, lit≤, lt→ltb}
 use Rattle.std.proofs.lemmas.Bool.{both_ways}
 use Rattle.nd_base.specs.declared.lengths.TheConstants.{INLINE_AXES}
 use Rattle.nd_base.specs.declared.order.Order.TheVariants.{RowMajor}
-use Rattle.nd_slice_axis.specs.declared.fit.Fit.{Fit}
-use Rattle.nd_slice_axis.specs.declared.fit.Fit.TheVariants.{Strict}
-use Rattle.nd_slice_axis.specs.Picks.{slice_with}
-use Rattle.nd_slice_axis.specs.SliceFault.{SliceFits, IndexFits}
+use Rattle.nd_slice.specs.declared.fit.Fit.{Fit}
+use Rattle.nd_slice.specs.declared.fit.Fit.TheVariants.{Strict}
+use Rattle.nd_slice.specs.Picks.{slice_with}
+use Rattle.nd_slice.specs.SliceFault.{SliceFits, IndexFits}
 use Rattle.nd_slice.specs.declared.elem.SliceInfoElem.{SliceInfoElem}
 use Rattle.nd_slice.specs.declared.elem.SliceInfoElem.TheVariants as elem
 use Rattle.nd_slice.specs.ArgumentFault.{in_count, out_count}
 use Rattle.ndarray_layout.specs.Step.{StepValue, SliceBy, CollapseTo, MergeInto, ReshapeTo, BroadcastTo}
-use Rattle.ndarray_layout_strided.specs.ReshapedView.{MayAskForMemory, ReshapeFits}
-use Rattle.ndarray_layout_views.specs.BroadcastView.{BroadcastFits}
-use Rattle.ndarray_layout_views.specs.MergedView.{HasMergedStride}
-use Rattle.ndarray_layout_views.specs.View.{View}
+use Rattle.ndarray_layout.specs.ReshapedView.{MayAskForMemory, ReshapeFits}
+use Rattle.ndarray_layout.specs.BroadcastView.{BroadcastFits}
+use Rattle.ndarray_layout.specs.MergedView.{HasMergedStride}
+use Rattle.ndarray_layout.specs.View.{View}
 
 -- each element of a slice argument fits the axis that it is for, as far as there are elements and axes
 abbrev pub ElementsFit : Fit → List ℕ → List SliceInfoElem → Type 0

@@ -1,7 +1,18 @@
 //! The layout layer as a whole: what the crates below hand on, steps from one view to the next, and runs of them.
 #![tactic(auto)]
 
+mod broadcasting;
+mod collapsing;
+mod longer;
+mod merging;
+mod places;
+mod reshape;
+mod sequence;
+mod sizes;
+mod slicing;
 mod steps;
+mod strided;
+mod walk;
 
 // Dimension types, and what all of them can do.
 pub use nd_base::{
@@ -34,8 +45,9 @@ pub use nd_slice::{
 };
 
 // Reshapes that move no element.
-pub use ndarray_layout_reshape::{Forward, Reverse, Sequence, SequenceMut, reshape_dim};
 
 // Views, and steps from one to the next.
-pub use ndarray_layout_strided::Strided;
+pub use reshape::reshape_dim;
+pub use sequence::{Forward, Reverse, Sequence, SequenceMut};
 pub use steps::{Step, Stopped, run};
+pub use strided::Strided;

@@ -1,16 +1,16 @@
 //! Steps from one view to the next, and runs of them.
 ghost use Rattle.std.specs.Prelude.{◌≡◌, ℕ, ◌<◌, length, None, Some, map, IfOk, IfErr, IsOk, OnErr, OnOk, false, take};
 ghost use Rattle.std.specs.Result.{result_err};
-ghost use Rattle.ndarray_layout_views.specs.MergedView.{merge_fault, merge_of};
-ghost use Rattle.ndarray_layout_views.specs.DistinctPlaces.{HasDistinctPlaces};
-ghost use Rattle.ndarray_layout_views.specs.KeepsPlaces.{KeepsPlaces};
+ghost use Rattle.ndarray_layout.specs.MergedView.{merge_fault, merge_of};
+ghost use Rattle.ndarray_layout.specs.DistinctPlaces.{HasDistinctPlaces};
+ghost use Rattle.ndarray_layout.specs.KeepsPlaces.{KeepsPlaces};
 ghost use Rattle.ndarray_layout.specs.Run.{run_of, AllFit, StopsAt, IsEndedBy, IsRefusedBy, HasNoBroadcast, NeedNoMemory};
 ghost use Rattle.ndarray_layout.specs.Step.{may_want_memory, step_fault, step_value, view_after};
-ghost use Rattle.ndarray_layout_views.specs.View.{IsView, LiesWithin};
+ghost use Rattle.ndarray_layout.specs.View.{IsView, LiesWithin};
 
+use crate::strided::Strided;
 use nd_dim::{Axis, ErrorKind, IxDyn, LayoutError, Order, ShapeError, from_kind};
 use nd_slice::{Fit, SliceInfoElem};
-use ndarray_layout_strided::Strided;
 use std::alloc::Global;
 
 /// A step from one view to the next. The project's own.

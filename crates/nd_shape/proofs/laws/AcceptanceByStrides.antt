@@ -10,13 +10,13 @@ use Rattle.nd_base.specs.declared.order.Order.TheVariants.{RowMajor, ColumnMajor
 use Rattle.nd_shape.specs.AcceptanceByStrides.{acceptance_of_standard, acceptance_by_strides}
 use Rattle.nd_base.specs.DistinctOffsets.{HasDistinctOffsets}
 use Rattle.nd_base.specs.Inside.{LiesInside}
-use Rattle.nd_shape_rules.specs.declared.checks.CanIndexCheckMode.{CanIndexCheckMode}
-use Rattle.nd_shape_rules.specs.declared.checks.CanIndexCheckMode.TheVariants.{OwnedMutable}
+use Rattle.nd_shape.specs.declared.checks.CanIndexCheckMode.{CanIndexCheckMode}
+use Rattle.nd_shape.specs.declared.checks.CanIndexCheckMode.TheVariants.{OwnedMutable}
 use Rattle.nd_shape.specs.declared.shape_builder.Strides.{Strides}
 use Rattle.nd_shape.specs.declared.shape_builder.Strides.TheVariants.{C, F, Custom}
 use Rattle.nd_shape.specs.ShapeBuilder.{standard_strides, strides_list}
 use Rattle.nd_shape.proofs.laws.StandardStrides.{standard_valid, standard_low_span, standard_inside, standard_distinct}
-use Rattle.nd_shape_rules.proofs.laws.Acceptance.{accepted_valid, accepted_lies_inside, accepted_distinct}
+use Rattle.nd_shape.proofs.laws.Acceptance.{accepted_valid, accepted_lies_inside, accepted_distinct}
 
 -- ---- shapes by their own strides
 -- what is accepted has sizes within the limit, and no more indices than there are elements

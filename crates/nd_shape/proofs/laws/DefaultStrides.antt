@@ -15,9 +15,9 @@ use Rattle.nd_base.proofs.laws.Span.{sum_le}
 use Rattle.nd_dim.specs.Strides.{size_after, size_until, default_strides, fortran_strides}
 use Rattle.nd_base.specs.DistinctOffsets.{HasDistinctOffsets}
 use Rattle.nd_dim.specs.AxisOrder.{magnitude_at}
-use Rattle.nd_shape_rules.specs.OwnedRule.{span_up_to, span_of_others, MeetsOwnedRule}
-use Rattle.nd_shape_rules.proofs.laws.OwnedRule.{reach_up_to, reach_up_to_le}
-use Rattle.nd_shape_rules.proofs.laws.DistinctOffsets.{distinct_from_rule}
+use Rattle.nd_shape.specs.OwnedRule.{span_up_to, span_of_others, MeetsOwnedRule}
+use Rattle.nd_shape.proofs.laws.OwnedRule.{reach_up_to, reach_up_to_le}
+use Rattle.nd_shape.proofs.laws.DistinctOffsets.{distinct_from_rule}
 
 -- ---- the strides axis by axis
 -- each axis moves by the size of the axes after it

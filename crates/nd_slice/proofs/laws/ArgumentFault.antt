@@ -5,13 +5,13 @@ use Rattle.std.specs.Option.{option_or}
 use Rattle.std.specs.Prelude.{◌≡◌, ℕ, ℤ, Bool, ◌==◌, if◌then◌else◌, Option, Some, None, List, ◌∷◌, length}
 use Rattle.nd_base.specs.declared.error.ErrorKind.{ErrorKind}
 use Rattle.nd_base.specs.declared.error.ErrorKind.TheVariants.{IncompatibleShape}
-use Rattle.nd_slice_axis.specs.declared.fit.Fit.{Fit}
-use Rattle.nd_slice_axis.specs.declared.slice.Slice.{Slice}
-use Rattle.nd_slice_axis.specs.SliceFault.{SliceFits, IndexFits, slice_fault, index_fault}
+use Rattle.nd_slice.specs.declared.fit.Fit.{Fit}
+use Rattle.nd_slice.specs.declared.slice.Slice.{Slice}
+use Rattle.nd_slice.specs.SliceFault.{SliceFits, IndexFits, slice_fault, index_fault}
 use Rattle.nd_slice.specs.declared.elem.SliceInfoElem.{SliceInfoElem}
 use Rattle.nd_slice.specs.declared.elem.SliceInfoElem.TheVariants as elem
 use Rattle.nd_slice.specs.ArgumentFault.{in_count, first_fault, argument_fault}
-use Rattle.nd_slice_axis.proofs.laws.SliceFault.{fits_of_no_fault, index_fits_of_no_fault}
+use Rattle.nd_slice.proofs.laws.SliceFault.{fits_of_no_fault, index_fits_of_no_fault}
 
 both_none : (first second : Option ErrorKind) → option_or first second ≡ None → (first ≡ None) × (second ≡ None)
 both_none None second none = (refl, none)

@@ -6,12 +6,12 @@ use Rattle.std.specs.Prelude.{◌≡◌, ℕ, zero, suc, ℤ, ◌<◌, ◌↔◌
 use Rattle.std.specs.List.{AllZip, Contains}
 use Rattle.nd_base.specs.Indices.{is_index}
 use Rattle.nd_base.specs.Signed.{magnitude}
-use Rattle.nd_slice_axis.specs.declared.fit.Fit.{Fit}
-use Rattle.nd_slice_axis.specs.Picks.{slice_with, meaning, picks}
-use Rattle.nd_slice_axis.specs.SliceFault.{SliceFits, IndexFits}
-use Rattle.nd_slice_meet.proofs.laws.PickSequences.{contained_below}
-use Rattle.nd_slice_axis.proofs.laws.SliceFault.{entry_below}
-use Rattle.nd_slice_meet.specs.Picks.{PicksMeet}
+use Rattle.nd_slice.specs.declared.fit.Fit.{Fit}
+use Rattle.nd_slice.specs.Picks.{slice_with, meaning, picks}
+use Rattle.nd_slice.specs.SliceFault.{SliceFits, IndexFits}
+use Rattle.nd_slice.proofs.laws.PickSequences.{contained_below}
+use Rattle.nd_slice.proofs.laws.SliceFault.{entry_below}
+use Rattle.nd_slice.specs.PicksMeet.{PicksMeet}
 use Rattle.nd_slice.specs.declared.elem.SliceInfoElem.{SliceInfoElem}
 use Rattle.nd_slice.specs.declared.elem.SliceInfoElem.TheVariants as elem
 use Rattle.nd_slice.specs.ArgumentFault.{in_count, first_fault, argument_fault}

@@ -8,16 +8,16 @@ use Rattle.std.specs.List.{AllZip, Contains}
 use Rattle.std.specs.Prelude.{◌≡◌, ℕ, ◌<◌, IsTrue, nat_lt, None, List, [], ◌∷◌, length, slice_index}
 use Rattle.nd_base.specs.Indices.{is_index}
 use Rattle.nd_base.specs.Signed.{magnitude}
-use Rattle.nd_slice_axis.specs.declared.fit.Fit.{Fit}
+use Rattle.nd_slice.specs.declared.fit.Fit.{Fit}
 use Rattle.nd_slice.specs.declared.elem.SliceInfoElem.{SliceInfoElem}
 use Rattle.nd_slice.specs.declared.elem.SliceInfoElem.TheVariants as elem
-use Rattle.nd_slice_axis.specs.Picks.{slice_with, meaning, picks}
+use Rattle.nd_slice.specs.Picks.{slice_with, meaning, picks}
 use Rattle.nd_slice.specs.ArgumentFault.{in_count, first_fault, argument_fault}
 use Rattle.nd_slice.specs.Meet.{axis_picks}
 use Rattle.nd_slice.specs.Sliced.{sliced_shape}
 use Rattle.nd_slice.specs.Selected.{selected}
-use Rattle.nd_slice_axis.proofs.laws.Picks.{pick_below, picks_injective}
-use Rattle.nd_slice_axis.proofs.laws.SliceFault.{entry_below}
+use Rattle.nd_slice.proofs.laws.Picks.{pick_below, picks_injective}
+use Rattle.nd_slice.proofs.laws.SliceFault.{entry_below}
 use Rattle.nd_slice.proofs.laws.ArgumentFault.{elements_of_no_fault, slice_of_no_fault, index_of_no_fault}
 
 entries : (fit : Fit) (elems : List SliceInfoElem) (shape index : List ℕ) → in_count elems ≡ length shape → first_fault fit shape elems ≡ None → IsTrue (is_index (sliced_shape fit elems shape) index) → IsTrue (is_index shape (selected fit elems shape index))

@@ -1,9 +1,9 @@
 //! How the elements of a slice argument print.
 ghost use Rattle.std.specs.Prelude.{Some};
-ghost use Rattle.nd_slice.specs.Text.{elem_text};
+ghost use Rattle.nd_slice.specs.ElementText.{elem_text};
 
 use super::SliceInfoElem;
-use nd_slice_axis::Slice;
+use crate::slice::Slice;
 use std::fmt;
 
 /// Prints a range as its `Slice`, an index as its number, and a new axis as `NewAxis`.

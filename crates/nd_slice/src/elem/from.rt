@@ -1,11 +1,11 @@
 //! Elements of a slice argument from ranges and numbers.
 ghost use Rattle.std.specs.Prelude.{◌≡◌, pos, Some, None};
 ghost use Rattle.std.specs.Range.{range_inclusive_start, range_inclusive_end};
-ghost use Rattle.nd_slice_axis.specs.Ranges.{end_after};
+ghost use Rattle.nd_slice.specs.Ranges.{end_after};
 ghost use Rattle.nd_slice.specs.declared.elem.SliceInfoElem.TheVariants as elem_of;
 
 use super::{NewAxis, SliceInfoElem};
-use nd_slice_axis::Slice;
+use crate::slice::Slice;
 use std::ops::{Range, RangeFrom, RangeFull, RangeInclusive, RangeTo, RangeToInclusive};
 
 impl From<RangeFull> for SliceInfoElem {

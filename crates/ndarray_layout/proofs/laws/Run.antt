@@ -2,13 +2,13 @@
 use Rattle.std.proofs.Common.{◌≡◌, false, Option, Some, None, List, [], ◌∷◌, ◌++◌, refl}
 use Rattle.std.proofs.lemmas.List.Elements.{All-head, All-tail}
 use Rattle.nd_base.specs.declared.error.ErrorKind.{ErrorKind}
-use Rattle.ndarray_layout_views.specs.DistinctPlaces.{HasDistinctPlaces}
-use Rattle.ndarray_layout_views.specs.KeepsPlaces.{KeepsPlaces}
+use Rattle.ndarray_layout.specs.DistinctPlaces.{HasDistinctPlaces}
+use Rattle.ndarray_layout.specs.KeepsPlaces.{KeepsPlaces}
 use Rattle.ndarray_layout.specs.Run.{Outcome, stayed, unless_fault, joined, in_turn, run_of, HasNoBroadcast}
 use Rattle.ndarray_layout.specs.Step.{StepValue, step_fault, view_after, source_index, is_broadcast}
-use Rattle.ndarray_layout_views.specs.View.{View, IsView}
+use Rattle.ndarray_layout.specs.View.{View, IsView}
 use Rattle.ndarray_layout.proofs.Runs as runs
-use Rattle.ndarray_layout_views.proofs.laws.KeepsPlaces.{KeepsPlaces-stayed, KeepsPlaces-in_turn}
+use Rattle.ndarray_layout.proofs.laws.KeepsPlaces.{KeepsPlaces-stayed, KeepsPlaces-in_turn}
 use Rattle.ndarray_layout.proofs.laws.Step.{IsView-view_after, KeepsPlaces-view_after, HasDistinctPlaces-view_after}
 
 -- what is known of the view that is left: it is one, its indices lie where their sources do, and without a broadcast no two that were apart share a place

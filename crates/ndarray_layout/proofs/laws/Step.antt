@@ -1,14 +1,14 @@
 -- Laws of steps: one that fits a view makes a view of the same data, whose indices lie where those that they stand for do.
 use Rattle.std.proofs.Common.{◌≡◌, None, false}
-use Rattle.ndarray_layout_views.specs.DistinctPlaces.{HasDistinctPlaces}
-use Rattle.ndarray_layout_views.specs.KeepsPlaces.{KeepsPlaces}
+use Rattle.ndarray_layout.specs.DistinctPlaces.{HasDistinctPlaces}
+use Rattle.ndarray_layout.specs.KeepsPlaces.{KeepsPlaces}
 use Rattle.ndarray_layout.specs.Step.{StepValue, SliceBy, CollapseTo, MergeInto, ReshapeTo, BroadcastTo, step_fault, view_after, source_index, is_broadcast}
-use Rattle.ndarray_layout_views.specs.View.{View, IsView}
-use Rattle.ndarray_layout_strided.proofs.laws.ReshapedView.{IsView-reshape_of, KeepsPlaces-reshape_of, HasDistinctPlaces-reshape_of}
-use Rattle.ndarray_layout_views.proofs.laws.BroadcastView.{IsView-broadcast_of, KeepsPlaces-broadcast_of}
-use Rattle.ndarray_layout_views.proofs.laws.CollapsedView.{IsView-collapse_of, KeepsPlaces-collapse_of, HasDistinctPlaces-collapse_of}
-use Rattle.ndarray_layout_views.proofs.laws.MergedView.{IsView-merge_of, KeepsPlaces-merge_of, HasDistinctPlaces-merge_of}
-use Rattle.ndarray_layout_views.proofs.laws.SlicedView.{fits_of_no_refusal, IsView-slice_of, KeepsPlaces-slice_of, HasDistinctPlaces-slice_of}
+use Rattle.ndarray_layout.specs.View.{View, IsView}
+use Rattle.ndarray_layout.proofs.laws.ReshapedView.{IsView-reshape_of, KeepsPlaces-reshape_of, HasDistinctPlaces-reshape_of}
+use Rattle.ndarray_layout.proofs.laws.BroadcastView.{IsView-broadcast_of, KeepsPlaces-broadcast_of}
+use Rattle.ndarray_layout.proofs.laws.CollapsedView.{IsView-collapse_of, KeepsPlaces-collapse_of, HasDistinctPlaces-collapse_of}
+use Rattle.ndarray_layout.proofs.laws.MergedView.{IsView-merge_of, KeepsPlaces-merge_of, HasDistinctPlaces-merge_of}
+use Rattle.ndarray_layout.proofs.laws.SlicedView.{fits_of_no_refusal, IsView-slice_of, KeepsPlaces-slice_of, HasDistinctPlaces-slice_of}
 
 pub IsView-view_after : (view : View) (step : StepValue) → IsView view → step_fault view step ≡ None → IsView (view_after view step)
 IsView-view_after view (SliceBy elems fit) v fits = IsView-slice_of fit elems view v (fits_of_no_refusal fit None view.shape elems fits)

@@ -3,23 +3,23 @@ use Rattle.std.proofs.Common.{◌≡◌, ◌↔◌, ℕ, None, Some, Option, Lis
 use Rattle.std.proofs.lemmas.Bool.{eq-eqb, lt-ltb, ne_eqb}
 use Rattle.std.specs.Option.{option_or}
 use Rattle.nd_base.specs.declared.error.ErrorKind.{ErrorKind}
-use Rattle.nd_slice_axis.specs.declared.fit.Fit.{Fit}
-use Rattle.nd_slice_axis.specs.Picks.{slice_with}
-use Rattle.nd_slice_axis.specs.SliceFault.{slice_fault, index_fault}
-use Rattle.nd_slice_axis.proofs.laws.SliceFault.{fits_of_no_fault, no_fault_of_fits, index_fits_of_no_fault}
+use Rattle.nd_slice.specs.declared.fit.Fit.{Fit}
+use Rattle.nd_slice.specs.Picks.{slice_with}
+use Rattle.nd_slice.specs.SliceFault.{slice_fault, index_fault}
+use Rattle.nd_slice.proofs.laws.SliceFault.{fits_of_no_fault, no_fault_of_fits, index_fits_of_no_fault}
 use Rattle.nd_slice.specs.declared.elem.SliceInfoElem.{SliceInfoElem}
 use Rattle.nd_slice.specs.declared.elem.SliceInfoElem.TheVariants as elem
 use Rattle.nd_slice.specs.ArgumentFault.{in_count, first_fault}
 use Rattle.nd_slice.proofs.laws.ArgumentFault.{elements_of_no_fault}
 use Rattle.ndarray_layout.specs.Step.{StepValue, SliceBy, CollapseTo, MergeInto, ReshapeTo, BroadcastTo, step_fault}
 use Rattle.ndarray_layout.specs.StepFits.{ElementsFit, StepFits}
-use Rattle.ndarray_layout_views.specs.SlicedView.{slice_refusal}
-use Rattle.ndarray_layout_views.specs.View.{View, IsView}
-use Rattle.ndarray_layout_strided.proofs.laws.ReshapedView.{reshape_refusal-ReshapeFits}
-use Rattle.ndarray_layout_views.proofs.laws.BroadcastView.{can_broadcast, no_fault_where_it_can}
-use Rattle.ndarray_layout_views.proofs.laws.CollapsedView.{entry_of_no_fault}
-use Rattle.ndarray_layout_views.proofs.laws.MergedView as merged
-use Rattle.ndarray_layout_views.proofs.laws.SlicedView.{fits_of_no_refusal}
+use Rattle.ndarray_layout.specs.SlicedView.{slice_refusal}
+use Rattle.ndarray_layout.specs.View.{View, IsView}
+use Rattle.ndarray_layout.proofs.laws.ReshapedView.{reshape_refusal-ReshapeFits}
+use Rattle.ndarray_layout.proofs.laws.BroadcastView.{can_broadcast, no_fault_where_it_can}
+use Rattle.ndarray_layout.proofs.laws.CollapsedView.{entry_of_no_fault}
+use Rattle.ndarray_layout.proofs.laws.MergedView as merged
+use Rattle.ndarray_layout.proofs.laws.SlicedView.{fits_of_no_refusal}
 
 both_none : (first second : Option ErrorKind) → option_or first second ≡ None → (first ≡ None) × (second ≡ None)
 both_none None second none = (refl, none)

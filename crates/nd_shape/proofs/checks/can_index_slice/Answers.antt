@@ -1,9 +1,9 @@
 use Rattle.std.proofs.Common.{◌≡◌, sym, ◌∙◌}
 use Rattle.std.specs.Result.{result_err}
 use Rattle.nd_base.specs.Signed.{all_signed}
-use Rattle.nd_shape_rules.specs.Acceptance.{acceptance}
+use Rattle.nd_shape.specs.Acceptance.{acceptance}
 use Rattle.nd_shape.proofs.Answered.{on_ok_from}
-use Rattle.nd_shape_rules.proofs.laws.Acceptance.{accepted_distinct, accepted_lies_inside}
+use Rattle.nd_shape.proofs.laws.Acceptance.{accepted_distinct, accepted_lies_inside}
 use Rattle.nd_shape.proofs.checks.can_index_slice.Goals as goal
 
 pub returns-clause-inside : goal.returns-clause-inside

@@ -1,9 +1,9 @@
 use Rattle.std.proofs.Common.{◌≡◌, sym, ◌∙◌}
 use Rattle.std.specs.Result.{result_err}
 use Rattle.nd_base.specs.Signed.{all_signed}
-use Rattle.nd_shape_rules.specs.Acceptance.{size_fault}
+use Rattle.nd_shape.specs.Acceptance.{size_fault}
 use Rattle.nd_shape.proofs.Answered.{on_ok_from}
-use Rattle.nd_shape_rules.proofs.laws.Acceptance.{sized_valid}
+use Rattle.nd_shape.proofs.laws.Acceptance.{sized_valid}
 use Rattle.nd_shape.proofs.checks.max_abs_offset_check_overflow.Goals as goal
 
 pub returns-clause-valid : goal.returns-clause-valid

@@ -2,9 +2,9 @@ use Rattle.std.proofs.Common.{◌≡◌, sym, ◌∙◌}
 use Rattle.std.specs.Prelude.{not, ◌&&◌}
 use Rattle.nd_base.specs.Signed.{all_signed}
 use Rattle.nd_base.specs.Size.{is_empty}
-use Rattle.nd_shape_rules.specs.OwnedRule.{meets_owned_rule}
-use Rattle.nd_shape_rules.proofs.laws.DistinctOffsets.{distinct_without_overlap}
-use Rattle.nd_shape_rules.proofs.laws.OwnedRule.{no_overlap}
+use Rattle.nd_shape.specs.OwnedRule.{meets_owned_rule}
+use Rattle.nd_shape.proofs.laws.DistinctOffsets.{distinct_without_overlap}
+use Rattle.nd_shape.proofs.laws.OwnedRule.{no_overlap}
 use Rattle.nd_shape.proofs.overlap.dim_stride_overlap.Goals as goal
 
 pub returns-clause-answer : goal.returns-clause-answer

@@ -1,6 +1,6 @@
 -- Axes that are there can be merged exactly where a stride has the entries of both.
 use Rattle.std.proofs.Common.{Some, ap, sym, ◌∙◌}
-use Rattle.ndarray_layout_views.proofs.laws.MergedView.{merge_fault_of_answer}
+use Rattle.ndarray_layout.proofs.laws.MergedView.{merge_fault_of_answer}
 use Rattle.ndarray_layout.proofs.steps.merge_axes_of.Goals as goal
 
 pub returns-then-branch-clause-fault : goal.returns-then-branch-clause-fault

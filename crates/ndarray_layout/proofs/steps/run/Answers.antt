@@ -4,14 +4,14 @@ use Rattle.std.specs.List.{slice_get}
 use Rattle.std.specs.Option.{option_map}
 use Rattle.std.proofs.lemmas.List.{length-map, take_all}
 use Rattle.std.proofs.lemmas.Option.{slice_get-get_or, slice_get-map}
-use Rattle.ndarray_layout_views.specs.DistinctPlaces.{HasDistinctPlaces}
-use Rattle.ndarray_layout_views.specs.KeepsPlaces.{KeepsPlaces}
+use Rattle.ndarray_layout.specs.DistinctPlaces.{HasDistinctPlaces}
+use Rattle.ndarray_layout.specs.KeepsPlaces.{KeepsPlaces}
 use Rattle.ndarray_layout.specs.Run.{IsRefusedBy, run_of}
 use Rattle.ndarray_layout.specs.declared.steps.Step.{Step}
 use Rattle.ndarray_layout.specs.Step.{step_value}
-use Rattle.ndarray_layout_views.specs.View.{IsView}
+use Rattle.ndarray_layout.specs.View.{IsView}
 use Rattle.ndarray_layout.proofs.Runs.{all_fit, ended_by, not_stopped, taken_so_far}
-use Rattle.ndarray_layout_views.proofs.laws.KeepsPlaces.{LiesWithin-kept}
+use Rattle.ndarray_layout.proofs.laws.KeepsPlaces.{LiesWithin-kept}
 use Rattle.ndarray_layout.proofs.laws.Run.{run_sound}
 use Rattle.ndarray_layout.proofs.steps.run.Goals as goal
 

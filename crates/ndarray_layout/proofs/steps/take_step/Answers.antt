@@ -7,7 +7,7 @@ use Rattle.nd_base.specs.declared.error.LayoutError.TheVariants.{Shape}
 use Rattle.ndarray_layout.specs.Run.{IsRefusedBy}
 use Rattle.nd_base.specs.Dim.{lengths}
 use Rattle.ndarray_layout.specs.Step.{SliceBy, MergeInto, ReshapeTo}
-use Rattle.ndarray_layout_views.specs.View.{View}
+use Rattle.ndarray_layout.specs.View.{View}
 use Rattle.ndarray_layout.proofs.Runs.{refused_of, reshape_refused_of}
 use Rattle.ndarray_layout.proofs.steps.take_step.Goals as goal
 use Rattle.ndarray_layout.proofs.steps.take_step.Goals.{in-Slice+in_ok-sliced-in-Slice, in-Collapse+in_ok-collapse-in-Collapse, in-Merge+in_ok-merge_axes_of-in-Merge, in-Reshape+in_ok-reshaped-in-Reshape, in-Broadcast+in_ok-stretched-in-Broadcast}

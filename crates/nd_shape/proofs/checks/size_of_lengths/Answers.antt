@@ -1,0 +1,20 @@
+use Rattle.std.proofs.Common.{◌≡◌, true, false, sym, ◌∙◌, arith}
+use Rattle.std.proofs.lemmas.Grind.{common_steps}
+use Rattle.nd_base.proofs.laws.Size.{size_of_empty}
+use Rattle.nd_base.specs.Size.{is_empty, nonzero_size}
+use Rattle.nd_base.proofs.laws.NonzeroSize.{nonzero_size_of_nonempty}
+use Rattle.nd_shape.proofs.checks.size_of_lengths.Goals as goal
+use Rattle.nd_shape.proofs.checks.size_of_lengths.Goals.{then-contains, else-contains}
+
+pub returns-clause-ok : goal.returns-clause-ok
+returns-clause-ok c =
+    let shape = c.args.shape.now in
+    elim c.if-contains.branch [
+      | then-contains w ↦
+          let none : is_empty shape ≡ true = sym c.contains.ensures.value ∙ w.if-contains.true in
+          w.result-is ∙ sym (size_of_empty shape none)
+      | else-contains w ↦
+          let some : is_empty shape ≡ false = sym c.contains.ensures.value ∙ w.if-contains.false in
+          let product : c.in_ok-size.size ≡ nonzero_size shape = grind (arith, common_steps, c.in_ok-size.ensures) in
+          w.result-is ∙ product ∙ nonzero_size_of_nonempty shape some
+    ]

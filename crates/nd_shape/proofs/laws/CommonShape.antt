@@ -1,0 +1,260 @@
+-- Laws of the shape that two shapes have in common: the order and the grouping of shapes don't matter, success included.
+use Rattle.std.proofs.Common.{◌≡◌, ◌≢◌, ℕ, zero, suc, ◌+◌, ◌-◌, ◌≤◌, max, cond, eqb, Option, Some, None, is_some, List, [], ◌∷◌, ◌++◌, length, replicate, inl, inr, refl, sym, ap, ◌∙◌, arith, append_assoc, length-append}
+use Rattle.std.specs.Option.{option_map, option_and_then}
+use Rattle.std.proofs.lemmas.Bool.{cases_eq, cond-true, cond-false, eq-eqb, ne_eqb}
+use Rattle.std.proofs.lemmas.List.{length-replicate, replicate-append-replicate}
+use Rattle.nd_base.specs.declared.error.ErrorKind.TheVariants.{IncompatibleShape}
+use Rattle.nd_shape.specs.CommonShape.{common_length, common_lengths, padded, common_shape, common_shape_fault}
+
+-- ---- one length
+-- a length has itself in common with itself
+pub common_with_same : (len other : ℕ) → len ≡ other → common_length len other ≡ Some len
+common_with_same len other e = cond-true (eqb len other) (Some len) _ (eq-eqb len other e)
+
+-- and any length with 1, on either side
+pub common_from_one : (other : ℕ) → common_length 1 other ≡ Some other
+common_from_one other =
+    elim (cases_eq 1 other) [
+      | inl e ↦ common_with_same 1 other e ∙ ap Some e
+      | inr e ↦ cond-false (eqb 1 other) (Some 1) (Some other) (ne_eqb 1 other e)
+    ]
+
+pub common_with_one : (len : ℕ) → common_length len 1 ≡ Some len
+common_with_one len =
+    elim (cases_eq len 1) [
+      | inl e ↦ common_with_same len 1 e
+      | inr e ↦ cond-false (eqb len 1) (Some len) _ (ne_eqb len 1 e) ∙ cond-false (eqb len 1) (Some 1) (Some len) (ne_eqb len 1 e)
+    ]
+
+-- two others have none
+pub common_of_others : (len other : ℕ) → len ≢ other → len ≢ 1 → other ≢ 1 → common_length len other ≡ None
+common_of_others len other e f g =
+    cond-false (eqb len other) (Some len) _ (ne_eqb len other e)
+    ∙ cond-false (eqb len 1) (Some other) _ (ne_eqb len 1 f)
+    ∙ cond-false (eqb other 1) (Some len) None (ne_eqb other 1 g)
+
+common_length-commutes : (len other : ℕ) → common_length len other ≡ common_length other len
+common_length-commutes len other =
+    elim (cases_eq len 1) [
+      | inl e ↦ ap (λ n. common_length n other) e ∙ common_from_one other ∙ sym (ap (common_length other) e ∙ common_with_one other)
+      | inr e ↦ elim (cases_eq other 1) [
+        | inl f ↦ ap (common_length len) f ∙ common_with_one len ∙ sym (ap (λ n. common_length n len) f ∙ common_from_one len)
+        | inr f ↦ elim (cases_eq len other) [
+          | inl g ↦ common_with_same len other g ∙ ap Some g ∙ sym (common_with_same other len (sym g))
+          | inr g ↦ common_of_others len other g e f ∙ sym (common_of_others other len (λ h. g (sym h)) f e)
+        ]
+      ]
+    ]
+
+after_one : (o : Option ℕ) → option_and_then (λ n. common_length 1 n) o ≡ o
+after_one None = refl
+after_one (Some n) = common_from_one n
+
+before_one : (o : Option ℕ) → option_and_then (λ n. common_length n 1) o ≡ o
+before_one None = refl
+before_one (Some n) = common_with_one n
+
+common_length-associates : (a b c : ℕ) → option_and_then (λ n. common_length n c) (common_length a b) ≡ option_and_then (λ n. common_length a n) (common_length b c)
+common_length-associates a b c =
+    elim (cases_eq a 1) [
+      | inl e ↦
+          ap (λ n. option_and_then (λ m. common_length m c) (common_length n b)) e
+          ∙ ap (option_and_then (λ m. common_length m c)) (common_from_one b)
+          ∙ sym (after_one (common_length b c))
+          ∙ ap (λ n. option_and_then (λ m. common_length n m) (common_length b c)) (sym e)
+      | inr e ↦ elim (cases_eq b 1) [
+        | inl f ↦
+            ap (λ n. option_and_then (λ m. common_length m c) (common_length a n)) f
+            ∙ ap (option_and_then (λ m. common_length m c)) (common_with_one a)
+            ∙ sym (ap (λ n. option_and_then (λ m. common_length a m) (common_length n c)) f
+            ∙ ap (option_and_then (λ m. common_length a m)) (common_from_one c))
+        | inr f ↦ elim (cases_eq c 1) [
+          | inl g ↦
+              ap (λ n. option_and_then (λ m. common_length m n) (common_length a b)) g
+              ∙ before_one (common_length a b)
+              ∙ sym (ap (λ n. option_and_then (λ m. common_length a m) (common_length b n)) g
+              ∙ ap (option_and_then (λ m. common_length a m)) (common_with_one b))
+          | inr g ↦ elim (cases_eq a b) [
+            | inl h ↦
+                ap (option_and_then (λ m. common_length m c)) (common_with_same a b h)
+                ∙ elim (cases_eq b c) [
+                  | inl k ↦ common_with_same a c (h ∙ k) ∙ sym (ap (option_and_then (λ m. common_length a m)) (common_with_same b c k) ∙ common_with_same a b h)
+                  | inr k ↦ common_of_others a c (λ l. k (sym h ∙ l)) e g ∙ sym (ap (option_and_then (λ m. common_length a m)) (common_of_others b c k f g))
+                ]
+            | inr h ↦
+                ap (option_and_then (λ m. common_length m c)) (common_of_others a b h e f)
+                ∙ elim (cases_eq b c) [
+                  | inl k ↦ sym (ap (option_and_then (λ m. common_length a m)) (common_with_same b c k) ∙ common_of_others a b h e f)
+                  | inr k ↦ sym (ap (option_and_then (λ m. common_length a m)) (common_of_others b c k f g))
+                ]
+          ]
+        ]
+      ]
+    ]
+
+-- ---- as many lengths on both sides
+-- a length before others, where both are there
+abbrev joined : Option ℕ → Option (List ℕ) → Option (List ℕ)
+joined first rest = option_and_then (λ len. option_map (λ lens. len ∷ lens) rest) first
+
+joined_to_none : (o : Option ℕ) → joined o None ≡ None
+joined_to_none None = refl
+joined_to_none (Some len) = refl
+
+common_lengths-commutes : (lens others : List ℕ) → length lens ≡ length others → common_lengths lens others ≡ common_lengths others lens
+common_lengths-commutes [] [] e = refl
+common_lengths-commutes [] (other ∷ others) e = absurd (omega arith)
+common_lengths-commutes (len ∷ lens) [] e = absurd (omega arith)
+common_lengths-commutes (len ∷ lens) (other ∷ others) e =
+    ap (λ o. joined o (common_lengths lens others)) (common_length-commutes len other)
+    ∙ ap (joined (common_length other len)) (common_lengths-commutes lens others (omega arith))
+
+common_lengths-idempotent : (lens : List ℕ) → common_lengths lens lens ≡ Some lens
+common_lengths-idempotent [] = refl
+common_lengths-idempotent (len ∷ lens) =
+    ap (λ o. joined o (common_lengths lens lens)) (common_with_same len len refl)
+    ∙ ap (joined (Some len)) (common_lengths-idempotent lens)
+
+-- a third list joins part by part, from either side
+third_after : (o : Option ℕ) (p : Option (List ℕ)) (c : ℕ) (cs : List ℕ) → option_and_then (λ s. common_lengths s (c ∷ cs)) (joined o p) ≡ joined (option_and_then (λ n. common_length n c) o) (option_and_then (λ s. common_lengths s cs) p)
+third_after None p c cs = refl
+third_after (Some n) None c cs = sym (joined_to_none (common_length n c))
+third_after (Some n) (Some s) c cs = refl
+
+third_before : (a : ℕ) (as' : List ℕ) (o : Option ℕ) (p : Option (List ℕ)) → option_and_then (λ s. common_lengths (a ∷ as') s) (joined o p) ≡ joined (option_and_then (λ n. common_length a n) o) (option_and_then (λ s. common_lengths as' s) p)
+third_before a as' None p = refl
+third_before a as' (Some n) None = sym (joined_to_none (common_length a n))
+third_before a as' (Some n) (Some s) = refl
+
+common_lengths-associates : (xs ys zs : List ℕ) → length xs ≡ length ys → length ys ≡ length zs → option_and_then (λ s. common_lengths s zs) (common_lengths xs ys) ≡ option_and_then (λ s. common_lengths xs s) (common_lengths ys zs)
+common_lengths-associates [] [] [] e f = refl
+common_lengths-associates [] [] (z ∷ zs) e f = absurd (omega arith)
+common_lengths-associates [] (y ∷ ys) zs e f = absurd (omega arith)
+common_lengths-associates (x ∷ xs) [] zs e f = absurd (omega arith)
+common_lengths-associates (x ∷ xs) (y ∷ ys) [] e f = absurd (omega arith)
+common_lengths-associates (x ∷ xs) (y ∷ ys) (z ∷ zs) e f =
+    third_after (common_length x y) (common_lengths xs ys) z zs
+    ∙ ap (λ o. joined o (option_and_then (λ s. common_lengths s zs) (common_lengths xs ys))) (common_length-associates x y z)
+    ∙ ap (joined (option_and_then (λ n. common_length x n) (common_length y z))) (common_lengths-associates xs ys zs (omega arith) (omega arith))
+    ∙ sym (third_before x xs (common_length y z) (common_lengths ys zs))
+
+joined_count : (o : Option ℕ) (p : Option (List ℕ)) (n : ℕ) → ((s : List ℕ) → p ≡ Some s → length s ≡ n) → (s : List ℕ) → joined o p ≡ Some s → length s ≡ suc n
+joined_count None p n h s e = absurd (cc)
+joined_count (Some len) None n h s e = absurd (cc)
+joined_count (Some len) (Some lens) n h s e =
+    let same : len ∷ lens ≡ s = cc in
+    ap length (sym same) ∙ ap suc (h lens refl)
+
+common_lengths_count : (lens others s : List ℕ) → length lens ≡ length others → common_lengths lens others ≡ Some s → length s ≡ length lens
+common_lengths_count [] others s e h =
+    let same : [] ≡ s = cc in
+    ap length (sym same)
+common_lengths_count (len ∷ lens) [] s e h = absurd (omega arith)
+common_lengths_count (len ∷ lens) (other ∷ others) s e h =
+    joined_count (common_length len other) (common_lengths lens others) (length lens) (λ t g. common_lengths_count lens others t (omega arith) g) s h
+
+-- ---- lengths of 1 in front
+mapped_twice : (f g : List ℕ → List ℕ) (o : Option (List ℕ)) → option_map f (option_map g o) ≡ option_map (λ s. f (g s)) o
+mapped_twice f g None = refl
+mapped_twice f g (Some s) = refl
+
+mapped_alike : (f g : List ℕ → List ℕ) (o : Option (List ℕ)) → ((s : List ℕ) → o ≡ Some s → f s ≡ g s) → option_map f o ≡ option_map g o
+mapped_alike f g None h = refl
+mapped_alike f g (Some s) h = ap Some (h s refl)
+
+-- ones before both lists stay before what they have in common
+common_after_ones : (n : ℕ) (lens others : List ℕ) → common_lengths (replicate n 1 ++ lens) (replicate n 1 ++ others) ≡ option_map (λ s. replicate n 1 ++ s) (common_lengths lens others)
+common_after_ones zero lens others = by (common_lengths lens others)
+  where
+    by : (o : Option (List ℕ)) → o ≡ option_map (λ s. [] ++ s) o
+    by None = refl
+    by (Some s) = refl
+common_after_ones (suc n) lens others =
+    ap (joined (Some 1)) (common_after_ones n lens others)
+    ∙ mapped_twice (λ s. 1 ∷ s) (λ s. replicate n 1 ++ s) (common_lengths lens others)
+
+-- with ones in front there are as many
+pub length-padded : (count : ℕ) (shape : List ℕ) → length shape ≤ count → length (padded count shape) ≡ count
+length-padded count shape h = omega (arith, length-append (replicate (count - length shape) 1) shape, length-replicate {A = ℕ} (count - length shape) 1)
+
+ones_before_ones : (m n : ℕ) (shape : List ℕ) → replicate (m + n) 1 ++ shape ≡ replicate m 1 ++ (replicate n 1 ++ shape)
+ones_before_ones m n shape = ap (λ ones. ones ++ shape) (sym (replicate-append-replicate m n 1)) ∙ append_assoc (replicate m 1) (replicate n 1) shape
+
+-- ones in front up to a count, and then to a greater one
+padded_more : (n m : ℕ) (shape : List ℕ) → length shape ≤ n → n ≤ m → padded m shape ≡ replicate (m - n) 1 ++ padded n shape
+padded_more n m shape h g =
+    let parts : m - length shape ≡ (m - n) + (n - length shape) = omega arith in
+    ap (λ k. replicate k 1 ++ shape) parts ∙ ones_before_ones (m - n) (n - length shape) shape
+
+-- the common shape has the greater count of axes
+pub common_shape_count : (shape other s : List ℕ) → common_shape shape other ≡ Some s → length s ≡ max (length shape) (length other)
+common_shape_count shape other s h =
+    let n = max (length shape) (length other) in
+    let one : length (padded n shape) ≡ n = length-padded n shape (omega arith) in
+    let two : length (padded n other) ≡ n = length-padded n other (omega arith) in
+    common_lengths_count (padded n shape) (padded n other) s (one ∙ sym two) h ∙ one
+
+-- with more ones in front of both it is the same, with as many in front
+common_shape_at : (n : ℕ) (shape other : List ℕ) → length shape ≤ n → length other ≤ n → common_lengths (padded n shape) (padded n other) ≡ option_map (padded n) (common_shape shape other)
+common_shape_at n shape other h g =
+    let m = max (length shape) (length other) in
+    ap (λ xs. common_lengths xs (padded n other)) (padded_more m n shape (omega arith) (omega arith))
+    ∙ ap (common_lengths (replicate (n - m) 1 ++ padded m shape)) (padded_more m n other (omega arith) (omega arith))
+    ∙ common_after_ones (n - m) (padded m shape) (padded m other)
+    ∙ mapped_alike (λ s. replicate (n - m) 1 ++ s) (padded n) (common_shape shape other) (λ s e. ap (λ k. replicate (n - k) 1 ++ s) (sym (common_shape_count shape other s e)))
+
+-- ---- the laws
+-- in either order
+pub common_shape-commutes : (shape other : List ℕ) → common_shape shape other ≡ common_shape other shape
+common_shape-commutes shape other =
+    let n = max (length shape) (length other) in
+    let m = max (length other) (length shape) in
+    let same : n ≡ m = omega arith in
+    let one : length (padded n shape) ≡ n = length-padded n shape (omega arith) in
+    let two : length (padded n other) ≡ n = length-padded n other (omega arith) in
+    common_lengths-commutes (padded n shape) (padded n other) (one ∙ sym two)
+    ∙ ap (λ k. common_lengths (padded k other) (padded k shape)) same
+
+pub common_shape_fault-commutes : (shape other : List ℕ) → common_shape_fault shape other ≡ common_shape_fault other shape
+common_shape_fault-commutes shape other = ap (λ o. cond (is_some o) None (Some IncompatibleShape)) (common_shape-commutes shape other)
+
+-- a shape with itself is itself
+pub common_shape-idempotent : (shape : List ℕ) → common_shape shape shape ≡ Some shape
+common_shape-idempotent shape =
+    let n = max (length shape) (length shape) in
+    let none : n - length shape ≡ 0 = omega arith in
+    ap (λ k. common_lengths (replicate k 1 ++ shape) (replicate k 1 ++ shape)) none
+    ∙ common_lengths-idempotent shape
+
+followed_alike : (f g : List ℕ → Option (List ℕ)) (o : Option (List ℕ)) → ((s : List ℕ) → o ≡ Some s → f s ≡ g s) → option_and_then f o ≡ option_and_then g o
+followed_alike f g None h = refl
+followed_alike f g (Some s) h = h s refl
+
+followed_mapped : (f : List ℕ → Option (List ℕ)) (g : List ℕ → List ℕ) (o : Option (List ℕ)) → option_and_then (λ s. f (g s)) o ≡ option_and_then f (option_map g o)
+followed_mapped f g None = refl
+followed_mapped f g (Some s) = refl
+
+-- of three shapes, all of one count
+three_at : (n : ℕ) (xs ys zs : List ℕ) → n ≡ max (max (length xs) (length ys)) (length zs) → option_and_then (λ s. common_shape s zs) (common_shape xs ys) ≡ option_and_then (λ s. common_lengths s (padded n zs)) (common_lengths (padded n xs) (padded n ys))
+three_at n xs ys zs e =
+    followed_alike (λ s. common_shape s zs) (λ s. common_lengths (padded n s) (padded n zs)) (common_shape xs ys) (λ s h.
+    let count : max (length s) (length zs) ≡ n = ap (λ k. max k (length zs)) (common_shape_count xs ys s h) ∙ sym e in
+    ap (λ k. common_lengths (padded k s) (padded k zs)) count)
+    ∙ followed_mapped (λ s. common_lengths s (padded n zs)) (padded n) (common_shape xs ys)
+    ∙ ap (option_and_then (λ s. common_lengths s (padded n zs))) (sym (common_shape_at n xs ys (omega arith) (omega arith)))
+
+-- three shapes have one in common however they are grouped, or none
+pub common_shape-associates : (xs ys zs : List ℕ) → option_and_then (λ s. common_shape s zs) (common_shape xs ys) ≡ option_and_then (λ s. common_shape xs s) (common_shape ys zs)
+common_shape-associates xs ys zs =
+    let n = max (max (length xs) (length ys)) (length zs) in
+    let px = padded n xs in
+    let py = padded n ys in
+    let pz = padded n zs in
+    let cx : length px ≡ n = length-padded n xs (omega arith) in
+    let cy : length py ≡ n = length-padded n ys (omega arith) in
+    let cz : length pz ≡ n = length-padded n zs (omega arith) in
+    three_at n xs ys zs refl
+    ∙ common_lengths-associates px py pz (cx ∙ sym cy) (cy ∙ sym cz)
+    ∙ followed_alike (λ s. common_lengths px s) (λ s. common_lengths s px) (common_lengths py pz) (λ s h. common_lengths-commutes px s (cx ∙ sym (common_lengths_count py pz s (cy ∙ sym cz) h ∙ cy)))
+    ∙ sym (three_at n ys zs xs (omega arith))
+    ∙ followed_alike (λ s. common_shape s xs) (λ s. common_shape xs s) (common_shape ys zs) (λ s h. common_shape-commutes s xs)

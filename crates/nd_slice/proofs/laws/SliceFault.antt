@@ -1,0 +1,54 @@
+-- What no fault means: a slice that fits, and an index that is an entry.
+use Rattle.std.proofs.Common.{◌<◌, ◌≤◌, pos, negsuc, true, false, refl, pos_of_ne-zero}
+use Rattle.std.proofs.lemmas.Bool.{and_parts, eqb-false, leb-true, ltb-true}
+use Rattle.std.specs.Prelude.{◌≡◌, ℕ, ℤ, IsTrue, Bool, ◌==◌, not, if◌then◌else◌, Some, None}
+use Rattle.nd_base.specs.declared.error.ErrorKind.TheVariants.{OutOfBounds, Unsupported}
+use Rattle.nd_base.specs.Signed.{magnitude}
+use Rattle.nd_slice.specs.declared.fit.Fit.{Fit}
+use Rattle.nd_slice.specs.declared.slice.Slice.{Slice}
+use Rattle.nd_slice.specs.Picks.{meaning, is_bound, is_entry, start_meaning, end_meaning}
+use Rattle.nd_slice.specs.SliceFault.{is_within, SliceFits, IndexFits, slice_fault, index_fault}
+
+neither : (within zero_step : Bool) → (if not within then Some OutOfBounds else if zero_step then Some Unsupported else None) ≡ None → (within ≡ true) × (zero_step ≡ false)
+neither true true none = absurd (cc)
+neither true false none = (refl, refl)
+neither false zero_step none = absurd (cc)
+
+-- a slice without fault fits
+pub fits_of_no_fault : (fit : Fit) (len : ℕ) (slice : Slice) → slice_fault fit len slice ≡ None → SliceFits fit len slice
+fits_of_no_fault fit len slice none =
+    let parts = neither (is_within fit len slice) (magnitude slice.step == 0) none in
+    let bounds = and_parts (is_bound len (start_meaning fit len slice)) (is_bound len (end_meaning fit len slice)) parts.0 in
+    record { start_within = bounds.0; end_within = bounds.1; step_moves = parts.1 }
+
+-- a slice that fits has no fault
+pub no_fault_of_fits : (fit : Fit) (len : ℕ) (slice : Slice) → SliceFits fit len slice → slice_fault fit len slice ≡ None
+no_fault_of_fits fit len slice fits = rw (fits.start_within, fits.end_within, fits.step_moves) refl
+
+-- the step of a slice that fits moves
+pub step_moves : (fit : Fit) (len : ℕ) (slice : Slice) → SliceFits fit len slice → 0 < magnitude slice.step
+step_moves fit len slice fits = pos_of_ne-zero (eqb-false (magnitude slice.step) 0 fits.step_moves)
+
+bound_below : (len : ℕ) (bound : ℤ) → IsTrue (is_bound len bound) → magnitude bound ≤ len
+bound_below len (pos bound) within = leb-true bound len within
+bound_below len (negsuc bound) within = absurd (cc)
+
+-- it stops at the end of the axis or before
+pub end_below : (fit : Fit) (len : ℕ) (slice : Slice) → SliceFits fit len slice → magnitude (end_meaning fit len slice) ≤ len
+end_below fit len slice fits = bound_below len (end_meaning fit len slice) fits.end_within
+
+entry_is : (entry : Bool) → (if entry then None else Some OutOfBounds) ≡ None → entry ≡ true
+entry_is true none = refl
+entry_is false none = absurd (cc)
+
+-- an index without fault means an entry
+pub index_fits_of_no_fault : (len : ℕ) (index : ℤ) → index_fault len index ≡ None → IndexFits len index
+index_fits_of_no_fault len index none = entry_is (is_entry len (meaning len index)) none
+
+entry_at : (len : ℕ) (entry : ℤ) → IsTrue (is_entry len entry) → (entry ≡ pos (magnitude entry)) × (magnitude entry < len)
+entry_at len (pos entry) is = (refl, ltb-true entry len is)
+entry_at len (negsuc entry) is = absurd (cc)
+
+-- the entry that an index means is on the axis
+pub entry_below : (len : ℕ) (index : ℤ) → IndexFits len index → (meaning len index ≡ pos (magnitude (meaning len index))) × (magnitude (meaning len index) < len)
+entry_below len index fits = entry_at len (meaning len index) fits

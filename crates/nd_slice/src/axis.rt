@@ -1,0 +1,68 @@
+//! What a slice leaves of an axis.
+ghost use Rattle.std.specs.Prelude.{◌≡◌, ℕ, ◌<◌, ◌≤◌, ◌^◌, pos, ◌+ℤ◌, ◌*ℤ◌, IfOk, OnOk, OnErr, FitsSigned, length, slice_index};
+ghost use Rattle.std.specs.Int.{w64};
+ghost use Rattle.std.specs.Result.{result_err};
+ghost use Rattle.nd_base.specs.Signed.{signed as signed_reading};
+ghost use Rattle.nd_base.specs.Size.{limit};
+ghost use Rattle.nd_base.specs.Span.{reach};
+ghost use Rattle.nd_slice.specs.Picks.{picks};
+ghost use Rattle.nd_slice.specs.SliceFault.{slice_fault};
+ghost use Rattle.nd_slice.specs.Picked.{picked_stride, first_offset};
+
+use crate::axis_slice::{first_pick, pick_count, to_abs_slice};
+use crate::fit::Fit;
+use crate::slice::Slice;
+use nd_base::{ShapeError, signed, stride_offset, unsigned};
+
+/// The stride in elements of `count` entries that lie `step` entries of an axis of a stride apart; 0
+/// where there is at most one.
+#[inline(always)]
+fn stepped_stride(count: usize, stride: usize, step: isize) -> usize
+    requires { 1 < count → FitsSigned w64 (signed_reading stride *ℤ step) }
+    ensures { signed_reading result ≡ picked_stride count (signed_reading stride) step }
+{
+    if count <= 1 {
+        0
+    } else {
+        unsigned(signed(stride) * step)
+    }
+}
+
+/// Slices one axis in place: its length `dim` becomes the number of entries picked, and its stride, in
+/// elements, the distance from one of them to the next, 0 where there is at most one. Answers how many
+/// elements the first of them lies after the first entry, with its sign; 0 where there is none. The
+/// caller ensures that the length and the reach of the axis, (length - 1) * |stride|, are at most
+/// `isize::MAX`. Fails as `to_abs_slice` does, and then the length and the stride stay. ndarray's
+/// `do_slice`.
+#[inline]
+pub fn do_slice(
+    dim: &mut usize,
+    stride: &mut usize,
+    slice: Slice,
+    fit: Fit,
+) -> Result<isize, ShapeError>
+    requires len_fits { dim.old < 2 ^ 63 }
+    requires span_fits { reach dim.old (signed_reading stride.old) ≤ limit }
+    ensures fault { result_err result ≡ slice_fault fit dim.old slice }
+    ensures len { OnOk result (dim.new ≡ length (picks fit dim.old slice)) }
+    ensures stride { OnOk result (signed_reading stride.new
+        ≡ picked_stride (length (picks fit dim.old slice)) (signed_reading stride.old) slice.step) }
+    ensures offset { IfOk result (λ offset.
+        offset ≡ first_offset (picks fit dim.old slice) (signed_reading stride.old)) }
+    ensures steps { IfOk result (λ offset. (j : ℕ) → j < dim.new →
+        pos (slice_index (picks fit dim.old slice) j) *ℤ signed_reading stride.old
+        ≡ offset +ℤ (pos j *ℤ signed_reading stride.new)) }
+    ensures within { OnOk result ((j : ℕ) → j < dim.new →
+        slice_index (picks fit dim.old slice) j < dim.old) }
+    ensures refusal { OnErr result ((dim.new ≡ dim.old) × (stride.new ≡ stride.old)) }
+{
+    let (start, end, step) = to_abs_slice(*dim, slice, fit)?;
+    let offset = if start < end {
+        stride_offset(first_pick(start, end, step), *stride)
+    } else {
+        0
+    };
+    *dim = pick_count(start, end, step);
+    *stride = stepped_stride(*dim, *stride, step);
+    Ok(offset)
+}

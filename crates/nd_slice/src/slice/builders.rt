@@ -1,0 +1,105 @@
+//! Slices from ranges that need a condition.
+ghost use Rattle.std.specs.Prelude.{◌≡◌, ◌+◌, ◌<◌, ◌≤◌, pos, ◌<ℤ◌, Some, None};
+ghost use Rattle.nd_base.specs.Size.{limit};
+ghost use Rattle.nd_slice.specs.Picks.{slice_with};
+ghost use Rattle.nd_slice.specs.Ranges.{end_after};
+
+use super::Slice;
+
+/// The number that a range stops before where `last` is its last entry; none where that is -1, the last
+/// entry of the axis.
+#[inline]
+fn end_after(last: isize) -> Option<isize>
+    requires { last <ℤ pos limit }
+    ensures { result ≡ end_after last }
+{
+    if last == -1 { None } else { Some(last + 1) }
+}
+
+impl Slice {
+    /// The entries from `first` to `last`, both included; either counts from the end of the axis where
+    /// it is negative. The caller ensures that `last` is below `isize::MAX`. For ndarray's `From` of
+    /// `a..=b`.
+    #[inline]
+    pub fn inclusive(first: isize, last: isize) -> Slice
+        requires { last <ℤ pos limit }
+        ensures { result ≡ slice_with first (end_after last) (pos 1) }
+    {
+        Slice {
+            start: first,
+            end: end_after(last),
+            step: 1,
+        }
+    }
+
+    /// The entries up to `last`, included, which counts from the end of the axis where it is negative.
+    /// The caller ensures that `last` is below `isize::MAX`. For ndarray's `From` of `..=b`.
+    #[inline]
+    pub fn to_inclusive(last: isize) -> Slice
+        requires { last <ℤ pos limit }
+        ensures { result ≡ slice_with (pos 0) (end_after last) (pos 1) }
+    {
+        Slice::inclusive(0, last)
+    }
+
+    /// The entries from `start` up to, not including, `end`, both counted from the first entry. The
+    /// caller ensures that both are at most `isize::MAX`. For ndarray's `From` of `a..b` over `usize`.
+    #[inline]
+    pub fn of_usize(start: usize, end: usize) -> Slice
+        requires start_fits { start ≤ limit }
+        requires end_fits { end ≤ limit }
+        ensures { result ≡ slice_with (pos start) (Some (pos end)) (pos 1) }
+    {
+        Slice {
+            start: start as isize,
+            end: Some(end as isize),
+            step: 1,
+        }
+    }
+
+    /// The entries from `start` on, counted from the first entry. The caller ensures that `start` is at
+    /// most `isize::MAX`. For ndarray's `From` of `a..` over `usize`.
+    #[inline]
+    pub fn from_usize(start: usize) -> Slice
+        requires { start ≤ limit }
+        ensures { result ≡ slice_with (pos start) None (pos 1) }
+    {
+        Slice {
+            start: start as isize,
+            end: None,
+            step: 1,
+        }
+    }
+
+    /// The entries up to, not including, `end`, counted from the first entry. The caller ensures that
+    /// `end` is at most `isize::MAX`. For ndarray's `From` of `..b` over `usize`.
+    #[inline]
+    pub fn to_usize(end: usize) -> Slice
+        requires { end ≤ limit }
+        ensures { result ≡ slice_with (pos 0) (Some (pos end)) (pos 1) }
+    {
+        Slice::of_usize(0, end)
+    }
+
+    /// The entries from `first` to `last`, both included and counted from the first entry of the axis.
+    /// The caller ensures that `first` is at most `isize::MAX` and `last` below it. For ndarray's
+    /// `From` of `a..=b` over `usize`.
+    #[inline]
+    pub fn inclusive_usize(first: usize, last: usize) -> Slice
+        requires first_fits { first ≤ limit }
+        requires last_fits { last < limit }
+        ensures { result ≡ slice_with (pos first) (Some (pos (last + 1))) (pos 1) }
+    {
+        Slice::of_usize(first, last + 1)
+    }
+
+    /// The entries up to `last`, included and counted from the first entry. The caller ensures that
+    /// `last` is below `isize::MAX`. For ndarray's `From` of `..=b` over `usize`.
+    #[inline]
+    pub fn to_inclusive_usize(last: usize) -> Slice
+        requires { last < limit }
+        ensures { result ≡ slice_with (pos 0) (Some (pos (last + 1))) (pos 1) }
+    {
+        Slice::inclusive_usize(0, last)
+    }
+}

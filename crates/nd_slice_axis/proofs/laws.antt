@@ -1,4 +1,0 @@
-pub mod Between
-pub mod Picked
-pub mod Picks
-pub mod SliceFault

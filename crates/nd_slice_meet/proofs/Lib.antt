@@ -1,6 +1,0 @@
-pub mod Steps
-pub mod Signs
-pub mod Multiples
-pub mod Sequences
-pub mod Equations
-pub mod laws

@@ -1,0 +1,93 @@
+-- One entry of an axis of a layout: a layout within it, whose indices lie where their sources do.
+use Rattle.std.proofs.Common.{◌≡◌, ℕ, zero, suc, ◌<◌, ◌≤◌, ℤ, pos, negsuc, ◌+◌, ◌+ℤ◌, ◌*ℤ◌, ◌≤ℤ◌, List, [], ◌∷◌, length, get_or, set, drop, nat_lt, true, arith, ap}
+use Rattle.std.proofs.lemmas.Int.{ints}
+use Rattle.std.proofs.lemmas.Bool.{and_parts, and_from, ltb-true, lt-ltb}
+use Rattle.nd_base.specs.Indices.{is_index}
+use Rattle.nd_base.specs.Offset.{offset_of}
+use Rattle.nd_base.specs.Size.{nonzero_size}
+use Rattle.nd_base.specs.Span.{reach_down, reach_up, low_span, high_span}
+use Rattle.ndarray_layout.proofs.OneAxis.{axis_within}
+use Rattle.ndarray_layout.proofs.Slices.{nonzero_more}
+
+-- what is left reaches no further than the layout, and is no larger
+pub record CollapseKept (shape : List ℕ) (strides : List ℤ) (axis index : ℕ) : Type 0 where
+  pub counts : length (set shape axis 1) ≡ length strides
+  pub size : nonzero_size (set shape axis 1) ≤ nonzero_size shape
+  pub low : pos (low_span (set shape axis 1) strides) ≤ℤ (pos (low_span shape strides) +ℤ (pos index *ℤ get_or strides axis (pos 0)))
+  pub high : ((pos index *ℤ get_or strides axis (pos 0)) +ℤ pos (high_span (set shape axis 1) strides)) ≤ℤ pos (high_span shape strides)
+
+one_low : (len : ℕ) (stride : ℤ) (low : ℕ) (z : ℤ) → pos 0 ≤ℤ (pos (reach_down len stride) +ℤ z) → pos (reach_down 1 stride + low) ≤ℤ (pos (reach_down len stride + low) +ℤ z)
+one_low len (pos s) low z above = omega (arith, ints)
+one_low len (negsuc s) low z above = omega (arith, ints)
+
+one_high : (len : ℕ) (stride : ℤ) (high : ℕ) (z : ℤ) → z ≤ℤ pos (reach_up len stride) → (z +ℤ pos (reach_up 1 stride + high)) ≤ℤ pos (reach_up len stride + high)
+one_high len (pos s) high z below = omega (arith, ints)
+one_high len (negsuc s) high z below = omega (arith, ints)
+
+pub collapse_kept : (shape : List ℕ) (strides : List ℤ) (axis index : ℕ) → length shape ≡ length strides → axis < length shape → index < get_or shape axis 0 → CollapseKept shape strides axis index
+collapse_kept [] strides axis index e there below = absurd (omega arith)
+collapse_kept (len ∷ shape) [] axis index e there below = absurd (omega arith)
+collapse_kept (len ∷ shape) (stride ∷ strides) zero index e there below =
+    let within = axis_within len index stride below in
+    record {
+      counts = e;
+      size = nonzero_more 1 len (nonzero_size shape) (nonzero_size shape) (omega arith) (omega arith);
+      low = one_low len stride (low_span shape strides) (pos index *ℤ stride) within.above;
+      high = one_high len stride (high_span shape strides) (pos index *ℤ stride) within.below;
+    }
+collapse_kept (len ∷ shape) (stride ∷ strides) (suc axis) index e there below =
+    let rest = collapse_kept shape strides axis index (omega arith) (omega arith) below in
+    record {
+      counts = omega (arith, rest.counts);
+      size = nonzero_more len len (nonzero_size (set shape axis 1)) (nonzero_size shape) (omega arith) rest.size;
+      low = omega (arith, ints, rest.low);
+      high = omega (arith, ints, rest.high);
+    }
+
+-- an index that is left, and its source
+pub record SourceKept (shape : List ℕ) (strides : List ℤ) (axis index : ℕ) (entries : List ℕ) : Type 0 where
+  pub within : is_index shape (set entries axis index) ≡ true
+  pub offset : offset_of strides (set entries axis index) ≡ (pos index *ℤ get_or strides axis (pos 0)) +ℤ offset_of strides entries
+
+pub source_kept : (shape : List ℕ) (strides : List ℤ) (axis index : ℕ) (entries : List ℕ) → length shape ≡ length strides → axis < length shape → index < get_or shape axis 0 → is_index (set shape axis 1) entries ≡ true → SourceKept shape strides axis index entries
+source_kept [] strides axis index entries e there below here = absurd (omega arith)
+source_kept (len ∷ shape) [] axis index entries e there below here = absurd (omega arith)
+source_kept (len ∷ shape) (stride ∷ strides) zero index [] e there below here = absurd (cc)
+source_kept (len ∷ shape) (stride ∷ strides) zero index (i ∷ entries) e there below here =
+    let parts = and_parts (nat_lt i 1) (is_index shape entries) here in
+    let first : i ≡ 0 = omega (arith, ltb-true i 1 parts.0) in
+    record {
+      within = and_from (nat_lt index len) (is_index shape entries) (lt-ltb index len below) parts.1;
+      offset = rw first (omega (arith, ints));
+    }
+source_kept (len ∷ shape) (stride ∷ strides) (suc axis) index [] e there below here = absurd (cc)
+source_kept (len ∷ shape) (stride ∷ strides) (suc axis) index (i ∷ entries) e there below here =
+    let parts = and_parts (nat_lt i len) (is_index (set shape axis 1) entries) here in
+    let rest = source_kept shape strides axis index entries (omega arith) (omega arith) below parts.1 in
+    record {
+      within = and_from (nat_lt i len) (is_index shape (set entries axis index)) parts.0 rest.within;
+      offset = omega (arith, ints, rest.offset);
+    }
+
+same_head : {x y : ℕ} {xs ys : List ℕ} → (x ∷ xs) ≡ (y ∷ ys) → x ≡ y
+same_head same = ap (λ zs. get_or zs 0 0) same
+
+-- indices of one source are one
+pub source_injective : (shape : List ℕ) (axis index : ℕ) (entries others : List ℕ) → axis < length shape → is_index (set shape axis 1) entries ≡ true → is_index (set shape axis 1) others ≡ true → set entries axis index ≡ set others axis index → entries ≡ others
+source_injective [] axis index entries others there p q same = absurd (omega arith)
+source_injective (len ∷ shape) zero index [] others there p q same = absurd (cc)
+source_injective (len ∷ shape) zero index (i ∷ entries) [] there p q same = absurd (cc)
+source_injective (len ∷ shape) zero index (i ∷ entries) (j ∷ others) there p q same =
+    let first = and_parts (nat_lt i 1) (is_index shape entries) p in
+    let second = and_parts (nat_lt j 1) (is_index shape others) q in
+    let at : i ≡ j = omega (arith, ltb-true i 1 first.0, ltb-true j 1 second.0) in
+    let rest : entries ≡ others = ap (drop 1) same in
+    cc
+source_injective (len ∷ shape) (suc axis) index [] others there p q same = absurd (cc)
+source_injective (len ∷ shape) (suc axis) index (i ∷ entries) [] there p q same = absurd (cc)
+source_injective (len ∷ shape) (suc axis) index (i ∷ entries) (j ∷ others) there p q same =
+    let first = and_parts (nat_lt i len) (is_index (set shape axis 1) entries) p in
+    let second = and_parts (nat_lt j len) (is_index (set shape axis 1) others) q in
+    let at : i ≡ j = same_head same in
+    let rest : entries ≡ others = source_injective shape axis index entries others (omega arith) first.1 second.1 (ap (drop 1) same) in
+    cc

@@ -1,0 +1,170 @@
+-- Laws of strides that keep the places of a layout: there are some exactly where the sizes agree and no joint is bad.
+use Rattle.std.proofs.Common.{◌≡◌, ℕ, suc, ◌%◌, ◌<◌, false, ℤ, pos, List, [], ◌∷◌, length, get_or, map, reverse, refl, sym, ap, ◌∙◌, inl, inr, arith, subst}
+use Rattle.std.specs.Prelude.{◌↔◌, ◌==◌, Bool, Some, None, if◌then◌else◌}
+use Rattle.std.proofs.lemmas.Bool.{cases_Bool, cond-true, cond-false, eq-eqb, eqb-true}
+use Rattle.std.proofs.lemmas.Int.{ints}
+use Rattle.std.proofs.lemmas.List.{get_or-map, length-map, length-reverse, reverse-reverse}
+use Rattle.std.proofs.lemmas.List.FromFn.{fill_by_all, length-map-range_with_len}
+use Rattle.nd_base.specs.declared.error.ErrorKind.TheVariants.{IncompatibleShape, IncompatibleLayout}
+use Rattle.nd_base.specs.declared.order.Order.{Order}
+use Rattle.nd_base.specs.declared.order.Order.TheVariants.{RowMajor, ColumnMajor}
+use Rattle.nd_base.specs.Indices.{below, indices_in}
+use Rattle.nd_base.specs.Offset.{offset_of}
+use Rattle.nd_base.specs.Place.{place, places}
+use Rattle.nd_base.specs.Rank.{index_of_rank, index_of_rank_in}
+use Rattle.nd_base.specs.Size.{size, is_empty}
+use Rattle.nd_base.proofs.laws.Indices.{get_or-indices_in, length-indices_in}
+use Rattle.nd_base.proofs.laws.Offset.{offset_of-reverse}
+use Rattle.nd_base.proofs.laws.Reading.{length-as_read, as_read-as_read, size-as_read, is_empty-as_read}
+use Rattle.ndarray_layout.specs.ForcedStrides.{forced_strides, indices_after, offset_at_rank, stride_at}
+use Rattle.ndarray_layout.specs.Joints.{has_bad_joint}
+use Rattle.ndarray_layout.specs.Keeps.{Keeps, AgreeOnLonger}
+use Rattle.nd_base.specs.Reading.{as_read}
+use Rattle.ndarray_layout.specs.ReshapeFault.{reshape_fault}
+use Rattle.ndarray_layout.specs.ReshapeWalk.{PlacesAlike}
+use Rattle.ndarray_layout.proofs.Complete.{good-of-alike, alike-of-good}
+use Rattle.ndarray_layout.proofs.Forced.{forced-of-alike, alike-forced}
+
+length-index_of_rank : (shape : List ℕ) (r : ℕ) → length (index_of_rank shape r) ≡ length shape
+length-index_of_rank [] r = refl
+length-index_of_rank (len ∷ shape) r = ap suc (length-index_of_rank shape (r % size shape))
+
+-- the index of a rank lies as far as that of the axes as they are read
+pub offset-as_read : (order : Order) (shape : List ℕ) (strides : List ℤ) (r : ℕ) → length shape ≡ length strides → offset_of strides (index_of_rank_in order shape r) ≡ offset_of (as_read order strides) (index_of_rank (as_read order shape) r)
+offset-as_read RowMajor shape strides r e = refl
+offset-as_read ColumnMajor shape strides r e =
+    let index = index_of_rank (reverse shape) r in
+    ap (λ ss. offset_of ss (reverse index)) (sym (reverse-reverse strides))
+    ∙ offset_of-reverse (reverse strides) index (length-reverse strides ∙ sym e ∙ sym (length-reverse shape) ∙ sym (length-index_of_rank (reverse shape) r))
+
+-- ---- places by rank
+place-at-rank : (order : Order) (shape : List ℕ) (strides : List ℤ) (r : ℕ) → r < size shape → get_or (places order 0 shape strides) r (pos 0) ≡ offset_of strides (index_of_rank_in order shape r)
+place-at-rank order shape strides r h =
+    let long = length-indices_in order shape in
+    get_or-map (place 0 strides) (indices_in order shape) r [] (pos 0) (omega (arith, long))
+    ∙ ap (place 0 strides) (get_or-indices_in order shape r [] h)
+    ∙ omega (arith, ints)
+
+count-places : (order : Order) (shape : List ℕ) (strides : List ℤ) → length (places order 0 shape strides) ≡ size shape
+count-places order shape strides = length-map (indices_in order shape) (place 0 strides) ∙ length-indices_in order shape
+
+-- strides that keep the places leave the size
+pub size-of-keeps : (order : Order) (from : List ℕ) (strides : List ℤ) (to : List ℕ) (others : List ℤ) → Keeps order from strides to others → size from ≡ size to
+size-of-keeps order from strides to others k = sym (count-places order from strides) ∙ sym (ap length k.same_places) ∙ count-places order to others
+
+pub alike-of-keeps : (order : Order) (from : List ℕ) (strides : List ℤ) (to : List ℕ) (others : List ℤ) → length from ≡ length strides → Keeps order from strides to others → PlacesAlike (as_read order from) (as_read order strides) (as_read order to) (as_read order others)
+alike-of-keeps order from strides to others e k r l =
+    let sizes = size-of-keeps order from strides to others k in
+    let whole = size-as_read order from in
+    sym (offset-as_read order to others r k.same_count)
+    ∙ sym (place-at-rank order to others r (omega arith))
+    ∙ ap (λ xs. get_or xs r (pos 0)) k.same_places
+    ∙ place-at-rank order from strides r (omega arith)
+    ∙ offset-as_read order from strides r e
+
+pub keeps-of-alike : (order : Order) (from : List ℕ) (strides : List ℤ) (to : List ℕ) (others : List ℤ) → length from ≡ length strides → length to ≡ length others → size from ≡ size to → PlacesAlike (as_read order from) (as_read order strides) (as_read order to) (as_read order others) → Keeps order from strides to others
+keeps-of-alike order from strides to others e g sizes alike =
+    let by_rank = λ (r : ℕ). offset_of strides (index_of_rank_in order from r) in
+    let whole = size-as_read order from in
+    let there : places order 0 to others ≡ map by_rank (below (size to)) = fill_by_all by_rank (places order 0 to others) (size to) (pos 0) (count-places order to others) (λ r l.
+    place-at-rank order to others r l ∙ offset-as_read order to others r g ∙ alike r (omega arith) ∙ sym (offset-as_read order from strides r e)) in
+    let here : places order 0 from strides ≡ map by_rank (below (size from)) = fill_by_all by_rank (places order 0 from strides) (size from) (pos 0) (count-places order from strides) (λ r l. place-at-rank order from strides r l) in
+    record { same_count = g; same_places = there ∙ ap (λ n. map by_rank (below n)) (sym sizes) ∙ sym here }
+
+-- ---- reshape is complete
+-- the sizes agree and no joint is bad
+abbrev pub Fits : Order → List ℕ → List ℤ → List ℕ → Type 0
+Fits order from strides to = (size from ≡ size to) × (has_bad_joint (as_read order from) (as_read order strides) (as_read order to) ≡ false)
+
+-- exactly there some strides, any whole numbers, keep the places
+pub keeps-exactly : (order : Order) (from : List ℕ) (strides : List ℤ) (to : List ℕ) → is_empty from ≡ false → is_empty to ≡ false → length from ≡ length strides → Fits order from strides to ↔ ((others : List ℤ) × Keeps order from strides to others)
+keeps-exactly order from strides to some more e = (λ fits. make fits, λ k. fit k)
+  where
+    from_read : is_empty (as_read order from) ≡ false
+    from_read = is_empty-as_read order from ∙ some
+
+    to_read : is_empty (as_read order to) ≡ false
+    to_read = is_empty-as_read order to ∙ more
+
+    counts : length (as_read order from) ≡ length (as_read order strides)
+    counts = length-as_read order from ∙ e ∙ sym (length-as_read order strides)
+
+    fit : (others : List ℤ) × Keeps order from strides to others → Fits order from strides to
+    fit k =
+        let sizes = size-of-keeps order from strides to k.0 k.1 in
+        let equal : length (as_read order to) ≡ length (as_read order k.0) = length-as_read order to ∙ k.1.same_count ∙ sym (length-as_read order k.0) in
+        (sizes, good-of-alike (as_read order from) (as_read order strides) (as_read order to) (as_read order k.0) from_read to_read counts equal (size-as_read order from ∙ sizes ∙ sym (size-as_read order to)) (alike-of-keeps order from strides to k.0 e k.1))
+
+    make : Fits order from strides to → (others : List ℤ) × Keeps order from strides to others
+    make fits =
+        let made = alike-of-good (as_read order from) (as_read order strides) (as_read order to) from_read to_read counts (size-as_read order from ∙ fits.0 ∙ sym (size-as_read order to)) fits.1 in
+        let others = as_read order made.0 in
+        let equal : length to ≡ length others = sym (length-as_read order to) ∙ made.1 ∙ sym (length-as_read order made.0) in
+        (others, keeps-of-alike order from strides to others e equal fits.0 (subst (PlacesAlike (as_read order from) (as_read order strides) (as_read order to)) (sym (as_read-as_read order made.0)) made.2))
+
+-- ---- and then the strides of the definition do
+-- on each axis of more than one entry all strides that keep the places are those of the definition
+pub keeps-forced : (order : Order) (from : List ℕ) (strides : List ℤ) (to : List ℕ) (others : List ℤ) (axis : ℕ) → is_empty to ≡ false → length from ≡ length strides → Keeps order from strides to others →
+    axis < length to → 1 < get_or (as_read order to) axis 0 → get_or (as_read order others) axis (pos 0) ≡ offset_at_rank (as_read order from) (as_read order strides) (indices_after (as_read order to) axis)
+keeps-forced order from strides to others axis more e k l long =
+    let sizes = size-of-keeps order from strides to others k in
+    let equal : length (as_read order to) ≡ length (as_read order others) = length-as_read order to ∙ k.same_count ∙ sym (length-as_read order others) in
+    let count = length-as_read order to in
+    forced-of-alike (as_read order from) (as_read order strides) (as_read order to) (as_read order others) axis (is_empty-as_read order to ∙ more) (size-as_read order from ∙ sizes ∙ sym (size-as_read order to)) equal (alike-of-keeps order from strides to others e k) (omega arith) long
+
+pub forced-keeps : (order : Order) (from : List ℕ) (strides : List ℤ) (to : List ℕ) → is_empty from ≡ false → is_empty to ≡ false → length from ≡ length strides → Fits order from strides to → Keeps order from strides to (forced_strides order from strides to)
+forced-keeps order from strides to some more e fits =
+    let kept = (keeps-exactly order from strides to some more e).0 fits in
+    let others = kept.0 in
+    let sizes : size (as_read order from) ≡ size (as_read order to) = size-as_read order from ∙ fits.0 ∙ sym (size-as_read order to) in
+    let equal : length (as_read order to) ≡ length (as_read order others) = length-as_read order to ∙ kept.1.same_count ∙ sym (length-as_read order others) in
+    let at = stride_at (as_read order from) (as_read order strides) (as_read order to) in
+    let made : PlacesAlike (as_read order from) (as_read order strides) (as_read order to) (map at (below (length (as_read order to)))) = alike-forced (as_read order from) (as_read order strides) (as_read order to) (as_read order others) (is_empty-as_read order to ∙ more) sizes equal (alike-of-keeps order from strides to others e kept.1) in
+    let read : map at (below (length (as_read order to))) ≡ as_read order (forced_strides order from strides to) = ap (λ n. map at (below n)) (length-as_read order to) ∙ sym (as_read-as_read order (map at (below (length to)))) in
+    let counts : length to ≡ length (forced_strides order from strides to) = sym (length-map-range_with_len at 0 (length to)) ∙ sym (length-as_read order (map at (below (length to)))) in
+    keeps-of-alike order from strides to (forced_strides order from strides to) e counts fits.0 (subst (PlacesAlike (as_read order from) (as_read order strides) (as_read order to)) read made)
+
+-- ---- the fault of a reshape
+-- there is none exactly where the sizes agree and no joint is bad
+pub fault-exactly : (order : Order) (from : List ℕ) (strides : List ℤ) (to : List ℕ) → (reshape_fault order from strides to ≡ None) ↔ Fits order from strides to
+fault-exactly order from strides to = (λ none. fit none, λ fits. fault fits)
+  where
+    bad : Bool
+    bad = has_bad_joint (as_read order from) (as_read order strides) (as_read order to)
+
+    same : Bool
+    same = size (as_read order from) == size (as_read order to)
+
+    fault : Fits order from strides to → reshape_fault order from strides to ≡ None
+    fault fits = cond-false bad (Some IncompatibleLayout) (if same then None else Some IncompatibleShape) fits.1
+        ∙ cond-true same None (Some IncompatibleShape) (eq-eqb (size (as_read order from)) (size (as_read order to)) (size-as_read order from ∙ fits.0 ∙ sym (size-as_read order to)))
+
+    sizes : bad ≡ false → reshape_fault order from strides to ≡ None → size from ≡ size to
+    sizes good none = elim (cases_Bool same) [
+      | inl equal ↦ sym (size-as_read order from) ∙ eqb-true (size (as_read order from)) (size (as_read order to)) equal ∙ size-as_read order to
+      | inr apart ↦
+          let is_shape = sym (cond-false same None (Some IncompatibleShape) apart) ∙ sym (cond-false bad (Some IncompatibleLayout) (if same then None else Some IncompatibleShape) good) ∙ none in
+          absurd (cc)
+    ]
+
+    fit : reshape_fault order from strides to ≡ None → Fits order from strides to
+    fit none = elim (cases_Bool bad) [
+      | inl bad_one ↦
+          let is_layout = sym (cond-true bad (Some IncompatibleLayout) (if same then None else Some IncompatibleShape) bad_one) ∙ none in
+          absurd (cc)
+      | inr good ↦ (sizes good none, good)
+    ]
+
+-- and exactly where some strides keep the places
+pub fault-complete : (order : Order) (from : List ℕ) (strides : List ℤ) (to : List ℕ) → is_empty from ≡ false → is_empty to ≡ false → length from ≡ length strides → (reshape_fault order from strides to ≡ None) ↔ ((others : List ℤ) × Keeps order from strides to others)
+fault-complete order from strides to some more e =
+    let fits = fault-exactly order from strides to in
+    let kept = keeps-exactly order from strides to some more e in
+    (λ none. kept.0 (fits.0 none), λ k. fits.1 (kept.1 k))
+
+-- all strides that do agree with those of the definition on each axis of more than one entry
+pub keeps-agree : (order : Order) (from : List ℕ) (strides : List ℤ) (to : List ℕ) (others : List ℤ) → is_empty from ≡ false → is_empty to ≡ false → length from ≡ length strides → Keeps order from strides to others → AgreeOnLonger order to others (forced_strides order from strides to)
+keeps-agree order from strides to others some more e k axis l long =
+    let fits = (keeps-exactly order from strides to some more e).1 (others, k) in
+    keeps-forced order from strides to others axis more e k l long
+    ∙ sym (keeps-forced order from strides to (forced_strides order from strides to) axis more e (forced-keeps order from strides to some more e fits) l long)

@@ -1,0 +1,83 @@
+-- Laws of views with a place in common: two slices of a view share a place where they meet, and on a view whose places are distinct
+-- only there; the lists of the places of views that share none have no number in common.
+use Rattle.std.proofs.Common.{◌≡◌, ◌↔◌, ℕ, ◌<◌, pos, true, None, List, [], length, map, get_or, sym, ap, ◌∙◌, arith}
+use Rattle.std.proofs.lemmas.List.{get_or-map, length-map}
+use Rattle.std.specs.List.{Contains}
+use Rattle.nd_base.specs.declared.order.Order.{Order}
+use Rattle.nd_base.specs.Indices.{is_index, indices_in}
+use Rattle.nd_base.proofs.laws.Indices.{All-indices_in}
+use Rattle.nd_slice.specs.declared.fit.Fit.{Fit}
+use Rattle.nd_slice.specs.declared.elem.SliceInfoElem.{SliceInfoElem}
+use Rattle.nd_slice.specs.ArgumentFault.{argument_fault}
+use Rattle.nd_slice.specs.Meet.{Meet}
+use Rattle.nd_slice.specs.Selected.{selected}
+use Rattle.nd_slice.proofs.laws.Meet.{meet_of_sources, sources_of_meet}
+use Rattle.ndarray_layout.specs.DistinctPlaces.{HasDistinctPlaces}
+use Rattle.ndarray_layout.specs.SharePlace.{SharePlace}
+use Rattle.ndarray_layout.specs.SlicedView.{slice_of}
+use Rattle.ndarray_layout.specs.View.{View, IsView, place_at, view_places}
+use Rattle.ndarray_layout.proofs.laws.SlicedView.{KeepsPlaces-slice_of}
+
+-- the order of two views does not matter
+pub share_place_symmetric : (one other : View) → SharePlace one other → SharePlace other one
+share_place_symmetric one other share = ((share.2).0, (share.2).1, (share.0, share.1, sym (share.2).2))
+
+-- where no two indices of a view share a place, slices that share one meet
+pub meet_of_shared_place : (fit : Fit) (one other : List SliceInfoElem) (view : View) → IsView view → argument_fault fit view.shape one ≡ None
+    → argument_fault fit view.shape other ≡ None → HasDistinctPlaces view → SharePlace (slice_of fit one view) (slice_of fit other view)
+    → Meet fit view.shape one other
+meet_of_shared_place fit one other view v fits also distinct share =
+    let first = KeepsPlaces-slice_of fit one view v fits share.0 share.1 in
+    let second = KeepsPlaces-slice_of fit other view v also (share.2).0 (share.2).1 in
+    meet_of_sources fit view.shape one other fits (record {
+      index = share.0;
+      within = share.1;
+      at = (share.2).0;
+      at_within = (share.2).1;
+      same = distinct (selected fit one view.shape share.0) (selected fit other view.shape (share.2).0) first.0 second.0 (sym first.1 ∙ (share.2).2 ∙ second.1);
+    })
+
+-- slices that meet share a place, whatever the view
+pub shared_place_of_meet : (fit : Fit) (one other : List SliceInfoElem) (view : View) → IsView view → argument_fault fit view.shape one ≡ None
+    → argument_fault fit view.shape other ≡ None → Meet fit view.shape one other → SharePlace (slice_of fit one view) (slice_of fit other view)
+shared_place_of_meet fit one other view v fits also meet =
+    let share = sources_of_meet fit view.shape one other fits also meet in
+    let first = KeepsPlaces-slice_of fit one view v fits share.index share.within in
+    let second = KeepsPlaces-slice_of fit other view v also share.at share.at_within in
+    (share.index, share.within, (share.at, share.at_within, first.1 ∙ ap (place_at view) share.same ∙ sym second.1))
+
+-- so there slices meet exactly where they share a place
+pub meet_is_shared_place : (fit : Fit) (one other : List SliceInfoElem) (view : View) → IsView view → argument_fault fit view.shape one ≡ None
+    → argument_fault fit view.shape other ≡ None → HasDistinctPlaces view
+    → Meet fit view.shape one other ↔ SharePlace (slice_of fit one view) (slice_of fit other view)
+meet_is_shared_place fit one other view v fits also distinct =
+    (shared_place_of_meet fit one other view v fits also, meet_of_shared_place fit one other view v fits also distinct)
+
+-- a number that is listed is the place of an index
+pub record IsPlaceOf (view : View) (n : ℕ) : Type 0 where
+  pub index : List ℕ
+  pub within : is_index view.shape index ≡ true
+  pub at : place_at view index ≡ pos n
+
+pub listed_place : (order : Order) (view : View) (items : List ℕ) (n : ℕ) → map pos items ≡ view_places order view → Contains items n → IsPlaceOf view n
+listed_place order view items n same here =
+    let indices = indices_in order view.shape in
+    let long : length items ≡ length indices = omega (arith, length-map items pos, ap length same, length-map indices (place_at view)) in
+    let below : here.0 < length indices = omega (arith, here.1) in
+    record {
+      index = get_or indices here.0 [];
+      within = All-indices_in order view.shape here.0 [] below;
+      at =
+          sym (get_or-map (place_at view) indices here.0 [] (pos n) below)
+          ∙ ap (λ places. get_or places here.0 (pos n)) (sym same)
+          ∙ get_or-map pos items here.0 n (pos n) here.1
+          ∙ ap pos here.2;
+    }
+
+-- views that share no place have no number in both of their lists of places
+pub shared_place_of_lists : (order also : Order) (one other : View) (items more : List ℕ) (n : ℕ) → map pos items ≡ view_places order one
+    → map pos more ≡ view_places also other → Contains items n → Contains more n → SharePlace one other
+shared_place_of_lists order also one other items more n same same_more here there =
+    let first = listed_place order one items n same here in
+    let second = listed_place also other more n same_more there in
+    (first.index, first.within, (second.index, second.within, first.at ∙ sym second.at))

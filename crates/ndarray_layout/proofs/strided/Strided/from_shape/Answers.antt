@@ -1,0 +1,28 @@
+-- The first index lies as far on as the layout reaches down.
+use Rattle.std.proofs.Common.{◌≡◌, ℕ, ◌≤◌, List, arith}
+use Rattle.nd_base.specs.Signed.{all_signed}
+use Rattle.nd_base.specs.Size.{nonzero_size, limit}
+use Rattle.nd_base.specs.Span.{low_span}
+use Rattle.nd_base.specs.ValidLayout.{IsValidLayout}
+use Rattle.nd_base.proofs.laws.NonzeroSize.{size_le_nonzero_size}
+use Rattle.ndarray_layout.specs.View.{IsView, view_of}
+use Rattle.ndarray_layout.proofs.laws.View.{lowest_view}
+use Rattle.ndarray_layout.proofs.strided.Strided.from_shape.Goals as goal
+
+pub strides_for_dim-requires-clause-size_fits : goal.strides_for_dim-requires-clause-size_fits
+strides_for_dim-requires-clause-size_fits g c =
+    let shape = g.D.Lengths.list c.args.shape.dim in
+    let fits : nonzero_size shape ≤ limit = c.in_ok-can_index_slice_with_strides.ensures.valid.size_fits in
+    omega (arith, size_le_nonzero_size shape)
+
+-- a layout along strides that are known to be valid ones
+view_along : (start : ℕ) (shape strides known : List ℕ) → start ≡ low_span shape (all_signed strides) → strides ≡ known → IsValidLayout shape (all_signed known) → IsView (view_of start shape strides)
+view_along start shape strides known low same valid = rw (low, same) (lowest_view shape (all_signed known) valid)
+
+pub invariant_of-result : goal.invariant_of-result
+invariant_of-result g c =
+    view_along c.offset_from_low_addr_ptr_to_logical_ptr-start.result (g.D.Lengths.list c.args.shape.dim) (g.D.Lengths.list c.in_ok-strides.strides) _ c.offset_from_low_addr_ptr_to_logical_ptr-start.ensures c.in_ok-strides.ensures.list c.in_ok-can_index_slice_with_strides.ensures.valid
+
+pub returns-clause-is_view : goal.returns-clause-is_view
+returns-clause-is_view g c =
+    view_along c.offset_from_low_addr_ptr_to_logical_ptr-start.result (g.D.Lengths.list c.args.shape.dim) (g.D.Lengths.list c.in_ok-strides.strides) _ c.offset_from_low_addr_ptr_to_logical_ptr-start.ensures c.in_ok-strides.ensures.list c.in_ok-can_index_slice_with_strides.ensures.valid

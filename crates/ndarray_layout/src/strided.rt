@@ -1,0 +1,27 @@
+//! Views of data: a shape and strides that were accepted, with the place of the first index.
+mod makers;
+mod readers;
+mod reshaping;
+mod steps;
+
+use nd_dim::Lengths;
+use std::marker::Model;
+
+/// A shape with strides over data, and the place of its first index there. Each index of the shape
+/// has a place in the data.
+#[derive(Debug, Drop)]
+pub struct Strided<D: Lengths> {
+    start: usize,
+    dim: D,
+    strides: D,
+}
+
+impl<D: Lengths> Model for Strided<D> {
+    ghost use Rattle.ndarray_layout.specs.View.{View, view_of, IsView};
+
+    ghost Value = { View };
+
+    ghost view = { λ a. view_of a.start (D.list a.dim) (D.list a.strides) };
+
+    ghost invariant = { λ a. IsView (view_of a.start (D.list a.dim) (D.list a.strides)) };
+}

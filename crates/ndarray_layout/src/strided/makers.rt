@@ -1,0 +1,107 @@
+//! Views of layouts that are accepted, and the same view once more.
+ghost use Rattle.std.specs.Prelude.{◌≡◌, ◌<◌, None, length, IfOk, IsOk};
+ghost use Rattle.std.specs.Option.{IsSome};
+ghost use Rattle.std.specs.Result.{result_err};
+ghost use Rattle.nd_base.specs.Signed.{all_signed};
+ghost use Rattle.nd_shape.specs.Acceptance.{acceptance};
+ghost use Rattle.nd_shape.specs.AcceptanceByStrides.{acceptance_by_strides};
+ghost use Rattle.nd_shape.specs.ShapeBuilder.{custom_strides, strides_list};
+ghost use Rattle.nd_shape.specs.declared.checks.CanIndexCheckMode.TheVariants.{OwnedMutable};
+ghost use Rattle.nd_base.specs.Lengths.{NeedsNoMemory};
+ghost use Rattle.nd_base.specs.ShapeFault.{shape_fault};
+ghost use Rattle.nd_base.specs.Span.{low_span};
+ghost use Rattle.ndarray_layout.specs.DistinctPlaces.{HasDistinctPlaces};
+ghost use Rattle.ndarray_layout.specs.View.{IsView, LiesWithin, view_of};
+
+use crate::strided::Strided;
+use nd_dim::{LayoutError, Lengths, ShapeError};
+use nd_shape::{
+    CanIndexCheckMode, StrideShape, can_index_slice, can_index_slice_with_strides,
+    offset_from_low_addr_ptr_to_logical_ptr,
+};
+use std::alloc::{AllocError, Global};
+
+impl<D: Lengths> Strided<D> {
+    /// The view of a shape and strides over data of `len` elements of `elem_size` bytes, with the
+    /// lowest element of the view first in the data. Refused as `can_index_slice` refuses it.
+    pub fn new(
+        dim: D,
+        strides: D,
+        elem_size: usize,
+        len: usize,
+        mode: CanIndexCheckMode,
+    ) -> Result<Self, ShapeError>
+        ensures fault { result_err result ≡
+            acceptance elem_size len mode (D.list dim) (all_signed (D.list strides)) }
+        ensures view { IfOk result (λ v. v ≡
+            view_of
+            (low_span (D.list dim) (all_signed (D.list strides)))
+            (D.list dim)
+            (D.list strides)) }
+        ensures is_view { IfOk result (λ v. IsView v) }
+        ensures inside { IfOk result (λ v. LiesWithin len v) }
+        ensures distinct { IfOk result (λ v. mode ≡ OwnedMutable → HasDistinctPlaces v) }
+    {
+        can_index_slice(elem_size, len, &dim, &strides, mode)?;
+        let start = offset_from_low_addr_ptr_to_logical_ptr(&dim, &strides);
+        Ok(Strided {
+            start,
+            dim,
+            strides,
+        })
+    }
+
+    /// The view of a shape by its own strides or by given ones, over data of `len` elements of
+    /// `elem_size` bytes, with the lowest element of the view first in the data. Refused as
+    /// `can_index_slice_with_strides` refuses it, and then out of memory: never where the strides are
+    /// given, where the type fixes the count or where there are at most 4 axes.
+    pub fn from_shape(
+        alloc: Global,
+        shape: StrideShape<D>,
+        elem_size: usize,
+        len: usize,
+        mode: CanIndexCheckMode,
+    ) -> Result<Self, LayoutError>
+        ensures fault { shape_fault result ≡
+            acceptance_by_strides D.list elem_size len mode (D.list shape.dim) shape.strides }
+        ensures given { shape_fault result ≡ None → IsSome (custom_strides shape.strides) →
+            IsOk result }
+        ensures memory { shape_fault result ≡ None →
+            NeedsNoMemory D.NDIM (length (D.list shape.dim)) → IsOk result }
+        ensures view { IfOk result (λ v. v ≡
+            view_of
+            (low_span
+            (D.list shape.dim)
+            (all_signed (strides_list D.list (D.list shape.dim) shape.strides)))
+            (D.list shape.dim)
+            (strides_list D.list (D.list shape.dim) shape.strides)) }
+        ensures is_view { IfOk result (λ v. IsView v) }
+        ensures inside { IfOk result (λ v. LiesWithin len v) }
+        ensures distinct { IfOk result (λ v. mode ≡ OwnedMutable → HasDistinctPlaces v) }
+    {
+        let StrideShape { dim, strides } = shape;
+        can_index_slice_with_strides(elem_size, len, &dim, &strides, mode)?;
+        let strides = strides.strides_for_dim(alloc, &dim)?;
+        let start = offset_from_low_addr_ptr_to_logical_ptr(&dim, &strides);
+        Ok(Strided {
+            start,
+            dim,
+            strides,
+        })
+    }
+
+    /// The same view, with a shape and strides of its own. In place of `Clone` in ndarray.
+    ///
+    /// Errors: out of memory; none where the type fixes the count or there are at most 4 axes.
+    pub fn duplicate(&self, alloc: Global) -> Result<Self, AllocError>
+        ensures view { IfOk result (λ v. v ≡ self.now) }
+        ensures is_view { IfOk result (λ v. IsView v) }
+        ensures memory { NeedsNoMemory D.NDIM (length self.now.shape) → IsOk result }
+    {
+        Ok(Strided {
+            start: self.start,
+            dim: self.dim.duplicate(alloc)?,
+            strides: self.strides.duplicate(alloc)?,
+        })
+    }
+}

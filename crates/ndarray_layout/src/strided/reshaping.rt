@@ -1,0 +1,82 @@
+//! Views that have the places of a view along another shape.
+ghost use Rattle.std.specs.Prelude.{◌≡◌, ◌↔◌, ℕ, None, length, IfErr, IfOk, IsOk, OnOk};
+ghost use Rattle.nd_base.specs.Lengths.{NeedsNoMemory};
+ghost use Rattle.nd_base.specs.Signed.{all_signed};
+ghost use Rattle.ndarray_layout.specs.ReshapedView.{IsReshapeRefusal, ReshapeFits, reshape_of, reshape_refusal, reshape_source};
+ghost use Rattle.ndarray_layout.specs.ReshapedView.{reshaped_strides as strides_of};
+ghost use Rattle.ndarray_layout.specs.DistinctPlaces.{HasDistinctPlaces};
+ghost use Rattle.ndarray_layout.specs.KeepsPlaces.{KeepsPlaces};
+ghost use Rattle.ndarray_layout.specs.View.{IsView, LiesWithin, view_places};
+
+use crate::reshape::reshape_dim;
+use crate::strided::Strided;
+use nd_dim::{ErrorKind, LayoutError, Lengths, Order, from_kind};
+use nd_shape::size_of_shape_checked;
+use std::alloc::Global;
+
+impl<D: Lengths> Strided<D> {
+    /// The strides along which a shape has the places of the view in an order; 0 where there is no index.
+    /// Refused as `reshape` is.
+    fn reshaped_strides<E: Lengths>(
+        &self,
+        alloc: Global,
+        shape: &E,
+        order: Order,
+    ) -> Result<E, LayoutError>
+        ensures fits { OnOk result (reshape_refusal order (E.list shape.now) self.now ≡ None) }
+        ensures refused { IfErr result (λ e.
+            IsReshapeRefusal E.NDIM order (E.list shape.now) self.now e) }
+        ensures strides { IfOk result (λ d.
+            all_signed (E.list d) ≡ strides_of order (E.list shape.now) self.now) }
+        ensures is_view { IsView self.now }
+    {
+        let (lens, new_lens) = (self.dim.slice(), shape.slice());
+        size_of_shape_checked(shape)?;
+        let is_empty = lens.contains(&0);
+        if is_empty != new_lens.contains(&0) {
+            return Err(LayoutError::Shape(from_kind(ErrorKind::IncompatibleShape)));
+        }
+        if is_empty {
+            return Ok(E::zeros(alloc, shape.ndim())?);
+        }
+        reshape_dim(alloc, &self.dim, &self.strides, shape, order)
+    }
+
+    /// The same places along another shape: each index of it has the place of the index of the view
+    /// before which as many come in the order. The start stays, and no element is moved. Refused with
+    /// `Overflow` where the product of the lengths that are not 0 passes the greatest `isize`, then with
+    /// `IncompatibleShape` where one of the two shapes alone has an index. Then it may be out of memory,
+    /// never where the type fixes the count or there are at most 4 axes. At last `IncompatibleLayout`,
+    /// where two axes would have to step as one and don't, and `IncompatibleShape`, where the sizes
+    /// differ: so a shape of permitted size is refused exactly where no strides at all have these places,
+    /// memory aside. Where there is no index the strides are 0. What `to_shape` of ndarray does where it
+    /// copies nothing.
+    pub fn reshape<E: Lengths>(
+        &self,
+        alloc: Global,
+        shape: &E,
+        order: Order,
+    ) -> Result<Strided<E>, LayoutError>
+        ensures fits { OnOk result (reshape_refusal order (E.list shape.now) self.now ≡ None) }
+        ensures refused { IfErr result (λ e.
+            IsReshapeRefusal E.NDIM order (E.list shape.now) self.now e) }
+        ensures memory { reshape_refusal order (E.list shape.now) self.now ≡ None →
+            NeedsNoMemory E.NDIM (length (E.list shape.now)) → IsOk result }
+        ensures complete { (reshape_refusal order (E.list shape.now) self.now ≡ None)
+            ↔ ReshapeFits order (E.list shape.now) self.now }
+        ensures reshaped { IfOk result (λ v. v ≡ reshape_of order (E.list shape.now) self.now) }
+        ensures is_view { IfOk result (λ v. IsView v) }
+        ensures same_places { IfOk result (λ v. view_places order v ≡ view_places order self.now) }
+        ensures places { IfOk result (λ v.
+            KeepsPlaces (reshape_source order self.now.shape (E.list shape.now)) self.now v) }
+        ensures inside { IfOk result (λ v. (len : ℕ) → LiesWithin len self.now → LiesWithin len v) }
+        ensures distinct { IfOk result (λ v. HasDistinctPlaces self.now → HasDistinctPlaces v) }
+    {
+        let strides = self.reshaped_strides(alloc, shape, order)?;
+        Ok(Strided {
+            start: self.start,
+            dim: shape.duplicate(alloc)?,
+            strides,
+        })
+    }
+}

@@ -1,2 +1,0 @@
-pub mod Reshapes
-pub mod laws
