@@ -11,7 +11,7 @@ mod error;
 mod remove_axis;
 mod shape_arg;
 mod sizes;
-mod steps;
+mod next_index;
 mod stride_axes;
 mod stride_order;
 mod strides;
@@ -28,6 +28,6 @@ pub use nd_base::{
 pub use remove_axis::RemoveAxis;
 pub use shape_arg::ShapeArg;
 pub use sizes::product;
-pub use steps::{step_by_columns, step_by_rows};
+pub use next_index::{step_by_columns, step_by_rows};
 pub use stride_axes::magnitude_at;
 pub use strides::{default_strides, fortran_strides};
