@@ -8,7 +8,7 @@ use Rattle.nd_base.specs.Signed.{all_signed}
 use Rattle.nd_base.specs.Size.{is_empty, nonzero_size, limit}
 use Rattle.ndarray_layout.specs.ReshapedView.{IsReshapeRefusal, reshape_refusal, reshaped_strides as strides_of}
 use Rattle.ndarray_layout.specs.View.{View, view_of}
-use Rattle.ndarray_layout.proofs.Reshapes.{refusal_between, refused_between, same_bits, strides_between, strides_of_none, within_limit}
+use Rattle.ndarray_layout.proofs.reshapes.Views.{refusal_between, refused_between, same_bits, strides_between, strides_of_none, within_limit}
 use Rattle.ndarray_layout.proofs.strided.Strided.reshaped_strides.Goals as goal
 
 -- what holds of an error holds of the one that is handed on
