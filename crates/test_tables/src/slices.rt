@@ -2,7 +2,7 @@
 use crate::table::{Row, TableError};
 use SliceInfoElem::{Index, NewAxis, Slice};
 use nd_slice::SliceInfoElem;
-use std::alloc::{AllocError, Global};
+use std::alloc::Global;
 
 /// The number that a word spells.
 fn number(word: &str) -> Result<isize, TableError> {
@@ -52,16 +52,8 @@ pub fn elems(alloc: Global, row: &mut Row<'_>) -> Result<Vec<SliceInfoElem>, Tab
     let mut elems = Vec::new(alloc);
     for part in row.word()?.split(',') {
         if part != "-" {
-            push(&mut elems, spelled(part)?)?;
+            elems.push(spelled(part)?)?;
         }
     }
     Ok(elems)
-}
-
-/// Adds an element.
-fn push(elems: &mut Vec<SliceInfoElem>, elem: SliceInfoElem) -> Result<(), TableError> {
-    match elems.push(elem) {
-        Ok(()) => Ok(()),
-        Err(error) => Err(AllocError::from(error).into()),
-    }
 }
