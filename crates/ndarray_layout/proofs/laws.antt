@@ -6,6 +6,7 @@ pub mod KeepsPlaces
 pub mod LongerAxes
 pub mod MergedView
 pub mod ReshapedView
+pub mod RowMajor
 pub mod Run
 pub mod SharePlace
 pub mod SlicedView
