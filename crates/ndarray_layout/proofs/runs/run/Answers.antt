@@ -34,7 +34,7 @@ there c = next c.args.steps.now c.loop-at.at c.index-steps-at.result c.loop-at-t
 pub returns-in-Err-clause-ended : goal.returns-in-Err-clause-ended
 returns-in-Err-clause-ended c =
     let stays = c.in-Err.ensures.refusal in
-    rw (stays) (ended_by (map step_value c.args.steps.now) c.loop-at.at (step_value c.index-steps-at.result) c.args.view c.loop-at.view c.in-Err.fault (there c) c.loop-at.invariant.fits c.loop-at.invariant.left (refused c))
+    rw (stays) (λ kind is. ended_by (map step_value c.args.steps.now) c.loop-at.at (step_value c.index-steps-at.result) c.args.view c.loop-at.view c.in-Err.fault kind (there c) c.loop-at.invariant.fits c.loop-at.invariant.left (refused c) is)
 
 pub returns-in-Err-clause-stopped : goal.returns-in-Err-clause-stopped
 returns-in-Err-clause-stopped c =
