@@ -118,6 +118,11 @@ pub fn run(alloc: Global, view: Strided<IxDyn>, steps: &[Step]) -> Result<Stride
     ensures stopped_view { IfErr result (λ s. IsView s.view) }
     ensures stopped_places { IfErr result (λ s.
         KeepsPlaces (run_of (take s.at (map step_value steps.now)) view).source view s.view) }
+    ensures stopped_inside { IfErr result (λ s.
+        (len : ℕ) → LiesWithin len view → LiesWithin len s.view) }
+    ensures stopped_distinct { IfErr result (λ s.
+        HasNoBroadcast (take s.at (map step_value steps.now)) →
+        HasDistinctPlaces view → HasDistinctPlaces s.view) }
     ensures is_view { IfOk result (λ v. IsView v) }
     ensures places { IfOk result (λ v.
         KeepsPlaces (run_of (map step_value steps.now) view).source view v) }

@@ -60,6 +60,17 @@ returns-in-Err-clause-stopped_places c =
     let steps = take c.loop-at.at (map step_value c.args.steps.now) in
     rw (stays) (subst (KeepsPlaces (run_of steps c.args.view).source c.args.view) c.loop-at.invariant.left (run_sound steps c.args.view c.start-start.ensures.is_view).places)
 
+pub returns-in-Err-clause-stopped_inside : goal.returns-in-Err-clause-stopped_inside
+returns-in-Err-clause-stopped_inside c =
+    let steps = take c.loop-at.at (map step_value c.args.steps.now) in
+    λ len within. LiesWithin-kept len (run_of steps c.args.view).source c.args.view _ (returns-in-Err-clause-stopped_places c) within
+
+pub returns-in-Err-clause-stopped_distinct : goal.returns-in-Err-clause-stopped_distinct
+returns-in-Err-clause-stopped_distinct c =
+    let stays = c.in-Err.ensures.refusal in
+    let steps = take c.loop-at.at (map step_value c.args.steps.now) in
+    rw (stays) (λ apart distinct. subst HasDistinctPlaces c.loop-at.invariant.left ((run_sound steps c.args.view c.start-start.ensures.is_view).distinct apart distinct))
+
 pub loop-at-preserved : goal.loop-at-preserved
 loop-at-preserved c =
     let fits = rw (c.in_default.is) at c.take_step.ensures.fits in
