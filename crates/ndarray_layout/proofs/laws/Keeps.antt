@@ -22,7 +22,7 @@ use Rattle.ndarray_layout.specs.reshape.Joints.{has_bad_joint}
 use Rattle.ndarray_layout.specs.reshape.Keeps.{Keeps, AgreeOnLonger}
 use Rattle.nd_base.specs.Reading.{as_read}
 use Rattle.ndarray_layout.specs.reshape.ReshapeFault.{reshape_fault}
-use Rattle.ndarray_layout.specs.reshape.Walk.{PlacesAlike}
+use Rattle.ndarray_layout.specs.private.ReshapeProgress.{PlacesAlike}
 use Rattle.ndarray_layout.proofs.reshapes.Complete.{good-of-alike, alike-of-good}
 use Rattle.ndarray_layout.proofs.reshapes.Forced.{forced-of-alike, alike-forced}
 

@@ -13,7 +13,7 @@ use Rattle.nd_base.proofs.laws.Rank.{is_index-index_of_rank}
 use Rattle.nd_base.proofs.laws.Size.{size_of_nonempty, size_from, size_drop_le, drop_nonempty}
 use Rattle.nd_dim.specs.Strides.{size_after}
 use Rattle.ndarray_layout.specs.reshape.ForcedStrides.{offset_at_rank, stride_of_one, stride_at}
-use Rattle.ndarray_layout.specs.reshape.Walk.{PlacesAlike}
+use Rattle.ndarray_layout.specs.private.ReshapeProgress.{PlacesAlike}
 use Rattle.ndarray_layout.proofs.reshapes.Joins.{is_empty-rest}
 
 -- the first index lies at the beginning

@@ -12,7 +12,7 @@ use Rattle.nd_base.proofs.laws.Size.{size_take_more, size_from}
 use Rattle.nd_dim.specs.Strides.{size_after}
 use Rattle.ndarray_layout.specs.reshape.ForcedStrides.{is_one_at, ones_before, strides_of_ones, stride_of_one, stride_at, offset_at_rank}
 use Rattle.ndarray_layout.specs.reshape.Joints.{cumulative_products}
-use Rattle.ndarray_layout.specs.reshape.Walk.{CanWalk, IsReached, IsInside, OnesAlike, PlacesAlike, previous}
+use Rattle.ndarray_layout.specs.private.ReshapeProgress.{CanWalk, IsReached, IsInside, OnesAlike, PlacesAlike, previous}
 use Rattle.ndarray_layout.proofs.reshapes.Forced.{forced-of-alike, stride_at-long}
 use Rattle.ndarray_layout.proofs.reshapes.Halfway.{len-some}
 use Rattle.ndarray_layout.proofs.reshapes.Members.{member-of-any, any-of-member}
