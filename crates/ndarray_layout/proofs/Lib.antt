@@ -1,3 +1,4 @@
+pub mod AcceptedRule
 pub mod Broadcasts
 pub mod ByRows
 pub mod Collapses
