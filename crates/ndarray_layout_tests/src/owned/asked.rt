@@ -5,7 +5,7 @@
 use crate::owned::items::{Halved, Item, are, counted};
 use crate::owned::large::{are_fifty_written, is_turned};
 use crate::owned::words::{list, strides, writes};
-use crate::words::{argument, dim, number, word};
+use crate::words::{argument, dim, meaning, number, word};
 use nd_owned::OwnedArray;
 use ndarray_layout::{Ix0, Ix2, IxDyn, LayoutError, Lengths, StrideShape};
 use std::alloc::Global;
@@ -15,11 +15,36 @@ use test_tables::{Row, layout_fault_name};
 /// An array, or why there is none, and the items that are handed back.
 type Made<T, D> = Result<OwnedArray<T, D>, (LayoutError, Vec<T>)>;
 
+/// The call of a row.
+#[derive(Clone, Copy)]
+enum Call {
+    FromShapeVec,
+    MultiSet,
+    Items,
+    Get,
+    Set,
+    /// The items of a slice that turns all axes, and writes to it.
+    AllFromTheBack,
+    /// Writes to each of 50 entries of the first axis.
+    FiftyFromTheBack,
+}
+
+/// The calls by their words.
+static CALLS: [(&str, Call); 7] = [
+    ("from_shape_vec", Call::FromShapeVec),
+    ("multi_set", Call::MultiSet),
+    ("items", Call::Items),
+    ("get", Call::Get),
+    ("set", Call::Set),
+    ("all_from_the_back", Call::AllFromTheBack),
+    ("fifty_from_the_back", Call::FiftyFromTheBack),
+];
+
 /// What a row says.
 #[derive(Clone, Copy)]
 pub struct Told<'a> {
     layout: &'a str,
-    call: &'a str,
+    call: Call,
     given: &'a str,
     answer: &'a str,
 }
@@ -32,7 +57,7 @@ impl<'a> Told<'a> {
         let (call, given) = asked.split_once(" ").unwrap_or((asked, ""));
         Some(Told {
             layout,
-            call,
+            call: meaning(&CALLS, call)?,
             given,
             answer,
         })
@@ -135,19 +160,21 @@ fn answers<T: Item, D: Lengths>(
     array: &mut OwnedArray<T, D>,
 ) -> bool {
     match told.call {
-        "multi_set" => is_written(rt, alloc, told, array),
-        "items" => are_read(rt, alloc, told, array),
-        "get" => is_got(rt, alloc, told, array),
-        "set" => is_set(rt, alloc, told, array),
-        "all_from_the_back" => is_turned(rt, alloc, told.given, array),
-        "fifty_from_the_back" => are_fifty_written(rt, alloc, told.given, array),
-        _ => told.says("Ok") && told.leaves(rt, array.stored()),
+        Call::FromShapeVec => told.says("Ok") && told.leaves(rt, array.stored()),
+        Call::MultiSet => is_written(rt, alloc, told, array),
+        Call::Items => are_read(rt, alloc, told, array),
+        Call::Get => is_got(rt, alloc, told, array),
+        Call::Set => is_set(rt, alloc, told, array),
+        Call::AllFromTheBack => is_turned(rt, alloc, told.given, array),
+        Call::FiftyFromTheBack => are_fifty_written(rt, alloc, told.given, array),
     }
 }
 
 /// Whether there is to be no array for this fault, and all items are handed back.
 fn is_refused<T: Item>(rt: &impl Abort, told: Told<'_>, fault: &LayoutError, items: &[T]) -> bool {
-    told.call == "from_shape_vec" && told.says(layout_fault_name(fault)) && told.leaves(rt, items)
+    matches!(told.call, Call::FromShapeVec)
+        && told.says(layout_fault_name(fault))
+        && told.leaves(rt, items)
 }
 
 /// A row holds.
