@@ -11,8 +11,8 @@ use Rattle.ndarray_layout.specs.View.{IsView, View, view_places}
 use Rattle.ndarray_layout.specs.Run.{Outcome}
 use Rattle.ndarray_layout.proofs.laws.Axes.{lens-axes_from, strides-axes_from}
 use Rattle.ndl_session.specs.Answer.{Reply, listing, unless, reply_to_run, reply_to_script}
-use Rattle.ndl_session.specs.Script.{ScriptValue}
-use Rattle.ndl_session.specs.Text.Printing.{line, listed}
+use Rattle.ndl_session.specs.script.Script.{ScriptValue}
+use Rattle.ndl_session.specs.text.Printing.{line, listed}
 
 -- a place is not negative, so with a sign it prints as it does without
 printed_places : (places : List ℕ) → map signed_decimal (map pos places) ≡ map decimal places

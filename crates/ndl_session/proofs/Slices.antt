@@ -6,13 +6,13 @@ use Rattle.std.proofs.lemmas.Bool.{ne_eqb, and_parts}
 use Rattle.std.specs.Cmp.Lexicographic.{pointwise}
 use Rattle.ndarray_layout.specs.declared.SliceInfoElem.{SliceInfoElem}
 use Rattle.ndarray_layout.specs.declared.SliceInfoElem.TheVariants as elem
-use Rattle.ndl_session.specs.Text.Bytes.{dot, semicolon}
-use Rattle.ndl_session.specs.Script.Reading.{◌>>=◌}
-use Rattle.ndl_session.specs.Text.Lines.{parts}
-use Rattle.ndl_session.specs.Text.Numbers.{signed_number_of}
-use Rattle.ndl_session.specs.Script.Elements.{start_of, end_of, slice_of_bounds, slice_of_parts}
-use Rattle.ndl_session.proofs.Parts.{lone_part, some_part}
-use Rattle.ndl_session.proofs.NumberParts.{number_part}
+use Rattle.ndl_session.specs.text.Bytes.{dot, semicolon}
+use Rattle.ndl_session.specs.script.Reading.{◌>>=◌}
+use Rattle.ndl_session.specs.text.Lines.{parts}
+use Rattle.ndl_session.specs.text.Numbers.{signed_number_of}
+use Rattle.ndl_session.specs.script.Elements.{start_of, end_of, slice_of_bounds, slice_of_parts}
+use Rattle.ndl_session.proofs.texts.Parts.{lone_part, some_part}
+use Rattle.ndl_session.proofs.texts.NumberParts.{number_part}
 
 -- ---- the step
 step_at : (range step : List ℕ) (cut : List (List ℕ)) (o : Option ℤ) → signed_number_of step ≡ o → ((z : ℤ) → o ≡ Some z → cut ≡ step ∷ []) → ((part : List ℕ) → cut ≡ part ∷ [] → part ≡ step) → cut ≢ []

@@ -11,9 +11,9 @@ use Rattle.ndarray_layout.specs.Run.{Outcome, run_of}
 use Rattle.ndarray_layout.specs.Step.{StepValue}
 use Rattle.ndarray_layout.specs.View.{View, view_places}
 use Rattle.ndl_session.specs.declared.answer.Answer.{Answer}
-use Rattle.ndl_session.specs.Script.DataLine.{LayoutValue}
-use Rattle.ndl_session.specs.Script.{ScriptValue, script_of}
-use Rattle.ndl_session.specs.Text.Printing.{line, listed}
+use Rattle.ndl_session.specs.script.DataLine.{LayoutValue}
+use Rattle.ndl_session.specs.script.Script.{ScriptValue, script_of}
+use Rattle.ndl_session.specs.text.Printing.{line, listed}
 
 -- a text that goes out, and an exit status
 pub record Reply : Type 0 where

@@ -1,4 +1,4 @@
 pub mod Answer
-pub mod Devices
-pub mod Script
-pub mod Text
+pub mod devices
+pub mod script
+pub mod text

@@ -5,7 +5,7 @@ ghost use Rattle.ndarray_layout.specs.Signed.{all_signed};
 ghost use Rattle.ndarray_layout.specs.Step.{step_value};
 ghost use Rattle.ndl_session.specs.Answer.{answer_of, listing, refused as refusal, IsReply};
 ghost use Rattle.ndl_session.specs.Answer.{reply_to_script, reply_to_steps, unreadable as unreadable_reply};
-ghost use Rattle.ndl_session.specs.Script.{script_value};
+ghost use Rattle.ndl_session.specs.script.Script.{script_value};
 
 use crate::script::{ReadError, Script, read_script};
 use crate::text::printing::push_line;
@@ -110,13 +110,10 @@ fn list(alloc: Global, view: &Strided<IxDyn>) -> Result<Answer, AllocError>
     ensures { IfOk result (λ answer. IsReply answer (listing view.now)) }
 {
     let mut text = String::new(alloc);
-    push_line(&mut text, "shape", ",", view.axes().map(|axis| axis.len))?;
-    push_line(
-        &mut text,
-        "strides",
-        ",",
-        view.axes().map(|axis| axis.stride),
-    )?;
+    let lens = view.axes().map(|axis| axis.len);
+    let strides = view.axes().map(|axis| axis.stride);
+    push_line(&mut text, "shape", ",", lens)?;
+    push_line(&mut text, "strides", ",", strides)?;
     let places = view.places(alloc, Order::RowMajor)?;
     push_line(&mut text, "places", " ", places.iter().copied())?;
     Ok(Answer { text, status: 0 })

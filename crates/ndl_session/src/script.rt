@@ -1,7 +1,7 @@
 //! Reads a whole script.
 ghost use Rattle.std.specs.Prelude.{◌≡◌, ◌+◌, ◌<◌, ◌^◌, length, map};
-ghost use Rattle.ndl_session.specs.Text.Lines.{lines_from};
-ghost use Rattle.ndl_session.specs.Script.{Gives, script_of, script_value, steps_of_lines};
+ghost use Rattle.ndl_session.specs.text.Lines.{lines_from};
+ghost use Rattle.ndl_session.specs.script.Script.{Gives, script_of, script_value, steps_of_lines};
 ghost use Rattle.ndarray_layout.specs.Step.{step_value};
 
 pub(crate) mod data_line;

@@ -5,9 +5,9 @@
 ghost use Rattle.std.specs.Prelude.{◌≡◌, ◌≢◌, ◌≤◌, ◌↔◌, ◌⊎◌, true, false, Err, IfOk, IfSome, IsTrue, OnOk};
 ghost use Rattle.std.specs.Io.KnownBytes.{Appends, IsAtEnd};
 ghost use Rattle.ndl_session.specs.Answer.{answer_of, IsReply};
-ghost use Rattle.ndl_session.specs.Devices.Whole.{AppendsBeginning};
-ghost use Rattle.ndl_session.specs.Devices.Session.{input_failed_text, out_of_memory_text, AppendsAnswerBeginning};
-ghost use Rattle.ndl_session.specs.Devices.Watched.{device, has_failed};
+ghost use Rattle.ndl_session.specs.devices.Whole.{AppendsBeginning};
+ghost use Rattle.ndl_session.specs.devices.Session.{input_failed_text, out_of_memory_text, AppendsAnswerBeginning};
+ghost use Rattle.ndl_session.specs.devices.Watched.{device, has_failed};
 
 use crate::answer::{Answer, answer_to};
 use crate::devices::watched::Watched;

@@ -18,7 +18,7 @@ pub struct Watched<T> {
 }
 
 impl<T> Watched<T> {
-    ghost use Rattle.ndl_session.specs.Devices.Watched.{device, has_failed};
+    ghost use Rattle.ndl_session.specs.devices.Watched.{device, has_failed};
 
     /// The device, none of whose calls counts as failed yet.
     pub fn new(inner: T) -> Self
@@ -47,7 +47,7 @@ impl<T> Watched<T> {
 }
 
 impl<R: Read> Watched<R> {
-    ghost use Rattle.ndl_session.specs.Devices.Watched.{device, has_failed};
+    ghost use Rattle.ndl_session.specs.devices.Watched.{device, has_failed};
 
     /// Reads as the device does. The caller ensures that no read or write of it has failed before.
     ///
@@ -64,7 +64,7 @@ impl<R: Read> Watched<R> {
 }
 
 impl<W: Write> Watched<W> {
-    ghost use Rattle.ndl_session.specs.Devices.Watched.{device, has_failed, is_failed_write};
+    ghost use Rattle.ndl_session.specs.devices.Watched.{device, has_failed, is_failed_write};
 
     /// Writes as the device does. The caller ensures that no read or write of it has failed before.
     ///
@@ -82,7 +82,7 @@ impl<W: Write> Watched<W> {
 }
 
 impl<R: Read> Read for Watched<R> {
-    ghost use Rattle.ndl_session.specs.Devices.Watched.{device, has_failed};
+    ghost use Rattle.ndl_session.specs.devices.Watched.{device, has_failed};
 
     ghost remaining = { λ w. R.remaining (device w) };
 
@@ -99,7 +99,7 @@ impl<R: Read> Read for Watched<R> {
 }
 
 impl<W: Write> Write for Watched<W> {
-    ghost use Rattle.ndl_session.specs.Devices.Watched.{device, has_failed, is_failed_write};
+    ghost use Rattle.ndl_session.specs.devices.Watched.{device, has_failed, is_failed_write};
 
     ghost contents = { λ w. W.contents (device w) };
 

@@ -4,8 +4,8 @@
 //! `write_on`, which require that no call before it failed.
 ghost use Rattle.std.specs.Prelude.{◌≡◌, ◌↔◌, true, false, Err, IfOk, IfSome, IsTrue, OnOk};
 ghost use Rattle.std.specs.Io.KnownBytes.{Appends, IsAtEnd};
-ghost use Rattle.ndl_session.specs.Devices.Whole.{AppendsBeginning};
-ghost use Rattle.ndl_session.specs.Devices.Watched.{device, has_failed};
+ghost use Rattle.ndl_session.specs.devices.Whole.{AppendsBeginning};
+ghost use Rattle.ndl_session.specs.devices.Watched.{device, has_failed};
 ghost use Rattle.ndl_session.specs.declared.devices.whole.InputError.TheVariants.{ReadFailed, OutOfMemory};
 
 use crate::devices::watched::Watched;

@@ -1,7 +1,7 @@
 //! The line of a script that makes a layout.
 ghost use Rattle.std.specs.Prelude.{◌≡◌, map, IfOk};
 ghost use Rattle.std.specs.Option.{option_map};
-ghost use Rattle.ndl_session.specs.Script.DataLine.{layout_value, layout_of, mode_of};
+ghost use Rattle.ndl_session.specs.script.DataLine.{layout_value, layout_of, mode_of};
 
 use crate::script::lists::list;
 use crate::text::numbers::number;

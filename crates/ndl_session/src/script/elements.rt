@@ -1,8 +1,8 @@
 //! Elements of a slice argument as words spell them.
 ghost use Rattle.std.specs.Prelude.{◌≡◌};
-ghost use Rattle.ndl_session.specs.Text.Bytes.{dot};
-ghost use Rattle.ndl_session.specs.Text.Lines.{parts};
-ghost use Rattle.ndl_session.specs.Script.Elements.{element_of, end_of, range_of, slice_of_bounds, start_of};
+ghost use Rattle.ndl_session.specs.text.Bytes.{dot};
+ghost use Rattle.ndl_session.specs.text.Lines.{parts};
+ghost use Rattle.ndl_session.specs.script.Elements.{element_of, end_of, range_of, slice_of_bounds, start_of};
 
 use crate::script::lists::Entry;
 use crate::text::numbers::signed_number;

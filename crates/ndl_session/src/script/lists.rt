@@ -1,8 +1,8 @@
 //! Lists as words spell them.
 ghost use Rattle.std.specs.Prelude.{◌≡◌, ℕ, List, Option, IfOk};
 ghost use Rattle.std.specs.Option.{option_map};
-ghost use Rattle.ndl_session.specs.Script.Lists.{list_of};
-ghost use Rattle.ndl_session.specs.Text.Numbers.{number_of, signed_number_of};
+ghost use Rattle.ndl_session.specs.script.Lists.{list_of};
+ghost use Rattle.ndl_session.specs.text.Numbers.{number_of, signed_number_of};
 
 use crate::text::numbers::{number, signed_number};
 use crate::text::words::split_once;

@@ -2,7 +2,7 @@
 ghost use Rattle.std.specs.Prelude.{◌≡◌, map, IfOk};
 ghost use Rattle.std.specs.Option.{option_map};
 ghost use Rattle.ndarray_layout.specs.Step.{step_value};
-ghost use Rattle.ndl_session.specs.Script.StepLine.{fit_of, order_of_word, reshape_of_words, step_of, step_of_list, step_of_numbers, step_of_two_words};
+ghost use Rattle.ndl_session.specs.script.StepLine.{fit_of, order_of_word, reshape_of_words, step_of, step_of_list, step_of_numbers, step_of_two_words};
 
 use crate::script::lists::list;
 use crate::text::numbers::number;

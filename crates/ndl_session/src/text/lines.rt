@@ -1,7 +1,7 @@
 //! The lines of a script.
 ghost use Rattle.std.specs.Prelude.{◌≡◌, ◌+◌, ◌-◌, ◌<◌, ◌^◌, ◌∷◌, [], length, map};
 ghost use Rattle.std.specs.Prelude.{IfOk, IfSome, MatchOption};
-ghost use Rattle.ndl_session.specs.Text.Lines.{after_line, after_lines, lines_of, lines_from};
+ghost use Rattle.ndl_session.specs.text.Lines.{after_line, after_lines, lines_of, lines_from};
 
 use crate::text::words::{split_once, words};
 use std::alloc::{AllocError, Global};

@@ -1,6 +1,6 @@
 //! Numbers as words spell them.
 ghost use Rattle.std.specs.Prelude.{◌≡◌};
-ghost use Rattle.ndl_session.specs.Text.Numbers.{number_of, signed_number_of};
+ghost use Rattle.ndl_session.specs.text.Numbers.{number_of, signed_number_of};
 
 /// The number of one digit or more, without a sign; `None` where the text spells no such number, or one that no `usize`
 /// is.

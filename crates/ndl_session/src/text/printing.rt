@@ -1,7 +1,7 @@
 //! The lines of an answer.
 ghost use Rattle.std.specs.Prelude.{◌≡◌, ℕ, ◌++◌, List, OnOk, map, string_bytes};
 ghost use Rattle.std.specs.Iterator.{Drains, IsFinite};
-ghost use Rattle.ndl_session.specs.Text.Printing.{line, listed};
+ghost use Rattle.ndl_session.specs.text.Printing.{line, listed};
 
 use itoa::{Buffer, Integer};
 use std::alloc::AllocError;

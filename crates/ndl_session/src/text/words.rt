@@ -1,7 +1,7 @@
 //! The words of a line, and the parts of a text.
 ghost use Rattle.std.specs.Prelude.{◌≡◌, ◌<◌, ◌==◌, [], ◌∷◌, map, length, IfOk, IfSome, MatchOption};
 ghost use Rattle.std.specs.List.{after_first};
-ghost use Rattle.ndl_session.specs.Text.Lines.{parts, words_of};
+ghost use Rattle.ndl_session.specs.text.Lines.{parts, words_of};
 
 use std::alloc::{AllocError, Global};
 

@@ -1,7 +1,7 @@
 -- No reply's status is above 2.
 use Rattle.std.proofs.Common.{◌≤◌, subst, sym}
 use Rattle.std.proofs.lemmas.Result.{IfOk-weaker}
-use Rattle.ndl_session.specs.Script.{script_value}
+use Rattle.ndl_session.specs.script.Script.{script_value}
 use Rattle.ndl_session.proofs.Listing.{reply_to_script_small}
 use Rattle.ndl_session.proofs.answer.answer_to.Goals as goal
 

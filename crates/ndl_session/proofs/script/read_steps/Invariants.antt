@@ -1,7 +1,7 @@
 -- With the steps that were read before, those of the rest are those of all lines.
 use Rattle.std.proofs.Common.{◌≡◌, ◌+◌, ◌<◌, ◌^◌, length, map}
-use Rattle.ndl_session.specs.Text.Lines.{lines_from}
-use Rattle.ndl_session.specs.Script.{steps_of_lines}
+use Rattle.ndl_session.specs.text.Lines.{lines_from}
+use Rattle.ndl_session.specs.script.Script.{steps_of_lines}
 use Rattle.ndarray_layout.specs.Step.{step_value}
 use Rattle.ndl_session.proofs.Entries.{with_front_lines}
 use Rattle.ndl_session.proofs.script.read_steps.Given as goal

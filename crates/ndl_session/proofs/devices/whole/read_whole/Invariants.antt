@@ -1,7 +1,7 @@
 -- No read has failed so far, and what was read stands in `bytes`, whose length grows.
 use Rattle.std.proofs.Common.{◌≡◌, ◌-◌, ◌^◌, false, vec_len}
 use Rattle.std.specs.Io.KnownBytes.{Consumes}
-use Rattle.ndl_session.specs.Devices.Watched.{device, has_failed}
+use Rattle.ndl_session.specs.devices.Watched.{device, has_failed}
 use Rattle.ndl_session.proofs.devices.whole.read_whole.Given as goal
 
 abbrev pub invariant-loop-bytes : goal.invariant-loop-bytes

@@ -1,7 +1,7 @@
 -- No write has failed so far, and the first `written` bytes of the text went out.
 use Rattle.std.proofs.Common.{◌≡◌, ◌≤◌, ◌-◌, false, length, take}
 use Rattle.std.specs.Io.KnownBytes.{Appends}
-use Rattle.ndl_session.specs.Devices.Watched.{device, has_failed}
+use Rattle.ndl_session.specs.devices.Watched.{device, has_failed}
 use Rattle.ndl_session.proofs.devices.whole.write_whole.Given as goal
 
 abbrev pub invariant-loop-written : goal.invariant-loop-written

@@ -1,7 +1,7 @@
 use Rattle.std.proofs.Common.{◌≡◌, None, rules, sym, ◌∙◌, refl}
-use Rattle.ndl_session.specs.Text.Bytes.{dot}
-use Rattle.ndl_session.specs.Text.Lines.{parts}
-use Rattle.ndl_session.specs.Script.Elements.{range_of, slice_of_bounds}
+use Rattle.ndl_session.specs.text.Bytes.{dot}
+use Rattle.ndl_session.specs.text.Lines.{parts}
+use Rattle.ndl_session.specs.script.Elements.{range_of, slice_of_bounds}
 use Rattle.ndl_session.proofs.Slices.{with_step}
 use Rattle.ndl_session.proofs.script.elements.range.Goals as goal
 

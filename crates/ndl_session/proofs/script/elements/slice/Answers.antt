@@ -1,8 +1,8 @@
 use Rattle.std.proofs.Common.{◌≡◌, sym, ◌∙◌, Some, refl, rules}
 use Rattle.ndarray_layout.specs.declared.SliceInfoElem.TheVariants as elem
-use Rattle.ndl_session.specs.Text.Bytes.{dot}
-use Rattle.ndl_session.specs.Text.Lines.{parts}
-use Rattle.ndl_session.specs.Script.Elements.{slice_of_bounds}
+use Rattle.ndl_session.specs.text.Bytes.{dot}
+use Rattle.ndl_session.specs.text.Lines.{parts}
+use Rattle.ndl_session.specs.script.Elements.{slice_of_bounds}
 use Rattle.ndl_session.proofs.Slices.{cut_bounds}
 use Rattle.ndl_session.proofs.script.elements.slice.Goals as goal
 

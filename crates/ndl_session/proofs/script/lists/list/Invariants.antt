@@ -1,8 +1,8 @@
 -- With what was read before it, what the rest spells is what all of the word spells.
 use Rattle.std.proofs.Common.{◌≡◌, length}
-use Rattle.ndl_session.specs.Text.Bytes.{comma}
-use Rattle.ndl_session.specs.Text.Lines.{parts}
-use Rattle.ndl_session.specs.Script.Reading.{read_each}
+use Rattle.ndl_session.specs.text.Bytes.{comma}
+use Rattle.ndl_session.specs.text.Lines.{parts}
+use Rattle.ndl_session.specs.script.Reading.{read_each}
 use Rattle.ndl_session.proofs.Entries.{with_front}
 use Rattle.ndl_session.proofs.script.lists.list.Given as goal
 

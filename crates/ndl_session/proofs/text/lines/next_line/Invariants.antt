@@ -1,6 +1,6 @@
 -- So far all lines were blank: those that aren't are in the rest, which begins at this number.
 use Rattle.std.proofs.Common.{◌≡◌, ◌+◌, ◌-◌, ◌≤◌, length}
-use Rattle.ndl_session.specs.Text.Lines.{after_lines, lines_from}
+use Rattle.ndl_session.specs.text.Lines.{after_lines, lines_from}
 use Rattle.ndl_session.proofs.text.lines.next_line.Given as goal
 
 abbrev pub invariant-loop-line : goal.invariant-loop-line

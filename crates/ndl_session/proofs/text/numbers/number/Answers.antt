@@ -1,5 +1,5 @@
 use Rattle.std.proofs.Common.{sym, ◌∙◌}
-use Rattle.ndl_session.proofs.Digits.{number_parsed, number_with_plus, number_not_utf8, plus, no_plus, not_a_text, a_text}
+use Rattle.ndl_session.proofs.texts.Digits.{number_parsed, number_with_plus, number_not_utf8, plus, no_plus, not_a_text, a_text}
 use Rattle.ndl_session.proofs.text.numbers.number.Goals as goal
 
 pub returns-then-starts_with : goal.returns-then-starts_with

@@ -1,4 +1,4 @@
-use Rattle.ndl_session.proofs.Growth.{grows_not, grows_on, grows_once}
+use Rattle.ndl_session.proofs.texts.Growth.{grows_not, grows_on, grows_once}
 use Rattle.ndl_session.proofs.text.printing.push_line.Goals as goal
 
 pub returns-in_err-push_str-clause-kept : goal.returns-in_err-push_str-clause-kept

@@ -1,6 +1,6 @@
 use Rattle.std.proofs.Common.{◌∷◌, append_assoc, rules, subst}
 use Rattle.std.specs.Iterator.{Yields}
-use Rattle.ndl_session.proofs.Growth.{grows_not, grows_on, grows_once}
+use Rattle.ndl_session.proofs.texts.Growth.{grows_not, grows_on, grows_once}
 use Rattle.ndl_session.proofs.text.printing.push_list.Goals as goal
 
 pub returns-in_default-clause-kept : goal.returns-in_default-clause-kept

@@ -3,7 +3,7 @@ use Rattle.std.specs.List.{position}
 use Rattle.std.proofs.lemmas.Iterator.{YieldsList-from_slice}
 use Rattle.std.proofs.lemmas.Iterator.Search.{position_from_yields_List}
 use Rattle.std.proofs.lemmas.List.{take_rest}
-use Rattle.ndl_session.proofs.Parts.{parts_without, parts_at, rest_without, rest_at}
+use Rattle.ndl_session.proofs.texts.Parts.{parts_without, parts_at, rest_without, rest_at}
 use Rattle.ndl_session.proofs.text.words.split_once.Goals as goal
 
 pub returns-in_err-at-clause-parts : goal.returns-in_err-at-clause-parts

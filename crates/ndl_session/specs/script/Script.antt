@@ -1,9 +1,4 @@
 -- The script that an input spells, or the number of its first unreadable line.
-pub mod DataLine
-pub mod Elements
-pub mod Lists
-pub mod Reading
-pub mod StepLine
 use Rattle.std.specs.Prelude.{◌≡◌, ℕ, ◌+◌, pos, negsuc, Option, None, Result, Ok, Err, is_ok, List, [], ◌∷◌, map, codes, refl}
 use Rattle.std.specs.Option.{ok_or}
 use Rattle.std.proofs.Common.{ap}
@@ -15,10 +10,10 @@ use Rattle.ndarray_layout.specs.Step.{StepValue, SliceBy, step_value}
 use Rattle.ndl_session.specs.declared.script.Script.{Script}
 use Rattle.ndl_session.specs.declared.script.ReadError.{ReadError}
 use Rattle.ndl_session.specs.declared.script.ReadError.TheVariants as script
-use Rattle.ndl_session.specs.Script.Reading.{both}
-use Rattle.ndl_session.specs.Text.Lines.{NumberedLine, lines_from}
-use Rattle.ndl_session.specs.Script.DataLine.{LayoutValue, layout_value, layout_of}
-use Rattle.ndl_session.specs.Script.StepLine.{step_of}
+use Rattle.ndl_session.specs.script.Reading.{both}
+use Rattle.ndl_session.specs.text.Lines.{NumberedLine, lines_from}
+use Rattle.ndl_session.specs.script.DataLine.{LayoutValue, layout_value, layout_of}
+use Rattle.ndl_session.specs.script.StepLine.{step_of}
 
 -- what a script says: a layout, and the steps to take from it, in order
 pub record ScriptValue : Type 0 where

@@ -4,7 +4,7 @@ use Rattle.std.specs.List.{after_first, slice_split, onto_first, position_or_len
 use Rattle.std.proofs.lemmas.Bool.{ltb-true, ltb-false}
 use Rattle.std.proofs.lemmas.Option.{cond_some}
 use Rattle.std.proofs.lemmas.List.Splits.{slice_split_first, join_with_byte-slice_split, length-slice_split}
-use Rattle.ndl_session.specs.Text.Lines.{parts}
+use Rattle.ndl_session.specs.text.Lines.{parts}
 
 -- where no element is a separator, the list is the one part
 split_of_none : {X : Type 0} (p : X → Bool) (xs : List X) → length xs ≤ position_or_len p xs → slice_split p xs ≡ xs ∷ []

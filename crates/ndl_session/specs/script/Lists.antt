@@ -1,10 +1,10 @@
 -- The lists that words spell.
 use Rattle.std.specs.Prelude.{◌≡◌, ℕ, ℤ, pos, negsuc, Option, Some, None, if◌then◌else◌, List, [], ◌∷◌, codes, refl}
 use Rattle.std.specs.Str.{bytes_eq}
-use Rattle.ndl_session.specs.Text.Bytes.{comma}
-use Rattle.ndl_session.specs.Text.Lines.{parts}
-use Rattle.ndl_session.specs.Text.Numbers.{number_of, signed_number_of}
-use Rattle.ndl_session.specs.Script.Reading.{read_each}
+use Rattle.ndl_session.specs.text.Bytes.{comma}
+use Rattle.ndl_session.specs.text.Lines.{parts}
+use Rattle.ndl_session.specs.text.Numbers.{number_of, signed_number_of}
+use Rattle.ndl_session.specs.script.Reading.{read_each}
 
 -- the entries that a word lists, separated by commas; `-` is the empty list
 abbrev pub list_of : {A : Type 0} → (List ℕ → Option A) → List ℕ → Option (List A)

@@ -8,11 +8,11 @@ use Rattle.ndarray_layout.specs.declared.Order.{Order}
 use Rattle.ndarray_layout.specs.declared.Order.TheVariants.{RowMajor, ColumnMajor}
 use Rattle.ndarray_layout.specs.declared.SliceInfoElem.TheVariants as elem
 use Rattle.ndarray_layout.specs.Step.{StepValue, SliceBy, CollapseTo, MergeInto, ReshapeTo, BroadcastTo}
-use Rattle.ndl_session.specs.Text.Lines.{words_of}
-use Rattle.ndl_session.specs.Text.Numbers.{number_of}
-use Rattle.ndl_session.specs.Script.Elements.{elements_of}
-use Rattle.ndl_session.specs.Script.Lists.{lengths_of}
-use Rattle.ndl_session.specs.Script.Reading.{◌>>=◌}
+use Rattle.ndl_session.specs.text.Lines.{words_of}
+use Rattle.ndl_session.specs.text.Numbers.{number_of}
+use Rattle.ndl_session.specs.script.Elements.{elements_of}
+use Rattle.ndl_session.specs.script.Lists.{lengths_of}
+use Rattle.ndl_session.specs.script.Reading.{◌>>=◌}
 
 -- what becomes of a bound past its axis, by the word that a slice begins with
 abbrev pub fit_of : List ℕ → Option Fit

@@ -4,11 +4,11 @@ use Rattle.std.specs.Option.{option_map, option_or}
 use Rattle.std.specs.Str.{bytes_eq}
 use Rattle.ndarray_layout.specs.declared.SliceInfoElem.{SliceInfoElem}
 use Rattle.ndarray_layout.specs.declared.SliceInfoElem.TheVariants as elem
-use Rattle.ndl_session.specs.Text.Bytes.{dot, semicolon}
-use Rattle.ndl_session.specs.Script.Reading.{◌>>=◌}
-use Rattle.ndl_session.specs.Text.Lines.{parts}
-use Rattle.ndl_session.specs.Text.Numbers.{signed_number_of}
-use Rattle.ndl_session.specs.Script.Lists.{list_of}
+use Rattle.ndl_session.specs.text.Bytes.{dot, semicolon}
+use Rattle.ndl_session.specs.script.Reading.{◌>>=◌}
+use Rattle.ndl_session.specs.text.Lines.{parts}
+use Rattle.ndl_session.specs.text.Numbers.{signed_number_of}
+use Rattle.ndl_session.specs.script.Lists.{list_of}
 
 -- the start of a range by its text, which may be empty: then it is the first entry
 abbrev pub start_of : List ℕ → Option ℤ

@@ -2,7 +2,7 @@
 use Rattle.std.specs.Prelude.{◌≡◌, ℕ, zero, suc, ◌==◌, nat_lt, List, [], ◌∷◌, length, map, codes, refl}
 use Rattle.std.specs.List.{after_first, slice_split, filter, enumerate_from}
 use Rattle.std.specs.Str.Lines.{lines}
-use Rattle.ndl_session.specs.Text.Bytes.{line_feed, space}
+use Rattle.ndl_session.specs.text.Bytes.{line_feed, space}
 
 -- the lines of an input, each ended by a line feed, which the last may lack; a carriage return just before a line feed is dropped
 abbrev pub lines_of : List ℕ → List (List ℕ)

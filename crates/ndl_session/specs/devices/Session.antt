@@ -3,8 +3,8 @@ use Rattle.std.specs.Prelude.{◌≡◌, ℕ, zero, suc, ◌++◌, List, [], ◌
 use Rattle.std.specs.Fmt.{digits}
 use Rattle.std.proofs.Common.{ap, arith, inl, inr, lit<, suc-ne-zero}
 use Rattle.ndl_session.specs.Answer.{answer_of}
-use Rattle.ndl_session.specs.Text.Bytes.{line_feed}
-use Rattle.ndl_session.specs.Devices.Whole.{AppendsBeginning}
+use Rattle.ndl_session.specs.text.Bytes.{line_feed}
+use Rattle.ndl_session.specs.devices.Whole.{AppendsBeginning}
 
 -- the whole text where a read failed
 abbrev pub input_failed_text : List ℕ

@@ -4,10 +4,10 @@ use Rattle.std.specs.Str.{bytes_eq}
 use Rattle.ndarray_layout.specs.declared.CanIndexCheckMode.{CanIndexCheckMode}
 use Rattle.ndarray_layout.specs.declared.CanIndexCheckMode.TheVariants.{OwnedMutable, ReadOnly}
 use Rattle.ndl_session.specs.declared.script.data_line.Layout.{Layout}
-use Rattle.ndl_session.specs.Script.Reading.{◌>>=◌}
-use Rattle.ndl_session.specs.Text.Lines.{words_of}
-use Rattle.ndl_session.specs.Text.Numbers.{number_of}
-use Rattle.ndl_session.specs.Script.Lists.{lengths_of, strides_of}
+use Rattle.ndl_session.specs.script.Reading.{◌>>=◌}
+use Rattle.ndl_session.specs.text.Lines.{words_of}
+use Rattle.ndl_session.specs.text.Numbers.{number_of}
+use Rattle.ndl_session.specs.script.Lists.{lengths_of, strides_of}
 
 -- a layout over some data: how many elements the data has, whether indices may share one, and the axes
 pub record LayoutValue : Type 0 where

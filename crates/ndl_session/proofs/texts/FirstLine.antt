@@ -4,9 +4,9 @@ use Rattle.std.specs.Cmp.Lexicographic.{pointwise}
 use Rattle.std.specs.Option.{unwrap_or}
 use Rattle.std.specs.Str.Lines.{strip_carriage_return, lines_of_parts}
 use Rattle.std.proofs.Math.Bool.{and-true}
-use Rattle.ndl_session.specs.Text.Bytes.{line_feed}
-use Rattle.ndl_session.specs.Text.Lines.{after_line, after_lines, lines_of, lines_from, words_of, parts}
-use Rattle.ndl_session.proofs.Parts.{some_part}
+use Rattle.ndl_session.specs.text.Bytes.{line_feed}
+use Rattle.ndl_session.specs.text.Lines.{after_line, after_lines, lines_of, lines_from, words_of, parts}
+use Rattle.ndl_session.proofs.texts.Parts.{some_part}
 
 -- the text has a line feed
 first_part : (line : List ℕ) (cut : List (List ℕ)) → cut ≢ [] → lines_of_parts (line ∷ cut) ≡ strip_carriage_return line ∷ lines_of_parts cut

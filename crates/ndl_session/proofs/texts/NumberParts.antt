@@ -5,9 +5,9 @@ use Rattle.std.specs.Str.{all_ascii_digits}
 use Rattle.std.proofs.lemmas.Bool.{and_parts, ne_eqb, cases_eq}
 use Rattle.std.proofs.lemmas.Option.{cond_some}
 use Rattle.std.proofs.lemmas.Str.Parse.{tells_all_ascii_digits}
-use Rattle.ndl_session.specs.Text.Lines.{parts}
-use Rattle.ndl_session.specs.Text.Numbers.{is_decimal, signed_number_of}
-use Rattle.ndl_session.proofs.Digits.{digits_of_decimal, with_minus, without_minus}
+use Rattle.ndl_session.specs.text.Lines.{parts}
+use Rattle.ndl_session.specs.text.Numbers.{is_decimal, signed_number_of}
+use Rattle.ndl_session.proofs.texts.Digits.{digits_of_decimal, with_minus, without_minus}
 
 digits_part : (separator : ℕ) → ¬ (IsInRange 48 57 separator) → (ds : List ℕ) → all_ascii_digits ds ≡ true → parts separator ds ≡ ds ∷ []
 digits_part separator other [] h = refl
