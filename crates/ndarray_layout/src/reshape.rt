@@ -55,7 +55,7 @@ pub fn reshape_dim<D: Lengths, E: Lengths>(
         (D.list from.now) (all_signed (D.list strides.now)) (E.list to.now) others) }
     ensures forced { (others : List ℤ) →
         Keeps order (D.list from.now) (all_signed (D.list strides.now)) (E.list to.now) others →
-        AgreeOnLonger order (E.list to.now) others
+        AgreeOnLonger (E.list to.now) others
         (forced_strides order (D.list from.now) (all_signed (D.list strides.now)) (E.list to.now)) }
 {
     let mut others = E::zeros(alloc, to.ndim())?;

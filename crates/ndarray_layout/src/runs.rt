@@ -1,10 +1,12 @@
 //! Steps from one view to the next, and runs of them.
 ghost use Rattle.std.specs.Prelude.{◌≡◌, ℕ, ◌<◌, length, None, Some, map, IfOk, IfErr, IsOk, OnErr, OnOk, false, take};
 ghost use Rattle.std.specs.Result.{result_err};
+ghost use Rattle.nd_base.specs.declared.error.ErrorKind.{ErrorKind};
+ghost use Rattle.nd_base.specs.declared.error.LayoutError.TheVariants.{Shape};
 ghost use Rattle.ndarray_layout.specs.MergedView.{merge_fault, merge_of};
 ghost use Rattle.ndarray_layout.specs.DistinctPlaces.{HasDistinctPlaces};
 ghost use Rattle.ndarray_layout.specs.KeepsPlaces.{KeepsPlaces};
-ghost use Rattle.ndarray_layout.specs.Run.{run_of, AllFit, StopsAt, IsEndedBy, IsRefusedBy, HasNoBroadcast, NeedNoMemory};
+ghost use Rattle.ndarray_layout.specs.Run.{run_of, AllFit, StopsAt, IsRefusedBy, HasNoBroadcast, NeedNoMemory};
 ghost use Rattle.ndarray_layout.specs.Step.{may_want_memory, step_fault, step_value, view_after};
 ghost use Rattle.ndarray_layout.specs.View.{IsView, LiesWithin};
 
@@ -108,13 +110,19 @@ pub fn run(alloc: Global, view: Strided<IxDyn>, steps: &[Step]) -> Result<Stride
     ensures at { IfErr result (λ s. s.at < length steps.now) }
     ensures stopped { IfErr result (λ s.
         StopsAt (map step_value steps.now) view s.at s.fault s.view) }
-    ensures ended { IfErr result (λ s.
-        IsEndedBy (run_of (map step_value steps.now) view) s.at s.fault s.view) }
+    ensures ended { IfErr result (λ s. (kind : ErrorKind) → s.fault ≡ Shape kind →
+        let run = run_of (map step_value steps.now) view in
+        (run.fault ≡ Some kind) × (run.taken ≡ s.at) × (run.view ≡ s.view)) }
     ensures memory { (run_of (map step_value steps.now) view).fault ≡ None →
         NeedNoMemory (map step_value steps.now) → IsOk result }
     ensures stopped_view { IfErr result (λ s. IsView s.view) }
     ensures stopped_places { IfErr result (λ s.
         KeepsPlaces (run_of (take s.at (map step_value steps.now)) view).source view s.view) }
+    ensures stopped_inside { IfErr result (λ s.
+        (len : ℕ) → LiesWithin len view → LiesWithin len s.view) }
+    ensures stopped_distinct { IfErr result (λ s.
+        HasNoBroadcast (take s.at (map step_value steps.now)) →
+        HasDistinctPlaces view → HasDistinctPlaces s.view) }
     ensures is_view { IfOk result (λ v. IsView v) }
     ensures places { IfOk result (λ v.
         KeepsPlaces (run_of (map step_value steps.now) view).source view v) }

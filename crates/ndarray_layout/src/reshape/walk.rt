@@ -8,7 +8,7 @@ ghost use Rattle.nd_base.specs.Size.{size, nonzero_size, is_empty, limit};
 ghost use Rattle.nd_base.specs.ValidLayout.{IsValidLayout};
 ghost use Rattle.ndarray_layout.specs.reshape.ForcedStrides.{forced_strides, stride_at};
 ghost use Rattle.ndarray_layout.specs.reshape.ReshapeFault.{reshape_fault, fault_as_read};
-ghost use Rattle.ndarray_layout.specs.reshape.Walk.{CanWalk, IsReached, IsBlock, IsInside, HasStridesUpTo, PlacesAlike};
+ghost use Rattle.ndarray_layout.specs.private.ReshapeProgress.{CanWalk, IsReached, IsBlock, IsInside, HasStridesUpTo, PlacesAlike};
 
 use crate::sequence::{Forward, Reverse, Sequence, SequenceMut};
 use nd_base::{ErrorKind, Lengths, Order, ShapeError, from_kind, signed, unsigned};

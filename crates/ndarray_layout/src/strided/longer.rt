@@ -1,7 +1,7 @@
 //! The axes of a layout with another length than 1.
 ghost use Rattle.std.specs.Prelude.{◌≡◌, ◌≤◌, length, take, IfNone, IfSome};
 ghost use Rattle.nd_base.specs.Size.{nonzero_size, size, limit};
-ghost use Rattle.ndarray_layout.specs.LongerAxes.{of_longer};
+ghost use Rattle.ndarray_layout.specs.private.LongerAxes.{of_longer};
 
 /// How many axes of two entries or more a shape can have: the product of its lengths that are not 0 is at
 /// most the greatest `isize`.

@@ -1,5 +1,5 @@
 //! Views of layouts that are accepted, and the same view once more.
-ghost use Rattle.std.specs.Prelude.{◌≡◌, ◌<◌, None, length, IfOk, IsOk};
+ghost use Rattle.std.specs.Prelude.{◌≡◌, ◌⊎◌, ◌<◌, false, None, length, IfOk, IsOk};
 ghost use Rattle.std.specs.Option.{IsSome};
 ghost use Rattle.std.specs.Result.{result_err};
 ghost use Rattle.nd_base.specs.Signed.{all_signed};
@@ -9,7 +9,9 @@ ghost use Rattle.nd_shape.specs.ShapeBuilder.{custom_strides, strides_list};
 ghost use Rattle.nd_shape.specs.declared.checks.CanIndexCheckMode.TheVariants.{OwnedMutable};
 ghost use Rattle.nd_base.specs.Lengths.{NeedsNoMemory};
 ghost use Rattle.nd_base.specs.ShapeFault.{shape_fault};
+ghost use Rattle.nd_base.specs.Size.{is_empty};
 ghost use Rattle.nd_base.specs.Span.{low_span};
+ghost use Rattle.nd_shape.specs.OwnedRule.{MeetsOwnedRule};
 ghost use Rattle.ndarray_layout.specs.DistinctPlaces.{HasDistinctPlaces};
 ghost use Rattle.ndarray_layout.specs.View.{IsView, LiesWithin, view_of};
 
@@ -78,6 +80,9 @@ impl<D: Lengths> Strided<D> {
         ensures is_view { IfOk result (λ v. IsView v) }
         ensures inside { IfOk result (λ v. LiesWithin len v) }
         ensures distinct { IfOk result (λ v. mode ≡ OwnedMutable → HasDistinctPlaces v) }
+        ensures rule { IfOk result (λ v.
+            (custom_strides shape.strides ≡ None) ⊎ (mode ≡ OwnedMutable) →
+            is_empty v.shape ≡ false → MeetsOwnedRule v.shape v.strides) }
     {
         let StrideShape { dim, strides } = shape;
         can_index_slice_with_strides(elem_size, len, &dim, &strides, mode)?;

@@ -5,7 +5,7 @@ ghost use Rattle.nd_base.specs.Size.{size, limit};
 ghost use Rattle.nd_base.specs.declared.order.Order.TheVariants.{RowMajor};
 ghost use Rattle.ndarray_layout.specs.View.{IsView, view_of, view_places, LiesWithin, place_at};
 ghost use Rattle.nd_base.specs.Reading.{as_read};
-ghost use Rattle.ndarray_layout.specs.Walk.{view_as_read, row_view};
+ghost use Rattle.ndarray_layout.specs.private.ReadView.{view_as_read, row_view};
 ghost use Rattle.std.specs.List.{All};
 ghost use Rattle.std.specs.Option.{option_map};
 ghost use Rattle.nd_shape.specs.Axes.{axes};

@@ -13,7 +13,7 @@ ghost use Rattle.nd_slice.specs.Picked.{picked_stride, first_offset};
 ghost use Rattle.nd_slice.specs.ArgumentFault.{first_fault, in_count, out_count};
 ghost use Rattle.nd_slice.specs.Counts.{HasCounts};
 ghost use Rattle.nd_slice.specs.Sliced.{sliced_shape, sliced_strides, sliced_offset};
-ghost use Rattle.ndarray_layout.specs.SlicedView.{slice_refusal, IsSliceOf};
+ghost use Rattle.ndarray_layout.specs.SlicedView.{slice_of, slice_refusal};
 ghost use Rattle.nd_slice.specs.Selected.{selected};
 ghost use Rattle.ndarray_layout.specs.DistinctPlaces.{HasDistinctPlaces};
 ghost use Rattle.ndarray_layout.specs.KeepsPlaces.{KeepsPlaces};
@@ -203,7 +203,7 @@ impl<D: Lengths> Strided<D> {
             slice_refusal fit E.NDIM self.now.shape (S.list slices.now) }
         ensures memory { slice_refusal fit E.NDIM self.now.shape (S.list slices.now) ≡ None →
             NeedsNoMemory E.NDIM (out_count (S.list slices.now)) → IsOk result }
-        ensures sliced { IfOk result (λ v. IsSliceOf fit (S.list slices.now) self.now v) }
+        ensures sliced { IfOk result (λ v. v ≡ slice_of fit (S.list slices.now) self.now) }
         ensures is_view { IfOk result (λ v. IsView v) }
         ensures places { IfOk result (λ v. KeepsPlaces (selected fit (S.list slices.now) self.now.shape) self.now v) }
         ensures inside { IfOk result (λ v. (len : ℕ) → LiesWithin len self.now → LiesWithin len v) }

@@ -1,4 +1,4 @@
--- Laws of walks: a layout with its axes turned round has the same sums and products, and the places of the turned indices.
+-- A layout with its axes turned round has the same sums and products, and the places of the turned indices.
 use Rattle.std.proofs.Common.{◌≡◌, ℕ, ℤ, pos, ◌+ℤ◌, List, [], ◌∷◌, length, map, reverse, arith, refl, sym, ap, ◌∙◌}
 use Rattle.std.proofs.lemmas.List.{reverse-reverse, length-reverse}
 use Rattle.nd_base.specs.declared.order.Order.{Order}
@@ -13,7 +13,7 @@ use Rattle.nd_base.proofs.laws.NonzeroSize.{nonzero_size-reverse}
 use Rattle.nd_base.proofs.laws.Offset.{offset_of-reverse}
 use Rattle.nd_base.proofs.laws.Span.{sum_over_axes-reverse}
 use Rattle.ndarray_layout.specs.View.{IsView, view_places}
-use Rattle.ndarray_layout.specs.Walk.{view_as_read}
+use Rattle.ndarray_layout.specs.private.ReadView.{view_as_read}
 
 map_after : {A B C : Type 0} (f : B → C) (g : A → B) (xs : List A) → map f (map g xs) ≡ map (λ x. f (g x)) xs
 map_after f g [] = refl

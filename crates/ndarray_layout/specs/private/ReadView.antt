@@ -1,4 +1,4 @@
--- The order in which the axes of a view are walked.
+-- Words of private contracts alone, of the calls below `Strided::places`: a view with its axes in an order, and a view of one axis.
 use Rattle.std.specs.Prelude.{◌≡◌, ℕ, ℤ, pos, negsuc, refl, List, [], ◌∷◌}
 use Rattle.nd_base.specs.declared.order.Order.{Order}
 use Rattle.nd_base.specs.declared.order.Order.TheVariants.{RowMajor, ColumnMajor}

@@ -1,4 +1,4 @@
--- Laws of views without their axes of length 1: the same places in both orders, and the same sums and products.
+-- Views without their axes of length 1 have the same places in both orders, and the same sums and products.
 use Rattle.std.proofs.Common.{◌≡◌, ℕ, suc, ◌+◌, ◌*◌, ℤ, pos, negsuc, ◌+ℤ◌, ◌*ℤ◌, Bool, true, false, cond, eqb, List, [], ◌∷◌, ◌++◌, length, map, reverse, inl, inr, refl, sym, ap, ◌∙◌, arith}
 use Rattle.std.specs.List.{flat_map}
 use Rattle.std.proofs.lemmas.Bool.{cases_eq, cond-true, cond-false, eq-eqb, ne_eqb}
@@ -12,9 +12,9 @@ use Rattle.nd_base.specs.Place.{places}
 use Rattle.nd_base.specs.Signed.{signed, all_signed}
 use Rattle.nd_base.specs.Size.{size, nonzero_size}
 use Rattle.nd_base.specs.Span.{reach, reach_down, reach_up, sum_over_axes}
-use Rattle.ndarray_layout.specs.LongerAxes.{of_longer, longer_view}
+use Rattle.ndarray_layout.specs.private.LongerAxes.{of_longer, longer_view}
 use Rattle.ndarray_layout.specs.View.{View, IsView, view_places}
-use Rattle.ndarray_layout.proofs.laws.Walk.{places-as_read}
+use Rattle.ndarray_layout.proofs.ReadView.{places-as_read}
 
 -- an axis of length 1 is left out, any other is kept
 of_longer_one : {A : Type 0} (len : ℕ) (lens : List ℕ) (item : A) (items : List A) → len ≡ 1 → of_longer (len ∷ lens) (item ∷ items) ≡ of_longer lens items

@@ -1,4 +1,5 @@
--- A view without its axes of length 1, on which an index has the entry 0 alone, so that they move no place.
+-- Words of private contracts alone, of the calls below `Strided::places`: a view without its axes of length 1. On these an index has
+-- the entry 0 alone, so they move no place.
 use Rattle.std.specs.Prelude.{◌≡◌, ℕ, ◌==◌, pos, negsuc, if◌then◌else◌, List, [], ◌∷◌, refl}
 use Rattle.nd_base.specs.declared.order.Order.TheVariants.{RowMajor, ColumnMajor}
 use Rattle.ndarray_layout.specs.View.{View, view_places}

@@ -1,5 +1,5 @@
--- How far a reshape has read two shapes from the slowest axis on: what the contracts of the walk's private functions speak of.
--- All lists are in the order of reading.
+-- Words of private contracts alone, of the calls below `reshape_dim`: how far two shapes have been read from the slowest axis on. All
+-- lists are in the order of reading.
 use Rattle.std.specs.Prelude.{◌≡◌, ℕ, zero, suc, ◌-◌, ◌<◌, ◌≤◌, false, ℤ, pos, ◌*ℤ◌, ◌⊎◌, List, [], ◌∷◌, length, take, drop, slice_index, slice_index_or, refl}
 use Rattle.nd_base.specs.Offset.{offset_of}
 use Rattle.nd_base.specs.Rank.{index_of_rank}
