@@ -2,7 +2,7 @@
 ghost use Rattle.std.specs.Prelude.{◌≡◌, Some};
 ghost use Rattle.nd_base.specs.ErrorText.{shape_error_text};
 
-use std::alloc::AllocError;
+use std::alloc::{AllocError, AllocFailed};
 use std::error::Error;
 use std::fmt;
 use std::marker::Model;
@@ -123,5 +123,17 @@ impl From<AllocError> for LayoutError {
 
     fn from(error: AllocError) -> Self {
         LayoutError::Memory(error)
+    }
+}
+
+/// So that `v.push(x)?` stands beside the calls of this layer. The value that was not stored is dropped.
+impl<T: Drop> From<AllocFailed<T>> for LayoutError {
+    ghost use Rattle.std.specs.Prelude.{alloc_error};
+    ghost use Rattle.nd_base.specs.declared.error.LayoutError.TheVariants.{Memory};
+
+    ghost from_gives = { λ _ error. error ≡ Memory alloc_error };
+
+    fn from(_error: AllocFailed<T>) -> Self {
+        LayoutError::Memory(AllocError)
     }
 }

@@ -21,8 +21,8 @@ ghost use Rattle.nd_dim.specs.Strides.{default_strides as default_strides_of, fo
 use crate::axis_edits::{insert_axis_into, last_len, remove_axis_into, set_last_len};
 use crate::contiguous::is_contiguous;
 use crate::conversion::IntoDimension;
+use crate::next_index::{step_by_columns, step_by_rows};
 use crate::sizes::{checked_size, product};
-use crate::steps::{step_by_columns, step_by_rows};
 use crate::stride_axes::{max_stride_axis, min_stride_axis};
 use crate::stride_order::fill_stride_order;
 use crate::strides::{are_equivalent, default_strides, fortran_strides};

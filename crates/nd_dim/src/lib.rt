@@ -8,10 +8,10 @@ mod conversion;
 mod dimension;
 mod dimensions;
 mod error;
+mod next_index;
 mod remove_axis;
 mod shape_arg;
 mod sizes;
-mod steps;
 mod stride_axes;
 mod stride_order;
 mod strides;
@@ -25,9 +25,9 @@ pub use nd_base::{
     has_axis, index_offset, is_index, new_ix0, new_ix1, new_ix2, new_ix3, new_ix4, new_ix5,
     new_ix6, new_ixdyn, set_axis_of, signed, stride_offset, stride_offset_checked, unsigned,
 };
+pub use next_index::{step_by_columns, step_by_rows};
 pub use remove_axis::RemoveAxis;
 pub use shape_arg::ShapeArg;
 pub use sizes::product;
-pub use steps::{step_by_columns, step_by_rows};
 pub use stride_axes::magnitude_at;
 pub use strides::{default_strides, fortran_strides};

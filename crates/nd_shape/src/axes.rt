@@ -8,7 +8,7 @@ ghost use Rattle.nd_shape.specs.Axes.{axes, axes_left};
 mod iter;
 
 pub use iter::{Axes, AxisDescription};
-use nd_dim::Lengths;
+use nd_base::Lengths;
 
 /// The axes of a layout with their lengths and strides, each once, from the first or from the last
 /// on. ndarray's `axes_of`.

@@ -4,7 +4,7 @@ ghost use Rattle.nd_shape.specs.CommonShape.{common_length, common_shape, common
 ghost use Rattle.nd_base.specs.Lengths.{IsCount, NeedsNoMemory};
 ghost use Rattle.nd_base.specs.ShapeFault.{shape_fault};
 
-use nd_dim::{ErrorKind, LayoutError, Lengths, from_kind};
+use nd_base::{ErrorKind, LayoutError, Lengths, from_kind};
 use std::alloc::Global;
 
 /// Whether two lengths of one axis are equal, or one of them is 1.

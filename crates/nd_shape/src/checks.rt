@@ -18,7 +18,7 @@ ghost use Rattle.nd_shape.specs.ShapeBuilder.{standard_strides, strides_list};
 use crate::limits::{checked_nonzero_size, checked_span, multiply};
 use crate::overlap::has_overlap;
 use crate::shape_builder::Strides;
-use nd_dim::{ErrorKind, Lengths, ShapeError, from_kind, signed};
+use nd_base::{ErrorKind, Lengths, ShapeError, from_kind, signed};
 
 /// How a layout is going to be used. ndarray's `CanIndexCheckMode`.
 #[derive(Clone, Copy, PartialEq)]

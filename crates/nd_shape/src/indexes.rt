@@ -12,7 +12,8 @@ mod walk;
 
 pub use cursor::{IndexCursor, IndexCursorF};
 pub use indices::Indices;
-use nd_dim::{IntoDimension, Lengths};
+use nd_base::Lengths;
+use nd_dim::IntoDimension;
 use std::alloc::{AllocError, Global};
 pub use walk::{IndicesIter, IndicesIterF};
 

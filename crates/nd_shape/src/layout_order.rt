@@ -5,7 +5,7 @@ ghost use Rattle.nd_base.specs.Signed.{all_signed};
 ghost use Rattle.nd_base.specs.Size.{nonzero_size, limit};
 ghost use Rattle.nd_shape.specs.LayoutOrder.{LiesInOrder, MeetsOrderRule};
 
-use nd_dim::Lengths;
+use nd_base::Lengths;
 
 /// Whether there is no index, or each axis of another length than 1 has the stride by which the last
 /// axis moves fastest.

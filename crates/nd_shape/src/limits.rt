@@ -4,7 +4,7 @@ ghost use Rattle.nd_base.specs.Size.{nonzero_size, limit};
 ghost use Rattle.nd_base.specs.Signed.{signed as signed_reading, all_signed};
 ghost use Rattle.nd_base.specs.Span.{reach as reach_of_axis, span};
 
-use nd_dim::signed;
+use nd_base::signed;
 
 /// The number, where it is at most the greatest `isize`.
 #[inline(always)]

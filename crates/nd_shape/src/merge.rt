@@ -5,7 +5,7 @@ ghost use Rattle.nd_base.specs.Signed.{signed as signed_reading, all_signed};
 ghost use Rattle.nd_base.specs.ValidLayout.{IsValidLayout};
 ghost use Rattle.nd_shape.specs.Merge.{IsMergedStride, MergeFits, merged_shape, merged_strides};
 
-use nd_dim::{Axis, Lengths, signed};
+use nd_base::{Axis, Lengths, signed};
 
 /// Whether a stride is as long as that many steps of another.
 #[inline(always)]

@@ -4,7 +4,8 @@ ghost use Rattle.std.specs.Prelude.{◌≡◌, ◌-◌, ◌<◌, ◌≤◌, leng
 ghost use Rattle.nd_base.specs.Signed.{all_signed};
 ghost use Rattle.nd_shape.specs.MinStride.{IsFirstLeastAxis, are_turned as are_turned_by_rule, IsAxisToMove};
 
-use nd_dim::{Lengths, magnitude_at};
+use nd_base::Lengths;
+use nd_dim::magnitude_at;
 
 /// The axis whose stride is of least magnitude among those of more than one entry, and the first of
 /// these where several are; the last axis where none has more than one entry.

@@ -8,7 +8,7 @@ ghost use Rattle.nd_base.specs.Signed.{all_signed};
 ghost use Rattle.nd_base.specs.Size.{limit};
 ghost use Rattle.nd_base.specs.ValidLayout.{IsValidLayout};
 
-use nd_dim::{
+use nd_base::{
     Dim, Ix0, Ix1, Ix2, Ix3, Ix4, Ix5, Ix6, IxDyn, Lengths, index_offset, stride_offset_checked,
 };
 use std::fmt::Debug;

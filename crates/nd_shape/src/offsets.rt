@@ -6,7 +6,7 @@ ghost use Rattle.nd_base.specs.Span.{reach_down as reach_down_of_axis, span, low
 ghost use Rattle.nd_base.specs.ValidLayout.{IsValidLayout};
 
 use crate::limits::reach;
-use nd_dim::{Lengths, signed};
+use nd_base::{Lengths, signed};
 
 /// How many elements lie between the lowest entry of an axis and the first one.
 #[inline(always)]

@@ -12,7 +12,7 @@ ghost use Rattle.nd_base.specs.DistinctOffsets.{HasDistinctOffsets};
 ghost use Rattle.nd_base.specs.ValidLayout.{IsValidLayout};
 
 use crate::limits::reach;
-use nd_dim::{Lengths, Order, signed};
+use nd_base::{Lengths, Order, signed};
 
 /// How many elements lie between the first and the last entry of an axis, or 0 where its stride is
 /// of a magnitude past `magnitude`.

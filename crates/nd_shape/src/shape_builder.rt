@@ -6,7 +6,8 @@ ghost use Rattle.nd_base.specs.Size.{size};
 ghost use Rattle.nd_base.specs.declared.order.Order.{Order};
 ghost use Rattle.nd_shape.specs.ShapeBuilder.{dim_of, order_of, custom_strides, strides_in, strides_list};
 
-use nd_dim::{IntoDimension, Lengths, Order, default_strides, fortran_strides, product};
+use nd_base::{Lengths, Order};
+use nd_dim::{IntoDimension, default_strides, fortran_strides, product};
 use std::alloc::{AllocError, Global};
 
 /// A shape whose indices lie one after another, in one of the two orders. ndarray's `Shape`.

@@ -1,34 +1,12 @@
-//! Tests of `nd_shape`, and by its public calls of the rules below it, `nd_shape_rules`; and of what `nd_dim` answers of a
-//! layout that these accept (`offsets`).
+//! Tests of `nd_base`, `nd_dim` and `nd_shape`, by their public calls, in a folder for each. They stand in one crate, since each
+//! dimension type is then named in one place (`tables`), and a crate of tests costs the check some 20 seconds before its first test.
 #![tactic(auto)]
 
 #[cfg(test)]
-mod acceptance;
+mod base;
 #[cfg(test)]
-mod axes;
+mod dim;
 #[cfg(test)]
-mod broadcast;
+mod shape;
 #[cfg(test)]
-mod claim;
-#[cfg(test)]
-mod contiguous;
-#[cfg(test)]
-mod ends;
-#[cfg(test)]
-mod indexes;
-#[cfg(test)]
-mod indexing;
-#[cfg(test)]
-mod layout;
-#[cfg(test)]
-mod layouts;
-#[cfg(test)]
-mod merge;
-#[cfg(test)]
-mod offsets;
-#[cfg(test)]
-mod questions;
-#[cfg(test)]
-mod shapes;
-#[cfg(test)]
-mod small_layouts;
+mod tables;

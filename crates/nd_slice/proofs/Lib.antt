@@ -1,12 +1,7 @@
 pub mod Ends
-pub mod Equations
 pub mod Every
 pub mod EveryItems
-pub mod Meeting
-pub mod Multiples
-pub mod Sequences
-pub mod Signs
 pub mod Slicing
-pub mod Steps
 pub mod Times
+pub mod intersection
 pub mod laws

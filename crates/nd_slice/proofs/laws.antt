@@ -6,3 +6,4 @@ pub mod Picked
 pub mod Picks
 pub mod Selected
 pub mod SliceFault
+pub mod UnitStep

@@ -11,8 +11,8 @@ pub mod Ranges
 pub mod Selected
 pub mod Sequence
 pub mod SliceFault
+pub mod SliceText
 pub mod Sliced
-pub mod Text
 pub use Rattle.nd_base.specs.Lengths
 pub use Rattle.nd_base.specs.Signed
 pub use Rattle.nd_base.specs.Size

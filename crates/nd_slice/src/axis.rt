@@ -9,8 +9,8 @@ ghost use Rattle.nd_slice.specs.Picks.{picks};
 ghost use Rattle.nd_slice.specs.SliceFault.{slice_fault};
 ghost use Rattle.nd_slice.specs.Picked.{picked_stride, first_offset};
 
-use crate::axis_slice::{first_pick, pick_count, to_abs_slice};
 use crate::fit::Fit;
+use crate::picks::{first_pick, pick_count, to_abs_slice};
 use crate::slice::Slice;
 use nd_base::{ShapeError, signed, stride_offset, unsigned};
 

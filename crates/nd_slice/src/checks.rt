@@ -5,10 +5,10 @@ ghost use Rattle.nd_slice.specs.ArgumentFault.{argument_fault, in_count, out_cou
 
 use crate::elem::SliceInfoElem;
 use crate::elems::SliceElems;
-use nd_base::{ErrorKind, Lengths, ShapeError, from_kind};
-use crate::axis_slice::{entry_of, to_abs_slice};
 use crate::fit::Fit;
+use crate::picks::{entry_of, to_abs_slice};
 use crate::slice::Slice;
+use nd_base::{ErrorKind, Lengths, ShapeError, from_kind};
 
 /// How many axes of a shape a slice argument is for: one for each element but a new axis. ndarray's
 /// `SliceArg::in_ndim` of a bare list.

@@ -9,14 +9,23 @@ ghost use Rattle.nd_slice.specs.SliceFault.{SliceFits};
 ghost use Rattle.nd_slice.specs.ArgumentFault.{argument_fault};
 ghost use Rattle.nd_slice.specs.Meet.{elem_picks, ElemFits, IndexFitsIn, without_new_axes, Meet};
 
+mod equation;
+mod euclid;
+mod multiplier;
+mod picks;
+mod sequence;
+
 use crate::checks::check_slice;
 use crate::elem::SliceInfoElem;
 use crate::elems::SliceElems;
-use nd_base::{Lengths, ShapeError};
-use crate::axis_slice::abs_index;
 use crate::fit::Fit;
-use crate::picks::picks_intersect;
+use crate::intersect::picks::picks_intersect;
+use crate::picks::abs_index;
 use crate::slice::Slice;
+pub use equation::solve_linear_diophantine_eq;
+pub use euclid::extended_gcd;
+use nd_base::{Lengths, ShapeError};
+pub use sequence::arith_seq_intersect;
 
 /// The place of the next element that is for an axis, from a place on; the count of elements where
 /// there is none.

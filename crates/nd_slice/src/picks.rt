@@ -1,32 +1,164 @@
-//! Slices of one axis that pick a common entry.
-ghost use Rattle.std.specs.Prelude.{◌<◌, ◌^◌, ◌↔◌, IsTrue};
-ghost use Rattle.nd_slice.specs.Picks.{picks};
-ghost use Rattle.nd_slice.specs.SliceFault.{SliceFits};
-ghost use Rattle.nd_slice.specs.PicksMeet.{PicksMeet};
+//! A slice of one axis: whether it fits, and the entries that it picks.
+ghost use Rattle.std.specs.Prelude.{◌≡◌, ◌-◌, ◌*◌, ◌<◌, ◌≤◌, max, pos, ◌≤ℤ◌, ◌↔◌, IsOk, IfOk, OkIff, IsOkUnless, IsTrue, MatchOption, [], length, slice_index};
+ghost use Rattle.std.specs.List.{All, Contains};
+ghost use Rattle.std.specs.Result.{result_err};
+ghost use Rattle.nd_base.specs.Signed.{magnitude};
+ghost use Rattle.nd_slice.specs.Picks.{meaning, is_bound, bound_meaning, start_meaning, end_meaning, between, picks};
+ghost use Rattle.nd_slice.specs.SliceFault.{slice_fault, index_fault, SliceFits};
 
-use crate::sequence::arith_seq_intersect;
-use crate::axis_slice::slice_min_max;
 use crate::fit::Fit;
 use crate::slice::Slice;
+use nd_base::{ErrorKind, ShapeError, from_kind};
+use num_traits::clamp;
 
-/// Whether two slices of an axis of `len` entries pick a common entry. A slice that picks none shares
-/// none. The caller ensures that both fit, and that `len` is below 2^63. The project's own.
-pub fn picks_intersect(len: usize, first: Slice, second: Slice, fit: Fit) -> bool
-    requires len_fits { len < 2 ^ 63 }
-    requires first_fits { SliceFits fit len first }
-    requires second_fits { SliceFits fit len second }
-    ensures { IsTrue result ↔ PicksMeet (picks fit len first) (picks fit len second) }
+/// The entry that an index means on an axis of `len` entries, counted from 0: the index itself, or
+/// `len + index` where it is negative. The caller ensures that the result is not negative (`-len` is
+/// the least index); it may lie past the axis. ndarray's `abs_index`.
+#[inline]
+pub fn abs_index(len: usize, index: isize) -> usize
+    requires { pos 0 ≤ℤ meaning len index }
+    ensures { pos result ≡ meaning len index }
 {
-    match (
-        slice_min_max(len, first, fit),
-        slice_min_max(len, second, fit),
-    ) {
-        (Some((first_least, first_greatest)), Some((second_least, second_greatest))) => {
-            arith_seq_intersect(
-                (first_least as isize, first_greatest as isize, first.step),
-                (second_least as isize, second_greatest as isize, second.step),
-            )
-        }
-        _ => false,
+    let distance = index.unsigned_abs();
+    if index < 0 { len - distance } else { distance }
+}
+
+/// The entry that an index means on an axis of `len` entries, as `abs_index` gives it. Fails with
+/// `OutOfBounds` where the index is not from `-len` to `len - 1`. The project's own.
+#[inline(always)]
+pub fn entry_of(len: usize, index: isize) -> Result<usize, ShapeError>
+    ensures fault { result_err result ≡ index_fault len index }
+    ensures entry { IfOk result (λ entry. pos entry ≡ meaning len index) }
+{
+    let distance = index.unsigned_abs();
+    if distance < len || (distance == len && index < 0) {
+        Ok(abs_index(len, index))
+    } else {
+        Err(from_kind(ErrorKind::OutOfBounds))
+    }
+}
+
+/// The entry that a bound of a range means, from 0 to `len`. Any other is `OutOfBounds`, or is moved
+/// to the nearer end of the axis.
+#[inline(always)]
+fn abs_bound(len: usize, bound: isize, fit: Fit) -> Result<usize, ShapeError>
+    ensures value { OkIff result (IsTrue (is_bound len (bound_meaning fit len bound)))
+        (magnitude (bound_meaning fit len bound)) }
+    ensures fault { IsOkUnless result ErrorKind.OutOfBounds }
+{
+    let distance = match fit {
+        Fit::Strict => bound.unsigned_abs(),
+        Fit::Clamp => clamp(bound.unsigned_abs(), 0, len),
+    };
+    if distance > len {
+        Err(from_kind(ErrorKind::OutOfBounds))
+    } else if bound < 0 {
+        Ok(len - distance)
+    } else {
+        Ok(distance)
+    }
+}
+
+/// The start, the end and the step of a slice on an axis of `len` entries, with the bounds counted
+/// from the first entry: both are from 0 to `len`, and an end before the start becomes the start.
+/// Fails with `OutOfBounds` where a bound means no number from 0 to `len` and is not to be clamped,
+/// then with `Unsupported` for a step of 0. ndarray's `to_abs_slice`.
+#[inline]
+pub fn to_abs_slice(len: usize, slice: Slice, fit: Fit) -> Result<(usize, usize, isize), ShapeError>
+    ensures fault { result_err result ≡ slice_fault fit len slice }
+    ensures fits { IsOk result ↔ SliceFits fit len slice }
+    ensures start { IfOk result (λ (start, end, step). pos start ≡ start_meaning fit len slice) }
+    ensures end { IfOk result (λ (start, end, step).
+        end ≡ max start (magnitude (end_meaning fit len slice))) }
+    ensures order { IfOk result (λ (start, end, step). start ≤ end) }
+    ensures within { IfOk result (λ (start, end, step). end ≤ len) }
+    ensures step { IfOk result (λ (start, end, step). step ≡ slice.step) }
+{
+    let start = abs_bound(len, slice.start, fit)?;
+    let end = match slice.end {
+        Some(end) => abs_bound(len, end, fit)?,
+        None => len,
+    };
+    if slice.step == 0 {
+        return Err(from_kind(ErrorKind::Unsupported));
+    }
+    Ok((start, end.max(start), slice.step))
+}
+
+/// How many entries a step picks from `start` up to, not including, `end`. The caller ensures that
+/// the end is not before the start, and that the step is not 0.
+#[inline(always)]
+pub(crate) fn pick_count(start: usize, end: usize, step: isize) -> usize
+    requires order { start ≤ end }
+    requires moves { 0 < magnitude step }
+    ensures { result ≡ length (between step start end) }
+{
+    (end - start).div_ceil(step.unsigned_abs())
+}
+
+/// The entry that a step picks first from `start` up to, not including, `end`: the last of them where
+/// the step is negative. The caller ensures that the end is after the start, and that the step is
+/// not 0.
+#[inline(always)]
+pub(crate) fn first_pick(start: usize, end: usize, step: isize) -> usize
+    requires order { start < end }
+    requires moves { 0 < magnitude step }
+    ensures { result ≡ slice_index (between step start end) 0 }
+{
+    if step < 0 { end - 1 } else { start }
+}
+
+/// How many entries lie between the first entry that a step picks between two bounds and the last.
+fn pick_extent(start: usize, end: usize, step: isize) -> usize
+    requires order { start < end }
+    requires moves { 0 < magnitude step }
+    ensures extent { result ≡ (length (between step start end) - 1)
+        * magnitude step }
+    ensures within { result < end - start }
+{
+    (pick_count(start, end, step) - 1) * step.unsigned_abs()
+}
+
+/// The least and the greatest entry that a step picks between two bounds.
+fn pick_ends(start: usize, end: usize, step: isize) -> (usize, usize)
+    requires order { start < end }
+    requires moves { 0 < magnitude step }
+    ensures least { Contains (between step start end) result.0 }
+    ensures greatest { Contains (between step start end) result.1 }
+    ensures between { All (λ pick. (result.0 ≤ pick) × (pick ≤ result.1))
+        (between step start end) }
+{
+    let extent = pick_extent(start, end, step);
+    if step < 0 {
+        (end - 1 - extent, end - 1)
+    } else {
+        (start, start + extent)
+    }
+}
+
+/// How many entries a slice picks of an axis of `len` entries. The caller ensures that the slice fits
+/// the axis. The project's own.
+pub fn count_of_picks(len: usize, slice: Slice, fit: Fit) -> usize
+    requires { SliceFits fit len slice }
+    ensures { result ≡ length (picks fit len slice) }
+{
+    let (start, end, step) = to_abs_slice(len, slice, fit).unwrap();
+    pick_count(start, end, step)
+}
+
+/// The least and the greatest entry that a slice picks of an axis of `len` entries; `None` where it
+/// picks none. The caller ensures that the slice fits the axis. ndarray's `slice_min_max`.
+pub fn slice_min_max(len: usize, slice: Slice, fit: Fit) -> Option<(usize, usize)>
+    requires { SliceFits fit len slice }
+    ensures picks { MatchOption result (picks fit len slice ≡ [])
+        (λ (least, greatest). Contains (picks fit len slice) least
+        × Contains (picks fit len slice) greatest
+        × All (λ pick. (least ≤ pick) × (pick ≤ greatest)) (picks fit len slice)) }
+{
+    let (start, end, step) = to_abs_slice(len, slice, fit).unwrap();
+    if start < end {
+        Some(pick_ends(start, end, step))
+    } else {
+        None
     }
 }

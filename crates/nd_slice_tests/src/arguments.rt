@@ -6,8 +6,7 @@ use nd_base::{ErrorKind, Lengths, ShapeError};
 use nd_slice::{Fit, SliceInfoElem, check_elems, check_slice, in_ndim_of, out_ndim_of};
 use std::alloc::Global;
 use std::process::Abort;
-use test_slices::elems;
-use test_tables::{AtType, Row, TableError, at_type, fault_of, name_of};
+use test_tables::{AtType, Row, TableError, at_type, elems, fault_of, name_of};
 
 /// The whole of an axis.
 pub const ALL: SliceInfoElem = SliceInfoElem::Slice {

@@ -12,8 +12,7 @@ use nd_base::{Lengths, new_ix2};
 use nd_slice::{Fit, SliceElems, SliceInfoElem, slices_intersect};
 use std::alloc::Global;
 use std::process::Abort;
-use test_slices::elems;
-use test_tables::{AtType, Row, TableError, at_type, name_of};
+use test_tables::{AtType, Row, TableError, at_type, elems, name_of};
 
 /// Whether each length is at most the greatest `isize`.
 fn are_short(shape: &[usize]) -> bool

@@ -4,8 +4,7 @@
 use crate::tables::{Told, hold};
 use Fit::{Clamp, Strict};
 use nd_slice::{Fit, Slice, SliceInfoElem, slice_min_max, to_abs_slice};
-use test_slices::elem;
-use test_tables::{Row, TableError};
+use test_tables::{Row, TableError, elem};
 
 /// Both entries, or nothing where there are none; the outer one where the slice does not fit.
 fn ends(len: usize, slice: Slice, fit: Fit) -> Option<Option<(usize, usize)>> {

@@ -53,3 +53,4 @@ pub use Rattle.nd_slice.proofs.laws.Picked
 pub use Rattle.nd_slice.proofs.laws.Picks
 pub use Rattle.nd_slice.proofs.laws.Selected
 pub use Rattle.nd_slice.proofs.laws.SliceFault
+pub use Rattle.nd_slice.proofs.laws.UnitStep

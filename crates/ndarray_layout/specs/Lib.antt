@@ -1,14 +1,9 @@
 pub mod BroadcastView
 pub mod CollapsedView
 pub mod DistinctPlaces
-pub mod ForcedStrides
-pub mod Joints
-pub mod Keeps
 pub mod KeepsPlaces
 pub mod LongerAxes
 pub mod MergedView
-pub mod ReshapeFault
-pub mod ReshapeWalk
 pub mod ReshapedView
 pub mod Run
 pub mod SharePlace
@@ -17,6 +12,7 @@ pub mod Step
 pub mod StepFits
 pub mod View
 pub mod Walk
+pub mod reshape
 pub use Rattle.nd_base.specs.Dim
 pub use Rattle.nd_base.specs.DistinctOffsets
 pub use Rattle.nd_base.specs.Entrywise
@@ -66,4 +62,4 @@ pub use Rattle.nd_slice.specs.Selected
 pub use Rattle.nd_slice.specs.Sequence
 pub use Rattle.nd_slice.specs.SliceFault
 pub use Rattle.nd_slice.specs.Sliced
-pub use Rattle.nd_slice.specs.Text
+pub use Rattle.nd_slice.specs.SliceText

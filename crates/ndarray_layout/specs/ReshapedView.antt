@@ -11,9 +11,9 @@ use Rattle.nd_base.specs.declared.order.Order.TheVariants.{RowMajor, ColumnMajor
 use Rattle.nd_base.specs.Lengths.{NeedsNoMemory}
 use Rattle.nd_base.specs.Rank.{index_of_rank_in, rank_in}
 use Rattle.nd_base.specs.Size.{is_empty, nonzero_size, limit}
-use Rattle.ndarray_layout.specs.ForcedStrides.{forced_strides}
-use Rattle.ndarray_layout.specs.Keeps.{Keeps}
-use Rattle.ndarray_layout.specs.ReshapeFault.{reshape_fault}
+use Rattle.ndarray_layout.specs.reshape.ForcedStrides.{forced_strides}
+use Rattle.ndarray_layout.specs.reshape.Keeps.{Keeps}
+use Rattle.ndarray_layout.specs.reshape.ReshapeFault.{reshape_fault}
 use Rattle.ndarray_layout.specs.View.{View}
 
 -- a view can be read in an order as one of a shape: the product of its lengths that are not 0 is within the limit, and some

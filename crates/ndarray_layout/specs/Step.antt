@@ -12,8 +12,8 @@ use Rattle.nd_slice.specs.declared.elem.SliceInfoElem.{SliceInfoElem}
 use Rattle.nd_slice.specs.declared.elem.SliceInfoElem.TheVariants as elem
 use Rattle.nd_slice.specs.Selected.{selected}
 use Rattle.nd_slice.specs.ArgumentFault.{out_count}
-use Rattle.ndarray_layout.specs.declared.steps.Step.{Step}
-use Rattle.ndarray_layout.specs.declared.steps.Step.TheVariants as step
+use Rattle.ndarray_layout.specs.declared.runs.Step.{Step}
+use Rattle.ndarray_layout.specs.declared.runs.Step.TheVariants as step
 use Rattle.ndarray_layout.specs.BroadcastView.{broadcast_fault, broadcast_of, broadcast_source}
 use Rattle.ndarray_layout.specs.ReshapedView.{reshape_of, reshape_refusal, reshape_source}
 use Rattle.ndarray_layout.specs.CollapsedView.{collapse_fault, collapse_of, collapse_source}

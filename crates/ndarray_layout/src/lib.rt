@@ -1,18 +1,11 @@
-//! The layout layer as a whole: what the crates below hand on, steps from one view to the next, and runs of them.
+//! Views of data as functions from indices to places, steps from one view to the next, and runs of them; and all that the
+//! crates below have for callers, re-exported.
 #![tactic(auto)]
 
-mod broadcasting;
-mod collapsing;
-mod longer;
-mod merging;
-mod places;
 mod reshape;
+mod runs;
 mod sequence;
-mod sizes;
-mod slicing;
-mod steps;
 mod strided;
-mod walk;
 
 // Dimension types, and what all of them can do.
 pub use nd_base::{
@@ -29,25 +22,26 @@ pub use nd_dim::{
 // Layouts: acceptance, shapes and their builders, walks, common shapes, merges.
 pub use nd_shape::{
     Axes, AxisDescription, CanIndexCheckMode, IndexCursor, IndexCursorF, Indices, IndicesIter,
-    IndicesIterF, Layout, NdIndex, Shape, ShapeBuilder, StrideShape, Strides, all_indices, axes_of,
-    can_index_slice, can_index_slice_not_custom, can_index_slice_with_strides, co_broadcast,
-    dim_stride_overlap, indices_iter_f, is_layout_c, is_layout_f, max_abs_offset_check_overflow,
-    merge_axes, move_min_stride_axis_to_last, offset_from_low_addr_ptr_to_logical_ptr,
-    size_of_shape_checked, strides_non_negative,
+    IndicesIterF, Layout, NdIndex, Shape, ShapeBuilder, StrideShape, Strides, accept, all_indices,
+    axes_of, can_index_slice, can_index_slice_not_custom, can_index_slice_with_strides,
+    co_broadcast, dim_stride_overlap, fill_common_shape, has_overlap, have_common_shape,
+    indices_iter_f, is_layout_c, is_layout_f, low_span, max_abs_offset_check_overflow, merge_axes,
+    merge_fitting, move_min_stride_axis_to_last, offset_from_low_addr_ptr_to_logical_ptr,
+    size_of_shape_checked, span_of_lengths, strides_non_negative,
 };
 
 // Slices, and arguments of slices.
 pub use nd_slice::{
     Fit, NewAxis, Slice, SliceArg, SliceElems, SliceInfo, SliceInfoElem, abs_index,
     arith_seq_intersect, check_elems, check_slice, count_of_picks, do_collapse_axis, do_slice,
-    entry_of, extended_gcd, first_pick, in_ndim_of, out_ndim_of, pick_count, slice_min_max,
-    slices_intersect, solve_linear_diophantine_eq, to_abs_slice,
+    entry_of, extended_gcd, in_ndim_of, out_ndim_of, slice_min_max, slices_intersect,
+    solve_linear_diophantine_eq, to_abs_slice,
 };
 
 // Reshapes that move no element.
-
-// Views, and steps from one to the next.
 pub use reshape::reshape_dim;
 pub use sequence::{Forward, Reverse, Sequence, SequenceMut};
-pub use steps::{Step, Stopped, run};
+
+// Views, and runs of steps from one to the next.
+pub use runs::{Step, Stopped, run};
 pub use strided::Strided;

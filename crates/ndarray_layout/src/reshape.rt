@@ -4,11 +4,13 @@ ghost use Rattle.nd_base.specs.Lengths.{NeedsNoMemory};
 ghost use Rattle.nd_base.specs.Signed.{all_signed};
 ghost use Rattle.nd_base.specs.Size.{is_empty, nonzero_size, limit};
 ghost use Rattle.nd_base.specs.ValidLayout.{IsValidLayout};
-ghost use Rattle.ndarray_layout.specs.ForcedStrides.{forced_strides};
-ghost use Rattle.ndarray_layout.specs.Keeps.{Keeps, AgreeOnLonger};
-ghost use Rattle.ndarray_layout.specs.ReshapeFault.{reshape_fault, IsRefusedFor, IsOfShape};
+ghost use Rattle.ndarray_layout.specs.reshape.ForcedStrides.{forced_strides};
+ghost use Rattle.ndarray_layout.specs.reshape.Keeps.{Keeps, AgreeOnLonger};
+ghost use Rattle.ndarray_layout.specs.reshape.ReshapeFault.{reshape_fault, IsRefusedFor, IsOfShape};
 
-use crate::walk::fill_reshaped;
+mod walk;
+
+use crate::reshape::walk::fill_reshaped;
 use nd_base::{LayoutError, Lengths, Order};
 use std::alloc::Global;
 

@@ -1,10 +1,16 @@
 //! Views of data: a shape and strides that were accepted, with the place of the first index.
+mod broadcasting;
+mod collapsing;
+mod longer;
 mod makers;
+mod merging;
+mod places;
 mod readers;
 mod reshaping;
-mod steps;
+mod sizes;
+mod slicing;
 
-use nd_dim::Lengths;
+use nd_base::Lengths;
 use std::marker::Model;
 
 /// A shape with strides over data, and the place of its first index there. Each index of the shape

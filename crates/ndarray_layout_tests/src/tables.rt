@@ -1,4 +1,5 @@
 //! Tables as text: a row is a line.
+use crate::owned::asked::{Kind, array_holds};
 use crate::reshape::asked::reshape_holds;
 use crate::view::answer::view_holds;
 use ndarray_layout::Order;
@@ -13,6 +14,8 @@ pub enum Told {
     Views,
     /// A layout, a shape, and the strides along which it has the same places in an order, or the fault.
     Reshapes(Order),
+    /// An array of a kind, a call and its answer.
+    Arrays(Kind),
 }
 
 /// A row holds.
@@ -20,6 +23,7 @@ fn holds(rt: &impl Abort, alloc: Global, told: Told, line: &str) -> bool {
     match told {
         Told::Views => view_holds(rt, alloc, &mut Row::new(line)),
         Told::Reshapes(order) => reshape_holds(rt, alloc, line, order),
+        Told::Arrays(kind) => array_holds(rt, alloc, kind, line),
     }
 }
 

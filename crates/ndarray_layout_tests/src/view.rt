@@ -1,8 +1,7 @@
-//! Tests of `ndarray_layout`, by its public calls.
+//! Tests of views, of what is made of them, and of runs of steps.
 pub mod answer;
 mod axes;
 mod meets;
-mod owned;
 pub mod question;
 mod reshapes;
 mod runs;
@@ -10,5 +9,5 @@ mod shapes;
 mod slices;
 mod sums;
 mod two_rows;
+mod values;
 mod views;
-pub mod words;

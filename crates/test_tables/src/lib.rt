@@ -1,11 +1,12 @@
-//! What the tests of several crates share: the names of faults, which values are equal, requests for
-//! memory, tables as text, and questions asked at a type that a row names.
+//! What the tests of several crates share: the names of errors, which values are equal, requests for memory, tables as
+//! text with their lists and slice arguments, and questions asked at a type that a row names.
 #![tactic(auto)]
 
 mod equality;
 mod faults;
 mod lists;
 mod memory;
+mod slices;
 mod table;
 mod types;
 
@@ -13,5 +14,6 @@ pub use equality::{are_distinct, hash_of};
 pub use faults::{fault_of, layout_fault_name, name_of, or_fault};
 pub use lists::{List, Lists, made};
 pub use memory::grants;
+pub use slices::{elem, elems};
 pub use table::{Row, TableError, rows};
 pub use types::{AtType, at_type};

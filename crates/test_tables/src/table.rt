@@ -2,7 +2,7 @@
 //! empty list.
 use crate::lists::made;
 use nd_base::{Lengths, unsigned};
-use std::alloc::{AllocError, Global};
+use std::alloc::{AllocError, AllocFailed, Global};
 use std::str::{Lines, SplitWhitespace};
 
 /// Why a table can't be read.
@@ -18,9 +18,9 @@ pub enum TableError {
     Memory(AllocError),
 }
 
-impl From<AllocError> for TableError {
-    fn from(error: AllocError) -> Self {
-        TableError::Memory(error)
+impl<T: Drop> From<AllocFailed<T>> for TableError {
+    fn from(_error: AllocFailed<T>) -> Self {
+        TableError::Memory(AllocError)
     }
 }
 
@@ -72,7 +72,7 @@ impl<'a> Row<'a> {
         let mut lengths = Vec::new(alloc);
         for part in self.word()?.split(',') {
             if part != "-" {
-                push(&mut lengths, entry(part))?;
+                lengths.push(entry(part).ok_or(TableError::NotANumber)?)?;
             }
         }
         Ok(lengths)
@@ -104,12 +104,4 @@ pub(crate) fn entry(part: &str) -> Option<usize> {
         return Some(unsigned(stride));
     }
     part.parse().ok()
-}
-
-/// Adds the number of an entry, where it is one.
-fn push(list: &mut Vec<usize>, item: Option<usize>) -> Result<(), TableError> {
-    match list.push(item.ok_or(TableError::NotANumber)?) {
-        Ok(()) => Ok(()),
-        Err(error) => Err(AllocError::from(error).into()),
-    }
 }

@@ -8,8 +8,7 @@ use crate::callers::items::{list, listed, pixels};
 use ndarray_layout::{CanIndexCheckMode, Lengths, SliceInfoElem, Strided};
 use std::alloc::Global;
 use std::process::Abort;
-use test_slices::elems;
-use test_tables::{Lists, Row, made};
+use test_tables::{Lists, Row, elems, made};
 
 /// A part of a picture, and the pixels for it.
 pub type Part = (Vec<SliceInfoElem>, Vec<u8>);

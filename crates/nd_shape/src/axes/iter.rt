@@ -3,7 +3,7 @@ ghost use Rattle.std.specs.Prelude.{◌≡◌, ◌+◌, ◌<◌, ◌^◌, length
 ghost use Rattle.std.specs.Iterator.{UpTo, YieldsFirst, YieldsLast, item_count};
 ghost use Rattle.std.specs.Iterator.SizeHint.{IsWithinCount};
 
-use nd_dim::{Axis, signed};
+use nd_base::{Axis, signed};
 use std::iter::FusedIterator;
 
 /// An axis, its length, and its stride in elements. ndarray's `AxisDescription`.

@@ -9,7 +9,8 @@ ghost use Rattle.nd_base.specs.Indices.{indices_in};
 ghost use Rattle.nd_base.specs.Size.{size};
 
 use crate::indexes::order::{Columns, Rows, WalkOrder};
-use nd_dim::{INLINE_AXES, IxDyn, Lengths, product};
+use nd_base::{INLINE_AXES, IxDyn, Lengths};
+use nd_dim::product;
 use std::alloc::{AllocError, Global};
 use std::marker::{Model, PhantomData};
 

@@ -5,7 +5,8 @@ ghost use Rattle.nd_base.specs.Indices.{indices_in};
 ghost use Rattle.nd_base.specs.Size.{size};
 
 use crate::indexes::walk::IndicesIter;
-use nd_dim::{Dimension, Lengths};
+use nd_base::Lengths;
+use nd_dim::Dimension;
 use std::alloc::AllocError;
 use std::marker::Model;
 

@@ -6,7 +6,8 @@ ghost use Rattle.nd_base.specs.Indices.{indices_in};
 ghost use Rattle.nd_base.specs.Size.{size};
 
 use crate::indexes::order::{Columns, Rows, WalkOrder};
-use nd_dim::{Dimension, Lengths, product};
+use nd_base::Lengths;
+use nd_dim::{Dimension, product};
 use std::alloc::AllocError;
 use std::iter::FusedIterator;
 use std::marker::{Model, PhantomData};

@@ -1,7 +1,7 @@
 //! How slices print.
 ghost use Rattle.std.specs.Prelude.{Some};
 ghost use Rattle.std.specs.Fmt.{DisplaysOnOk};
-ghost use Rattle.nd_slice.specs.Text.{start_text, end_text, step_text, slice_text};
+ghost use Rattle.nd_slice.specs.SliceText.{start_text, end_text, step_text, slice_text};
 
 use super::Slice;
 use std::fmt;

@@ -16,14 +16,14 @@ use Rattle.nd_base.specs.Size.{size, is_empty}
 use Rattle.nd_base.proofs.laws.Indices.{get_or-indices_in, length-indices_in}
 use Rattle.nd_base.proofs.laws.Offset.{offset_of-reverse}
 use Rattle.nd_base.proofs.laws.Reading.{length-as_read, as_read-as_read, size-as_read, is_empty-as_read}
-use Rattle.ndarray_layout.specs.ForcedStrides.{forced_strides, indices_after, offset_at_rank, stride_at}
-use Rattle.ndarray_layout.specs.Joints.{has_bad_joint}
-use Rattle.ndarray_layout.specs.Keeps.{Keeps, AgreeOnLonger}
+use Rattle.ndarray_layout.specs.reshape.ForcedStrides.{forced_strides, indices_after, offset_at_rank, stride_at}
+use Rattle.ndarray_layout.specs.reshape.Joints.{has_bad_joint}
+use Rattle.ndarray_layout.specs.reshape.Keeps.{Keeps, AgreeOnLonger}
 use Rattle.nd_base.specs.Reading.{as_read}
-use Rattle.ndarray_layout.specs.ReshapeFault.{reshape_fault}
-use Rattle.ndarray_layout.specs.ReshapeWalk.{PlacesAlike}
-use Rattle.ndarray_layout.proofs.Complete.{good-of-alike, alike-of-good}
-use Rattle.ndarray_layout.proofs.Forced.{forced-of-alike, alike-forced}
+use Rattle.ndarray_layout.specs.reshape.ReshapeFault.{reshape_fault}
+use Rattle.ndarray_layout.specs.reshape.Walk.{PlacesAlike}
+use Rattle.ndarray_layout.proofs.reshapes.Complete.{good-of-alike, alike-of-good}
+use Rattle.ndarray_layout.proofs.reshapes.Forced.{forced-of-alike, alike-forced}
 
 length-index_of_rank : (shape : List ℕ) (r : ℕ) → length (index_of_rank shape r) ≡ length shape
 length-index_of_rank [] r = refl

@@ -19,11 +19,11 @@ use Rattle.nd_base.proofs.laws.Rank.{index_of_rank_in-rank_in, is_index-index_of
 use Rattle.nd_base.proofs.laws.Size.{size_of_empty, size_of_nonempty}
 use Rattle.nd_base.proofs.laws.Span.{low_high_span}
 use Rattle.nd_base.proofs.laws.Turned.{least_offset, greatest_offset}
-use Rattle.ndarray_layout.specs.Joints.{has_bad_joint}
-use Rattle.ndarray_layout.specs.ForcedStrides.{forced_strides}
-use Rattle.ndarray_layout.specs.Keeps.{Keeps}
+use Rattle.ndarray_layout.specs.reshape.Joints.{has_bad_joint}
+use Rattle.ndarray_layout.specs.reshape.ForcedStrides.{forced_strides}
+use Rattle.ndarray_layout.specs.reshape.Keeps.{Keeps}
 use Rattle.ndarray_layout.specs.Reading.{as_read}
-use Rattle.ndarray_layout.specs.ReshapeFault.{reshape_fault}
+use Rattle.ndarray_layout.specs.reshape.ReshapeFault.{reshape_fault}
 use Rattle.nd_base.proofs.laws.Reading.{size-as_read}
 use Rattle.ndarray_layout.proofs.laws.Keeps.{Fits, alike-of-keeps, forced-keeps, keeps-exactly, offset-as_read, size-of-keeps}
 use Rattle.ndarray_layout.specs.DistinctPlaces.{HasDistinctPlaces}

@@ -7,7 +7,7 @@ use Rattle.ndarray_layout.specs.KeepsPlaces.{KeepsPlaces}
 use Rattle.ndarray_layout.specs.Run.{Outcome, stayed, unless_fault, joined, in_turn, run_of, HasNoBroadcast}
 use Rattle.ndarray_layout.specs.Step.{StepValue, step_fault, view_after, source_index, is_broadcast}
 use Rattle.ndarray_layout.specs.View.{View, IsView}
-use Rattle.ndarray_layout.proofs.Runs as runs
+use Rattle.ndarray_layout.proofs.TakenSteps as runs
 use Rattle.ndarray_layout.proofs.laws.KeepsPlaces.{KeepsPlaces-stayed, KeepsPlaces-in_turn}
 use Rattle.ndarray_layout.proofs.laws.Step.{IsView-view_after, KeepsPlaces-view_after, HasDistinctPlaces-view_after}
 

@@ -14,7 +14,7 @@ ghost use Rattle.ndarray_layout.specs.DistinctPlaces.{HasDistinctPlaces};
 ghost use Rattle.ndarray_layout.specs.View.{IsView, LiesWithin, view_of};
 
 use crate::strided::Strided;
-use nd_dim::{LayoutError, Lengths, ShapeError};
+use nd_base::{LayoutError, Lengths, ShapeError};
 use nd_shape::{
     CanIndexCheckMode, StrideShape, can_index_slice, can_index_slice_with_strides,
     offset_from_low_addr_ptr_to_logical_ptr,

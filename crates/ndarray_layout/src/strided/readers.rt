@@ -1,29 +1,23 @@
 //! What a view has, and where its indices lie.
 ghost use Rattle.std.specs.Iterator.{YieldsFirst, YieldsLast};
 ghost use Rattle.std.specs.Iterator.Runs.{YieldsInOrder, YieldsInReverse};
-ghost use Rattle.std.specs.List.{All};
-ghost use Rattle.std.specs.Prelude.{◌≡◌, ℕ, ◌<◌, ◌↔◌, IsTrue, pos, None, map, vec_len, vec_capacity, IfOk, IsOk, Some, slice_get};
+ghost use Rattle.std.specs.Prelude.{◌≡◌, ◌<◌, ◌↔◌, IsTrue, pos, IfOk, Some};
 ghost use Rattle.std.specs.Option.{option_map, option_or};
 ghost use Rattle.std.specs.Result.{result_err};
 ghost use Rattle.nd_base.specs.Signed.{all_signed};
 ghost use Rattle.nd_shape.specs.Axes.{axes, axes_left};
-ghost use Rattle.nd_base.specs.Rank.{index_of_rank_in};
-ghost use Rattle.nd_base.specs.Size.{size};
 ghost use Rattle.nd_slice.specs.ArgumentFault.{argument_fault};
 ghost use Rattle.nd_slice.specs.Meet.{Meet};
-ghost use Rattle.nd_slice.specs.Sliced.{sliced_shape};
 ghost use Rattle.ndarray_layout.specs.DistinctPlaces.{HasDistinctPlaces};
 ghost use Rattle.ndarray_layout.specs.SharePlace.{SharePlace};
 ghost use Rattle.ndarray_layout.specs.SlicedView.{slice_of};
-ghost use Rattle.ndarray_layout.specs.View.{IsView, LiesWithin, checked_place, place_at, view_places};
+ghost use Rattle.ndarray_layout.specs.View.{IsView, checked_place};
 
-use crate::places::{offset_place, push_places};
-use crate::sizes::picked_size;
 use crate::strided::Strided;
-use nd_dim::{Lengths, Order, ShapeError, product};
+use crate::strided::places::offset_place;
+use nd_base::{Lengths, ShapeError};
 use nd_shape::{Axes, NdIndex, axes_of};
-use nd_slice::{Fit, SliceElems, check_elems, slices_intersect};
-use std::alloc::{AllocError, Global};
+use nd_slice::{Fit, SliceElems, slices_intersect};
 
 impl<D: Lengths> Strided<D> {
     /// The place of the first index, in elements from the start of the data.
@@ -69,39 +63,6 @@ impl<D: Lengths> Strided<D> {
     {
         let offset = index.index_checked(&self.dim, &self.strides)?;
         Some(offset_place(self.start, offset))
-    }
-
-    /// The places of all indices of the shape, in an order.
-    ///
-    /// Errors: out of memory; none where there is no index.
-    pub fn places(&self, alloc: Global, order: Order) -> Result<Vec<usize>, AllocError>
-        ensures items { IfOk result (λ v. map pos v.items ≡ view_places order self.now) }
-        ensures len { IfOk result (λ v. vec_len v ≡ size self.now.shape) }
-        ensures capacity { IfOk result (λ v. vec_capacity v ≡ size self.now.shape) }
-        ensures at_rank { IfOk result (λ v. (r : ℕ) → r < size self.now.shape →
-            option_map pos (slice_get v.items r)
-            ≡ Some (place_at self.now (index_of_rank_in order self.now.shape r))) }
-        ensures inside { IfOk result (λ v. (len : ℕ) → LiesWithin len self.now →
-            All (λ place. place < len) v.items) }
-        ensures memory { size self.now.shape ≡ 0 → IsOk result }
-    {
-        let size = product(self.dim.slice());
-        let places = Vec::with_capacity(alloc, size)?;
-        let (shape, strides) = (self.dim.slice(), self.strides.slice());
-        Ok(push_places(places, order, shape, strides, self.start))
-    }
-
-    /// How many places of the view a slice argument picks. Refused as `check_slice` refuses it on the
-    /// shape: with `IncompatibleShape` where it is for more axes or fewer, then as the first element
-    /// at fault is. The project's own.
-    pub fn picked<S: SliceElems>(&self, slices: &S, fit: Fit) -> Result<usize, ShapeError>
-        ensures fault { result_err result ≡ argument_fault fit self.now.shape (S.list slices.now) }
-        ensures size { IfOk result (λ count. count ≡
-            size (sliced_shape fit (S.list slices.now) self.now.shape)) }
-    {
-        let (shape, elems) = (self.dim.slice(), slices.elems());
-        check_elems(shape, elems, fit)?;
-        Ok(picked_size(shape, elems, fit))
     }
 
     /// Whether two slices of the view share an index: one whose entry on every axis is among the picks of

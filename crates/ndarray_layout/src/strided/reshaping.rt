@@ -10,7 +10,7 @@ ghost use Rattle.ndarray_layout.specs.View.{IsView, LiesWithin, view_places};
 
 use crate::reshape::reshape_dim;
 use crate::strided::Strided;
-use nd_dim::{ErrorKind, LayoutError, Lengths, Order, from_kind};
+use nd_base::{ErrorKind, LayoutError, Lengths, Order, from_kind};
 use nd_shape::size_of_shape_checked;
 use std::alloc::Global;
 

@@ -1,8 +1,6 @@
 //! Whether views answer as rows say, at any dimension type.
-use crate::view::question::{
-    Asked, Made, OfView, Question, dim, lens, number, read_layout, read_question,
-};
-use crate::view::words::{is_number, is_refused, says};
+use crate::view::question::{Asked, Made, OfView, Question, read_layout, read_question};
+use crate::words::{argument, dim, is_number, is_refused, lens, number, says};
 use Order::{ColumnMajor, RowMajor};
 use ndarray_layout::{
     Axis, Fit, LayoutError, Lengths, Order, Strided, is_layout_c, is_layout_f,
@@ -10,7 +8,6 @@ use ndarray_layout::{
 };
 use std::alloc::Global;
 use std::process::Abort;
-use test_slices::elems;
 use test_tables::{AtType, Row, at_type};
 
 // ---- views as rows write them
@@ -94,7 +91,7 @@ fn is_sliced<D: Lengths, E: Lengths>(
     view: &Strided<D>,
     fit: Fit,
 ) -> bool {
-    let elems = elems(alloc, row).expect(rt, "an argument");
+    let elems = argument(rt, alloc, row);
     is_told::<E>(rt, alloc, row, view.slice(alloc, &elems, fit))
 }
 
@@ -188,7 +185,7 @@ fn is_picked<D: Lengths>(
     fit: Fit,
 ) -> bool {
     let _ndim = row.fixed_count().expect(rt, "a type");
-    let elems = elems(alloc, row).expect(rt, "an argument");
+    let elems = argument(rt, alloc, row);
     match view.picked(&elems, fit) {
         Ok(count) => is_number(rt, row, Some(count)),
         Err(fault) => is_refused(rt, row, fault.kind()),
@@ -248,7 +245,7 @@ fn slice_is_in_order<D: Lengths>(
     view: &Strided<D>,
 ) -> bool {
     let _ndim = row.fixed_count().expect(rt, "a type");
-    let elems = elems(alloc, row).expect(rt, "an argument");
+    let elems = argument(rt, alloc, row);
     let slice: Result<Strided<D>, LayoutError> = view.slice(alloc, &elems, Fit::Strict);
     let slice = slice.expect(rt, "refused");
     says(rt, row, order_of(&slice)) && is_laid(rt, alloc, row, &slice)

@@ -2,14 +2,12 @@
 //!
 //! A row is a shape and strides over 99 elements, what becomes of bounds that lie outside their axis (`slice` or `clamp`), two
 //! arguments, and the answer: `meet`, `apart`, or the rule that refuses them.
-use crate::view::question::dim;
-use crate::view::words::{is_refused, says, word};
+use crate::words::{argument, dim, is_refused, says, word};
 use CanIndexCheckMode::ReadOnly;
 use Fit::{Clamp, Strict};
 use ndarray_layout::{CanIndexCheckMode, Fit, IxDyn, Lengths, ShapeError, Strided};
 use std::alloc::Global;
 use std::process::Abort;
-use test_slices::elems;
 use test_tables::{Row, rows};
 
 /// Whether the next word of a row tells the answer.
@@ -30,8 +28,8 @@ fn meets_holds<D: Lengths>(rt: &impl Abort, alloc: Global, row: &mut Row<'_>) ->
     } else {
         Strict
     };
-    let first = elems(alloc, row).expect(rt, "an argument");
-    let second = elems(alloc, row).expect(rt, "an argument");
+    let first = argument(rt, alloc, row);
+    let second = argument(rt, alloc, row);
     is_answer(rt, row, view.meets(&first, &second, fit))
 }
 

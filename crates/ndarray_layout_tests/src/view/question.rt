@@ -1,5 +1,5 @@
 //! Layouts and what is asked of them, as rows of tables tell it.
-use crate::view::words::word;
+use crate::words::{dim, number, word};
 use CanIndexCheckMode::{OwnedMutable, ReadOnly};
 use Fit::{Clamp, Strict};
 use Order::{ColumnMajor, RowMajor};
@@ -59,16 +59,6 @@ pub enum Question {
     Of(OfView),
 }
 
-/// The next word of a row as lengths, or as strides as they are kept.
-pub fn lens(rt: &impl Abort, alloc: Global, row: &mut Row<'_>) -> Vec<usize> {
-    row.lengths(alloc).expect(rt, "a list")
-}
-
-/// The next word of a row as a value of a dimension type.
-pub fn dim<D: Lengths>(rt: &impl Abort, alloc: Global, row: &mut Row<'_>) -> D {
-    row.dim(alloc).expect(rt, "a list of as many axes")
-}
-
 /// The use of the data that a word names.
 fn mode(word: &str) -> CanIndexCheckMode {
     if word == "owned" {
@@ -76,11 +66,6 @@ fn mode(word: &str) -> CanIndexCheckMode {
     } else {
         ReadOnly
     }
-}
-
-/// The next word of a row as an unsigned number.
-pub fn number(rt: &impl Abort, row: &mut Row<'_>) -> usize {
-    row.length().expect(rt, "a number")
 }
 
 /// The next words of a row: size of an element, length and use of the data, shape, strides.

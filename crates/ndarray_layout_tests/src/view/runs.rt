@@ -1,5 +1,5 @@
 //! Runs of steps from the view of a shape of three axes, and where they stop.
-use crate::view::owned::{Left, is_left, owned};
+use crate::view::values::{Left, is_left, owned};
 use SliceInfoElem::Slice;
 use ndarray_layout::{
     Axis, Fit, IxDyn, Order, SliceInfoElem, Step, Stopped, Strided, new_ixdyn, run,

@@ -3,8 +3,8 @@
 //! What is asked of a view is asked by the bound alone, and each type is named in one place: what
 //! `Strided::from_shape` ensures is dear where a type is given.
 use crate::view::answer::is_view;
-use crate::view::owned::owned;
-use crate::view::words::is_refused;
+use crate::view::values::owned;
+use crate::words::is_refused;
 use CanIndexCheckMode::OwnedMutable;
 use ndarray_layout::{
     Axes, AxisDescription, CanIndexCheckMode, LayoutError, Lengths, ShapeBuilder, ShapeError,

@@ -1,5 +1,5 @@
 //! Two rows of three elements: slices as values of their type.
-use crate::view::owned::{Left, is_left, owned};
+use crate::view::values::{Left, is_left, owned};
 use Fit::Strict;
 use SliceInfoElem::{Index, NewAxis, Slice};
 use ndarray_layout::{Fit, LayoutError, Lengths, SliceInfoElem, Strided};

@@ -7,7 +7,7 @@ use Rattle.nd_slice.specs.declared.elem.SliceInfoElem.{SliceInfoElem}
 use Rattle.nd_slice.specs.declared.elem.SliceInfoElem.TheVariants as elem
 use Rattle.nd_slice.specs.Meet.{elem_picks}
 use Rattle.nd_slice.proofs.laws.Meet.{meet_by_axis}
-use Rattle.nd_slice.proofs.Meeting.{IsWalk, IsDecided, first_below, second_below, first_at, second_at, decided_at, fits_in, go_on, stop, at_end}
+use Rattle.nd_slice.proofs.intersection.Meeting.{IsWalk, IsDecided, first_below, second_below, first_at, second_at, decided_at, fits_in, go_on, stop, at_end}
 use Rattle.nd_slice.proofs.intersect.elems_intersect.Goals as goal
 use Rattle.nd_slice.proofs.intersect.elems_intersect.Goals.{After-next_for_axis-second_place, After-picks_intersect}
 

@@ -1,6 +1,6 @@
 -- The axes that are left decide whether the arguments meet.
 use Rattle.std.proofs.Common.{◌≤◌, length, drop}
-use Rattle.nd_slice.proofs.Meeting.{IsDecided}
+use Rattle.nd_slice.proofs.intersection.Meeting.{IsDecided}
 use Rattle.nd_slice.proofs.intersect.elems_intersect.Given as goal
 
 abbrev pub invariant-loop-len : goal.invariant-loop-len

@@ -1,5 +1,5 @@
 use Rattle.nd_base.specs.Signed.{all_signed}
-use Rattle.ndarray_layout.proofs.Turned.{keeps-filled}
+use Rattle.ndarray_layout.proofs.reshapes.Turned.{keeps-filled}
 use Rattle.ndarray_layout.proofs.laws.Keeps.{fault-complete, keeps-agree}
 use Rattle.ndarray_layout.proofs.reshape.reshape_dim.Goals as goal
 

@@ -8,7 +8,7 @@ use Rattle.nd_base.specs.Signed.{all_signed}
 use Rattle.nd_base.specs.Size.{is_empty, nonzero_size, limit}
 use Rattle.ndarray_layout.specs.ReshapedView.{IsReshapeRefusal, reshape_refusal, reshaped_strides as strides_of}
 use Rattle.ndarray_layout.specs.View.{View, view_of}
-use Rattle.ndarray_layout.proofs.Reshapes.{refusal_between, refused_between, same_bits, strides_between, strides_of_none, within_limit}
+use Rattle.ndarray_layout.proofs.reshapes.Views.{refusal_between, refused_between, same_bits, strides_between, strides_of_none, within_limit}
 use Rattle.ndarray_layout.proofs.strided.Strided.reshaped_strides.Goals as goal
 
 -- what holds of an error holds of the one that is handed on
@@ -20,7 +20,7 @@ pub returns-in_err-zeros-clause-refused : goal.returns-in_err-zeros-clause-refus
 returns-in_err-zeros-clause-refused g c =
     let to = g.E.Lengths.list c.args.shape.now in
     let dim = g.D.Lengths.list c.self.inside.dim in
-    let fits : nonzero_size to ≤ limit = within_limit (nonzero_size to) (rw c.slice-new_lens.ensures.list at c.in_ok-size_of_shape_checked.ensures.fault) in
+    let fits : nonzero_size to ≤ limit = within_limit (nonzero_size to) c.in_ok-size_of_shape_checked.ensures.fault in
     let from_none : is_empty dim ≡ true = rw c.slice-lens.ensures.list at (sym c.contains-is_empty.ensures.value ∙ c.if-is_empty.true) in
     let to_none : is_empty to ≡ true = rw c.slice-new_lens.ensures.list at (sym c.contains.ensures.value ∙ sym (same_bits c.contains-is_empty.result c.contains.result c.if-is_empty-contains.false) ∙ c.if-is_empty.true) in
     let asks = subst (λ (v : View). (nonzero_size to ≤ limit) × (is_empty to ≡ is_empty v.shape)) c.self.view_is (fits, to_none ∙ sym from_none) in
@@ -37,7 +37,7 @@ returns-clause-fits g c =
     let to = g.E.Lengths.list c.args.shape.now in
     let dim = g.D.Lengths.list c.self.inside.dim in
     let view = view_of c.self.inside.start dim (g.D.Lengths.list c.self.inside.strides) in
-    let fits : nonzero_size to ≤ limit = within_limit (nonzero_size to) (rw c.slice-new_lens.ensures.list at c.in_ok-size_of_shape_checked.ensures.fault) in
+    let fits : nonzero_size to ≤ limit = within_limit (nonzero_size to) c.in_ok-size_of_shape_checked.ensures.fault in
     let from_some : is_empty dim ≡ false = rw c.slice-lens.ensures.list at (sym c.contains-is_empty.ensures.value ∙ c.if-is_empty.false) in
     let to_some : is_empty to ≡ false = rw c.slice-new_lens.ensures.list at (sym c.contains.ensures.value ∙ sym (same_bits c.contains-is_empty.result c.contains.result c.if-is_empty-contains.false) ∙ c.if-is_empty.false) in
     subst (λ (v : View). OnOk c.reshape_dim.result (reshape_refusal c.args.order to v ≡ None)) c.self.view_is
@@ -48,7 +48,7 @@ returns-clause-refused g c =
     let to = g.E.Lengths.list c.args.shape.now in
     let dim = g.D.Lengths.list c.self.inside.dim in
     let view = view_of c.self.inside.start dim (g.D.Lengths.list c.self.inside.strides) in
-    let fits : nonzero_size to ≤ limit = within_limit (nonzero_size to) (rw c.slice-new_lens.ensures.list at c.in_ok-size_of_shape_checked.ensures.fault) in
+    let fits : nonzero_size to ≤ limit = within_limit (nonzero_size to) c.in_ok-size_of_shape_checked.ensures.fault in
     let from_some : is_empty dim ≡ false = rw c.slice-lens.ensures.list at (sym c.contains-is_empty.ensures.value ∙ c.if-is_empty.false) in
     let to_some : is_empty to ≡ false = rw c.slice-new_lens.ensures.list at (sym c.contains.ensures.value ∙ sym (same_bits c.contains-is_empty.result c.contains.result c.if-is_empty-contains.false) ∙ c.if-is_empty.false) in
     subst (λ (v : View). IfErr c.reshape_dim.result (λ e. IsReshapeRefusal g.E.FixedCount.NDIM c.args.order to v e)) c.self.view_is

@@ -1,0 +1,122 @@
+-- When two lists of numbers that lie a step apart share a number.
+use Rattle.std.proofs.Common.{◌≡◌, ℕ, ◌+◌, ◌*◌, ◌/◌, ◌<◌, ◌≤◌, true, arith, ap, sym, ◌∙◌, refl, subst, ℤ, pos, ◌+ℤ◌, ◌-ℤ◌}
+use Rattle.std.proofs.Math.Nat.{div-mul_cancel, dvd-mul_right, le-div_iff_mul-le, mul-le-mul_right}
+use Rattle.std.proofs.lemmas.Bool.{leb-true, le-leb}
+use Rattle.std.proofs.lemmas.Int.{ints, clamps}
+use Rattle.std.specs.Prelude.{◌≤ℤ◌, ◌<ℤ◌, ◌↔◌, nat_le}
+use Rattle.std.specs.Int.{◌∣◌, int_max, int_min}
+use Rattle.nd_base.specs.Signed.{magnitude}
+use Rattle.nd_slice.specs.Equation.{IsLeastMultiplier}
+use Rattle.nd_slice.specs.Sequence.{InSequence, SequencesMeet, MeetsWithin}
+use Rattle.nd_slice.proofs.intersection.Signs.{of_non_negative, of_non_positive}
+
+-- the least multiple that serves decides
+pub meets_by_least : (ahead first_step second_step room least : ℕ) → 0 < second_step → IsLeastMultiplier second_step first_step ahead least
+    → (nat_le least (room / second_step) ≡ true) ↔ MeetsWithin ahead first_step second_step room
+meets_by_least ahead first_step second_step room least some at = (
+  λ is.
+      let fits : least * second_step ≤ room = (le-div_iff_mul-le some).0 (leb-true least (room / second_step) is) in
+      (second_step * least, omega arith, dvd-mul_right second_step least, at.divides),
+  λ meets.
+      let number = meets.0 in
+      let times = number / second_step in
+      let whole : times * second_step ≡ number = div-mul_cancel second_step meets.2 in
+      let divides : first_step ∣ second_step * times + ahead = subst (λ n. first_step ∣ n) (omega arith) meets.3 in
+      let before : least ≤ times = at.least times divides in
+      le-leb least (room / second_step) ((le-div_iff_mul-le some).1 (omega (arith, meets.1, mul-le-mul_right second_step before))),
+)
+
+-- where none serves there is none
+pub meets_by_none : (ahead first_step second_step room : ℕ) → ((number : ℕ) → first_step ∣ second_step * number + ahead → ⊥)
+    → MeetsWithin ahead first_step second_step room → ⊥
+meets_by_none ahead first_step second_step room none meets =
+    let whole : meets.0 / second_step * second_step ≡ meets.0 = div-mul_cancel second_step meets.2 in
+    none (meets.0 / second_step) (subst (λ n. first_step ∣ n) (omega arith) meets.3)
+
+-- the greater of two numbers is so far after the other
+pub far_after : (low high : ℤ) → low ≤ℤ high → high ≡ low +ℤ pos (magnitude (high -ℤ low))
+far_after low high h = omega (arith, ints, of_non_negative (high -ℤ low) (omega (arith, ints, h)))
+
+pub far_before : (low high : ℤ) → low ≤ℤ high → high ≡ low +ℤ pos (magnitude (low -ℤ high))
+far_before low high h = omega (arith, ints, of_non_positive (low -ℤ high) (omega (arith, ints, h)))
+
+in_from : (first last step number : ℤ) (far : ℕ) → number ≡ first +ℤ pos far → number ≤ℤ last → magnitude step ∣ far → InSequence first last step number
+in_from first last step number far e below multiple =
+    let apart : pos far ≡ number -ℤ first = omega (arith, ints, e) in
+    record {
+      not_before = omega (arith, ints, e);
+      not_after = below;
+      stepped = subst (λ n. magnitude step ∣ n) (ap magnitude apart) multiple;
+    }
+
+in_to : (first last step number : ℤ) (far : ℕ) → number ≡ first +ℤ pos far → InSequence first last step number → magnitude step ∣ far
+in_to first last step number far e within =
+    let apart : number -ℤ first ≡ pos far = omega (arith, ints, e) in
+    subst (λ n. magnitude step ∣ n) (ap magnitude apart) within.stepped
+
+-- the last number that may be in both
+pub record IsLast (one other : ℤ × ℤ × ℤ) (last : ℤ) : Type 0 where
+  pub in_one : last ≤ℤ one.1
+  pub in_other : last ≤ℤ other.1
+  pub is_last : (number : ℤ) → number ≤ℤ one.1 → number ≤ℤ other.1 → number ≤ℤ last
+
+-- where the second list begins not before the first
+pub meets_after : (one other : ℤ × ℤ × ℤ) (last : ℤ) (ahead room : ℕ) → IsLast one other last
+    → other.0 ≡ one.0 +ℤ pos ahead → last ≡ other.0 +ℤ pos room
+    → MeetsWithin ahead (magnitude one.2) (magnitude other.2) room ↔ SequencesMeet one other
+meets_after one other last ahead room at begins ends = (
+  λ meets.
+      let number = other.0 +ℤ pos meets.0 in
+      let before : number ≤ℤ last = omega (arith, ints, ends, meets.1) in (
+        number,
+        in_from one.0 one.1 one.2 number (meets.0 + ahead) (omega (arith, ints, begins)) (omega (arith, ints, before, at.in_one)) meets.3,
+        in_from other.0 other.1 other.2 number meets.0 refl (omega (arith, ints, before, at.in_other)) meets.2,
+      ),
+  λ meets.
+      let number = meets.0 in
+      let far = magnitude (number -ℤ other.0) in
+      let e : number ≡ other.0 +ℤ pos far = far_after other.0 number meets.2.not_before in
+      let below : number ≤ℤ last = at.is_last number meets.1.not_after meets.2.not_after in
+      (far, omega (arith, ints, e, below, ends), in_to other.0 other.1 other.2 number far e meets.2, in_to one.0 one.1 one.2 number (far + ahead) (omega (arith, ints, e, begins)) meets.1),
+)
+
+-- the order of two lists does not matter
+pub meets_swapped : (one other : ℤ × ℤ × ℤ) → SequencesMeet one other → SequencesMeet other one
+meets_swapped one other meets = (meets.0, meets.2, meets.1)
+
+last_of : (one other : ℤ × ℤ × ℤ) (last : ℤ) → last ≡ int_min one.1 other.1 → IsLast one other last
+last_of one other last e = record {
+  in_one = omega (arith, ints, clamps, e);
+  in_other = omega (arith, ints, clamps, e);
+  is_last = λ number p q. omega (arith, ints, clamps, e, p, q);
+}
+
+-- both ends of what two lists may share, by the code's words
+pub record IsShared (one other : ℤ × ℤ × ℤ) (first last : ℤ) : Type 0 where
+  pub first_is : first ≡ int_max one.0 other.0
+  pub last_is : last ≡ int_min one.1 other.1
+
+pub meets_on : (one other : ℤ × ℤ × ℤ) (first last : ℤ) (ahead room : ℕ) → IsShared one other first last → first ≤ℤ last
+    → room ≡ magnitude (last -ℤ first) → ahead ≡ magnitude (one.0 -ℤ other.0) → one.0 ≤ℤ other.0
+    → MeetsWithin ahead (magnitude one.2) (magnitude other.2) room ↔ SequencesMeet one other
+meets_on one other first last ahead room at order room_is ahead_is on =
+    let begins : first ≡ other.0 = omega (arith, ints, clamps, at.first_is, on) in
+    let far : last ≡ first +ℤ pos room = far_after first last order ∙ ap (λ n. first +ℤ pos n) (sym room_is) in
+    let ahead_of : other.0 ≡ one.0 +ℤ pos ahead = far_before one.0 other.0 on ∙ ap (λ n. one.0 +ℤ pos n) (sym ahead_is) in
+    meets_after one other last ahead room (last_of one other last at.last_is) ahead_of (omega (arith, ints, far, begins))
+
+pub meets_back : (one other : ℤ × ℤ × ℤ) (first last : ℤ) (ahead room : ℕ) → IsShared one other first last → first ≤ℤ last
+    → room ≡ magnitude (last -ℤ first) → ahead ≡ magnitude (one.0 -ℤ other.0) → other.0 ≤ℤ one.0
+    → MeetsWithin ahead (magnitude other.2) (magnitude one.2) room ↔ SequencesMeet one other
+meets_back one other first last ahead room at order room_is ahead_is back =
+    let begins : first ≡ one.0 = omega (arith, ints, clamps, at.first_is, back) in
+    let far : last ≡ first +ℤ pos room = far_after first last order ∙ ap (λ n. first +ℤ pos n) (sym room_is) in
+    let ahead_of : one.0 ≡ other.0 +ℤ pos ahead = far_after other.0 one.0 back ∙ ap (λ n. other.0 +ℤ pos n) (sym ahead_is) in
+    let last_in = last_of one other last at.last_is in
+    let turned = meets_after other one last ahead room (record { in_one = last_in.in_other; in_other = last_in.in_one; is_last = λ number p q. last_in.is_last number q p }) ahead_of (omega (arith, ints, far, begins)) in
+    (λ meets. meets_swapped other one (turned.0 meets), λ meets. turned.1 (meets_swapped one other meets))
+
+-- where one list ends before the other begins they share none
+pub meets_none : (one other : ℤ × ℤ × ℤ) (first last : ℤ) → IsShared one other first last → last <ℤ first → SequencesMeet one other → ⊥
+meets_none one other first last at order meets =
+    omega (arith, ints, clamps, at.first_is, at.last_is, order, meets.1.not_before, meets.1.not_after, meets.2.not_before, meets.2.not_after)

@@ -1,0 +1,115 @@
+-- Numbers by magnitude and sign, and what Euclid's steps on two magnitudes say of the numbers themselves.
+use Rattle.std.proofs.Common.{◌≡◌, ℕ, zero, suc, ◌*◌, ◌/◌, ◌<◌, ◌≤◌, Bool, true, false, not, arith, ap, sym, ◌∙◌, refl, subst, ℤ, pos, negsuc, ◌+ℤ◌, ◌*ℤ◌}
+use Rattle.std.proofs.Math.Bool.{beq}
+use Rattle.std.proofs.Math.IntN.{zero-*ℤ, *ℤ-zero, negsuc-*ℤ-negsuc, negsuc-*ℤ-pos, pos-*ℤ-negsuc, pos-*ℤ-pos}
+use Rattle.std.proofs.Math.Nat.{pos_of_dvd_of_pos, zero-mul, mul-zero}
+use Rattle.std.proofs.lemmas.Nat.{le-div}
+use Rattle.std.proofs.lemmas.Nat.Gcd.{IsGcd-from_zero, IsGcd-swap}
+use Rattle.std.proofs.lemmas.Int.{ints}
+use Rattle.std.specs.Prelude.{◌≤ℤ◌, neg_ℤ}
+use Rattle.std.specs.Int.{IsGcd}
+use Rattle.nd_base.specs.Signed.{magnitude}
+use Rattle.nd_slice.specs.Equation.{with_sign_of}
+use Rattle.nd_slice.proofs.intersection.Steps.{AreApart}
+use lib.Signed.{lt_z}
+
+zero_of_sign : (way : Bool) → with_sign_of 0 way ≡ pos 0
+zero_of_sign true = refl
+zero_of_sign false = refl
+
+pub magnitude-with_sign_of : (n : ℕ) (way : Bool) → magnitude (with_sign_of n way) ≡ n
+magnitude-with_sign_of n false = refl
+magnitude-with_sign_of zero true = refl
+magnitude-with_sign_of (suc n) true = refl
+
+pub of_non_negative : (z : ℤ) → pos 0 ≤ℤ z → z ≡ pos (magnitude z)
+of_non_negative (pos n) h = refl
+of_non_negative (negsuc n) h = absurd (omega (arith, ints, h))
+
+pub of_non_positive : (z : ℤ) → z ≤ℤ pos 0 → z ≡ neg_ℤ (pos (magnitude z))
+of_non_positive (pos n) h = omega (arith, ints, h)
+of_non_positive (negsuc n) h = refl
+
+-- a number has its magnitude and its sign
+pub sign_of : (a : ℤ) → a ≡ with_sign_of (magnitude a) (lt_z a (pos 0))
+sign_of (negsuc n) = refl
+sign_of (pos n) =
+    let e : lt_z (pos n) (pos 0) ≡ false = grind (arith, ints) in
+    sym (ap (with_sign_of n) e)
+
+pub product : (m n : ℕ) (p q : Bool) → with_sign_of m p *ℤ with_sign_of n q ≡ with_sign_of (m * n) (not (beq p q))
+product zero n p q = ap (λ z. z *ℤ with_sign_of n q) (zero_of_sign p) ∙ zero-*ℤ (with_sign_of n q) ∙ sym (ap (λ k. with_sign_of k (not (beq p q))) (zero-mul n) ∙ zero_of_sign (not (beq p q)))
+product (suc m) zero p q = ap (λ z. with_sign_of (suc m) p *ℤ z) (zero_of_sign q) ∙ *ℤ-zero (with_sign_of (suc m) p) ∙ sym (ap (λ k. with_sign_of k (not (beq p q))) (mul-zero (suc m)) ∙ zero_of_sign (not (beq p q)))
+product (suc m) (suc n) true true = negsuc-*ℤ-negsuc m n
+product (suc m) (suc n) true false = negsuc-*ℤ-pos m (suc n)
+product (suc m) (suc n) false true = pos-*ℤ-negsuc (suc m) n
+product (suc m) (suc n) false false = pos-*ℤ-pos (suc m) (suc n)
+
+first_way : (p way : Bool) → not (beq p (beq p way)) ≡ not way
+first_way true true = refl
+first_way true false = refl
+first_way false true = refl
+first_way false false = refl
+
+pub second_way : (p way : Bool) → not (beq p (not (beq p way))) ≡ way
+second_way true true = refl
+second_way true false = refl
+second_way false true = refl
+second_way false false = refl
+
+difference : (a b first second g : ℕ) (greater : Bool) → AreApart a b g first second greater
+    → with_sign_of (a * first) (not greater) +ℤ with_sign_of (b * second) greater ≡ pos g
+difference a b first second g true e = omega (arith, ints)
+difference a b first second g false e = omega (arith, ints)
+
+-- a factor of each number, with the sign that makes the sum of both multiples the divisor
+abbrev pub first_factor : ℤ → ℕ → Bool → ℤ
+first_factor a first greater = with_sign_of first (beq (lt_z a (pos 0)) greater)
+
+abbrev pub second_factor : ℤ → ℕ → Bool → ℤ
+second_factor b second greater = with_sign_of second (not (beq (lt_z b (pos 0)) greater))
+
+sum : (a b : ℤ) (g first second : ℕ) (greater : Bool) → AreApart (magnitude a) (magnitude b) g first second greater
+    → (a *ℤ first_factor a first greater) +ℤ (b *ℤ second_factor b second greater) ≡ pos g
+sum a b g first second greater e =
+    let one : a *ℤ first_factor a first greater ≡ with_sign_of (magnitude a * first) (not greater) =
+    ap (λ z. z *ℤ first_factor a first greater) (sign_of a)
+    ∙ product (magnitude a) first (lt_z a (pos 0)) (beq (lt_z a (pos 0)) greater)
+    ∙ ap (with_sign_of (magnitude a * first)) (first_way (lt_z a (pos 0)) greater) in
+    let other : b *ℤ second_factor b second greater ≡ with_sign_of (magnitude b * second) greater =
+    ap (λ z. z *ℤ second_factor b second greater) (sign_of b)
+    ∙ product (magnitude b) second (lt_z b (pos 0)) (not (beq (lt_z b (pos 0)) greater))
+    ∙ ap (with_sign_of (magnitude b * second)) (second_way (lt_z b (pos 0)) greater) in
+    ap (λ z. z +ℤ (b *ℤ second_factor b second greater)) one
+    ∙ ap (λ z. with_sign_of (magnitude a * first) (not greater) +ℤ z) other
+    ∙ difference (magnitude a) (magnitude b) first second g greater e
+
+-- the divisor of two numbers, and a factor of each
+pub record AreFactors (a b x y z : ℤ) : Type 0 where
+  pub gcd : IsGcd (magnitude a) (magnitude b) (magnitude z)
+  pub total : (a *ℤ x) +ℤ (b *ℤ y) ≡ z
+  pub first_within : magnitude x ≤ magnitude b / magnitude z
+  pub second_within : magnitude y ≤ magnitude a / magnitude z
+
+within : (n g total : ℕ) (way : Bool) → 0 < g → n * g ≤ total → magnitude (with_sign_of n way) ≤ total / g
+within n g total way some h = omega (arith, magnitude-with_sign_of n way, le-div n total g some h)
+
+pub factors : (a b x y z : ℤ) (g first second : ℕ) (greater : Bool) → 0 < magnitude a
+    → IsGcd (magnitude a) (magnitude b) g → AreApart (magnitude a) (magnitude b) g first second greater
+    → first * g ≤ magnitude b → second * g ≤ magnitude a
+    → x ≡ first_factor a first greater → y ≡ second_factor b second greater → z ≡ pos g
+    → AreFactors a b x y z
+factors a b x y z g first second greater some h e p q ex ey ez =
+    let more : 0 < g = pos_of_dvd_of_pos h.0 some in
+    let size : magnitude z ≡ g = ap magnitude ez in
+    record {
+      gcd = subst (IsGcd (magnitude a) (magnitude b)) (sym size) h;
+      total = ap (λ k. (a *ℤ k) +ℤ (b *ℤ y)) ex ∙ ap (λ k. (a *ℤ first_factor a first greater) +ℤ (b *ℤ k)) ey ∙ sum a b g first second greater e ∙ sym ez;
+      first_within = subst (λ k. magnitude k ≤ magnitude b / magnitude z) (sym ex) (subst (λ k. magnitude (first_factor a first greater) ≤ magnitude b / k) (sym size) (within first g (magnitude b) (beq (lt_z a (pos 0)) greater) more p));
+      second_within = subst (λ k. magnitude k ≤ magnitude a / magnitude z) (sym ey) (subst (λ k. magnitude (second_factor b second greater) ≤ magnitude a / k) (sym size) (within second g (magnitude a) (not (beq (lt_z b (pos 0)) greater)) more q));
+    }
+
+-- of 0 and another number
+pub gcd_of_zero : (a b z : ℤ) → a ≡ pos 0 → z ≡ pos (magnitude b) → IsGcd (magnitude a) (magnitude b) (magnitude z)
+gcd_of_zero a b z none e =
+    subst (IsGcd (magnitude a) (magnitude b)) (sym (ap magnitude e)) (IsGcd-swap (magnitude b) (magnitude a) (magnitude b) (IsGcd-from_zero (magnitude b) (magnitude a) (ap magnitude none)))

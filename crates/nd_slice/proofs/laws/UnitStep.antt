@@ -1,0 +1,90 @@
+-- What a slice with a step of 1 picks: every entry of its range, so that pick j is the start plus j. A crop is such a slice of each axis.
+use Rattle.std.proofs.Common.{◌≡◌, ℕ, ◌+◌, ◌-◌, ◌<◌, ◌≤◌, min, ℤ, pos, negsuc, Option, Some, None, List, [], ◌∷◌, length, refl, ap, ◌∙◌, arith}
+use Rattle.std.specs.List.{range_with_len}
+use Rattle.std.specs.Prelude.{IsTrue, nat_lt, slice_index}
+use Rattle.std.proofs.lemmas.Bool.{and_parts, ltb-true}
+use Rattle.std.proofs.lemmas.Grind.{div_ceil_times}
+use Rattle.std.proofs.lemmas.List.{ext_get_or}
+use Rattle.std.proofs.lemmas.List.FromFn.{length-range_with_len, get_or-range_with_len}
+use Rattle.nd_base.specs.Entrywise.{sums}
+use Rattle.nd_base.specs.Indices.{below, is_index}
+use Rattle.nd_base.specs.Signed.{magnitude}
+use Rattle.nd_slice.specs.declared.fit.Fit.{Fit}
+use Rattle.nd_slice.specs.declared.fit.Fit.TheVariants.{Strict, Clamp}
+use Rattle.nd_slice.specs.declared.elem.SliceInfoElem.{SliceInfoElem}
+use Rattle.nd_slice.specs.declared.elem.SliceInfoElem.TheVariants as elem
+use Rattle.nd_slice.specs.Picks.{slice_with, nearest, start_meaning, end_meaning, range, between, picks}
+use Rattle.nd_slice.specs.Selected.{selected}
+use Rattle.nd_slice.specs.Sliced.{sliced_shape}
+use Rattle.nd_slice.proofs.laws.Between.{length-between, between_within, pick_up}
+
+-- ---- of a range
+length-between_one : (start end : ℕ) → length (between (pos 1) start end) ≡ end - start
+length-between_one start end =
+    let whole = div_ceil_times (end - start) 1 (omega arith) in
+    omega (arith, length-between (pos 1) start end (omega arith), whole.0, whole.1)
+
+-- a step of 1 picks all numbers from start up to, not including, end
+pub between_one : (start end : ℕ) → between (pos 1) start end ≡ range start end
+between_one start end =
+    let count = length-between_one start end in
+    ext_get_or 0 (between (pos 1) start end) (range start end) (omega (arith, count, length-range_with_len start (end - start))) (λ j inside.
+    omega (arith, pick_up 1 start end j (omega arith) inside, get_or-range_with_len start (end - start) j 0 (omega (arith, count))))
+
+-- ---- of an axis
+-- a slice with a step of 1 picks as many entries as its range has
+pub length-picks_by_one : (fit : Fit) (len : ℕ) (start : ℤ) (end : Option ℤ) → length (picks fit len (slice_with start end (pos 1))) ≡ magnitude (end_meaning fit len (slice_with start end (pos 1))) - magnitude (start_meaning fit len (slice_with start end (pos 1)))
+length-picks_by_one fit len start end = length-between_one (magnitude (start_meaning fit len (slice_with start end (pos 1)))) (magnitude (end_meaning fit len (slice_with start end (pos 1))))
+
+-- pick j is the entry where its range begins plus j
+pub pick_by_one : (fit : Fit) (len : ℕ) (start : ℤ) (end : Option ℤ) (j : ℕ) → j < length (picks fit len (slice_with start end (pos 1))) → slice_index (picks fit len (slice_with start end (pos 1))) j ≡ magnitude (start_meaning fit len (slice_with start end (pos 1))) + j
+pick_by_one fit len start end j inside = omega (arith, pick_up 1 (magnitude (start_meaning fit len (slice_with start end (pos 1)))) (magnitude (end_meaning fit len (slice_with start end (pos 1)))) j (omega arith) inside)
+
+range_from_zero : (len : ℕ) → range 0 len ≡ below len
+range_from_zero len = let count : len - 0 ≡ len = omega arith in ap (range_with_len 0) count
+
+-- `..` picks every entry, in order
+pub picks_of_all : (fit : Fit) (len : ℕ) → picks fit len (slice_with (pos 0) None (pos 1)) ≡ below len
+picks_of_all Strict len = between_one 0 len ∙ range_from_zero len
+picks_of_all Clamp len = let first : min 0 len ≡ 0 = omega arith in ap (λ start. between (pos 1) start len) first ∙ between_one 0 len ∙ range_from_zero len
+
+-- pick j of `..` is entry j
+pub pick_of_all : (fit : Fit) (len j : ℕ) → j < len → slice_index (picks fit len (slice_with (pos 0) None (pos 1))) j ≡ j
+pick_of_all fit len j inside = rw (picks_of_all fit len) (omega (arith, get_or-range_with_len 0 len j 0 inside))
+
+nearest_below : (len : ℕ) (number : ℤ) → magnitude (nearest len number) ≤ len
+nearest_below len (pos number) = omega arith
+nearest_below len (negsuc number) = omega arith
+
+end_below : (len : ℕ) (slice_start : ℤ) (end : Option ℤ) → magnitude (end_meaning Clamp len (slice_with slice_start end (pos 1))) ≤ len
+end_below len start None = omega arith
+end_below len start (Some end) = nearest_below len _
+
+-- where a range that begins at an entry counted from the front picks anything, pick j is that entry plus j
+pub pick_of_range : (fit : Fit) (len start : ℕ) (end : Option ℤ) (j : ℕ) → j < length (picks fit len (slice_with (pos start) end (pos 1))) → slice_index (picks fit len (slice_with (pos start) end (pos 1))) j ≡ start + j
+pick_of_range Strict len start end j inside = pick_by_one Strict len (pos start) end j inside
+pick_of_range Clamp len start end j inside =
+    let room = length-picks_by_one Clamp len (pos start) end in
+    omega (arith, pick_by_one Clamp len (pos start) end j inside, room, end_below len (pos start) end)
+
+-- ---- of all axes
+-- the argument that takes of each axis the range from an entry counted from the front on, with a step of 1
+abbrev pub ranges : List ℕ → List (Option ℤ) → List SliceInfoElem
+ranges [] ends = []
+ranges (start ∷ starts) [] = []
+ranges (start ∷ starts) (end ∷ ends) = elem.Slice (pos start) end (pos 1) ∷ ranges starts ends
+
+-- an index of a crop stands for the index of the whole that is the starts plus it
+pub selected_by_ranges : (fit : Fit) (starts : List ℕ) (ends : List (Option ℤ)) (shape index : List ℕ) → IsTrue (is_index (sliced_shape fit (ranges starts ends) shape) index) → selected fit (ranges starts ends) shape index ≡ sums starts index
+selected_by_ranges fit [] ends shape index here = refl
+selected_by_ranges fit (start ∷ starts) [] shape [] here = refl
+selected_by_ranges fit (start ∷ starts) [] shape (j ∷ index) here = absurd (cc)
+selected_by_ranges fit (start ∷ starts) (end ∷ ends) [] [] here = refl
+selected_by_ranges fit (start ∷ starts) (end ∷ ends) [] (j ∷ index) here = absurd (cc)
+selected_by_ranges fit (start ∷ starts) (end ∷ ends) (len ∷ shape) [] here = refl
+selected_by_ranges fit (start ∷ starts) (end ∷ ends) (len ∷ shape) (j ∷ index) here =
+    let count = length (picks fit len (slice_with (pos start) end (pos 1))) in
+    let parts = and_parts (nat_lt j count) (is_index (sliced_shape fit (ranges starts ends) shape) index) here in
+    let first = pick_of_range fit len start end j (ltb-true j count parts.0) in
+    let rest = selected_by_ranges fit starts ends shape index parts.1 in
+    cc

@@ -1,0 +1,40 @@
+//! Equations in whole numbers.
+ghost use Rattle.std.specs.Prelude.{◌≡◌, ◌≢◌, ℕ, ◌/◌, ◌≤◌, ◌^◌, pos, ◌<ℤ◌, ◌↔◌, IsSome, IfSome};
+ghost use Rattle.std.specs.Int.{IsGcd, ◌∣◌};
+ghost use Rattle.nd_base.specs.Signed.{magnitude};
+ghost use Rattle.nd_slice.specs.Equation.{IsLeastSolution, added_of};
+
+use crate::intersect::multiplier::least_multiplier;
+
+/// What has to be added to a multiple of the magnitude of `a` to leave a multiple of the other number.
+fn added(a: i128, c: i128) -> i128
+    requires { magnitude c ≤ 2 ^ 64 }
+    ensures { result ≡ added_of a c }
+{
+    if a < 0 { c } else { -c }
+}
+
+/// Solves `a * x + b * y = c` for `x` in whole numbers: the least `x` that is not negative, and how far
+/// apart the solutions lie, which is `b` divided by the greatest common divisor of `a` and `b`, in
+/// magnitude. `None` exactly where that divisor does not divide `c`.
+/// The caller ensures that `a` and `b` are not 0 and at most 2^63 in magnitude, and `c` at most 2^64.
+/// ndarray's `solve_linear_diophantine_eq`, whose solution is any one.
+pub fn solve_linear_diophantine_eq(a: i128, b: i128, c: i128) -> Option<(i128, i128)>
+    requires first_some { a ≢ pos 0 }
+    requires first_small { magnitude a ≤ 2 ^ 63 }
+    requires second_some { b ≢ pos 0 }
+    requires second_small { magnitude b ≤ 2 ^ 63 }
+    requires sum_small { magnitude c ≤ 2 ^ 64 }
+    ensures solvable { (g : ℕ) → IsGcd (magnitude a) (magnitude b) g → (IsSome result ↔ (g ∣ magnitude c)) }
+    ensures least { IfSome result (λ (least, apart). IsLeastSolution a b c least) }
+    ensures apart { IfSome result (λ (least, apart). (g : ℕ) → IsGcd (magnitude a) (magnitude b) g →
+        apart ≡ pos (magnitude b / g)) }
+    ensures within { IfSome result (λ (least, apart). least <ℤ apart) }
+{
+    let rest = added(a, c).rem_euclid(b.abs()) as usize;
+    let found = least_multiplier(a.unsigned_abs() as usize, b.unsigned_abs() as usize, rest);
+    match found {
+        Some((least, apart)) => Some((least as i128, apart as i128)),
+        None => None,
+    }
+}

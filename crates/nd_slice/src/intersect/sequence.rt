@@ -1,0 +1,43 @@
+//! Lists of numbers that lie a step apart.
+ghost use Rattle.std.specs.Prelude.{◌≡◌, ◌≢◌, ◌<◌, ◌≤◌, ◌^◌, pos, ◌↔◌, IsTrue};
+ghost use Rattle.nd_slice.specs.Sequence.{SequencesMeet, MeetsWithin};
+
+use crate::intersect::multiplier::least_multiplier;
+
+/// Whether some number up to `room` is a multiple of `second_step`, and also a multiple of
+/// `first_step` once `ahead` is added.
+fn meets_within(ahead: usize, first_step: usize, second_step: usize, room: usize) -> bool
+    requires first_some { 0 < first_step }
+    requires first_small { first_step ≤ 2 ^ 63 }
+    requires second_some { 0 < second_step }
+    requires second_small { second_step ≤ 2 ^ 63 }
+    ensures { IsTrue result ↔ MeetsWithin ahead first_step second_step room }
+{
+    match least_multiplier(second_step, first_step, ahead) {
+        Some((least, _)) => least <= room / second_step,
+        None => false,
+    }
+}
+
+/// Whether two lists of numbers share one. A list is given by its first number, the number that it
+/// goes up to, and its step, whose sign does not matter: least, least + |step|, and so on.
+/// The caller ensures that no step is 0. ndarray's `arith_seq_intersect`.
+pub fn arith_seq_intersect(first: (isize, isize, isize), second: (isize, isize, isize)) -> bool
+    requires first_moves { first.2 ≢ pos 0 }
+    requires second_moves { second.2 ≢ pos 0 }
+    ensures { IsTrue result ↔ SequencesMeet first second }
+{
+    let least = first.0.max(second.0);
+    let greatest = first.1.min(second.1);
+    if least > greatest {
+        return false;
+    }
+    let room = greatest.abs_diff(least);
+    let (first_step, second_step) = (first.2.unsigned_abs(), second.2.unsigned_abs());
+    let ahead = first.0.abs_diff(second.0);
+    if first.0 <= second.0 {
+        meets_within(ahead, first_step, second_step, room)
+    } else {
+        meets_within(ahead, second_step, first_step, room)
+    }
+}

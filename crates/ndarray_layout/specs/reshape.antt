@@ -1,0 +1,5 @@
+pub mod ForcedStrides
+pub mod Joints
+pub mod Keeps
+pub mod ReshapeFault
+pub mod Walk

@@ -1,0 +1,134 @@
+//! Steps from one view to the next, and runs of them.
+ghost use Rattle.std.specs.Prelude.{◌≡◌, ℕ, ◌<◌, length, None, Some, map, IfOk, IfErr, IsOk, OnErr, OnOk, false, take};
+ghost use Rattle.std.specs.Result.{result_err};
+ghost use Rattle.ndarray_layout.specs.MergedView.{merge_fault, merge_of};
+ghost use Rattle.ndarray_layout.specs.DistinctPlaces.{HasDistinctPlaces};
+ghost use Rattle.ndarray_layout.specs.KeepsPlaces.{KeepsPlaces};
+ghost use Rattle.ndarray_layout.specs.Run.{run_of, AllFit, StopsAt, IsEndedBy, IsRefusedBy, HasNoBroadcast, NeedNoMemory};
+ghost use Rattle.ndarray_layout.specs.Step.{may_want_memory, step_fault, step_value, view_after};
+ghost use Rattle.ndarray_layout.specs.View.{IsView, LiesWithin};
+
+use crate::strided::Strided;
+use nd_base::{Axis, ErrorKind, IxDyn, LayoutError, Order, ShapeError, from_kind};
+use nd_slice::{Fit, SliceInfoElem};
+use std::alloc::Global;
+
+/// A step from one view to the next. The project's own.
+#[derive(Debug, Drop)]
+pub enum Step {
+    /// The slice by these elements, and what becomes of a bound past its axis: `Strided::slice`.
+    Slice(Vec<SliceInfoElem>, Fit),
+    /// One entry of an axis: `Strided::collapse`.
+    Collapse(Axis, usize),
+    /// The first axis merged into the second: `Strided::merge`.
+    Merge(Axis, Axis),
+    /// The places of the view in an order, along another shape: `Strided::reshape`.
+    Reshape(IxDyn, Order),
+    /// The view as one of a shape: `Strided::broadcast`.
+    Broadcast(IxDyn),
+}
+
+/// A run that ended before its last step was taken. The project's own.
+#[derive(Debug, Drop)]
+pub struct Stopped {
+    /// How many steps were taken, which is the number of the one that was not, from 0 on.
+    pub at: usize,
+    /// Why it was not.
+    pub fault: LayoutError,
+    /// The view that the steps before it left.
+    pub view: Strided<IxDyn>,
+}
+
+/// Merges an axis into another one where a stride has the entries of both; where none has,
+/// `IncompatibleLayout` is the last of the faults. A refusal leaves the view.
+fn merge_axes_of(view: &mut Strided<IxDyn>, take: Axis, into: Axis) -> Result<(), ShapeError>
+    ensures fault { result_err result ≡ merge_fault take.0 into.0 view.old }
+    ensures refusal { OnErr result (view.new ≡ view.old) }
+    ensures merged { OnOk result (view.new ≡ merge_of take.0 into.0 view.old) }
+{
+    if view.merge(take, into)? {
+        Ok(())
+    } else {
+        Err(from_kind(ErrorKind::IncompatibleLayout))
+    }
+}
+
+/// Puts the view that a step makes in the place of the one before it.
+#[inline(always)]
+fn step_to(view: &mut Strided<IxDyn>, next: Strided<IxDyn>)
+    ensures { view.new ≡ next }
+{
+    *view = next;
+}
+
+/// Takes one step. A refusal leaves the view.
+///
+/// Errors: why the step is refused, never memory where it leaves at most 4 axes. The caller ensures
+/// that the view is one.
+fn take_step(alloc: Global, view: &mut Strided<IxDyn>, step: &Step) -> Result<(), LayoutError>
+    requires { IsView view.old }
+    ensures fits { OnOk result (step_fault view.old (step_value step.now) ≡ None) }
+    ensures refused { IfErr result (λ e. IsRefusedBy view.old e (step_value step.now)) }
+    ensures refusal { OnErr result (view.new ≡ view.old) }
+    ensures taken { OnOk result (view.new ≡ view_after view.old (step_value step.now)) }
+    ensures memory { step_fault view.old (step_value step.now) ≡ None →
+        may_want_memory (step_value step.now) ≡ false → IsOk result }
+{
+    match step {
+        Step::Slice(elems, fit) => {
+            let sliced = view.slice(alloc, elems, *fit)?;
+            step_to(view, sliced);
+        },
+        Step::Collapse(axis, index) => view.collapse(*axis, *index)?,
+        Step::Merge(take, into) => merge_axes_of(view, *take, *into)?,
+        Step::Reshape(dim, order) => {
+            let reshaped = view.reshape(alloc, dim, *order)?;
+            step_to(view, reshaped);
+        },
+        Step::Broadcast(dim) => {
+            let stretched = view.broadcast(alloc, dim)?;
+            step_to(view, stretched);
+        },
+    }
+    Ok(())
+}
+
+/// Takes steps one after another, each from the view that the one before it left. The first that is
+/// refused ends the run.
+///
+/// Errors of a step: those of `Strided::slice`; `OutOfBounds` for a collapse of no such axis or
+/// entry; for a merge `OutOfBounds` where an axis is missing, then `Unsupported` for one axis twice,
+/// then `IncompatibleLayout` where no stride has the entries of both; those of `Strided::reshape` and
+/// `Strided::broadcast`. Out of memory comes last, in a reshape before the fault of its strides, and
+/// never where the step leaves at most 4 axes. The project's own.
+pub fn run(alloc: Global, view: Strided<IxDyn>, steps: &[Step]) -> Result<Strided<IxDyn>, Stopped>
+    ensures fits { IfOk result (λ v. (run_of (map step_value steps.now) view).fault ≡ None) }
+    ensures each_fits { IsOk result → AllFit (map step_value steps.now) view }
+    ensures left { IfOk result (λ v. v ≡ (run_of (map step_value steps.now) view).view) }
+    ensures at { IfErr result (λ s. s.at < length steps.now) }
+    ensures stopped { IfErr result (λ s.
+        StopsAt (map step_value steps.now) view s.at s.fault s.view) }
+    ensures ended { IfErr result (λ s.
+        IsEndedBy (run_of (map step_value steps.now) view) s.at s.fault s.view) }
+    ensures memory { (run_of (map step_value steps.now) view).fault ≡ None →
+        NeedNoMemory (map step_value steps.now) → IsOk result }
+    ensures stopped_view { IfErr result (λ s. IsView s.view) }
+    ensures stopped_places { IfErr result (λ s.
+        KeepsPlaces (run_of (take s.at (map step_value steps.now)) view).source view s.view) }
+    ensures is_view { IfOk result (λ v. IsView v) }
+    ensures places { IfOk result (λ v.
+        KeepsPlaces (run_of (map step_value steps.now) view).source view v) }
+    ensures inside { IfOk result (λ v. (len : ℕ) → LiesWithin len view → LiesWithin len v) }
+    ensures distinct { IfOk result (λ v. HasNoBroadcast (map step_value steps.now) →
+        HasDistinctPlaces view → HasDistinctPlaces v) }
+{
+    // Says to the proof that the view given is one, which is known of a value of the type only where a method returns.
+    let _start = view.start();
+    let mut view = view;
+    for (at, step) in steps.iter().enumerate() {
+        if let Err(fault) = take_step(alloc, &mut view, step) {
+            return Err(Stopped { at, fault, view });
+        }
+    }
+    Ok(view)
+}

@@ -1,0 +1,138 @@
+//! Shapes that a view can be read as one of, and the strides that it has then.
+ghost use Rattle.std.specs.Prelude.{◌≡◌, ◌≤◌, None, length, IfOk, IsOk, ℕ, ◌<◌};
+ghost use Rattle.nd_base.specs.Lengths.{NeedsNoMemory};
+ghost use Rattle.std.specs.Result.{result_err};
+ghost use Rattle.nd_base.specs.ShapeFault.{shape_fault};
+ghost use Rattle.nd_base.specs.Signed.{all_signed};
+ghost use Rattle.ndarray_layout.specs.BroadcastView.{broadcast_fault, broadcast_strides, takes_in, broadcast_of, broadcast_source};
+ghost use Rattle.ndarray_layout.specs.KeepsPlaces.{KeepsPlaces};
+ghost use Rattle.ndarray_layout.specs.View.{IsView, LiesWithin};
+
+use crate::strided::Strided;
+use nd_base::{ErrorKind, LayoutError, Lengths, ShapeError, from_kind};
+use nd_shape::size_of_shape_checked;
+use std::alloc::{AllocError, Global};
+
+/// Whether a shape can be stretched to another one: each of its axes has a length of 1, or that of the
+/// axis of the other that lies as far from the last.
+#[inline(always)]
+fn stretches_to(view_shape: &[usize], shape: &[usize]) -> bool
+    ensures { result ≡ takes_in shape.now view_shape.now }
+{
+    if view_shape.len() > shape.len() {
+        return false;
+    }
+    let new_axes = shape.len() - view_shape.len();
+    for axis in 0..view_shape.len() {
+        if view_shape[axis] != shape[new_axes + axis] && view_shape[axis] != 1 {
+            return false;
+        }
+    }
+    true
+}
+
+/// Whether a view of a shape can be read as one of another: `IncompatibleShape` where the other is not
+/// the shape that both have in common, and then `Overflow` where it is too large.
+#[inline(always)]
+fn check_broadcast<E: Lengths>(view_shape: &[usize], shape: &E) -> Result<(), ShapeError>
+    ensures { result_err result ≡ broadcast_fault (E.list shape.now) view_shape.now }
+{
+    if !stretches_to(view_shape, shape.slice()) {
+        return Err(from_kind(ErrorKind::IncompatibleShape));
+    }
+    size_of_shape_checked(shape)?;
+    Ok(())
+}
+
+/// Writes the strides along which a view is read as one of a shape with no fewer axes: 0 for new axes and
+/// for those of another length, the view's own for the others.
+#[inline(always)]
+fn stretch_strides(
+    shape: &[usize],
+    view_shape: &[usize],
+    strides: &[usize],
+    new_strides: &mut [usize],
+)
+    requires fewer { length view_shape.now ≤ length shape.now }
+    requires counts { length view_shape.now ≡ length strides.now }
+    requires room { length new_strides.old ≡ length shape.now }
+    ensures { all_signed new_strides.new ≡
+        broadcast_strides shape.now view_shape.now (all_signed strides.now) }
+{
+    let new_axes = shape.len() - view_shape.len();
+    new_strides[..new_axes].fill(0);
+    for axis in 0..view_shape.len() {
+        let stays = shape[new_axes + axis] == view_shape[axis];
+        new_strides[new_axes + axis] = if stays { strides[axis] } else { 0 };
+    }
+}
+
+/// The same as a value of the type of the shape.
+///
+/// Errors: out of memory; none where the type fixes the count or there are at most 4 axes.
+#[inline(always)]
+fn stretched<E: Lengths>(
+    alloc: Global,
+    shape: &E,
+    view_shape: &[usize],
+    strides: &[usize],
+) -> Result<E, AllocError>
+    requires fewer { length view_shape.now ≤ length (E.list shape.now) }
+    requires counts { length view_shape.now ≡ length strides.now }
+    ensures strides { IfOk result (λ d. all_signed (E.list d) ≡
+        broadcast_strides (E.list shape.now) view_shape.now (all_signed strides.now)) }
+    ensures memory { NeedsNoMemory E.NDIM (length (E.list shape.now)) → IsOk result }
+{
+    let mut new_strides = E::zeros(alloc, shape.ndim())?;
+    stretch_strides(shape.slice(), view_shape, strides, new_strides.slice_mut());
+    Ok(new_strides)
+}
+
+/// The lengths and the strides with which a view is read as one of a shape. Refused as `check_broadcast`
+/// refuses it, and then out of memory, never where the type fixes the count or there are at most 4
+/// axes. The caller ensures that the view has a stride for each length.
+#[inline(always)]
+fn broadcast_axes<E: Lengths>(
+    alloc: Global,
+    shape: &E,
+    view_shape: &[usize],
+    strides: &[usize],
+) -> Result<(E, E), LayoutError>
+    requires counts { length view_shape.now ≡ length strides.now }
+    ensures fault { shape_fault result ≡ broadcast_fault (E.list shape.now) view_shape.now }
+    ensures memory { broadcast_fault (E.list shape.now) view_shape.now ≡ None →
+        NeedsNoMemory E.NDIM (length (E.list shape.now)) → IsOk result }
+    ensures shape { IfOk result (λ (dim, kept). E.list dim ≡ E.list shape.now) }
+    ensures strides { IfOk result (λ (dim, kept). all_signed (E.list kept) ≡
+        broadcast_strides (E.list shape.now) view_shape.now (all_signed strides.now)) }
+{
+    check_broadcast(view_shape, shape)?;
+    let kept = stretched(alloc, shape, view_shape, strides)?;
+    let dim = shape.duplicate(alloc)?;
+    Ok((dim, kept))
+}
+
+impl<D: Lengths> Strided<D> {
+    /// The same data read as a view of a shape that this one's can be stretched to: new axes come first,
+    /// and along them and along axes of length 1 that have another length now all entries are one. Their
+    /// strides are 0; the other axes keep theirs. Refused with `IncompatibleShape` where the shape is not the
+    /// one that it and the view's have in common, then with `Overflow` where the product of its lengths
+    /// that are not 0 passes the greatest `isize`; and then out of memory, never where the type fixes the
+    /// count or there are at most 4 axes. `broadcast` of ndarray.
+    pub fn broadcast<E: Lengths>(&self, alloc: Global, shape: &E) -> Result<Strided<E>, LayoutError>
+        ensures refusal { shape_fault result ≡ broadcast_fault (E.list shape.now) self.now.shape }
+        ensures memory { broadcast_fault (E.list shape.now) self.now.shape ≡ None →
+            NeedsNoMemory E.NDIM (length (E.list shape.now)) → IsOk result }
+        ensures broadcast { IfOk result (λ v. v ≡ broadcast_of (E.list shape.now) self.now) }
+        ensures is_view { IfOk result (λ v. IsView v) }
+        ensures places { IfOk result (λ v. KeepsPlaces (broadcast_source self.now.shape) self.now v) }
+        ensures inside { IfOk result (λ v. (len : ℕ) → LiesWithin len self.now → LiesWithin len v) }
+    {
+        let (dim, strides) = broadcast_axes(alloc, shape, self.dim.slice(), self.strides.slice())?;
+        Ok(Strided {
+            start: self.start,
+            dim,
+            strides,
+        })
+    }
+}

@@ -1,0 +1,41 @@
+//! Which entries of an axis can be taken.
+ghost use Rattle.std.specs.Prelude.{◌≡◌, ◌↔◌, IsTrue, None, ℕ, ◌<◌, OnErr, OnOk};
+ghost use Rattle.ndarray_layout.specs.CollapsedView.{collapse_fault, collapse_of, collapse_source};
+ghost use Rattle.std.specs.Result.{result_err};
+ghost use Rattle.ndarray_layout.specs.DistinctPlaces.{HasDistinctPlaces};
+ghost use Rattle.ndarray_layout.specs.KeepsPlaces.{KeepsPlaces};
+ghost use Rattle.ndarray_layout.specs.View.{IsView, LiesWithin};
+
+use crate::strided::Strided;
+use crate::strided::places::offset_place;
+use nd_base::{Axis, ErrorKind, Lengths, ShapeError, from_kind};
+use nd_slice::do_collapse_axis;
+
+/// Whether there is an axis, and an entry of it at an index.
+fn has_entry(shape: &[usize], axis: Axis, index: usize) -> bool
+    ensures { IsTrue result ↔ (collapse_fault shape.now axis.0 index ≡ None) }
+{
+    axis.index() < shape.len() && index < shape[axis.index()]
+}
+
+impl<D: Lengths> Strided<D> {
+    /// Takes one entry of an axis: the axis has a length of 1 then, and keeps its stride. Refused with
+    /// `OutOfBounds` where there is no such axis or the index is not below its length, and then the
+    /// view stays. `collapse_axis` of ndarray.
+    pub fn collapse(&mut self, axis: Axis, index: usize) -> Result<(), ShapeError>
+        ensures fault { result_err result ≡ collapse_fault self.old.shape axis.0 index }
+        ensures refusal { OnErr result (self.new ≡ self.old) }
+        ensures collapsed { OnOk result (self.new ≡ collapse_of axis.0 index self.old) }
+        ensures is_view { IsView self.new }
+        ensures places { OnOk result (KeepsPlaces (collapse_source axis.0 index) self.old self.new) }
+        ensures inside { (len : ℕ) → LiesWithin len self.old → LiesWithin len self.new }
+        ensures distinct { HasDistinctPlaces self.old → HasDistinctPlaces self.new }
+    {
+        if !has_entry(self.dim.slice(), axis, index) {
+            return Err(from_kind(ErrorKind::OutOfBounds));
+        }
+        let offset = do_collapse_axis(&mut self.dim, &self.strides, axis.index(), index);
+        self.start = offset_place(self.start, offset);
+        Ok(())
+    }
+}

@@ -1,0 +1,221 @@
+//! The shape and the strides that a slice argument leaves of a layout.
+ghost use Rattle.std.specs.Prelude.{◌≡◌, ◌↔◌, ◌⊎◌, ◌<◌, ◌≤◌, ◌^◌, IsTrue, IsFalse, Some, None, IfOk, IsOk, OnErr, OnOk, length, ℕ};
+ghost use Rattle.std.specs.Result.{result_err};
+ghost use Rattle.nd_base.specs.Lengths.{NeedsNoMemory};
+ghost use Rattle.nd_base.specs.ShapeFault.{shape_fault};
+ghost use Rattle.nd_base.specs.Signed.{signed as signed_reading, all_signed};
+ghost use Rattle.nd_base.specs.Size.{limit};
+ghost use Rattle.nd_base.specs.Span.{reach};
+ghost use Rattle.nd_base.specs.ValidLayout.{IsValidLayout};
+ghost use Rattle.nd_slice.specs.Picks.{picks};
+ghost use Rattle.nd_slice.specs.SliceFault.{slice_fault};
+ghost use Rattle.nd_slice.specs.Picked.{picked_stride, first_offset};
+ghost use Rattle.nd_slice.specs.ArgumentFault.{first_fault, in_count, out_count};
+ghost use Rattle.nd_slice.specs.Counts.{HasCounts};
+ghost use Rattle.nd_slice.specs.Sliced.{sliced_shape, sliced_strides, sliced_offset};
+ghost use Rattle.ndarray_layout.specs.SlicedView.{slice_refusal, IsSliceOf};
+ghost use Rattle.nd_slice.specs.Selected.{selected};
+ghost use Rattle.ndarray_layout.specs.DistinctPlaces.{HasDistinctPlaces};
+ghost use Rattle.ndarray_layout.specs.KeepsPlaces.{KeepsPlaces};
+ghost use Rattle.ndarray_layout.specs.View.{IsView, LiesWithin};
+
+use crate::strided::Strided;
+use crate::strided::places::offset_place;
+use nd_base::{ErrorKind, INLINE_AXES, LayoutError, Lengths, ShapeError, from_kind, stride_offset};
+use nd_slice::{
+    Fit, Slice, SliceElems, SliceInfoElem, check_elems, do_slice, entry_of, in_ndim_of, out_ndim_of,
+};
+use std::alloc::Global;
+
+/// Whether a slice argument is for as many axes as a shape has, and leaves as many as a type fixes, if
+/// it fixes a count.
+#[inline(always)]
+fn has_counts(fixed: Option<usize>, shape: &[usize], elems: &[SliceInfoElem]) -> bool
+    ensures { IsTrue result ↔ HasCounts (Some (length shape.now)) fixed elems.now }
+{
+    in_ndim_of(elems) == shape.len() && !matches!(fixed, Some(ndim) if ndim != out_ndim_of(elems))
+}
+
+/// Whether a list of `ndim` lengths needs memory of its own: one of more than four does, unless its type
+/// fixes their count.
+#[inline(always)]
+fn needs_memory(fixed: Option<usize>, ndim: usize) -> bool
+    ensures { IsFalse result ↔ NeedsNoMemory fixed ndim }
+{
+    fixed.is_none() && ndim > INLINE_AXES
+}
+
+/// Slices one axis: the length and the stride that are left, and how many elements the first pick lies
+/// after the first entry. Fails as `do_slice` does.
+#[inline(always)]
+fn slice_axis(
+    len: usize,
+    stride: usize,
+    slice: Slice,
+    fit: Fit,
+) -> Result<(usize, usize, isize), ShapeError>
+    requires len_fits { len < 2 ^ 63 }
+    requires span_fits { reach len (signed_reading stride) ≤ limit }
+    ensures fault { result_err result ≡ slice_fault fit len slice }
+    ensures count { IfOk result (λ (count, kept, offset). count ≡ length (picks fit len slice)) }
+    ensures stride { IfOk result (λ (count, kept, offset). signed_reading kept ≡
+        picked_stride (length (picks fit len slice)) (signed_reading stride) slice.step) }
+    ensures offset { IfOk result (λ (count, kept, offset).
+        offset ≡ first_offset (picks fit len slice) (signed_reading stride)) }
+{
+    let (mut len, mut stride) = (len, stride);
+    let offset = do_slice(&mut len, &mut stride, slice, fit)?;
+    Ok((len, stride, offset))
+}
+
+/// Writes the lengths and the strides that an argument for as many axes as there are leaves, one for
+/// each element but an index, into lists with as many places. Answers how many elements the first index
+/// that is left lies after the first index of the shape. Fails as the first element at fault does, and
+/// then says nothing of the lists.
+#[inline(always)]
+fn write_axes(
+    elems: &[SliceInfoElem],
+    shape: &[usize],
+    strides: &[usize],
+    new_shape: &mut [usize],
+    new_strides: &mut [usize],
+    fit: Fit,
+) -> Result<isize, ShapeError>
+    requires valid { IsValidLayout shape.now (all_signed strides.now) }
+    requires counts { in_count elems.now ≡ length shape.now }
+    requires shape_room { length new_shape.old ≡ out_count elems.now }
+    requires strides_room { length new_strides.old ≡ out_count elems.now }
+    ensures fault { result_err result ≡ first_fault fit shape.now elems.now }
+    ensures shape { OnOk result (new_shape.new ≡ sliced_shape fit elems.now shape.now) }
+    ensures strides { OnOk result (all_signed new_strides.new ≡
+        sliced_strides fit elems.now shape.now (all_signed strides.now)) }
+    ensures offset { IfOk result (λ offset.
+        offset ≡ sliced_offset fit elems.now shape.now (all_signed strides.now)) }
+{
+    let mut old_axis = 0usize;
+    let mut new_axis = 0usize;
+    let mut offset = 0isize;
+    for elem in elems {
+        match *elem {
+            SliceInfoElem::Slice { start, end, step } => {
+                let slice = Slice { start, end, step };
+                let (old_len, old_stride) = (shape[old_axis], strides[old_axis]);
+                let (len, stride, moved) = slice_axis(old_len, old_stride, slice, fit)?;
+                new_shape[new_axis] = len;
+                new_strides[new_axis] = stride;
+                offset += moved;
+                old_axis += 1;
+                new_axis += 1;
+            },
+            SliceInfoElem::Index(index) => {
+                let entry = entry_of(shape[old_axis], index)?;
+                offset += stride_offset(entry, strides[old_axis]);
+                old_axis += 1;
+            },
+            SliceInfoElem::NewAxis => {
+                new_shape[new_axis] = 1;
+                new_strides[new_axis] = 0;
+                new_axis += 1;
+            },
+        }
+    }
+    Ok(offset)
+}
+
+/// Checks the elements of an argument for as many axes as there are, where the lengths that it leaves may
+/// ask for memory, since faults come before refused memory.
+#[inline(always)]
+fn check_before_memory(
+    fixed: Option<usize>,
+    ndim: usize,
+    elems: &[SliceInfoElem],
+    shape: &[usize],
+    fit: Fit,
+) -> Result<(), ShapeError>
+    requires counts { in_count elems.now ≡ length shape.now }
+    ensures fault { OnErr result (result_err result ≡ first_fault fit shape.now elems.now) }
+    ensures passed { OnOk result
+        (first_fault fit shape.now elems.now ≡ None ⊎ NeedsNoMemory fixed ndim) }
+{
+    if needs_memory(fixed, ndim) {
+        check_elems(shape, elems, fit)?;
+    }
+    Ok(())
+}
+
+/// The lengths and the strides that an argument leaves, and how many elements the first index that is left
+/// lies after the first index of the shape. The caller ensures that the layout is valid. Fails with
+/// `IncompatibleShape` where the argument is for more axes or fewer than the shape has, or leaves more or
+/// fewer than the type `E` fixes; then as the first element at fault does, with `OutOfBounds` or
+/// `Unsupported`; and then out of memory, never for at most 4 axes or a type that fixes their count.
+#[inline(always)]
+fn sliced_axes<E: Lengths>(
+    alloc: Global,
+    elems: &[SliceInfoElem],
+    shape: &[usize],
+    strides: &[usize],
+    fit: Fit,
+) -> Result<(E, E, isize), LayoutError>
+    requires { IsValidLayout shape.now (all_signed strides.now) }
+    ensures fault { shape_fault result ≡ slice_refusal fit E.NDIM shape.now elems.now }
+    ensures memory { slice_refusal fit E.NDIM shape.now elems.now ≡ None →
+        NeedsNoMemory E.NDIM (out_count elems.now) → IsOk result }
+    ensures shape { IfOk result (λ (dim, kept, offset).
+        E.list dim ≡ sliced_shape fit elems.now shape.now) }
+    ensures strides { IfOk result (λ (dim, kept, offset). all_signed (E.list kept) ≡
+        sliced_strides fit elems.now shape.now (all_signed strides.now)) }
+    ensures offset { IfOk result (λ (dim, kept, offset).
+        offset ≡ sliced_offset fit elems.now shape.now (all_signed strides.now)) }
+{
+    if !has_counts(E::NDIM, shape, elems) {
+        return Err(LayoutError::Shape(from_kind(ErrorKind::IncompatibleShape)));
+    }
+    let ndim = out_ndim_of(elems);
+    check_before_memory(E::NDIM, ndim, elems, shape, fit)?;
+    let mut dim = E::zeros(alloc, ndim)?;
+    let mut kept = E::zeros(alloc, ndim)?;
+    let offset = write_axes(
+        elems,
+        shape,
+        strides,
+        dim.slice_mut(),
+        kept.slice_mut(),
+        fit,
+    )?;
+    Ok((dim, kept, offset))
+}
+
+impl<D: Lengths> Strided<D> {
+    /// The view of the same data that a slice argument leaves. Refused with `IncompatibleShape`
+    /// where the argument is for more axes or fewer, or leaves more or fewer than the type `E`
+    /// fixes; then as the first element at fault is: with `OutOfBounds` for an index that is not on its
+    /// axis, or a bound that is not and is not to be clamped, with `Unsupported` for a step of 0; and
+    /// then out of memory, never where `E` fixes the count or at most 4 axes are left. `slice` and
+    /// `slice_collapse` of ndarray.
+    #[inline]
+    pub fn slice<E: Lengths, S: SliceElems>(
+        &self,
+        alloc: Global,
+        slices: &S,
+        fit: Fit,
+    ) -> Result<Strided<E>, LayoutError>
+        ensures refusal { shape_fault result ≡
+            slice_refusal fit E.NDIM self.now.shape (S.list slices.now) }
+        ensures memory { slice_refusal fit E.NDIM self.now.shape (S.list slices.now) ≡ None →
+            NeedsNoMemory E.NDIM (out_count (S.list slices.now)) → IsOk result }
+        ensures sliced { IfOk result (λ v. IsSliceOf fit (S.list slices.now) self.now v) }
+        ensures is_view { IfOk result (λ v. IsView v) }
+        ensures places { IfOk result (λ v. KeepsPlaces (selected fit (S.list slices.now) self.now.shape) self.now v) }
+        ensures inside { IfOk result (λ v. (len : ℕ) → LiesWithin len self.now → LiesWithin len v) }
+        ensures distinct { IfOk result (λ v. HasDistinctPlaces self.now → HasDistinctPlaces v) }
+    {
+        let (shape, strides) = (self.dim.slice(), self.strides.slice());
+        let (dim, strides, offset) = sliced_axes(alloc, slices.elems(), shape, strides, fit)?;
+        let start = offset_place(self.start, offset);
+        Ok(Strided {
+            start,
+            dim,
+            strides,
+        })
+    }
+}
