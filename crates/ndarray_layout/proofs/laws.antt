@@ -5,6 +5,7 @@ pub mod Keeps
 pub mod KeepsPlaces
 pub mod MergedView
 pub mod ReshapedView
+pub mod RowMajor
 pub mod Run
 pub mod SharePlace
 pub mod SlicedView

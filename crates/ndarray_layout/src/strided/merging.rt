@@ -26,11 +26,13 @@ fn check_axes(shape: &[usize], take: Axis, into: Axis) -> Result<(), ShapeError>
 }
 
 impl<D: Lengths> Strided<D> {
-    /// Merges the axis `take` into the axis `into` where one stride has the entries of both: then the axis
-    /// `into` has them all, that of `take` moving slowest among them, and `take` keeps one entry, or none
-    /// where there are none. Answers whether it did; else the view stays. Refused with `OutOfBounds` where
-    /// there is no such axis, then with `Unsupported` for one axis twice, and then the view stays.
-    /// `merge_axes` of ndarray.
+    /// Whether the axis `take` was merged into the axis `into`: after `Ok(false)` the view is unchanged.
+    /// They are merged where one stride has the entries of both: then the axis `into` has them all, that of
+    /// `take` moving slowest among them, and `take` keeps one entry, or none where there are none.
+    ///
+    /// Errors: `OutOfBounds` where there is no such axis, then `Unsupported` for one axis twice; the view is
+    /// unchanged. `[2,3]` with strides `[3,1]`, axis 0 into axis 1, becomes `[1,6]` with `[3,1]`.
+    /// ndarray's `merge_axes`.
     pub fn merge(&mut self, take: Axis, into: Axis) -> Result<bool, ShapeError>
         ensures fault { result_err result ≡ axes_fault self.old.shape take.0 into.0 }
         ensures refusal { OnErr result (self.new ≡ self.old) }
