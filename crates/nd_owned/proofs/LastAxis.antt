@@ -1,18 +1,20 @@
 -- What taking the first entry of the last axis leaves of a view: where its rows begin.
-use Rattle.std.proofs.Common.{◌≡◌, ℕ, zero, suc, ◌*◌, ◌<◌, ℤ, pos, cond, Result, Ok, Err, Some, None, List, [], ◌∷◌, length, get_or, set, map, nat_lt, refl, sym, ap, ◌∙◌, arith}
+use Rattle.std.proofs.Common.{◌≡◌, ℕ, zero, suc, ◌*◌, ◌<◌, ◌^◌, ℤ, pos, negsuc, ◌≤ℤ◌, cond, Result, Ok, Err, Some, None, List, [], ◌∷◌, length, get_or, set, map, nat_lt, refl, sym, ap, ◌∙◌, arith}
 use Rattle.std.specs.List.{flat_map}
 use Rattle.std.specs.Prelude.{OnErr, OnOk, ◌&&◌}
 use Rattle.std.specs.Result.{result_err}
 use Rattle.std.proofs.lemmas.Bool.{lt-ltb}
+use Rattle.std.proofs.lemmas.Int.{ints}
 use Rattle.ndarray_layout.specs.declared.ErrorKind.TheVariants.{OutOfBounds}
 use Rattle.ndarray_layout.specs.declared.Order.TheVariants.{RowMajor}
 use Rattle.ndarray_layout.specs.declared.ShapeError.{ShapeError}
 use Rattle.ndarray_layout.specs.CollapsedView.{collapse_fault, collapse_of}
-use Rattle.ndarray_layout.specs.Size.{size}
-use Rattle.ndarray_layout.specs.View.{View, IsView, view_places}
+use Rattle.ndarray_layout.specs.Inside.{IsInside}
+use Rattle.ndarray_layout.specs.Size.{size, limit}
+use Rattle.ndarray_layout.specs.View.{View, IsView, LiesWithin, place_at, view_places}
 use Rattle.ndarray_layout.proofs.laws.CollapsedView.{entry_of_no_fault, places-collapse_of_last}
-use Rattle.ndarray_layout.proofs.laws.View.{no_places}
-use Rattle.nd_owned.specs.Rows.{IsLastAxis, row_places}
+use Rattle.ndarray_layout.proofs.laws.View.{no_places, places_lie_within, view_place}
+use Rattle.nd_owned.specs.Rows.{AreInside, IsLastAxis, row_places}
 use Rattle.nd_owned.proofs.RowPlaces.{rows_of_none}
 
 -- a size by one of the axes
@@ -70,3 +72,14 @@ none_left view left axis stride len (Ok u) last fault stays collapsed none =
     ap (λ v. size v.shape) collapsed
     ∙ none_of_product (get_or view.shape axis 0) (size (set view.shape axis 1)) entry.1 (sym (size_by_axis view.shape axis entry.0) ∙ none)
 none_left view left axis stride len (Err e) last fault stays collapsed none = ap (λ v. size v.shape) stays ∙ none
+
+-- ---- where the places of a view lie
+below_limit : (z : ℤ) → pos 0 ≤ℤ z → z ≤ℤ pos limit → IsInside (2 ^ 63) z
+below_limit (pos n) low high = omega (arith, ints)
+below_limit (negsuc n) low high = absurd (omega (arith, ints))
+
+pub places_inside : (len : ℕ) (view : View) → IsView view → LiesWithin len view → AreInside len (view_places RowMajor view)
+places_inside len view v within = record {
+  within = places_lie_within len RowMajor view within;
+  fit = places_lie_within (2 ^ 63) RowMajor view (λ index is. (let here = view_place view index v is in below_limit (place_at view index) here.low here.high));
+}

@@ -1,5 +1,5 @@
 -- Items that are written at one list of places after another, where no place is in two of them.
-use Rattle.std.proofs.Common.{◌≡◌, ◌≢◌, ℕ, zero, suc, ◌+◌, ◌<◌, ℤ, pos, negsuc, Some, List, [], ◌∷◌, ◌++◌, length, get_or, set, map, take, drop, append_assoc, refl, sym, ap, subst, ◌∙◌, arith}
+use Rattle.std.proofs.Common.{◌≡◌, ◌≢◌, ℕ, zero, suc, ◌+◌, ◌<◌, ◌^◌, ℤ, pos, negsuc, Some, List, [], ◌∷◌, ◌++◌, length, get_or, set, map, take, drop, append_assoc, refl, sym, ap, subst, ◌∙◌, arith}
 use Rattle.std.specs.List.{All, AllPairs, Contains, flat_map}
 use Rattle.std.specs.Prelude.{slice_get}
 use Rattle.std.proofs.lemmas.Grind.{flat_map-append}
@@ -7,7 +7,7 @@ use Rattle.std.proofs.lemmas.List.{append-nil, drop_more, get_or-append-add, get
 use Rattle.std.proofs.lemmas.List.Elements.{All-append, All-head, All-tail, Contains-append_left, Contains-append_right}
 use Rattle.ndarray_layout.specs.Inside.{IsInside}
 use Rattle.nd_owned.specs.Owned.{item_at_place}
-use Rattle.nd_owned.specs.Rows.{HasWritten}
+use Rattle.nd_owned.specs.Rows.{AreInside, HasWritten}
 
 -- an item of a list is the same whatever stands for a missing one
 pub other_default : {X : Type 0} (xs : List X) (i : ℕ) (d e : X) → i < length xs → get_or xs i d ≡ get_or xs i e
@@ -71,9 +71,15 @@ parts_more f xs i x below is =
     ∙ flat_map-append f (take i xs) (x ∷ [])
     ∙ ap (λ ys. flat_map f (take i xs) ++ ys) (append-nil (f x))
 
-pub all_of_part : {A X : Type 0} (P : X → Type 0) (f : A → List X) (xs : List A) (i : ℕ) (x : A) → i < length xs → x ≡ get_or xs i x → All P (flat_map f xs) → All P (f x)
+all_of_part : {A X : Type 0} (P : X → Type 0) (f : A → List X) (xs : List A) (i : ℕ) (x : A) → i < length xs → x ≡ get_or xs i x → All P (flat_map f xs) → All P (f x)
 all_of_part P f xs i x below is all =
     all_second P (flat_map f (take i xs)) (f x) (all_first P (flat_map f (take i xs) ++ f x) (flat_map f (drop (i + 1) xs)) (subst (All P) (parts_of f xs i x below is) all))
+
+pub inside_of_part : {A : Type 0} (count : ℕ) (f : A → List ℤ) (xs : List A) (i : ℕ) (x : A) → i < length xs → x ≡ get_or xs i x → AreInside count (flat_map f xs) → AreInside count (f x)
+inside_of_part count f xs i x below is inside = record {
+  within = all_of_part (IsInside count) f xs i x below is inside.within;
+  fit = all_of_part (IsInside (2 ^ 63)) f xs i x below is inside.fit;
+}
 
 pub pairs_of_part : {A X : Type 0} (R : X → X → Type 0) (f : A → List X) (xs : List A) (i : ℕ) (x : A) → i < length xs → x ≡ get_or xs i x → AllPairs R (flat_map f xs) → AllPairs R (f x)
 pairs_of_part R f xs i x below is pairs =

@@ -1,15 +1,13 @@
 -- The places of rows: how many there are, where the next one lies, and what a copy of neighbours reads and writes.
-use Rattle.std.proofs.Common.{◌≡◌, ◌≢◌, ℕ, zero, suc, ◌+◌, ◌*◌, ◌<◌, ◌≤◌, ◌%◌, ◌^◌, ◌-◌, ℤ, pos, negsuc, ◌+ℤ◌, ◌*ℤ◌, Some, List, [], ◌∷◌, ◌++◌, length, get_or, set, map, take, drop, append_assoc, refl, sym, ap, subst, ◌∙◌, arith}
+use Rattle.std.proofs.Common.{◌≡◌, ◌≢◌, ℕ, zero, suc, ◌+◌, ◌*◌, ◌<◌, ◌≤◌, ◌-◌, ℤ, pos, negsuc, ◌+ℤ◌, ◌*ℤ◌, Some, List, [], ◌∷◌, ◌++◌, length, get_or, set, map, take, drop, add-one, append_assoc, refl, sym, ap, subst, ◌∙◌, arith}
 use Rattle.std.specs.List.{All, AllPairs, Contains, flat_map, range_with_len}
 use Rattle.std.specs.Prelude.{slice_get}
-use Rattle.std.specs.Int.{w64, cast_unsigned}
-use Rattle.std.proofs.lemmas.Int.{ints, of_z-to_z}
+use Rattle.std.proofs.lemmas.Int.{ints}
 use Rattle.std.proofs.lemmas.List.{drop-drop, drop_at, length-append, length-take-le, map-append, take-append-drop, take_at, take_more}
 use Rattle.std.proofs.lemmas.List.FromFn.{get_or-map-range_with_len, length-map-range_with_len, map-range_with_len_more, take-map-range_with_len}
 use Rattle.std.proofs.lemmas.Option.{slice_get-get_or}
 use Rattle.ndarray_layout.specs.Indices.{below}
 use Rattle.ndarray_layout.specs.Inside.{IsInside}
-use Rattle.ndarray_layout.specs.Signed.{signed}
 use Rattle.nd_owned.specs.Owned.{item_at_place}
 use Rattle.nd_owned.specs.Rows.{HasWritten, row_places}
 use Rattle.nd_owned.proofs.Placed.{all_first, both_written, one_written, pairs_first}
@@ -40,21 +38,17 @@ pub start_there : (start : ℕ) (stride : ℤ) → pos start ≡ pos start +ℤ 
 start_there start (pos s) = omega (arith, ints)
 start_there start (negsuc s) = omega (arith, ints)
 
--- the place after another one, by the bits of the stride
+-- where it has one, it begins there
+pub begins : (count start : ℕ) (stride : ℤ) (len : ℕ) → All (IsInside count) (row_places start stride len) → 0 < len → start < count
+begins count start stride len inside some = subst (IsInside count) (sym (start_there start stride)) (entry_inside count start stride len 0 inside some)
+
+-- the place after another one
 one_more_step : (entry : ℕ) (stride : ℤ) → pos (entry + 1) *ℤ stride ≡ (pos entry *ℤ stride) +ℤ stride
 one_more_step entry (pos s) = omega (arith, ints)
 one_more_step entry (negsuc s) = omega (arith, ints)
 
-wrapped : (count place bits : ℕ) (stride z : ℤ) → cast_unsigned w64 stride ≡ bits → count < 2 ^ 64 → place < count → IsInside count z → pos place +ℤ stride ≡ z → pos ((place + bits) % 2 ^ 64) ≡ z
-wrapped count place bits (pos n) (pos m) same small under inside e = omega (arith, ints)
-wrapped count place bits (negsuc n) (pos m) same small under inside e = omega (arith, ints)
-wrapped count place bits stride (negsuc n) same small under inside e = absurd inside
-
-pub next_place : (count start stride entry place : ℕ) → stride < 2 ^ 64 → count < 2 ^ 64 → place < count → pos place ≡ pos start +ℤ (pos entry *ℤ signed stride)
-    → IsInside count (pos start +ℤ (pos (entry + 1) *ℤ signed stride)) → pos ((place + stride) % 2 ^ 64) ≡ pos start +ℤ (pos (entry + 1) *ℤ signed stride)
-next_place count start stride entry place fits small under is inside =
-    wrapped count place stride (signed stride) (pos start +ℤ (pos (entry + 1) *ℤ signed stride)) (of_z-to_z w64 stride fits) small under inside
-    (omega (arith, ints, one_more_step entry (signed stride)))
+pub next_there : (start entry place : ℕ) (stride : ℤ) → pos place ≡ pos start +ℤ (pos entry *ℤ stride) → pos place +ℤ stride ≡ pos start +ℤ (pos (entry + 1) *ℤ stride)
+next_there start entry place stride is = omega (arith, ints, one_more_step entry stride)
 
 -- one item more of a row that is read
 pub read_more : {X : Type 0} (stored : List X) (start : ℕ) (stride : ℤ) (entry place : ℕ) (first old new : List X) (x : X) → place < length stored → x ≡ get_or stored place x
@@ -70,6 +64,10 @@ read_more stored start stride entry place first old new x below read is pushed b
     ∙ ap (λ item. map Some first ++ (so_far ++ item ∷ [])) last
     ∙ ap (λ items. map Some first ++ items)
     (sym (map-append (item_at_place stored) (row_places start stride entry) ((pos start +ℤ (pos entry *ℤ stride)) ∷ [])) ∙ ap (map (item_at_place stored)) (sym (row_more start stride entry)))
+
+-- an item after the first one
+pub after_first : {X : Type 0} (items others : List X) (first x : X) (i : ℕ) → items ≡ first ∷ others → x ≡ get_or others i x → x ≡ get_or items (i + 1) x
+after_first items others first x i cut is = is ∙ ap (λ n. get_or (first ∷ others) n x) (sym (add-one i)) ∙ ap (λ xs. get_or xs (i + 1) x) (sym cut)
 
 -- one item more of a row that is written
 pub write_more : {X : Type 0} (count start : ℕ) (stride : ℤ) (entry place : ℕ) (items old mid : List X) (x : X) → All (IsInside count) (row_places start stride (length items))
@@ -120,9 +118,9 @@ read_neighbours xs start len within =
     at_neighbours xs start 0 len ∙ ap (λ m. map (slice_get xs) (range_with_len m len)) from ∙ got_between xs start len within
 
 -- where the last place of a row is inside, the row is
-pub neighbours_within : (count start len : ℕ) → start < count → All (IsInside count) (row_places start (pos 1) len) → start + len ≤ count
-neighbours_within count start zero begins inside = omega arith
-neighbours_within count start (suc len) begins inside =
+pub neighbours_within : (count start len : ℕ) → 0 < len → All (IsInside count) (row_places start (pos 1) len) → start + len ≤ count
+neighbours_within count start zero some inside = absurd (omega arith)
+neighbours_within count start (suc len) some inside =
     let last : start + len * 1 < count = entry_inside count start (pos 1) (suc len) len inside (omega arith) in
     omega arith
 

@@ -21,9 +21,10 @@ pub record IsOwned (count : ℕ) (view : View) : Type 0 where
   pub within : LiesWithin count view
   pub distinct : HasDistinctPlaces view
 
--- the item at a place
+-- the item at a place; there is none below 0, nor past the last item
 abbrev pub item_at_place : {T : Type 0} → List T → ℤ → Option T
-item_at_place items place = slice_get items (magnitude place)
+item_at_place items (pos place) = slice_get items place
+item_at_place items (negsuc below) = None
 
 -- the item of an index of the shape
 abbrev pub item_at : {T : Type 0} → Owned T → List ℕ → Option T
@@ -49,6 +50,12 @@ item_of_two_indices owned =
 
 abbrev back_to_front : Owned ℕ
 back_to_front = record { items = 7 ∷ 8 ∷ 9 ∷ []; view = record { start = 1; shape = 2 ∷ []; strides = negsuc 0 ∷ [] } }
+
+no_item_below : item_at_place {T = ℕ} (7 ∷ 8 ∷ 9 ∷ []) (negsuc 0) ≡ None
+no_item_below = refl
+
+no_fourth_item : item_at_place {T = ℕ} (7 ∷ 8 ∷ 9 ∷ []) (pos 3) ≡ None
+no_fourth_item = refl
 
 first_is_the_second : item_at back_to_front (0 ∷ []) ≡ Some 8
 first_is_the_second = refl

@@ -1,8 +1,9 @@
 -- Rows of places, and items that are written there: what the contracts of private functions speak of.
-use Rattle.std.specs.Prelude.{◌≡◌, ℕ, ◌+◌, ◌<◌, ℤ, pos, negsuc, ◌+ℤ◌, ◌*ℤ◌, Some, None, List, [], ◌∷◌, length, map, slice_get, slice_index, slice_index_or, unwrap_or, nat_eq, refl}
+use Rattle.std.specs.Prelude.{◌≡◌, ℕ, ◌+◌, ◌^◌, ℤ, pos, negsuc, ◌+ℤ◌, ◌*ℤ◌, Some, None, List, [], ◌∷◌, length, map, slice_get, slice_index, slice_index_or, unwrap_or, nat_eq, refl}
 use Rattle.std.proofs.Common.{ap, eq-eqb}
+use Rattle.std.proofs.Math.Dec.{lt→ltb}
 use Rattle.std.proofs.Math.Nat.{not-suc-le-zero}
-use Rattle.std.proofs.lemmas.Bool.{both_ways}
+use Rattle.std.proofs.lemmas.Bool.{both_ways, ltb-true}
 use Rattle.std.specs.List.{All, Contains, flat_map}
 use Rattle.ndarray_layout.specs.Indices.{below}
 use Rattle.ndarray_layout.specs.Inside.{IsInside}
@@ -25,10 +26,10 @@ pub record IsLastAxis (view : View) (axis : ℕ) (stride : ℤ) (len : ℕ) : Ty
   pub is_len : len ≡ slice_index view.shape axis
   pub is_stride : stride ≡ slice_index_or view.strides axis (pos 0)
 
--- all of them lie among so many elements, and so does where a row without places begins
-pub record AreInside (count : ℕ) (rows : Rows) : Type 0 where
-  pub starts : All (λ start. start < count) rows.starts.items
-  pub places : All (IsInside count) (rows_places rows)
+-- places lie among so many elements, and are numbers of an `isize`
+pub record AreInside (count : ℕ) (places : List ℤ) : Type 0 where
+  pub within : All (IsInside count) places
+  pub fit : All (IsInside (2 ^ 63)) places
 
 -- items are at places, and all others stay
 pub record HasWritten {T : Type 0} (places : List ℤ) (items old new : List T) : Type 0 where
@@ -41,6 +42,9 @@ backwards = refl
 
 without_places : row_places 5 (pos 1) 0 ≡ []
 without_places = refl
+
+place_past_the_end : AreInside 5 (row_places 5 (negsuc 1) 3) → ⊥
+place_past_the_end inside = lt→ltb 5 5 (inside.within 0 (pos 0) (ltb-true 0 3 refl))
 
 of_columns : IsLastAxis (record { start = 0; shape = 2 ∷ 3 ∷ []; strides = pos 3 ∷ pos 1 ∷ [] }) 1 (pos 1) 3
 of_columns = record { last = refl; is_len = refl; is_stride = refl }

@@ -107,7 +107,7 @@ pub(crate) fn rows_of_each<T: Copy, D: Lengths>(
     ensures memory { length writes.now ≡ 0 → IsOk result }
     ensures places { IfOk result (λ v. map rows_places v.items
         ≡ map (write_places view.now) (map write_of writes.now)) }
-    ensures inside { IfOk result (λ v. (len : ℕ) → LiesWithin len view.now → All (AreInside len) v.items) }
+    ensures inside { IfOk result (λ v. (len : ℕ) → LiesWithin len view.now → All (λ rows. AreInside len (rows_places rows)) v.items) }
 {
     let mut rows = Vec::with_capacity(alloc, writes.len())?;
     for (slice, _) in writes {
@@ -118,11 +118,11 @@ pub(crate) fn rows_of_each<T: Copy, D: Lengths>(
 
 /// Writes the items of each slice at the places of its rows.
 pub(crate) fn write_all<T: Copy>(stored: &mut [T], rows: &[Rows], writes: &[SliceItems<T>])
-    requires inside { All (AreInside (length stored.old)) rows.now }
-    requires distinct { AllPairs (λ one other. one ≢ other) (flat_map rows_places rows.now) }
+    requires inside { All (λ one. AreInside (length stored.old) (rows_places one)) rows.now }
     requires counts { map length (map rows_places rows.now)
         ≡ map (λ write. length write.items) (map write_of writes.now) }
-    ensures { HasWritten (flat_map rows_places rows.now)
+    ensures { AllPairs (λ one other. one ≢ other) (flat_map rows_places rows.now) →
+        HasWritten (flat_map rows_places rows.now)
         (flat_map (λ write. write.items) (map write_of writes.now)) stored.old stored.new }
 {
     for (at, (_, items)) in writes.iter().enumerate() {

@@ -4,20 +4,14 @@ ghost use Rattle.nd_base.specs.declared.error.LayoutError.TheVariants.{Memory};
 
 use nd_base::{ErrorKind, LayoutError, ShapeError, from_kind};
 use std::alloc::{AllocError, AllocFailed, Global};
-
-fn is(printed: &Result<String, AllocError>, text: &str) -> bool {
-    match printed {
-        Ok(printed) => printed.as_str() == text,
-        Err(_) => false,
-    }
-}
+use test_tables::is_printed;
 
 /// A refusal of a kind prints the text, and is its own copy.
 fn prints(alloc: Global, kind: ErrorKind, text: &str) -> bool {
     let error = ShapeError::from_kind(kind);
     error.kind() == kind
-        && is(&error.to_string(alloc), text)
-        && is(&format!(in alloc; "{error:?}"), text)
+        && is_printed(error.to_string(alloc), text)
+        && is_printed(format!(in alloc; "{error:?}"), text)
         && error.clone().unwrap() == error
 }
 

@@ -1,16 +1,12 @@
 -- The rows begin where the last axis has its first entry.
 use Rattle.std.proofs.Common.{◌∙◌}
 use Rattle.ndarray_layout.specs.Signed.{signed}
-use Rattle.ndarray_layout.proofs.laws.View.{size_fits}
 use Rattle.nd_owned.proofs.LastAxis.{none_left, rows_left}
 use Rattle.nd_owned.proofs.RowPlaces.{rows_of_one}
 use Rattle.nd_owned.proofs.rows.take_last_axis.Goals as goal
 
 pub returns-in_default-clause-places : goal.returns-in_default-clause-places
 returns-in_default-clause-places g c = λ starts same. rows_of_one starts ∙ same
-
-pub returns-in_default-clause-fits : goal.returns-in_default-clause-fits
-returns-in_default-clause-fits g c = size_fits c.args.view.now c.last_axis.ensures.is_view
 
 pub returns-clause-places : goal.returns-clause-places
 returns-clause-places g c =
@@ -21,6 +17,3 @@ pub returns-clause-none : goal.returns-clause-none
 returns-clause-none g c =
     none_left c.args.view.now c.collapse.new.self c.in-Some.axis.0 (signed c.in-Some.stride) c.in-Some.len c.collapse.result c.in-Some.ensures.last
     c.collapse.ensures.fault c.collapse.ensures.refusal c.collapse.ensures.collapsed
-
-pub returns-clause-fits : goal.returns-clause-fits
-returns-clause-fits g c = size_fits c.args.view.now c.last_axis.ensures.is_view

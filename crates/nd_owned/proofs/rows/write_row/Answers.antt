@@ -1,27 +1,37 @@
 -- A row of neighbours is one copy; else it is one more item at each turn.
-use Rattle.std.proofs.Common.{rules, ◌≡◌, ◌+◌, ◌-◌, ◌≤◌, ◌<◌, ◌++◌, ◌^◌, pos, length, take, drop, sym, subst, arith}
+use Rattle.std.proofs.Common.{rules, ◌≡◌, ◌+◌, ◌-◌, ◌≤◌, ◌<◌, ◌++◌, ◌^◌, pos, ◌+ℤ◌, ◌*ℤ◌, length, get_or, length-set, take, drop, sym, ap, subst, ◌∙◌, arith}
 use Rattle.std.specs.List.{All}
+use Rattle.std.proofs.lemmas.List.{take_all}
 use Rattle.ndarray_layout.specs.Inside.{IsInside}
 use Rattle.ndarray_layout.specs.Signed.{signed}
 use Rattle.nd_owned.specs.Rows.{HasWritten, row_places}
-use Rattle.nd_owned.proofs.RowPlaces.{entry_inside, neighbours_within, next_place, write_more, write_neighbours}
+use Rattle.nd_owned.proofs.Placed.{none_written}
+use Rattle.nd_owned.proofs.RowPlaces.{after_first, begins, entry_inside, neighbours_within, next_there, start_there, write_more, write_neighbours}
 use Rattle.nd_owned.proofs.rows.write_row.Goals as goal
 
 pub overflow_add-start : goal.overflow_add-start
 overflow_add-start g c =
     let count = length c.args.stored.now in
+    let one : signed c.args.stride ≡ pos 1 = ap signed (c.is_copied.ensures c.if-is_copied.true) in
     let within : c.args.start + length c.args.items.now ≤ count =
-    neighbours_within count c.args.start (length c.args.items.now) c.requires.begins
-    (subst (λ stride. All (IsInside count) (row_places c.args.start (signed stride) (length c.args.items.now))) (c.is_copied.ensures c.if-is_copied.true) c.requires.inside) in
+    neighbours_within count c.args.start (length c.args.items.now) (omega (arith, c.in-Some.ensures.cases.1))
+    (subst (λ stride. All (IsInside count) (row_places c.args.start stride (length c.args.items.now))) one c.requires.within) in
     let small : count < 2 ^ 64 = search rules in
     omega arith
 
 pub slice_bounds-copy_from_slice-end : goal.slice_bounds-copy_from_slice-end
 slice_bounds-copy_from_slice-end g c =
     let count = length c.args.stored.now in
+    let one : signed c.args.stride ≡ pos 1 = ap signed (c.is_copied.ensures c.if-is_copied.true) in
     let within : c.args.start + length c.args.items.now ≤ count =
-    neighbours_within count c.args.start (length c.args.items.now) c.requires.begins
-    (subst (λ stride. All (IsInside count) (row_places c.args.start (signed stride) (length c.args.items.now))) (c.is_copied.ensures c.if-is_copied.true) c.requires.inside) in
+    neighbours_within count c.args.start (length c.args.items.now) (omega (arith, c.in-Some.ensures.cases.1))
+    (subst (λ stride. All (IsInside count) (row_places c.args.start stride (length c.args.items.now))) one c.requires.within) in
+    search rules
+
+pub offset_bounds-stored-start : goal.offset_bounds-stored-start
+offset_bounds-stored-start g c =
+    let under : c.args.start < length c.args.stored.now =
+    begins (length c.args.stored.now) c.args.start (signed c.args.stride) (length c.args.items.now) c.requires.within (omega (arith, c.in-Some.ensures.cases.1)) in
     search rules
 
 pub returns-then-is_copied : goal.returns-then-is_copied
@@ -30,38 +40,83 @@ returns-then-is_copied g c =
     let start = c.args.start in
     let items = c.args.items.now in
     let old = c.args.stored.now in
+    let one : signed c.args.stride ≡ pos 1 = ap signed (c.is_copied.ensures c.if-is_copied.true) in
     let within : start + length items ≤ count =
-    neighbours_within count start (length items) c.requires.begins
-    (subst (λ stride. All (IsInside count) (row_places start (signed stride) (length items))) (c.is_copied.ensures c.if-is_copied.true) c.requires.inside) in
+    neighbours_within count start (length items) (omega (arith, c.in-Some.ensures.cases.1))
+    (subst (λ stride. All (IsInside count) (row_places start stride (length items))) one c.requires.within) in
     let same : start + length items - start ≡ length items = omega arith in
-    subst (λ stride. HasWritten (row_places start (signed stride) (length items)) items old (take start old ++ (c.copy_from_slice.new.self ++ drop (start + length items - start) (drop start old)))) (sym (c.is_copied.ensures c.if-is_copied.true))
+    λ distinct. subst (λ stride. HasWritten (row_places start stride (length items)) items old (take start old ++ (c.copy_from_slice.new.self ++ drop (start + length items - start) (drop start old)))) (sym one)
     (subst (λ n. HasWritten (row_places start (pos 1) (length items)) items old (take start old ++ (c.copy_from_slice.new.self ++ drop n (drop start old)))) (sym same)
     (subst (λ new. HasWritten (row_places start (pos 1) (length items)) items old (take start old ++ (new ++ drop (length items) (drop start old)))) (sym c.copy_from_slice.ensures.after)
     (write_neighbours old items start within)))
 
+pub bounds-stored-start : goal.bounds-stored-start
+bounds-stored-start g c =
+    begins (length c.args.stored.now) c.args.start (signed c.args.stride) (length c.args.items.now) c.requires.within (omega (arith, c.in-Some.ensures.cases.1))
+
+pub offset_bounds-stored-start-2 : goal.offset_bounds-stored-start-2
+offset_bounds-stored-start-2 g c =
+    let under : c.args.start < length c.args.stored.now = bounds-stored-start g c in
+    search rules
+
+pub loop-item-init : goal.loop-item-init
+loop-item-init g c =
+    let stored = c.args.stored.now in
+    let start = c.args.start in
+    let stride = signed c.args.stride in
+    let items = c.args.items.now in
+    let first = c.in-Some.first.now in
+    let some : 0 < length items = omega (arith, c.in-Some.ensures.cases.1) in
+    record {
+      small = begins (2 ^ 63) start stride (length items) c.requires.fit some;
+      next = next_there start 0 start stride (start_there start stride);
+      written = λ distinct. write_more (length stored) start stride 0 start items stored stored first c.requires.within distinct some
+          (sym (ap (λ xs. get_or xs 0 first) c.in-Some.ensures.cases.0)) (begins (length stored) start stride (length items) c.requires.within some) (start_there start stride)
+          (none_written stored);
+    }
+
+pub place_after-place-requires-clause-inside : goal.place_after-place-requires-clause-inside
+place_after-place-requires-clause-inside g c =
+    subst (IsInside (2 ^ 63)) (sym c.loop-item.invariant.next)
+    (entry_inside (2 ^ 63) c.args.start (signed c.args.stride) (length c.args.items.now) (c.loop-item.item-index + 1) c.requires.fit
+    (omega (arith, c.in-Some.ensures.cases.1, c.loop-item-test.true)))
+
 pub bounds-stored-place : goal.bounds-stored-place
 bounds-stored-place g c =
     let count = length c.args.stored.now in
-    let under : c.loop-item.place < count = subst (IsInside count) (sym (c.loop-item.invariant.place c.loop-item-test.true))
-    (entry_inside count c.args.start (signed c.args.stride) (length c.args.items.now) c.loop-item.item-index c.requires.inside c.loop-item-test.true) in
-    omega (arith, under, c.loop-item.auto.stored)
+    let under : c.place_after-place.result < count = subst (IsInside count) (sym (c.place_after-place.ensures ∙ c.loop-item.invariant.next))
+    (entry_inside count c.args.start (signed c.args.stride) (length c.args.items.now) (c.loop-item.item-index + 1) c.requires.within
+    (omega (arith, c.in-Some.ensures.cases.1, c.loop-item-test.true))) in
+    omega (arith, under, c.loop-item.auto.stored, length-set c.args.stored.now c.args.start c.in-Some.first.now)
 
 pub offset_bounds-stored-place : goal.offset_bounds-stored-place
 offset_bounds-stored-place g c =
-    let within : c.loop-item.place < length c.loop-item.stored = bounds-stored-place g c in
+    let under : c.place_after-place.result < length c.args.stored.now =
+    omega (arith, bounds-stored-place g c, c.loop-item.auto.stored, length-set c.args.stored.now c.args.start c.in-Some.first.now) in
     search rules
 
 pub loop-item-preserved : goal.loop-item-preserved
 loop-item-preserved g c =
-    let count = length c.args.stored.now in
-    let i = c.loop-item.item-index in
+    let stored = c.args.stored.now in
+    let start = c.args.start in
+    let stride = signed c.args.stride in
     let items = c.args.items.now in
-    let within : c.loop-item.place < length c.loop-item.stored = bounds-stored-place g c in
-    let here = c.loop-item.invariant.place c.loop-item-test.true in
-    let small : count < 2 ^ 64 = search rules in
+    let i = c.loop-item.item-index in
+    let place = c.place_after-place.result in
+    let below : i + 1 < length items = omega (arith, c.in-Some.ensures.cases.1, c.loop-item-test.true) in
+    let here : pos place ≡ pos start +ℤ (pos (i + 1) *ℤ stride) = c.place_after-place.ensures ∙ c.loop-item.invariant.next in
+    let within : place < length c.loop-item.stored = bounds-stored-place g c in
     record {
-      place = λ more. next_place count c.args.start c.args.stride i c.loop-item.place c.ranges.stride.fits small (omega (arith, within, c.loop-item.auto.stored)) here
-          (entry_inside count c.args.start (signed c.args.stride) (length items) (i + 1) c.requires.inside more);
-      written = write_more count c.args.start (signed c.args.stride) i c.loop-item.place items c.args.stored.now c.loop-item.stored c.item-item.result c.requires.inside c.requires.distinct
-          c.loop-item-test.true c.item-item.is within here c.loop-item.invariant.written;
+      small = subst (IsInside (2 ^ 63)) (sym here) (entry_inside (2 ^ 63) start stride (length items) (i + 1) c.requires.fit below);
+      next = next_there start (i + 1) place stride here;
+      written = λ distinct. write_more (length stored) start stride (i + 1) place items stored c.loop-item.stored c.item-item.result c.requires.within distinct below
+          (after_first items c.in-Some.others.now c.in-Some.first.now c.item-item.result i c.in-Some.ensures.cases.0 c.item-item.is) within here (c.loop-item.invariant.written distinct);
     }
+
+pub returns : goal.returns
+returns g c =
+    let places = row_places c.args.start (signed c.args.stride) in
+    let items = c.args.items.now in
+    let all : c.loop-item.item-index + 1 ≡ length items = omega (arith, c.loop-item-test.false, c.loop-item.auto.item-index-end, c.in-Some.ensures.cases.1) in
+    λ distinct. subst (λ done. HasWritten (places (length items)) done c.args.stored.now c.loop-item.stored) (take_all (length items) items (omega arith))
+    (subst (λ n. HasWritten (places n) (take n items) c.args.stored.now c.loop-item.stored) all (c.loop-item.invariant.written distinct))

@@ -1,11 +1,14 @@
--- The place that comes next; the items so far are at their places, and nothing else has changed.
-use Rattle.std.proofs.Common.{◌≡◌, ◌<◌, pos, ◌+ℤ◌, ◌*ℤ◌, length, take}
+-- A stride after the place lies the next one; the items so far are at their places, and nothing else has changed.
+use Rattle.std.proofs.Common.{◌≡◌, ◌≢◌, ◌+◌, ◌<◌, ◌^◌, pos, ◌+ℤ◌, ◌*ℤ◌, length, take}
+use Rattle.std.specs.List.{AllPairs}
 use Rattle.ndarray_layout.specs.Signed.{signed}
 use Rattle.nd_owned.specs.Rows.{HasWritten, row_places}
 use Rattle.nd_owned.proofs.rows.write_row.Given as goal
 
 abbrev pub invariant-loop-item : goal.invariant-loop-item
 invariant-loop-item g l = record {
-  place : l.item-index < length l.items → pos l.place ≡ pos l.start +ℤ (pos l.item-index *ℤ signed l.stride);
-  written : HasWritten (row_places l.start (signed l.stride) l.item-index) (take l.item-index l.items) l.initial.stored l.stored;
+  small : l.place < 2 ^ 63;
+  next : pos l.place +ℤ signed l.stride ≡ pos l.start +ℤ (pos (l.item-index + 1) *ℤ signed l.stride);
+  written : AllPairs (λ one other. one ≢ other) (row_places l.start (signed l.stride) (length l.items))
+      → HasWritten (row_places l.start (signed l.stride) (l.item-index + 1)) (take (l.item-index + 1) l.items) l.fn.stored l.stored;
 }

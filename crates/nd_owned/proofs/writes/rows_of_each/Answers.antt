@@ -24,7 +24,7 @@ loop-slice-preserved g c =
       fit = (next_fits write_of view.shape c.args.writes.now i item c.loop-slice-test.true c.loop-slice-item.is c.loop-slice.invariant.fit).1;
       places = one_more rows_places (write_places view) c.loop-slice.rows.items c.push_reserved.new.self.items rows writes i (write_of item) c.push_reserved.ensures.items below
           (this write_of c.args.writes.now i item c.loop-slice-test.true c.loop-slice-item.is) c.in_ok-rows_of.ensures.places c.loop-slice.invariant.places;
-      inside = λ len within. all_pushed (AreInside len) c.loop-slice.rows.items c.push_reserved.new.self.items rows c.push_reserved.ensures.items (c.loop-slice.invariant.inside len within) (c.in_ok-rows_of.ensures.inside len within);
+      inside = λ len within. all_pushed (λ those. AreInside len (rows_places those)) c.loop-slice.rows.items c.push_reserved.new.self.items rows c.push_reserved.ensures.items (c.loop-slice.invariant.inside len within) (c.in_ok-rows_of.ensures.inside len within);
       len = omega (arith, c.push_reserved.ensures.len, c.loop-slice.invariant.len);
       capacity = c.push_reserved.ensures.capacity ∙ c.loop-slice.invariant.capacity;
     }

@@ -10,7 +10,7 @@ abbrev pub invariant-loop-slice : goal.invariant-loop-slice
 invariant-loop-slice g l = record {
   fit : slices_fault l.view.shape (drop l.slice-index (map write_of l.writes)) ≡ None;
   places : map rows_places l.rows.items ≡ map (write_places l.view) (take l.slice-index (map write_of l.writes));
-  inside : (len : ℕ) → LiesWithin len l.view → All (AreInside len) l.rows.items;
+  inside : (len : ℕ) → LiesWithin len l.view → All (λ rows. AreInside len (rows_places rows)) l.rows.items;
   len : vec_len l.rows ≡ l.slice-index;
   capacity : vec_capacity l.rows ≡ length l.writes;
 }

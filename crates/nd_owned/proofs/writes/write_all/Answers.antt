@@ -1,7 +1,7 @@
 -- The items of one more write are at their places.
 use Rattle.std.proofs.Common.{◌≡◌, ◌≢◌, ◌+◌, ◌<◌, ◌++◌, ℕ, List, length, get_or, map, take, sym, ap, subst, ◌∙◌, arith}
 use Rattle.std.proofs.lemmas.List.{length-map, take_all}
-use Rattle.std.specs.List.{flat_map}
+use Rattle.std.specs.List.{AllPairs, flat_map}
 use Rattle.ndarray_layout.specs.Inside.{IsInside}
 use Rattle.nd_owned.specs.Rows.{AreInside, HasWritten, rows_places}
 use Rattle.nd_owned.specs.Writes.{write_of}
@@ -27,13 +27,8 @@ pub write-requires-clause-inside : goal.write-requires-clause-inside
 write-requires-clause-inside g c =
     let i = c.loop-at.at in
     let under = there rows_places write_of (λ write. length write.items) c.args.rows.now c.args.writes.now i c.requires.counts c.loop-at-test.true in
-    subst (λ count. AreInside count c.index-rows-at.result) (sym c.loop-at.auto.stored)
-    (subst (AreInside (length c.args.stored.now)) (sym c.index-rows-at.is) (c.requires.inside i c.index-rows-at.result under))
-
-pub write-requires-clause-distinct : goal.write-requires-clause-distinct
-write-requires-clause-distinct g c =
-    let under = there rows_places write_of (λ write. length write.items) c.args.rows.now c.args.writes.now c.loop-at.at c.requires.counts c.loop-at-test.true in
-    pairs_of_part (λ one other. one ≢ other) rows_places c.args.rows.now c.loop-at.at c.index-rows-at.result under c.index-rows-at.is c.requires.distinct
+    subst (λ count. AreInside count (rows_places c.index-rows-at.result)) (sym c.loop-at.auto.stored)
+    (subst (λ rows. AreInside (length c.args.stored.now) (rows_places rows)) (sym c.index-rows-at.is) (c.requires.inside i c.index-rows-at.result under))
 
 pub write-requires-clause-counts : goal.write-requires-clause-counts
 write-requires-clause-counts g c =
@@ -53,13 +48,14 @@ loop-at-preserved g c =
     let new = c.write.new.stored in
     let under = there rows_places write_of (λ write. length write.items) rows c.args.writes.now i c.requires.counts c.loop-at-test.true in
     let also : i < length writes = omega (arith, c.loop-at-test.true, length-map c.args.writes.now write_of) in
-    let here : HasWritten (rows_places row) write.items c.loop-at.stored new =
-    subst (λ items. HasWritten (rows_places row) items c.loop-at.stored new) c.as_slice.ensures.value c.write.ensures in
+    let here : AllPairs (λ one other. one ≢ other) (rows_places row) → HasWritten (rows_places row) write.items c.loop-at.stored new =
+    subst (λ items. AllPairs (λ one other. one ≢ other) (rows_places row) → HasWritten (rows_places row) items c.loop-at.stored new) c.as_slice.ensures.value c.write.ensures in
     let more : flat_map (λ one. one.items) (take (i + 1) writes) ≡ flat_map (λ one. one.items) (take i writes) ++ write.items =
     parts_more (λ one. one.items) writes i write also (this write_of c.args.writes.now i c.index-writes-at.result c.loop-at-test.true c.index-writes-at.is) in
-    subst (λ items. HasWritten (flat_map rows_places (take (i + 1) rows)) items c.args.stored.now new) (sym more)
+    λ distinct. subst (λ items. HasWritten (flat_map rows_places (take (i + 1) rows)) items c.args.stored.now new) (sym more)
     (one_more_written count rows_places rows i row (flat_map (λ one. one.items) (take i writes)) write.items c.args.stored.now c.loop-at.stored new under c.index-rows-at.is
-    (all_together (IsInside count) rows_places rows (λ k d below. (c.requires.inside k d below).places)) c.requires.distinct c.loop-at.invariant here)
+    (all_together (IsInside count) rows_places rows (λ k d below. (c.requires.inside k d below).within)) distinct (c.loop-at.invariant distinct)
+    (here (pairs_of_part (λ one other. one ≢ other) rows_places rows i row under c.index-rows-at.is distinct)))
 
 pub returns : goal.returns
 returns g c =
@@ -69,5 +65,6 @@ returns g c =
     let count : length writes ≡ length c.args.writes.now = length-map c.args.writes.now write_of in
     let same : length rows ≡ length writes =
     omega (arith, length-map rows rows_places, length-map (map rows_places rows) length, ap length c.requires.counts, length-map writes (λ write. length write.items)) in
-    subst (λ xs. HasWritten (flat_map rows_places xs) (flat_map (λ write. write.items) writes) c.args.stored.now c.loop-at.stored) (take_all i rows (omega (arith, c.loop-at-test.false, count, same)))
-    (subst (λ xs. HasWritten (flat_map rows_places (take i rows)) (flat_map (λ write. write.items) xs) c.args.stored.now c.loop-at.stored) (take_all i writes (omega (arith, c.loop-at-test.false, count))) c.loop-at.invariant)
+    λ distinct. subst (λ xs. HasWritten (flat_map rows_places xs) (flat_map (λ write. write.items) writes) c.args.stored.now c.loop-at.stored) (take_all i rows (omega (arith, c.loop-at-test.false, count, same)))
+    (subst (λ xs. HasWritten (flat_map rows_places (take i rows)) (flat_map (λ write. write.items) xs) c.args.stored.now c.loop-at.stored)
+    (take_all i writes (omega (arith, c.loop-at-test.false, count))) (c.loop-at.invariant distinct))

@@ -1,5 +1,5 @@
 -- Each fault is returned where the rule has it, and none where the rule accepts; the rest are laws of what is accepted.
-use Rattle.std.proofs.Common.{rules, sym, ◌∙◌}
+use Rattle.std.proofs.Common.{rules, sym}
 use Rattle.nd_base.specs.Signed.{all_signed}
 use Rattle.nd_shape.proofs.laws.Acceptance.{accepted_valid, accepted_lies_inside, accepted_distinct}
 use Rattle.nd_shape.proofs.checks.accept.Goals as goal

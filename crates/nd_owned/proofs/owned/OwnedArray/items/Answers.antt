@@ -11,6 +11,9 @@ use Rattle.nd_owned.specs.Owned.{item_at_place}
 use Rattle.nd_owned.specs.Rows.{rows_places}
 use Rattle.nd_owned.proofs.owned.OwnedArray.items.Goals as goal
 
+pub read-requires-clause-inside : goal.read-requires-clause-inside
+read-requires-clause-inside g c = rw (c.as_slice.ensures.value) (c.in_ok-rows.ensures.inside (length c.self.inside.items.items) c.self.invariant.within)
+
 pub returns-clause-items : goal.returns-clause-items
 returns-clause-items g c =
     let known = rw (c.as_slice.ensures.value) at c.in_ok-read.ensures.items in

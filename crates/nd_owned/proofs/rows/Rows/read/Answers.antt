@@ -3,11 +3,10 @@ use Rattle.std.proofs.Common.{◌≡◌, ℕ, ◌*◌, ◌++◌, length, get_or,
 use Rattle.std.specs.List.{flat_map}
 use Rattle.std.proofs.lemmas.Bool.{false≢true}
 use Rattle.std.proofs.lemmas.List.{map-append}
-use Rattle.ndarray_layout.specs.Inside.{IsInside}
 use Rattle.ndarray_layout.specs.Signed.{signed}
 use Rattle.nd_owned.specs.Owned.{item_at_place}
 use Rattle.nd_owned.specs.Rows.{row_places}
-use Rattle.nd_owned.proofs.Placed.{all_of_part, number_of_turn, parts_more}
+use Rattle.nd_owned.proofs.Placed.{inside_of_part, number_of_turn, parts_more}
 use Rattle.nd_owned.proofs.RowPlaces.{length-rows}
 use Rattle.nd_owned.proofs.rows.Rows.read.Goals as goal
 
@@ -25,7 +24,7 @@ read_row-items-requires-clause-inside g c =
     let i = c.loop-start.start-index in
     let start = get_or c.deref-start-items.result.now i 0 in
     let turn = number_of_turn c.deref-start-items.result.now starts i c.deref-start-items.ensures.value c.loop-start-test.true in
-    all_of_part (IsInside (length c.args.stored.now)) (λ begin. row_places begin (signed rows.stride) rows.len) starts i start turn.0 turn.1 c.requires.inside.places
+    inside_of_part (length c.args.stored.now) (λ begin. row_places begin (signed rows.stride) rows.len) starts i start turn.0 turn.1 c.requires.inside
 
 pub loop-start-preserved : goal.loop-start-preserved
 loop-start-preserved g c =
