@@ -48,10 +48,10 @@ pub fn grid(
 ///
 /// Errors: those of `can_index_slice_with_strides`; out of memory, never for at most four axes.
 pub fn in_shape(alloc: Global, items: &[u8], dim: IxDyn) -> Result<Strided<IxDyn>, LayoutError>
+    ensures shape { IfOk result (λ view. view.shape ≡ lengths dim) }
     ensures fault { shape_fault result ≡
         acceptance_by_strides lengths 1 (length items.now) OwnedMutable (lengths dim) C }
     ensures memory { shape_fault result ≡ None → NeedsNoMemory None (length (lengths dim)) → IsOk result }
-    ensures shape { IfOk result (λ view. view.shape ≡ lengths dim) }
     ensures place { IfOk result (λ view. (index : List ℕ) → IsTrue (is_index (lengths dim) index) →
         place_at view index ≡ pos (rank_in RowMajor (lengths dim) index)) }
     ensures inside { IfOk result (λ view. LiesWithin (length items.now) view) }
