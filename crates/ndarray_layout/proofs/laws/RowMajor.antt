@@ -5,7 +5,7 @@ use Rattle.nd_base.specs.declared.order.Order.{Order}
 use Rattle.nd_base.specs.declared.order.Order.TheVariants.{RowMajor, ColumnMajor}
 use Rattle.nd_base.specs.Indices.{is_index}
 use Rattle.nd_base.specs.Offset.{offset_of}
-use Rattle.nd_base.specs.Rank.{rank_in}
+use Rattle.nd_base.specs.Rank.{rank_in, index_of_rank_in}
 use Rattle.nd_base.specs.Signed.{all_signed}
 use Rattle.nd_base.specs.Size.{nonzero_size, limit}
 use Rattle.nd_base.specs.Span.{low_span}
@@ -37,6 +37,10 @@ rank_of_row n m i j = omega arith
 pub place_in_row : (n m i j : ℕ) (view : View) → IsView view → view ≡ standard_view RowMajor (n ∷ m ∷ []) → is_index (n ∷ m ∷ []) (i ∷ j ∷ []) ≡ true → place_at view (i ∷ j ∷ []) ≡ pos (i * m + j)
 place_in_row n m i j view v is here = place_at_rank RowMajor (n ∷ m ∷ []) (i ∷ j ∷ []) view v is here ∙ ap pos (rank_of_row n m i j)
 
--- and where a view of one axis is read so, they stand for its index i * m + j
-pub source_in_row : (count n m i j : ℕ) → reshape_source RowMajor (count ∷ []) (n ∷ m ∷ []) (i ∷ j ∷ []) ≡ (i * m + j) ∷ []
-source_in_row count n m i j = ap (λ r. r ∷ []) (omega arith)
+-- and where a view is read so, they stand for the index of it with that flat index
+pub source_in_row : (shape : List ℕ) (n m i j : ℕ) → reshape_source RowMajor shape (n ∷ m ∷ []) (i ∷ j ∷ []) ≡ index_of_rank_in RowMajor shape (i * m + j)
+source_in_row shape n m i j = ap (index_of_rank_in RowMajor shape) (rank_of_row n m i j)
+
+-- which along one axis is the flat index itself
+pub index_of_list : (len flat : ℕ) → index_of_rank_in RowMajor (len ∷ []) flat ≡ flat ∷ []
+index_of_list len flat = ap (λ r. r ∷ []) (omega arith)
