@@ -1,5 +1,5 @@
 """Reads what a crate of Rattle offers from its sources, as `rt fmt` lays them out: items with their docs, signatures and
-clauses. For checks/api.
+clauses, and the names that it makes public. For checks/api, checks/reach and checks/refused_calls.
 """
 import dataclasses, os, re
 
@@ -130,6 +130,18 @@ def modules_of(folder, path="", name="lib"):
     for inner in items:
         if inner.kind == "mod":
             yield from modules_of(folder, os.path.join(path, inner.name))
+
+
+def public_names(folder):
+    """The names that the `pub use` lines of a crate's root file make public: module or crate → names."""
+    with open(os.path.join(folder, "lib.rt"), encoding="utf-8") as file:
+        code = re.sub(r"//.*", "", file.read())
+    found = {}
+    for path in re.findall(r"^pub use ([^;]+);", code, re.M):
+        group = re.search(r"\{(.*)\}", path, re.S)
+        names = {re.split(r"::|\bas\b", one)[-1].strip() for one in (group[1] if group else path).split(",") if one.strip()}
+        found.setdefault(path.split("::")[0].strip(), set()).update(names)
+    return found
 
 
 def self_type(head):

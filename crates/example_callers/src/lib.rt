@@ -2,15 +2,21 @@
 #![tactic(auto)]
 
 mod broadcasts;
+mod counts;
+mod crops;
 mod parts;
 mod places;
 mod reshapes;
+mod rows;
 mod slices;
 mod writes;
 
 pub use broadcasts::on_common_shape;
+pub use counts::count_bright;
+pub use crops::{band, crop, cut};
 pub use parts::separate_places;
 pub use places::{picture, pixel};
 pub use reshapes::along_shape;
+pub use rows::{grid, in_rows, in_shape};
 pub use slices::{alternate_rows, pixels_of};
 pub use writes::write_parts;

@@ -1,14 +1,15 @@
 //! Slices a view, and walks over the places of what is left.
-ghost use Rattle.std.specs.Prelude.{◌≡◌, ℕ, pos, negsuc, [], ◌∷◌, IfOk, IsOk, None, Some, length, map, slice_get};
+ghost use Rattle.std.specs.Prelude.{◌≡◌, ℕ, ◌-◌, ◌*◌, pos, negsuc, [], ◌∷◌, IfOk, IsOk, IsTrue, None, Some, length, map, slice_get, slice_index};
 ghost use Rattle.ndarray_layout.specs.declared.Fit.TheVariants.{Strict};
 ghost use Rattle.ndarray_layout.specs.declared.Order.TheVariants.{RowMajor};
 ghost use Rattle.ndarray_layout.specs.ArgumentFault.{argument_fault};
 ghost use Rattle.ndarray_layout.specs.DistinctPlaces.{HasDistinctPlaces};
+ghost use Rattle.ndarray_layout.specs.Indices.{is_index};
 ghost use Rattle.ndarray_layout.specs.ShapeFault.{shape_fault};
 ghost use Rattle.ndarray_layout.specs.Signed.{magnitude};
 ghost use Rattle.ndarray_layout.specs.Size.{size};
-ghost use Rattle.ndarray_layout.specs.View.{LiesWithin, view_places};
-ghost use Rattle.ndarray_layout.specs.SlicedView.{IsSliceOf};
+ghost use Rattle.ndarray_layout.specs.View.{LiesWithin, place_at, view_places};
+ghost use Rattle.ndarray_layout.specs.SlicedView.{slice_of};
 
 use ndarray_layout::{Fit, Ix2, LayoutError, Lengths, Order, Slice, SliceInfoElem, Strided};
 use std::alloc::{AllocError, Global};
@@ -20,9 +21,12 @@ pub fn alternate_rows(alloc: Global, picture: &Strided<Ix2>) -> Result<Strided<I
     ensures fault { shape_fault result ≡ argument_fault Strict picture.now.shape
         (SliceInfoElem.Slice (pos 0) None (negsuc 1) ∷ SliceInfoElem.Slice (pos 0) None (pos 1) ∷ []) }
     ensures memory { shape_fault result ≡ None → IsOk result }
-    ensures sliced { IfOk result (λ rows. IsSliceOf Strict
+    ensures sliced { IfOk result (λ rows. rows ≡ slice_of Strict
         (SliceInfoElem.Slice (pos 0) None (negsuc 1) ∷ SliceInfoElem.Slice (pos 0) None (pos 1) ∷ [])
-        picture.now rows) }
+        picture.now) }
+    ensures place { IfOk result (λ rows. (i j : ℕ) → IsTrue (is_index rows.shape (i ∷ j ∷ [])) →
+        place_at rows (i ∷ j ∷ []) ≡ place_at picture.now
+        ((slice_index picture.now.shape 0 - 1 - 2 * i) ∷ j ∷ [])) }
     ensures inside { IfOk result (λ rows. (len : ℕ) → LiesWithin len picture.now → LiesWithin len rows) }
     ensures distinct { IfOk result (λ rows. HasDistinctPlaces picture.now → HasDistinctPlaces rows) }
 {

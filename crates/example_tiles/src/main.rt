@@ -2,9 +2,7 @@
 #![tactic(auto)]
 
 use anyhow::Result;
-use example_tiles_edits::{Edit, edited};
-use example_tiles_picture::{read_picture, text_of_picture};
-use example_tiles_words::read_edits;
+use example_tiles_edits::{Edit, edited, read_edits, read_picture, text_of_picture};
 use std::alloc::Global;
 use std::io::{Read, Write};
 use std::rt::Env;

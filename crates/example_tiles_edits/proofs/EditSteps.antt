@@ -15,10 +15,10 @@ use Rattle.ndarray_layout.specs.Step.{SliceBy, StepValue, step_fault, view_after
 use Rattle.ndarray_layout.specs.View.{View}
 use Rattle.ndarray_layout.proofs.laws.Picks.{pick_below}
 use Rattle.ndarray_layout.proofs.laws.SliceFault.{no_fault_of_fits}
-use Rattle.example_tiles_picture.specs.declared.Extent.{Extent}
-use Rattle.example_tiles_picture.specs.Picture.{IsWithin, Position}
-use Rattle.example_tiles_edits.specs.declared.edit.Edit.{Edit}
-use Rattle.example_tiles_edits.specs.declared.edit.Edit.TheVariants.{Crop, FlipRows, FlipColumns, Every, Mirror}
+use Rattle.example_tiles_edits.specs.declared.picture.Extent.{Extent}
+use Rattle.example_tiles_edits.specs.Picture.{IsWithin, Position}
+use Rattle.example_tiles_edits.specs.declared.edits.edit.Edit.{Edit}
+use Rattle.example_tiles_edits.specs.declared.edits.edit.Edit.TheVariants.{Crop, FlipRows, FlipColumns, Every, Mirror}
 use Rattle.example_tiles_edits.specs.Edits.{extent_after, extent_of, first_misfit, fits, source, source_of}
 use Rattle.example_tiles_edits.specs.Slices.{elements_of, index_of, shape_of, step_of}
 use Rattle.example_tiles_edits.proofs.Axes.{IsPick, all, by_step, of_span, turned}

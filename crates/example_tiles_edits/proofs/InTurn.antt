@@ -3,9 +3,9 @@ use Rattle.std.proofs.Common.{◌≡◌, ℕ, ◌*◌, ◌/◌, ◌%◌, ◌<◌
 use Rattle.std.specs.Prelude.{slice_get}
 use Rattle.std.proofs.lemmas.Nat.{div-add-mod', div_below, mod_below}
 use Rattle.std.proofs.lemmas.Option.{get_or_from_slice_get, slice_get-get_or, slice_get_within}
-use Rattle.example_tiles_picture.specs.declared.Extent.{Extent}
-use Rattle.example_tiles_picture.specs.Picture.{Image, IsPicture, IsWithin, Position, pixel_at, pixel_count, place_in}
-use Rattle.example_tiles_edits.specs.declared.edit.Edit.{Edit}
+use Rattle.example_tiles_edits.specs.declared.picture.Extent.{Extent}
+use Rattle.example_tiles_edits.specs.Picture.{Image, IsPicture, IsWithin, Position, pixel_at, pixel_count, place_in}
+use Rattle.example_tiles_edits.specs.declared.edits.edit.Edit.{Edit}
 use Rattle.example_tiles_edits.specs.Edits.{AreBegun, IsEdited, extent_after, extent_of, first_misfit, source, source_of}
 use Rattle.example_tiles_edits.specs.Slices.{ArePlaces}
 use Rattle.example_tiles_edits.proofs.EditSteps.{source_of_within}

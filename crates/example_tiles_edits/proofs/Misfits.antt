@@ -1,9 +1,9 @@
 -- The first misfit, edit by edit.
 use Rattle.std.proofs.Common.{◌≡◌, ℕ, suc, ◌+◌, ◌<◌, Bool, true, false, cond, Option, Some, None, List, [], ◌∷◌, ◌++◌, length, get_or, drop, drop-cons, refl, sym, ap, ◌∙◌, arith}
 use Rattle.std.specs.Option.{option_map}
-use Rattle.example_tiles_picture.specs.declared.Extent.{Extent}
-use Rattle.example_tiles_edits.specs.declared.edit.Edit.{Edit}
-use Rattle.example_tiles_edits.specs.declared.edit.Misfit.{Misfit}
+use Rattle.example_tiles_edits.specs.declared.picture.Extent.{Extent}
+use Rattle.example_tiles_edits.specs.declared.edits.edit.Edit.{Edit}
+use Rattle.example_tiles_edits.specs.declared.edits.edit.Misfit.{Misfit}
 use Rattle.example_tiles_edits.specs.Edits.{extent_after, extent_of, first_misfit, fits, one_later}
 
 -- a misfit among the edits from one on, counted from the first of all

@@ -30,10 +30,10 @@ use Rattle.ndarray_layout.proofs.laws.SlicedView.{KeepsPlaces-slice_of}
 use Rattle.ndarray_layout.proofs.laws.View.{length-view_places}
 use Rattle.nd_owned.specs.Owned.{Owned, item_at_place}
 use Rattle.nd_owned.specs.Writes.{IsFaultBy, IsFaultOfWrites, IsMeetFault, IsWritten, SomeMeet, Write, has_count, slices_fault}
-use Rattle.example_tiles_picture.specs.declared.Extent.{Extent}
-use Rattle.example_tiles_picture.specs.Picture.{Image, IsWithin, Position}
-use Rattle.example_tiles_edits.specs.declared.edit.Span.{Span}
-use Rattle.example_tiles_edits.specs.declared.edit.Edit.TheVariants.{Mirror}
+use Rattle.example_tiles_edits.specs.declared.picture.Extent.{Extent}
+use Rattle.example_tiles_edits.specs.Picture.{Image, IsWithin, Position}
+use Rattle.example_tiles_edits.specs.declared.edits.edit.Span.{Span}
+use Rattle.example_tiles_edits.specs.declared.edits.edit.Edit.TheVariants.{Mirror}
 use Rattle.example_tiles_edits.specs.Edits.{IsEdited, mirrored}
 use Rattle.example_tiles_edits.specs.Parts.{AreMirrored, IsArrayOf, IsMirrored, elements_of_part, mirrored_elements, part_of, part_span, parts_of, picked_pixels}
 use Rattle.example_tiles_edits.specs.Slices.{index_of, shape_of, whole_view}

@@ -21,9 +21,9 @@ use Rattle.ndarray_layout.specs.View.{LiesWithin, View, place_at, view_places}
 use Rattle.ndarray_layout.proofs.laws.Rank.{index_of_rank-rank, rank-lt-size}
 use Rattle.ndarray_layout.proofs.laws.Strides.{offset_of-default_strides}
 use Rattle.ndarray_layout.proofs.laws.View.{length-view_places}
-use Rattle.example_tiles_picture.specs.declared.Extent.{Extent}
-use Rattle.example_tiles_picture.specs.Picture.{Image, IsWithin, Position, is_within, pixel_at, pixel_count, place_in}
-use Rattle.example_tiles_edits.specs.declared.edit.Edit.{Edit}
+use Rattle.example_tiles_edits.specs.declared.picture.Extent.{Extent}
+use Rattle.example_tiles_edits.specs.Picture.{Image, IsWithin, Position, is_within, pixel_at, pixel_count, place_in}
+use Rattle.example_tiles_edits.specs.declared.edits.edit.Edit.{Edit}
 use Rattle.example_tiles_edits.specs.Edits.{extent_of, first_misfit, source_of}
 use Rattle.example_tiles_edits.specs.Slices.{ArePlaces, index_of, shape_of, step_of, whole_view}
 use Rattle.example_tiles_edits.proofs.EditSteps.{IsRun, run_of_edits, source_of_within}

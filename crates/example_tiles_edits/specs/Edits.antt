@@ -6,13 +6,13 @@ use Rattle.std.proofs.Math.Nat.{not-suc-le-zero, le_of_suc-le-suc}
 use Rattle.std.proofs.lemmas.Bool.{both_ways}
 use Rattle.std.specs.Int.{div_ceil}
 use Rattle.std.specs.Option.{option_map}
-use Rattle.example_tiles_picture.specs.declared.Extent.{Extent}
-use Rattle.example_tiles_picture.specs.Picture.{Image, IsWithin, Position, pixel_at}
-use Rattle.example_tiles_edits.specs.declared.edit.Edit.{Edit}
-use Rattle.example_tiles_edits.specs.declared.edit.Edit.TheVariants.{Crop, FlipRows, FlipColumns, Every, Mirror}
-use Rattle.example_tiles_edits.specs.declared.edit.Misfit.{Misfit}
-use Rattle.example_tiles_edits.specs.declared.edit.Span.{Span}
-use Rattle.example_tiles_edits.specs.declared.edit.TheConstants.{MOST_PARTS}
+use Rattle.example_tiles_edits.specs.declared.picture.Extent.{Extent}
+use Rattle.example_tiles_edits.specs.Picture.{Image, IsWithin, Position, pixel_at}
+use Rattle.example_tiles_edits.specs.declared.edits.edit.Edit.{Edit}
+use Rattle.example_tiles_edits.specs.declared.edits.edit.Edit.TheVariants.{Crop, FlipRows, FlipColumns, Every, Mirror}
+use Rattle.example_tiles_edits.specs.declared.edits.edit.Misfit.{Misfit}
+use Rattle.example_tiles_edits.specs.declared.edits.edit.Span.{Span}
+use Rattle.example_tiles_edits.specs.declared.edits.edit.TheConstants.{MOST_PARTS}
 
 -- no bound of a span is past so many rows or columns
 abbrev pub is_span : ℕ → Span → Bool

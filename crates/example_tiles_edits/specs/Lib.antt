@@ -1,4 +1,10 @@
 pub mod EditError
+pub mod EditWords
 pub mod Edits
+pub mod Numbers
 pub mod Parts
+pub mod Picture
+pub mod PictureText
+pub mod PrintedPicture
 pub mod Slices
+pub mod Words

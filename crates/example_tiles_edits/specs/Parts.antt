@@ -10,10 +10,10 @@ use Rattle.ndarray_layout.specs.SlicedView.{slice_of}
 use Rattle.ndarray_layout.specs.View.{view_places}
 use Rattle.nd_owned.specs.Owned.{Owned, item_at_place}
 use Rattle.nd_owned.specs.Writes.{Write}
-use Rattle.example_tiles_picture.specs.declared.Extent.{Extent}
-use Rattle.example_tiles_picture.specs.Picture.{Image}
-use Rattle.example_tiles_edits.specs.declared.edit.Span.{Span}
-use Rattle.example_tiles_edits.specs.declared.mirror.Part.{Part}
+use Rattle.example_tiles_edits.specs.declared.picture.Extent.{Extent}
+use Rattle.example_tiles_edits.specs.Picture.{Image}
+use Rattle.example_tiles_edits.specs.declared.edits.edit.Span.{Span}
+use Rattle.example_tiles_edits.specs.declared.edits.mirror.Part.{Part}
 use Rattle.example_tiles_edits.specs.Slices.{of_span, whole_view}
 
 -- the rows or columns of the part of a number, where as many as there are fall into so many parts

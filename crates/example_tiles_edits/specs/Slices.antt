@@ -12,11 +12,11 @@ use Rattle.ndarray_layout.specs.declared.SliceInfoElem.TheVariants.{Slice}
 use Rattle.ndarray_layout.specs.Step.{StepValue, SliceBy}
 use Rattle.ndarray_layout.specs.Strides.{default_strides}
 use Rattle.ndarray_layout.specs.View.{View}
-use Rattle.example_tiles_picture.specs.declared.Extent.{Extent}
-use Rattle.example_tiles_picture.specs.Picture.{IsWithin, Position, pixel_count, place_in}
-use Rattle.example_tiles_edits.specs.declared.edit.Edit.{Edit}
-use Rattle.example_tiles_edits.specs.declared.edit.Edit.TheVariants.{Crop, FlipRows, FlipColumns, Every, Mirror}
-use Rattle.example_tiles_edits.specs.declared.edit.Span.{Span}
+use Rattle.example_tiles_edits.specs.declared.picture.Extent.{Extent}
+use Rattle.example_tiles_edits.specs.Picture.{IsWithin, Position, pixel_count, place_in}
+use Rattle.example_tiles_edits.specs.declared.edits.edit.Edit.{Edit}
+use Rattle.example_tiles_edits.specs.declared.edits.edit.Edit.TheVariants.{Crop, FlipRows, FlipColumns, Every, Mirror}
+use Rattle.example_tiles_edits.specs.declared.edits.edit.Span.{Span}
 use Rattle.example_tiles_edits.specs.Edits.{extent_of, source_of}
 
 -- the entries of a span, by a step

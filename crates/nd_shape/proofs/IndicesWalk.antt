@@ -24,8 +24,8 @@ nonempty shape h = by (is_empty shape) refl
     by false e = refl
     by true e = absurd (omega (arith, size_of_empty shape e))
 
--- at first all are left, and the first one is all 0
-pub starts : (order : Order) (shape index : List ℕ) (n : ℕ) → index ≡ replicate (length shape) 0 → n ≡ size shape → StandsAt order shape n index
+-- at first all are left, and the first one, if there is one, is all 0
+pub starts : (order : Order) (shape index : List ℕ) (n : ℕ) → (0 < n → index ≡ replicate (length shape) 0) → n ≡ size shape → StandsAt order shape n index
 starts order shape index n e m =
     let zeros : List ℕ = replicate (length shape) 0 in
     let none : 0 ≡ size shape - n = omega arith in
@@ -33,7 +33,7 @@ starts order shape index n e m =
       within = omega arith;
       first = λ h.
           let is = is_index-zeros shape (nonempty shape (omega arith)) in
-          e ∙ sym (index_of_rank_in-rank_in order shape zeros is) ∙ ap (index_of_rank_in order shape) (rank_in-zeros order shape ∙ none);
+          e h ∙ sym (index_of_rank_in-rank_in order shape zeros is) ∙ ap (index_of_rank_in order shape) (rank_in-zeros order shape ∙ none);
     }
 
 -- where one is left, the walk stands at an index,
@@ -73,7 +73,7 @@ starts_at order shape index n e m = by (eqb n 0) refl
   where
     by : (b : Bool) → eqb n 0 ≡ b → StandsAtFirst order shape n (cond (not b) (Some index) None)
     by true z = eqb-true n 0 z
-    by false z = (pos_of_ne-zero (eqb-false n 0 z), starts order shape index n e m)
+    by false z = (pos_of_ne-zero (eqb-false n 0 z), starts order shape index n (λ _. e) m)
 
 -- no more are left than there are
 pub within_shape : (order : Order) (shape : List ℕ) (n : ℕ) (first : Option (List ℕ)) → StandsAtFirst order shape n first → n ≤ size shape

@@ -15,10 +15,12 @@ fn go_together(len: usize, other: usize) -> bool
     (len == other) | (len == 1) | (other == 1)
 }
 
-/// Whether two shapes have one in common: each axis of the shorter list goes together with the axis
-/// of the longer one that lies as far from the last. The test of ndarray's `co_broadcast`.
+/// Whether two shapes have one in common, by NumPy's rule: set side by side at their last axes, two
+/// lengths of one axis are equal, or one of them is 1.
 ///
 /// The caller ensures that the second list is no longer than the first.
+///
+/// `[4,1,3]` and `[2,3]`: true; `[2]` and `[0]`: false. The test of ndarray's `co_broadcast`.
 #[inline(always)]
 pub fn have_common_shape(longer: &[usize], shorter: &[usize]) -> bool
     requires { length shorter.now ≤ length longer.now }
@@ -42,10 +44,13 @@ fn stretched(len: usize, other: usize) -> usize
     if len == 1 { other } else { len }
 }
 
-/// Writes the common shape of two shapes over `common`. What ndarray's `co_broadcast` makes.
+/// Writes the common shape of two shapes over `common`: on each axis equal lengths stay, and a length
+/// of 1 gives way to the other one, to 0 as well.
 ///
 /// The caller ensures that the shapes have one (`have_common_shape`), that the second list is no
 /// longer than the first, and that `common` has as many lengths as the first.
+///
+/// `[4,1,3]` and `[2,3]`: `[4,2,3]`. What ndarray's `co_broadcast` makes.
 #[inline(always)]
 pub fn fill_common_shape(longer: &[usize], shorter: &[usize], common: &mut [usize])
     requires shorter { length shorter.now ≤ length longer.now }
@@ -83,19 +88,20 @@ fn common_of<Output: Lengths>(
     Ok(common)
 }
 
-/// The shape that two shapes have in common, so that arrays of both can be read as arrays of it.
+/// The shape that two shapes have in common (`have_common_shape`, `fill_common_shape`), so that
+/// arrays of both can be read as arrays of it.
 ///
-/// The rule is NumPy's: the shapes are set side by side at their last axes, and axes that only one
-/// of them has count as axes of length 1. On each axis equal lengths stay, and a length of 1 gives
-/// way to the other one, to 0 as well. So the order of the shapes doesn't matter, and of several
-/// shapes it doesn't matter which two are taken first. The size of the common shape may pass any
-/// limit.
+/// Axes that only one of them has count as axes of length 1. The order of the shapes doesn't matter,
+/// and of several shapes it doesn't matter which two are taken first. The size of the common shape
+/// may be greater than any limit. The caller ensures that `Output` has as many axes as the shape of
+/// the greater count.
 ///
-/// The caller ensures that `Output` has as many axes as the shape of the greater count.
+/// # Errors
 ///
-/// Errors: `IncompatibleShape` where two unequal lengths stand at one axis and neither is 1; then
-/// out of memory, never where `Output` fixes its count of axes or there are at most 4. ndarray's
-/// `co_broadcast`.
+/// `IncompatibleShape` where two unequal lengths stand at one axis and neither is 1; then out of
+/// memory, never where `Output` fixes its count of axes or there are at most 4.
+///
+/// `[2,3]` and `[4,1,3]`: `[4,2,3]`. ndarray's `co_broadcast`.
 #[inline]
 pub fn co_broadcast<D1: Lengths, D2: Lengths, Output: Lengths>(
     alloc: Global,

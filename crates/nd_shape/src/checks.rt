@@ -1,8 +1,8 @@
 //! Tests of a shape and its strides against the type limits and the data.
-ghost use Rattle.std.specs.Prelude.{◌≡◌, ◌*◌, ◌≤◌, IfOk, SomeIff, Some, None, nat_lt, if◌then◌else◌, OnOk};
+ghost use Rattle.std.specs.Prelude.{◌≡◌, ◌*◌, ◌≤◌, false, IfOk, SomeIff, Some, None, nat_lt, if◌then◌else◌, OnOk};
 ghost use Rattle.std.specs.Result.{result_err};
 ghost use Rattle.nd_base.specs.Signed.{all_signed, signed as signed_reading};
-ghost use Rattle.nd_base.specs.Size.{size, nonzero_size, limit};
+ghost use Rattle.nd_base.specs.Size.{size, nonzero_size, is_empty, limit};
 ghost use Rattle.nd_base.specs.Span.{span, low_span};
 ghost use Rattle.nd_base.specs.declared.error.ErrorKind.TheVariants.{Overflow};
 ghost use Rattle.nd_shape.specs.Acceptance.{size_fault, acceptance};
@@ -13,6 +13,7 @@ ghost use Rattle.nd_base.specs.declared.order.Order.{Order};
 ghost use Rattle.nd_shape.specs.AcceptanceByStrides.{acceptance_of_standard, acceptance_by_strides, sign_fault};
 ghost use Rattle.nd_base.specs.DistinctOffsets.{HasDistinctOffsets};
 ghost use Rattle.nd_base.specs.Inside.{LiesInside};
+ghost use Rattle.nd_shape.specs.OwnedRule.{MeetsOwnedRule};
 ghost use Rattle.nd_shape.specs.ShapeBuilder.{standard_strides, strides_list};
 
 use crate::limits::{checked_nonzero_size, checked_span, multiply};
@@ -23,7 +24,7 @@ use nd_base::{ErrorKind, Lengths, ShapeError, from_kind, signed};
 /// How a layout is going to be used. ndarray's `CanIndexCheckMode`.
 #[derive(Clone, Copy, PartialEq)]
 pub enum CanIndexCheckMode {
-    /// Elements are owned or written: no two indices may share one.
+    /// Elements are owned or written, and no two indices may alias. What the docs call owned mode.
     OwnedMutable,
     /// Elements are only read.
     ReadOnly,
@@ -45,12 +46,19 @@ fn span_within_limits(elem_size: usize, shape: &[usize], strides: &[usize]) -> O
     Some(span)
 }
 
-/// The span of a layout: how many elements lie from its lowest to its highest index, where one is
-/// of `elem_size` bytes.
+/// The span of a layout: how many elements lie from its lowest index to its highest one.
 ///
-/// Refused with `IncompatibleLayout` where there are not as many strides as lengths, and then with
-/// `Overflow` where the product of the lengths that are not 0, the span, or the span in bytes
-/// passes the greatest `isize`. The rule over lists of ndarray's
+/// `shape` and `strides` are one number for each axis, strides in elements and with their sign
+/// (`signed`); an element is of `elem_size` bytes. A layout with a span is valid, as `low_span`,
+/// `has_overlap` and `merge_fitting` ask of theirs.
+///
+/// # Errors
+///
+/// `IncompatibleLayout` where there are not as many strides as lengths; then `Overflow` where the
+/// product of the lengths that are not 0, the span, or the span in bytes is greater than
+/// `isize::MAX`.
+///
+/// `[2,3]` with the strides `[-3,1]`, of 4 bytes each: 5. The rule over lists of ndarray's
 /// `max_abs_offset_check_overflow`.
 #[inline(always)]
 pub fn span_of_lengths(
@@ -60,6 +68,7 @@ pub fn span_of_lengths(
 ) -> Result<usize, ShapeError>
     ensures fault { result_err result ≡ size_fault elem_size shape.now (all_signed strides.now) }
     ensures span { IfOk result (λ n. n ≡ span shape.now (all_signed strides.now)) }
+    ensures valid { OnOk result (IsValidLayout shape.now (all_signed strides.now)) }
 {
     if shape.len() != strides.len() {
         return Err(from_kind(ErrorKind::IncompatibleLayout));
@@ -67,12 +76,21 @@ pub fn span_of_lengths(
     span_within_limits(elem_size, shape, strides).ok_or(from_kind(ErrorKind::Overflow))
 }
 
-/// Whether a layout is accepted over data of `len` elements of `elem_size` bytes.
+/// Accepts a layout over data of `len` elements, or returns why it is not accepted.
 ///
-/// Refused as `span_of_lengths` is; then with `OutOfBounds` where an index would leave the data, or
-/// where a layout without an index spans more than the data; then with `Unsupported` where elements
-/// are owned or written and two indices may share one (`has_overlap`). The rule over lists of
-/// ndarray's `can_index_slice`.
+/// `shape` and `strides` are one number for each axis, strides in elements and with their sign
+/// (`signed`); an element is of `elem_size` bytes. The lowest index of the layout lies at the first
+/// element of the data. Each index of an accepted layout is in bounds, and in owned mode no two
+/// indices alias.
+///
+/// # Errors
+///
+/// Those of `span_of_lengths`; then `OutOfBounds` where the span is not less than `len`, or where a
+/// layout without an index has a span greater than `len`; then, in owned mode, `Unsupported` where
+/// two indices may alias (`has_overlap`).
+///
+/// `[2,2]` with the strides `[3,1]`: over 4 elements `OutOfBounds`, over 5 accepted. The rule over
+/// lists of ndarray's `can_index_slice`.
 #[inline(always)]
 pub fn accept(
     elem_size: usize,
@@ -83,6 +101,13 @@ pub fn accept(
 ) -> Result<(), ShapeError>
     ensures fault { result_err result ≡
         acceptance elem_size len mode shape.now (all_signed strides.now) }
+    ensures valid { OnOk result (IsValidLayout shape.now (all_signed strides.now)) }
+    ensures inside { OnOk result (LiesInside len
+        (low_span shape.now (all_signed strides.now))
+        shape.now
+        (all_signed strides.now)) }
+    ensures distinct { mode ≡ CanIndexCheckMode.OwnedMutable →
+        OnOk result (HasDistinctOffsets shape.now (all_signed strides.now)) }
 {
     let span = span_of_lengths(elem_size, shape, strides)?;
     let is_empty = shape.contains(&0);
@@ -98,8 +123,11 @@ pub fn accept(
 
 /// The number of indices of a shape: the product of its lengths, which is 0 with a zero axis.
 ///
-/// Refused with `Overflow` where the product of the lengths that are not 0 passes the greatest
-/// `isize`. ndarray's `size_of_shape_checked`.
+/// # Errors
+///
+/// `Overflow` where the product of the lengths that are not 0 is greater than `isize::MAX`.
+///
+/// `[2,0,3]`: 0. ndarray's `size_of_shape_checked`.
 pub fn size_of_shape_checked<D: Lengths>(dim: &D) -> Result<usize, ShapeError>
     ensures ok { IfOk result (λ n. n ≡ size (D.list dim.now)) }
     ensures fault { result_err result ≡
@@ -110,12 +138,7 @@ pub fn size_of_shape_checked<D: Lengths>(dim: &D) -> Result<usize, ShapeError>
     Ok(if shape.contains(&0) { 0 } else { size })
 }
 
-/// The span of a layout: how many elements lie from its lowest to its highest index.
-///
-/// Refused with `IncompatibleLayout` where there are not as many strides as lengths, and then with
-/// `Overflow` where the product of the lengths that are not 0, the span, or the span in bytes
-/// passes the greatest `isize`. Where it succeeds, the layout is valid. ndarray's
-/// `max_abs_offset_check_overflow`.
+/// As `span_of_lengths`, of a dimension and its strides. ndarray's `max_abs_offset_check_overflow`.
 pub fn max_abs_offset_check_overflow<D: Lengths>(
     elem_size: usize,
     dim: &D,
@@ -131,13 +154,7 @@ pub fn max_abs_offset_check_overflow<D: Lengths>(
     span_of_lengths(elem_size, dim.slice(), strides.slice())
 }
 
-/// Whether a layout may be used over data of `len` elements of `elem_size` bytes.
-///
-/// Refused as `max_abs_offset_check_overflow` is; then with `OutOfBounds` where an index would
-/// leave the data, or where a layout without an index spans more than the data; then with
-/// `Unsupported` where elements are owned or written and two indices may share one, by the rule of
-/// `dim_stride_overlap`. So in owned mode no two indices of what is accepted share an element.
-/// ndarray's `can_index_slice`.
+/// As `accept`, of a dimension and its strides. ndarray's `can_index_slice`.
 #[inline(always)]
 pub fn can_index_slice<D: Lengths>(
     elem_size: usize,
@@ -161,18 +178,25 @@ pub fn can_index_slice<D: Lengths>(
     accept(elem_size, len, dim.slice(), strides.slice(), mode)
 }
 
-/// Whether a shape by its own strides, row-major or column-major, may be used over data of `len`
-/// elements.
+/// Accepts a shape by its own strides, row-major or column-major, over data of `len` elements, or
+/// returns why it is not accepted.
 ///
-/// Refused as `size_of_shape_checked` is, and then with `OutOfBounds` where there are more indices
-/// than elements. No two indices of what is accepted share an element. ndarray's
-/// `can_index_slice_not_custom`.
+/// Each index of an accepted shape is in bounds, and no two of them alias. An accepted shape that
+/// has an index satisfies the no-alias rule of owned mode in either order (`MeetsOwnedRule`).
+///
+/// # Errors
+///
+/// Those of `size_of_shape_checked`; then `OutOfBounds` where there are more indices than elements.
+///
+/// `[2,3]`: over 6 elements accepted, over 5 `OutOfBounds`. ndarray's `can_index_slice_not_custom`.
 pub fn can_index_slice_not_custom<D: Lengths>(len: usize, dim: &D) -> Result<(), ShapeError>
     ensures fault { result_err result ≡ acceptance_of_standard len (D.list dim.now) }
     ensures valid { OnOk result ((order : Order) →
         IsValidLayout (D.list dim.now) (all_signed (standard_strides order (D.list dim.now)))) }
     ensures inside { OnOk result ((order : Order) →
         LiesInside len 0 (D.list dim.now) (all_signed (standard_strides order (D.list dim.now)))) }
+    ensures rule { is_empty (D.list dim.now) ≡ false → OnOk result ((order : Order) →
+        MeetsOwnedRule (D.list dim.now) (all_signed (standard_strides order (D.list dim.now)))) }
     ensures distinct { OnOk result ((order : Order) →
         HasDistinctOffsets (D.list dim.now) (all_signed (standard_strides order (D.list dim.now)))) }
 {
@@ -182,12 +206,18 @@ pub fn can_index_slice_not_custom<D: Lengths>(len: usize, dim: &D) -> Result<(),
     Ok(())
 }
 
-/// Whether a shape by its own strides or by given ones may be used over data of `len` elements of
-/// `elem_size` bytes.
+/// Accepts a shape by its own strides or by given ones, over data of `len` elements of `elem_size`
+/// bytes, or returns why it is not accepted.
 ///
-/// Refused as `can_index_slice` is where strides are given, and else as
-/// `can_index_slice_not_custom` is, whatever the use. In owned mode no two indices of what is
-/// accepted share an element. ndarray's `can_index_slice_with_strides`.
+/// Each index of an accepted layout is in bounds, and in owned mode no two indices alias.
+///
+/// # Errors
+///
+/// Those of `can_index_slice` where strides are given; else those of `can_index_slice_not_custom`,
+/// in either mode.
+///
+/// `[2,3]` over 6 elements in owned mode: `Strides::F` accepted, the strides `[1,1]` `Unsupported`.
+/// ndarray's `can_index_slice_with_strides`.
 pub fn can_index_slice_with_strides<D: Lengths>(
     elem_size: usize,
     len: usize,
@@ -233,7 +263,13 @@ fn some_negative(strides: &[usize]) -> bool
     strides.iter().any(|stride| is_negative_stride(*stride))
 }
 
-/// Checks that no stride is negative; `Unsupported` otherwise. ndarray's `strides_non_negative`.
+/// Accepts strides of which none is negative.
+///
+/// # Errors
+///
+/// `Unsupported` where one is negative.
+///
+/// ndarray's `strides_non_negative`.
 pub fn strides_non_negative<D: Lengths>(strides: &D) -> Result<(), ShapeError>
     ensures { result_err result ≡ sign_fault (all_signed (D.list strides.now)) }
 {

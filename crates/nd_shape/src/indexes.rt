@@ -1,5 +1,5 @@
 //! Walks over all indices of a shape.
-ghost use Rattle.std.specs.Prelude.{◌≡◌, ◌<◌, ◌^◌, length, IsOk, IfOk};
+ghost use Rattle.std.specs.Prelude.{◌≡◌, ◌<◌, ◌^◌, false, length, IsOk, IfOk};
 ghost use Rattle.nd_base.specs.declared.order.Order.TheVariants.{ColumnMajor};
 ghost use Rattle.nd_base.specs.Indices.{indices_in};
 ghost use Rattle.nd_base.specs.Lengths.{NeedsNoMemory};
@@ -17,12 +17,17 @@ use nd_dim::IntoDimension;
 use std::alloc::{AllocError, Global};
 pub use walk::{IndicesIter, IndicesIterF};
 
-/// All indices of a shape, to be walked in row-major order, where the last axis moves fastest.
-/// ndarray's `indices`.
+/// All indices of a shape, over which a `for` loop iterates in row-major order, where the last axis
+/// moves fastest.
 ///
 /// The caller ensures that the product of the lengths is less than 2^64 (`size_checked`).
 ///
-/// Errors: out of memory; none where the type fixes the count of axes or there are at most 4.
+/// # Errors
+///
+/// Out of memory; never where the type fixes the count of axes or there are at most 4, nor from a
+/// dimension, an `IxDynImpl` or a vector.
+///
+/// `[2,2]`: (0, 0), (0, 1), (1, 0), (1, 1). ndarray's `indices`.
 pub fn all_indices<D: Lengths, T: IntoDimension<Dim = D>>(
     alloc: Global,
     shape: T,
@@ -30,16 +35,20 @@ pub fn all_indices<D: Lengths, T: IntoDimension<Dim = D>>(
     requires { size (T.lens shape) < 2 ^ 64 }
     ensures dim { IfOk result (λ indices. D.list indices ≡ T.lens shape) }
     ensures memory { NeedsNoMemory D.NDIM (length (T.lens shape)) → IsOk result }
+    ensures no_memory { T.needs_memory shape ≡ false → IsOk result }
 {
     Ok(Indices::new(shape.into_dimension(alloc)?))
 }
 
-/// A walk over all indices of a shape in column-major order, where the first axis moves fastest.
-/// ndarray's `indices_iter_f`.
+/// An iterator over all indices of a shape in column-major order, where the first axis moves fastest.
 ///
 /// The caller ensures that the product of the lengths is less than 2^64 (`size_checked`).
 ///
-/// Errors: out of memory; none where the type fixes the count of axes or there are at most 4.
+/// # Errors
+///
+/// Out of memory; never where the type fixes the count of axes or there are at most 4.
+///
+/// `[2,2]`: (0, 0), (1, 0), (0, 1), (1, 1). ndarray's `indices_iter_f`.
 pub fn indices_iter_f<D: Lengths, T: IntoDimension<Dim = D>>(
     alloc: Global,
     shape: T,

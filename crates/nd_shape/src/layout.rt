@@ -129,13 +129,13 @@ impl Layout {
     pub fn tendency(self) -> i32
         ensures { result ≡ tendency_of_bits self }
     {
-        (self.count(Layout::CORDER) - self.count(Layout::FORDER))
-            + (self.count(Layout::CPREFER) - self.count(Layout::FPREFER))
+        (self.flag_at(Layout::CORDER) - self.flag_at(Layout::FORDER))
+            + (self.flag_at(Layout::CPREFER) - self.flag_at(Layout::FPREFER))
     }
 
     /// 1 where some bit of `flag` is set, or else 0.
     #[inline(always)]
-    fn count(self, flag: u32) -> i32
+    fn flag_at(self, flag: u32) -> i32
         ensures value { result ≡ flag_at self flag }
         ensures least { pos 0 ≤ℤ result }
         ensures greatest { result ≤ℤ pos 1 }

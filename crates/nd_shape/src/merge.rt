@@ -17,11 +17,17 @@ fn is_multiple(stride: usize, count: usize, step: usize) -> bool
     signed(stride) as i128 == signed(count) as i128 * signed(step) as i128
 }
 
-/// Merges the axis `take` into the axis `into` where one stride serves for the entries of both, and
-/// answers whether it did; else nothing changes. The rule over lists of ndarray's `merge_axes`.
+/// Merges the axis `take` into the axis `into` where one stride serves for the coordinates of both,
+/// and returns whether it did.
 ///
-/// The caller ensures that the layout is valid (`span_of_lengths`), and that the axes are two
-/// different ones that it has.
+/// Then the axis `into` has all of them, that of `take` moving slowest, and `take` keeps a length of
+/// 1, or of 0 where there are none. Where it returns false, `shape` and `strides` are unchanged.
+/// They are one number for each axis, strides in elements and with their sign (`signed`). The caller
+/// ensures that the layout is valid (`span_of_lengths`), and that the axes are two different ones
+/// that it has.
+///
+/// `[3,2]` with the strides `[2,1]`, 0 into 1: `[1,6]` with `[2,1]`. The rule over lists of ndarray's
+/// `merge_axes`.
 #[inline(always)]
 pub fn merge_fitting(shape: &mut [usize], strides: &mut [usize], take: usize, into: usize) -> bool
     requires valid { IsValidLayout shape.old (all_signed strides.old) }
@@ -61,12 +67,10 @@ pub fn merge_fitting(shape: &mut [usize], strides: &mut [usize], take: usize, in
     true
 }
 
-/// Merges the axis `take` into the axis `into` where one stride serves for the entries of both:
-/// then the axis `into` has them all, that of `take` moving slowest among them, and `take` keeps one
-/// entry, or none where there are none. Answers whether it did; else nothing changes.
+/// As `merge_fitting`, of a dimension and its strides. ndarray's `merge_axes`.
 ///
-/// The caller ensures that the layout is valid, as it is where `max_abs_offset_check_overflow`
-/// succeeds, and that the axes are two different ones that it has. ndarray's `merge_axes`.
+/// The caller ensures that the layout is valid (`max_abs_offset_check_overflow`), and that the axes
+/// are two different ones that it has.
 #[inline]
 pub fn merge_axes<D: Lengths>(dim: &mut D, strides: &mut D, take: Axis, into: Axis) -> bool
     requires valid { IsValidLayout (D.list dim.old) (all_signed (D.list strides.old)) }

@@ -18,10 +18,14 @@ fn reach_down(len: usize, stride: usize) -> usize
     if stride < 0 { reach(len, stride) } else { 0 }
 }
 
-/// How many elements lie between the lowest index and the first one. The rule over lists of
-/// ndarray's `offset_from_low_addr_ptr_to_logical_ptr`.
+/// The distance from the lowest address of a layout to element (0, .., 0), in elements: the offset of
+/// the first index in data that begins at the lowest one.
 ///
-/// The caller ensures that the span is at most the greatest `isize` (`span_of_lengths`).
+/// `shape` and `strides` are one number for each axis, strides in elements and with their sign
+/// (`signed`). The caller ensures that the span is at most `isize::MAX` (`span_of_lengths`).
+///
+/// `[2,3]` with the strides `[-3,1]`: 3. The rule over lists of ndarray's
+/// `offset_from_low_addr_ptr_to_logical_ptr`.
 #[inline(always)]
 pub fn low_span(shape: &[usize], strides: &[usize]) -> usize
     requires { span shape.now (all_signed strides.now) ≤ limit }
@@ -34,12 +38,9 @@ pub fn low_span(shape: &[usize], strides: &[usize]) -> usize
     total
 }
 
-/// How many elements lie between the lowest element of a layout and that of its first index: the
-/// place of the first index in data that begins at the lowest element.
-/// ndarray's `offset_from_low_addr_ptr_to_logical_ptr`.
+/// As `low_span`, of a dimension and its strides. ndarray's `offset_from_low_addr_ptr_to_logical_ptr`.
 ///
-/// The caller ensures that the layout is valid, as it is where `max_abs_offset_check_overflow`
-/// succeeds.
+/// The caller ensures that the layout is valid (`max_abs_offset_check_overflow`).
 pub fn offset_from_low_addr_ptr_to_logical_ptr<D: Lengths>(dim: &D, strides: &D) -> usize
     requires { IsValidLayout (D.list dim.now) (all_signed (D.list strides.now)) }
     ensures { result ≡ low_span_of_layout (D.list dim.now) (all_signed (D.list strides.now)) }

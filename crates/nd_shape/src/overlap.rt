@@ -136,17 +136,29 @@ fn breaks_owned_rule(shape: &[usize], strides: &[usize]) -> bool
     some_overlaps_others(shape, strides)
 }
 
-/// Whether two indices of a layout may share an element: it has an index, and breaks the rule for
-/// owned data. One walk along the axes in the order of their strides would answer the same.
+/// Whether two indices of a layout may alias: it has an index, and breaks the no-alias rule of owned
+/// mode. By the rule each axis of length greater than 1 has a stride longer than the summed spans of
+/// the other axes of no longer stride.
 ///
-/// The caller ensures that there is a stride for each length, and that the span is at most the
-/// greatest `isize`. The rule over lists of ndarray's `dim_stride_overlap`.
+/// `shape` and `strides` are one number for each axis, strides in elements and with their sign
+/// (`signed`). The caller ensures that there are as many strides as lengths, and that the span is at
+/// most `isize::MAX` (`span_of_lengths`). Where the result is false, no two indices alias; where it
+/// is true, it may be that none do. One loop along the axes in the order of their strides would
+/// return the same.
+///
+/// Takes no memory, and time of the square of the count of axes at most.
+///
+/// `[3,2]` with the strides `[2,1]`: false; with `[1,1]`: true. The rule over lists of ndarray's
+/// `dim_stride_overlap`.
 #[inline(always)]
 pub fn has_overlap(shape: &[usize], strides: &[usize]) -> bool
     requires same_count { length shape.now ≡ length strides.now }
     requires span_fits { span shape.now (all_signed strides.now) ≤ limit }
     ensures rule { result ≡
         (not (is_empty shape.now) && not (meets_owned_rule shape.now (all_signed strides.now))) }
+    ensures apart { IsFalse result ↔
+        (IsTrue (is_empty shape.now) ⊎ MeetsOwnedRule shape.now (all_signed strides.now)) }
+    ensures distinct { IsFalse result → HasDistinctOffsets shape.now (all_signed strides.now) }
     ensures walk { (order : List ℕ) → IsStrideOrder (all_signed strides.now) order →
         result ≡ (not (is_empty shape.now)
         && not (meets_owned_walk shape.now (all_signed strides.now) order)) }
@@ -154,17 +166,12 @@ pub fn has_overlap(shape: &[usize], strides: &[usize]) -> bool
     breaks_owned_rule(shape, strides) && !shape.contains(&0)
 }
 
-/// Whether two indices of a layout may share an element: it has an index, and some axis of more
-/// than one entry has a stride no longer than the summed spans of the other axes of no greater
-/// stride. Where it answers no, no two indices share an element; where it answers yes, it may be
-/// that none do. One walk along the axes in the order of their strides would answer the same.
+/// As `has_overlap`, of a dimension and its strides. ndarray's `dim_stride_overlap`.
 ///
-/// The caller ensures that the layout is valid: there is a stride for each length, and the product
-/// of the lengths that are not 0 and the span are at most the greatest `isize`, as they are where
-/// `max_abs_offset_check_overflow` succeeds. Takes no memory. ndarray's `dim_stride_overlap`.
+/// The caller ensures that the layout is valid (`max_abs_offset_check_overflow`).
 pub fn dim_stride_overlap<D: Lengths>(dim: &D, strides: &D) -> bool
     requires { IsValidLayout (D.list dim.now) (all_signed (D.list strides.now)) }
-    ensures answer { result ≡
+    ensures rule { result ≡
         (not (is_empty (D.list dim.now))
         && not (meets_owned_rule (D.list dim.now) (all_signed (D.list strides.now)))) }
     ensures apart { IsFalse result ↔

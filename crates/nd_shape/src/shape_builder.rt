@@ -1,6 +1,6 @@
 //! Shapes with an order or with strides, and what they are built from.
 ghost use Rattle.std.specs.Option.{IsSome, IfSome, option_map};
-ghost use Rattle.std.specs.Prelude.{◌≡◌, ℕ, ◌<◌, ◌^◌, ◌↔◌, List, length, Option, Some, IsTrue, IsOk, IfOk, Ok, if◌then◌else◌};
+ghost use Rattle.std.specs.Prelude.{◌≡◌, ℕ, ◌<◌, ◌^◌, ◌↔◌, Bool, false, List, length, Option, Some, IsTrue, IsOk, IfOk, Ok, if◌then◌else◌};
 ghost use Rattle.nd_base.specs.Lengths.{NeedsNoMemory};
 ghost use Rattle.nd_base.specs.Size.{size};
 ghost use Rattle.nd_base.specs.declared.order.Order.{Order};
@@ -91,10 +91,14 @@ impl<D> StrideShape<D> {
 }
 
 impl<D: Lengths> StrideShape<D> {
-    /// The shape that is built, with the strides of its order. In place of ndarray's
-    /// `From<T> for StrideShape<D>`.
+    /// The shape that is built, with the strides of its order.
     ///
-    /// Errors: out of memory; none where the type fixes the count of axes or there are at most 4.
+    /// # Errors
+    ///
+    /// Out of memory; never where the type fixes the count of axes or there are at most 4, nor from
+    /// a `Shape`, a dimension, an `IxDynImpl` or a vector.
+    ///
+    /// In place of ndarray's `From<T> for StrideShape<D>`.
     pub fn from_builder<T: ShapeBuilder<Dim = D>>(
         alloc: Global,
         builder: T,
@@ -102,6 +106,7 @@ impl<D: Lengths> StrideShape<D> {
         ensures dim { IfOk result (λ shape. D.list shape.dim ≡ T.built_lens builder) }
         ensures strides { IfOk result (λ shape. shape.strides ≡ strides_in (T.built_order builder)) }
         ensures memory { NeedsNoMemory D.NDIM (length (T.built_lens builder)) → IsOk result }
+        ensures no_memory { T.build_needs_memory builder ≡ false → IsOk result }
     {
         let shape = builder.into_shape_with_order(alloc)?;
         let strides = if shape.is_c() { Strides::C } else { Strides::F };
@@ -173,36 +178,56 @@ pub trait ShapeBuilder {
     // its order,
     ghost built_order: { Self → Order };
 
-    // and the list of strides.
+    // the list of strides,
     ghost given_strides: { Self.Strides → List ℕ };
 
-    /// The shape with its order. ndarray's `into_shape_with_order`.
+    // and whether memory is needed to make a dimension of the shape's list,
+    ghost build_needs_memory: { Self → Bool };
+
+    // or of that of the strides.
+    ghost strides_need_memory: { Self.Strides → Bool };
+
+    /// The shape with its order.
     ///
-    /// Errors: out of memory; none where the type fixes the count of axes or there are at most 4.
+    /// # Errors
+    ///
+    /// Out of memory; never where the type fixes the count of axes or there are at most 4, nor from
+    /// a `Shape`, a dimension, an `IxDynImpl` or a vector.
+    ///
+    /// ndarray's `into_shape_with_order`.
     fn into_shape_with_order(self, alloc: Global) -> Result<Shape<Self::Dim>, AllocError>
     where
         Self: Sized,
         ensures list { IfOk result (λ shape. Self.Dim.list (dim_of shape) ≡ built_lens self) }
         ensures order { IfOk result (λ shape. order_of shape ≡ built_order self) }
-        ensures memory { NeedsNoMemory Self.Dim.NDIM (length (built_lens self)) → IsOk result };
+        ensures memory { NeedsNoMemory Self.Dim.NDIM (length (built_lens self)) → IsOk result }
+        ensures no_memory { build_needs_memory self ≡ false → IsOk result };
 
-    /// The shape in column-major order. ndarray's `f`.
+    /// The shape in column-major order.
     ///
-    /// Errors: out of memory; none where the type fixes the count of axes or there are at most 4.
+    /// # Errors
+    ///
+    /// Those of `into_shape_with_order`.
+    ///
+    /// ndarray's `f`.
     fn f(self, alloc: Global) -> Result<Shape<Self::Dim>, AllocError>
     where
         Self: Sized,
         ensures list { IfOk result (λ shape. Self.Dim.list (dim_of shape) ≡ built_lens self) }
         ensures order { IfOk result (λ shape. order_of shape ≡ Order.ColumnMajor) }
         ensures memory { NeedsNoMemory Self.Dim.NDIM (length (built_lens self)) → IsOk result }
+        ensures no_memory { build_needs_memory self ≡ false → IsOk result }
     {
         self.set_f(alloc, true)
     }
 
-    /// The shape in column-major order where the answer is yes, and else in row-major order.
-    /// ndarray's `set_f`.
+    /// The shape in column-major order where `is_f` is true, and else in row-major order.
     ///
-    /// Errors: out of memory; none where the type fixes the count of axes or there are at most 4.
+    /// # Errors
+    ///
+    /// Those of `into_shape_with_order`.
+    ///
+    /// ndarray's `set_f`.
     fn set_f(self, alloc: Global, is_f: bool) -> Result<Shape<Self::Dim>, AllocError>
     where
         Self: Sized,
@@ -210,16 +235,21 @@ pub trait ShapeBuilder {
         ensures order { IfOk result (λ shape.
             order_of shape ≡ (if is_f then Order.ColumnMajor else Order.RowMajor)) }
         ensures memory { NeedsNoMemory Self.Dim.NDIM (length (built_lens self)) → IsOk result }
+        ensures no_memory { build_needs_memory self ≡ false → IsOk result }
     {
         let mut shape = self.into_shape_with_order(alloc)?;
         shape.order = Order::column_major(is_f);
         Ok(shape)
     }
 
-    /// The shape with these strides. ndarray's `strides`.
+    /// The shape with these strides, in elements and with their sign (`signed`).
     ///
-    /// Errors: out of memory; none where the type fixes the count of axes, or there are at most
-    /// 4 axes and at most 4 strides.
+    /// # Errors
+    ///
+    /// Out of memory; never where the type fixes the count of axes, where there are at most 4 axes
+    /// and at most 4 strides, nor where both are a `Shape`, a dimension, an `IxDynImpl` or a vector.
+    ///
+    /// ndarray's `strides`.
     fn strides(
         self,
         alloc: Global,
@@ -232,6 +262,9 @@ pub trait ShapeBuilder {
             option_map Self.Dim.list (custom_strides shape.strides) ≡ Some (given_strides strides)) }
         ensures memory { NeedsNoMemory Self.Dim.NDIM (length (built_lens self))
             → NeedsNoMemory Self.Dim.NDIM (length (given_strides strides))
+            → IsOk result }
+        ensures no_memory { build_needs_memory self ≡ false
+            → strides_need_memory strides ≡ false
             → IsOk result };
 }
 
@@ -245,6 +278,10 @@ impl<T: IntoDimension> ShapeBuilder for T {
     ghost built_order = { λ _. Order.RowMajor };
 
     ghost given_strides = { T.lens };
+
+    ghost build_needs_memory = { T.needs_memory };
+
+    ghost strides_need_memory = { T.needs_memory };
 
     fn into_shape_with_order(self, alloc: Global) -> Result<Shape<T::Dim>, AllocError> {
         Ok(Shape {
@@ -273,6 +310,10 @@ impl<D: Lengths> ShapeBuilder for Shape<D> {
     ghost built_order = { order_of };
 
     ghost given_strides = { D.list };
+
+    ghost build_needs_memory = { λ _. false };
+
+    ghost strides_need_memory = { λ _. false };
 
     fn into_shape_with_order(self, _alloc: Global) -> Result<Self, AllocError>
         ensures { result ≡ Ok self }

@@ -1,30 +1,22 @@
 //! What slices and elements print as.
 use nd_slice::{Slice, SliceInfoElem};
 use std::alloc::Global;
-use std::fmt::Display;
+use test_tables::is_printed;
 
 /// A range with a step.
 fn range(start: isize, end: Option<isize>, step: isize) -> SliceInfoElem {
     SliceInfoElem::Slice { start, end, step }
 }
 
-/// Whether a value prints as this text.
-fn prints<T: Display>(alloc: Global, value: &T, text: &str) -> bool {
-    match value.to_string(alloc) {
-        Ok(printed) => printed.as_str() == text,
-        Err(_) => false,
-    }
-}
-
 /// Whether an element prints as this text, and a range as a slice too.
 fn elem_prints(alloc: Global, elem: SliceInfoElem, text: &str) -> bool {
     let as_slice = match elem {
         SliceInfoElem::Slice { start, end, step } => {
-            prints(alloc, &Slice { start, end, step }, text)
+            is_printed(Slice { start, end, step }.to_string(alloc), text)
         }
         _ => true,
     };
-    as_slice && prints(alloc, &elem, text)
+    as_slice && is_printed(elem.to_string(alloc), text)
 }
 
 #[test]

@@ -1,6 +1,8 @@
+pub mod AcceptedRule
 pub mod Broadcasts
 pub mod ByRows
 pub mod Collapses
+pub mod LongerAxes
 pub mod LongerSteps
 pub mod Merged
 pub mod Offsets
@@ -8,6 +10,7 @@ pub mod OneAxis
 pub mod Picked
 pub mod PickedSize
 pub mod PicksFit
+pub mod ReadView
 pub mod Replaced
 pub mod SliceSteps
 pub mod Slices

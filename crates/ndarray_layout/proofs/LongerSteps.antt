@@ -6,7 +6,7 @@ use Rattle.std.proofs.lemmas.Bool.{cases_lt, cond-true, cond-false, eq-eqb, ne_e
 use Rattle.std.proofs.lemmas.List.{append-nil, take_more_set}
 use Rattle.nd_base.specs.Size.{nonzero_size, size, limit}
 use Rattle.nd_base.proofs.laws.NonzeroSize.{nonzero_size_pos, nonzero_size_from_other}
-use Rattle.ndarray_layout.specs.LongerAxes.{of_longer}
+use Rattle.ndarray_layout.specs.private.LongerAxes.{of_longer}
 
 -- an axis of length 1 is left out
 pub of_longer_at_one : (shape items : List ℕ) (axis : ℕ) → axis < length shape → length shape ≡ length items → get_or shape axis 0 ≡ 1 → of_longer (drop axis shape) (drop axis items) ≡ of_longer (drop (axis + 1) shape) (drop (axis + 1) items)

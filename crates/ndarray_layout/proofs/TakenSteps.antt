@@ -18,48 +18,18 @@ use Rattle.nd_base.specs.declared.order.Order.{Order}
 use Rattle.nd_base.specs.Lengths.{NeedsNoMemory}
 use Rattle.nd_base.specs.ShapeFault.{shape_fault}
 use Rattle.ndarray_layout.specs.ReshapedView.{IsReshapeRefusal}
-use Rattle.ndarray_layout.specs.Run.{AllFit, IsEndedBy, IsRefusedBy, NeedNoMemory, Outcome, stayed, stepped, unless_fault, run_of_step, joined, in_turn, run_of}
+use Rattle.ndarray_layout.specs.Run.{AllFit, IsRefusedBy, NeedNoMemory, run_of}
+use Rattle.ndarray_layout.proofs.laws.Run.{first_then, in_turn, joined, run_of_append, run_of_fitting, run_of_refused, stayed}
 use Rattle.ndarray_layout.specs.View.{View, IsView}
 
--- a run after no steps
-after_none : (second : Outcome) (view : View) → second ≡ joined None (stayed None view) second
-after_none second view = ap (λ n. record { taken = n; view = second.view; source = second.source; fault = second.fault }) (let e : second.taken ≡ 0 + second.taken = omega arith in e)
-
--- three runs in turn are the first before the other two, or the first two before the third
-joined_in_turn : (a b c : Outcome) (f g : Option ErrorKind) → a.fault ≡ f → b.fault ≡ g → joined f a (joined g b c) ≡ joined (joined f a b).fault (joined f a b) c
-joined_in_turn a b c None None fine also = rw (also) (ap (λ n. record { taken = n; view = c.view; source = λ index. a.source (b.source (c.source index)); fault = c.fault }) (let e : a.taken + (b.taken + c.taken) ≡ (a.taken + b.taken) + c.taken = omega arith in e))
-joined_in_turn a b c None (Some kind) fine fault = rw (fault) refl
-joined_in_turn a b c (Some kind) g fault also = rw (fault) refl
-
--- a list's run is that of a first part and then that of the rest
-pub run_of_append : (steps more : List StepValue) (view : View) → run_of (steps ++ more) view ≡ in_turn (run_of steps) (run_of more) view
-run_of_append [] more view = after_none (run_of more view) view
-run_of_append (step ∷ steps) more view = by (step_fault view step) (run_of_append steps more (view_after view step))
-  where
-    by : (fault : Option ErrorKind) → run_of (steps ++ more) (view_after view step) ≡ in_turn (run_of steps) (run_of more) (view_after view step) → joined (unless_fault fault view step).fault (unless_fault fault view step) (run_of (steps ++ more) (unless_fault fault view step).view)
-        ≡ joined (joined (unless_fault fault view step).fault (unless_fault fault view step) (run_of steps (unless_fault fault view step).view)).fault (joined (unless_fault fault view step).fault (unless_fault fault view step) (run_of steps (unless_fault fault view step).view)) (run_of more (joined (unless_fault fault view step).fault (unless_fault fault view step) (run_of steps (unless_fault fault view step).view)).view)
-    by None rest =
-        let after = view_after view step in
-        ap (joined None (stepped view step)) rest ∙ joined_in_turn (stepped view step) (run_of steps after) (run_of more (run_of steps after).view) None (run_of steps after).fault refl refl
-    by (Some kind) rest = refl
-
--- the run of one step
-run_of_one : (step : StepValue) (view : View) → run_of (step ∷ []) view ≡ run_of_step step view
-run_of_one step view = by (step_fault view step)
-  where
-    by : (fault : Option ErrorKind) → joined (unless_fault fault view step).fault (unless_fault fault view step) (stayed None (unless_fault fault view step).view) ≡ unless_fault fault view step
-    by None = refl
-    by (Some kind) = refl
-
 -- one more step
-pub run_of_next : (steps : List StepValue) (at : ℕ) (step : StepValue) (view : View) → slice_get steps at ≡ Some step → run_of (take (at + 1) steps) view ≡ in_turn (run_of (take at steps)) (run_of_step step) view
+pub run_of_next : (steps : List StepValue) (at : ℕ) (step : StepValue) (view : View) → slice_get steps at ≡ Some step → run_of (take (at + 1) steps) view ≡ in_turn (run_of (take at steps)) (run_of (step ∷ [])) view
 run_of_next steps at step view there =
     let within = slice_get_within steps at step there in
     let item = get_or_from_slice_get steps at step step there in
     let count : at + 1 ≡ suc at = omega arith in
     let cut = ap (λ n. take n steps) count ∙ take-suc steps at step within ∙ ap (λ s. take at steps ++ (s ∷ [])) item in
-    let first = run_of (take at steps) view in
-    ap (λ part. run_of part view) cut ∙ run_of_append (take at steps) (step ∷ []) view ∙ ap (joined first.fault first) (run_of_one step first.view)
+    ap (λ part. run_of part view) cut ∙ run_of_append (take at steps) (step ∷ []) view
 
 -- a step that doesn't fit ends the run of the whole list
 pub run_of_ended : (steps : List StepValue) (at : ℕ) (step : StepValue) (view left : View) (kind : ErrorKind) → slice_get steps at ≡ Some step → (run_of (take at steps) view).fault ≡ None → (run_of (take at steps) view).view ≡ left → step_fault left step ≡ Some kind
@@ -70,7 +40,7 @@ run_of_ended steps at step view left kind there before same fault =
     let rest = drop-cons steps at step within ∙ ap (λ s. s ∷ drop (suc at) steps) item in
     let first = run_of (take at steps) view in
     let cut = sym (take-append-drop at steps) ∙ ap (λ part. take at steps ++ part) rest in
-    let ended : run_of (step ∷ drop (suc at) steps) left ≡ stayed (Some kind) left = rw (fault) refl in
+    let ended = run_of_refused step (drop (suc at) steps) left kind fault in
     ap (λ part. run_of part view) cut ∙ run_of_append (take at steps) (step ∷ drop (suc at) steps) view ∙ rw (before, same, ended) refl
 
 -- as many steps were taken as there are where none has a fault
@@ -78,23 +48,23 @@ pub taken_of_no_fault : (steps : List StepValue) (view : View) → (run_of steps
 taken_of_no_fault [] view none = refl
 taken_of_no_fault (step ∷ steps) view none = by (step_fault view step) (taken_of_no_fault steps (view_after view step)) none
   where
-    by : (fault : Option ErrorKind) → ((run_of steps (view_after view step)).fault ≡ None → (run_of steps (view_after view step)).taken ≡ length steps) → (joined (unless_fault fault view step).fault (unless_fault fault view step) (run_of steps (unless_fault fault view step).view)).fault ≡ None → (joined (unless_fault fault view step).fault (unless_fault fault view step) (run_of steps (unless_fault fault view step).view)).taken ≡ suc (length steps)
+    by : (fault : Option ErrorKind) → ((run_of steps (view_after view step)).fault ≡ None → (run_of steps (view_after view step)).taken ≡ length steps) → (first_then fault view step (run_of steps (view_after view step))).fault ≡ None → (first_then fault view step (run_of steps (view_after view step))).taken ≡ suc (length steps)
     by None rest none = omega (arith, rest none)
     by (Some kind) rest none = absurd (cc)
 
 -- a step that fits leaves what it makes of the view so far
 pub taken_so_far : (steps : List StepValue) (at : ℕ) (step : StepValue) (start left : View) → slice_get steps at ≡ Some step → (run_of (take at steps) start).fault ≡ None → (run_of (take at steps) start).view ≡ left → step_fault left step ≡ None
     → ((run_of (take (at + 1) steps) start).fault ≡ None) × ((run_of (take (at + 1) steps) start).view ≡ view_after left step)
-taken_so_far steps at step start left there before same fits = rw (run_of_next steps at step start there, before, same, fits) (refl, refl)
+taken_so_far steps at step start left there before same fits = rw (run_of_next steps at step start there, before, same, run_of_fitting step [] left fits) (refl, refl)
 
 -- one that is refused by a fault ends the run of them all
-pub ended_by : (steps : List StepValue) (at : ℕ) (step : StepValue) (start left : View) (fault : LayoutError) → slice_get steps at ≡ Some step → (run_of (take at steps) start).fault ≡ None → (run_of (take at steps) start).view ≡ left → IsRefusedBy left fault step
-    → IsEndedBy (run_of steps start) at fault left
-ended_by steps at step start left (Memory e) there before same refused = tt
-ended_by steps at step start left (Shape kind) there before same refused =
+pub ended_by : (steps : List StepValue) (at : ℕ) (step : StepValue) (start left : View) (fault : LayoutError) (kind : ErrorKind) → slice_get steps at ≡ Some step → (run_of (take at steps) start).fault ≡ None → (run_of (take at steps) start).view ≡ left → IsRefusedBy left fault step
+    → fault ≡ Shape kind → ((run_of steps start).fault ≡ Some kind) × ((run_of steps start).taken ≡ at) × ((run_of steps start).view ≡ left)
+ended_by steps at step start left fault kind there before same refused is =
     let within = slice_get_within steps at step there in
     let count = taken_of_no_fault (take at steps) start before ∙ length-take-le at steps (omega (arith, within)) in
-    rw (run_of_ended steps at step start left kind there before same refused.0) (refl, omega (arith, count), refl)
+    let known : IsRefusedBy left (Shape kind) step = subst (λ f. IsRefusedBy left f step) is refused in
+    rw (run_of_ended steps at step start left kind there before same known.0) (refl, omega (arith, count), refl)
 
 -- a kind of step to which memory is refused only where it fits
 abbrev pub WantsMemoryLast : StepValue → Type 0
@@ -168,6 +138,6 @@ pub all_fit : (steps : List StepValue) (view : View) → IsView view → (run_of
 all_fit [] view v none = tt
 all_fit (step ∷ steps) view v none = by (step_fault view step) refl (all_fit steps (view_after view step)) none
   where
-    by : (fault : Option ErrorKind) → step_fault view step ≡ fault → (IsView (view_after view step) → (run_of steps (view_after view step)).fault ≡ None → AllFit steps (view_after view step)) → (joined (unless_fault fault view step).fault (unless_fault fault view step) (run_of steps (unless_fault fault view step).view)).fault ≡ None → AllFit (step ∷ steps) view
+    by : (fault : Option ErrorKind) → step_fault view step ≡ fault → (IsView (view_after view step) → (run_of steps (view_after view step)).fault ≡ None → AllFit steps (view_after view step)) → (first_then fault view step (run_of steps (view_after view step))).fault ≡ None → AllFit (step ∷ steps) view
     by None e rest none = (fits_of_no_fault_of_step view step v e, rest (IsView-view_after view step v e) none)
     by (Some kind) e rest none = absurd (cc)

@@ -12,7 +12,7 @@ use Rattle.nd_base.specs.Signed.{signed, all_signed}
 use Rattle.nd_base.specs.Size.{size, nonzero_size, limit}
 use Rattle.ndarray_layout.specs.View.{IsView, view_places}
 use Rattle.nd_base.specs.Reading.{as_read}
-use Rattle.ndarray_layout.specs.Walk.{view_as_read, row_view}
+use Rattle.ndarray_layout.specs.private.ReadView.{view_as_read, row_view}
 use Rattle.nd_base.proofs.laws.Indices.{indices_more}
 use Rattle.nd_base.proofs.laws.NonzeroSize.{nonzero_size_pos}
 use Rattle.ndarray_layout.proofs.OneAxis.{axis_within}

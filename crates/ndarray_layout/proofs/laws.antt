@@ -3,16 +3,15 @@ pub mod CollapsedView
 pub mod DistinctPlaces
 pub mod Keeps
 pub mod KeepsPlaces
-pub mod LongerAxes
 pub mod MergedView
 pub mod ReshapedView
+pub mod RowMajor
 pub mod Run
 pub mod SharePlace
 pub mod SlicedView
 pub mod Step
 pub mod StepFits
 pub mod View
-pub mod Walk
 pub use Rattle.nd_base.proofs.laws.Dim
 pub use Rattle.nd_base.proofs.laws.Entries
 pub use Rattle.nd_base.proofs.laws.Indices

@@ -2,7 +2,6 @@ pub mod BroadcastView
 pub mod CollapsedView
 pub mod DistinctPlaces
 pub mod KeepsPlaces
-pub mod LongerAxes
 pub mod MergedView
 pub mod ReshapedView
 pub mod Run
@@ -11,7 +10,7 @@ pub mod SlicedView
 pub mod Step
 pub mod StepFits
 pub mod View
-pub mod Walk
+pub mod private
 pub mod reshape
 pub use Rattle.nd_base.specs.Dim
 pub use Rattle.nd_base.specs.DistinctOffsets

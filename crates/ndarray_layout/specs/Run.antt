@@ -19,37 +19,16 @@ pub record Outcome : Type 0 where
   pub source : List ℕ → List ℕ
   pub fault : Option ErrorKind
 
--- what became of a view of which no step was taken
-abbrev pub stayed : Option ErrorKind → View → Outcome
-stayed fault view = record { taken = 0; view = view; source = λ index. index; fault = fault }
-
--- what became of a view of which one step was taken
-abbrev pub stepped : View → StepValue → Outcome
-stepped view step = record { taken = 1; view = view_after view step; source = source_index view step; fault = None }
-
--- what becomes of a view by a step that has this fault, or none
-abbrev pub unless_fault : Option ErrorKind → View → StepValue → Outcome
-unless_fault None view step = stepped view step
-unless_fault (Some kind) view step = stayed (Some kind) view
-
--- what one step makes of a view
-abbrev pub run_of_step : StepValue → View → Outcome
-run_of_step step view = unless_fault (step_fault view step) view step
-
--- two outcomes, of which the second began with the view that the first left; a fault ends both
-abbrev pub joined : Option ErrorKind → Outcome → Outcome → Outcome
-joined None first second =
-    record { taken = first.taken + second.taken; view = second.view; source = λ index. first.source (second.source index); fault = second.fault }
-joined (Some kind) first second = first
-
--- what two parts of a run make of a view, one after the other
-abbrev pub in_turn : (View → Outcome) → (View → Outcome) → View → Outcome
-in_turn first second view = joined (first view).fault (first view) (second (first view).view)
-
--- what a list of steps makes of a view
+-- what a list of steps makes of a view: without a step it is unchanged; a first step with a fault ends the run there, and
+-- else the other steps follow from the view that it leaves
 abbrev pub run_of : List StepValue → View → Outcome
-run_of [] = stayed None
-run_of (step ∷ steps) = in_turn (run_of_step step) (run_of steps)
+run_of [] view = record { taken = 0; view = view; source = λ index. index; fault = None }
+run_of (step ∷ steps) view = elim (step_fault view step) [
+  | Some kind ↦ record { taken = 0; view = view; source = λ index. index; fault = Some kind }
+  | None ↦
+      let rest = run_of steps (view_after view step) in
+      record { taken = 1 + rest.taken; view = rest.view; source = λ index. source_index view step (rest.source index); fault = rest.fault }
+]
 
 -- no step is a broadcast
 abbrev pub HasNoBroadcast : List StepValue → Type 0
@@ -74,12 +53,6 @@ pub record StopsAt (steps : List StepValue) (start : View) (at : ℕ) (fault : L
   pub before : (run_of (take at steps) start).fault ≡ None
   pub left : (run_of (take at steps) start).view ≡ view
   pub refused : IsSomeAnd (slice_get steps at) (IsRefusedBy view fault)
-
--- a run ends as it is reported: a step that is refused for a fault of its own is the one that ends the run of all steps;
--- where memory was refused, nothing is said
-abbrev pub IsEndedBy : Outcome → ℕ → LayoutError → View → Type 0
-IsEndedBy outcome at (Shape kind) view = (outcome.fault ≡ Some kind) × (outcome.taken ≡ at) × (outcome.view ≡ view)
-IsEndedBy outcome at (Memory e) view = Unit {0}
 
 -- examples
 abbrev two_by_three : View
@@ -125,6 +98,3 @@ stops_at_the_second = record { before = refl; left = refl; refused = refused_a_s
 
 not_at_the_first : StopsAt (CollapseTo 0 1 ∷ CollapseTo 0 1 ∷ []) two_by_three 0 (Shape OutOfBounds) two_by_three → ⊥
 not_at_the_first stops = no_refusal_of_an_entry stops.refused
-
-ended_by_the_second : IsEndedBy (run_of (CollapseTo 0 1 ∷ CollapseTo 0 1 ∷ []) two_by_three) 1 (Shape OutOfBounds) second_row
-ended_by_the_second = (refl, refl, refl)

@@ -23,10 +23,6 @@ slice_of fit elems view = record {
   strides = sliced_strides fit elems view.shape view.strides;
 }
 
--- a view is the slice of another by an argument
-abbrev pub IsSliceOf : Fit → List SliceInfoElem → View → View → Type 0
-IsSliceOf fit elems view result = result ≡ slice_of fit elems view
-
 -- the fault of slicing a shape into a type that may fix a count of axes: that the argument leaves more or fewer, then that of the argument
 abbrev pub slice_refusal : Fit → Option ℕ → List ℕ → List SliceInfoElem → Option ErrorKind
 slice_refusal fit None shape elems = argument_fault fit shape elems
@@ -36,9 +32,8 @@ slice_refusal fit (Some count) shape elems = if out_count elems == count then ar
 start_of_the_last_row : sliced_start Strict (elem.Index (negsuc 0) ∷ []) (record { start = 7; shape = 2 ∷ []; strides = pos 3 ∷ [] }) ≡ pos 10
 start_of_the_last_row = refl
 
-last_row_is_a_slice :
-    IsSliceOf Strict (elem.Index (negsuc 0) ∷ []) (record { start = 7; shape = 2 ∷ []; strides = pos 3 ∷ [] }) (record { start = 10; shape = []; strides = [] })
-last_row_is_a_slice = refl
+last_row : slice_of Strict (elem.Index (negsuc 0) ∷ []) (record { start = 7; shape = 2 ∷ []; strides = pos 3 ∷ [] }) ≡ record { start = 10; shape = []; strides = [] }
+last_row = refl
 
 every_other_backwards : slice_of Strict (elem.Slice (pos 1) None (negsuc 1) ∷ []) (record { start = 5; shape = 4 ∷ []; strides = pos 3 ∷ [] })
     ≡ record { start = 14; shape = 2 ∷ []; strides = negsuc 5 ∷ [] }

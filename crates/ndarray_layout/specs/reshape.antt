@@ -2,4 +2,3 @@ pub mod ForcedStrides
 pub mod Joints
 pub mod Keeps
 pub mod ReshapeFault
-pub mod Walk

@@ -35,7 +35,7 @@ pub trait SequenceMut: Sequence + IndexMut<usize> {
     ghost same_target: { Self → Self → Type 0 };
 
     /// Writes the number at a position. The caller ensures that there is one. A write by index does so as
-    /// well, but no contract says of it what is left.
+    /// well; its contract says which number it shows, and not what the write leaves.
     fn set(&mut self, k: usize, item: usize)
         requires { k < length (Self.items self.old) }
         ensures items { Self.items self.new ≡ slice_set (Self.items self.old) k item }
@@ -144,7 +144,10 @@ impl<D: Lengths> Index<usize> for Forward<&mut D> {
 
 impl<D: Lengths> IndexMut<usize> for Forward<&mut D> {
     #[inline(always)]
-    fn index_mut(&mut self, k: usize) -> &mut usize {
+    fn index_mut(&mut self, k: usize) -> &mut usize
+        requires { k < length (D.list self.old.0.now) }
+        ensures { slice_get (D.list self.old.0.now) k ≡ Some result.now }
+    {
         &mut self.0.slice_mut()[k]
     }
 }
@@ -223,7 +226,10 @@ impl<D: Lengths> Index<usize> for Reverse<&mut D> {
 
 impl<D: Lengths> IndexMut<usize> for Reverse<&mut D> {
     #[inline(always)]
-    fn index_mut(&mut self, k: usize) -> &mut usize {
+    fn index_mut(&mut self, k: usize) -> &mut usize
+        requires { k < length (D.list self.old.0.now) }
+        ensures { slice_get (reverse (D.list self.old.0.now)) k ≡ Some result.now }
+    {
         let items = self.0.slice_mut();
         &mut items[items.len() - 1 - k]
     }

@@ -29,6 +29,16 @@ pub fn argument(rt: &impl Abort, alloc: Global, row: &mut Row<'_>) -> Vec<SliceI
     elems(alloc, row).expect(rt, "an argument")
 }
 
+/// What a word means, by a table of words.
+pub fn meaning<T: Copy>(table: &[(&str, T)], word: &str) -> Option<T> {
+    for (name, meaning) in table {
+        if *name == word {
+            return Some(*meaning);
+        }
+    }
+    None
+}
+
 /// Whether this is the next word of a row.
 pub fn says(rt: &impl Abort, row: &mut Row<'_>, answer: &str) -> bool {
     word(rt, row) == answer

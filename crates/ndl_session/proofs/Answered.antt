@@ -3,8 +3,8 @@ use Rattle.std.proofs.Common.{◌≡◌, ℕ, List, Option, string_bytes, subst,
 use Rattle.std.specs.Option.{IfSome}
 use Rattle.std.specs.Io.KnownBytes.{Appends}
 use Rattle.std.proofs.lemmas.Option.{IfSome_then}
-use Rattle.ndl_answer.specs.declared.answer.Answer.{Answer}
-use Rattle.ndl_answer.specs.Answer.{answer_of, IsReply}
+use Rattle.ndl_session.specs.declared.answer.Answer.{Answer}
+use Rattle.ndl_session.specs.Answer.{answer_of, IsReply}
 
 pub answered : (known_input old new : Option (List ℕ)) (answer : Answer) (bytes : List ℕ) (status : ℕ)
     → IfSome known_input (λ input. IsReply answer (answer_of input))

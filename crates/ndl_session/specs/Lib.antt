@@ -1,4 +1,4 @@
-pub mod Session
-pub use Rattle.ndl_answer.specs.Answer
-pub use Rattle.ndl_text.specs.Device
-pub use Rattle.ndl_text.specs.Watched
+pub mod Answer
+pub mod devices
+pub mod script
+pub mod text

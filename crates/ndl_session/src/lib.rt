@@ -1,7 +1,12 @@
 //! Reads a script to its end, and writes the whole answer to it.
 #![tactic(auto)]
 
-mod over_devices;
+mod answer;
+mod devices;
+mod script;
+mod text;
 
-pub use ndl_text::Watched;
-pub use over_devices::session;
+pub use devices::session::session;
+pub use devices::watched::Watched;
+pub use script::data_line::Layout;
+pub use script::{ReadError, Script, read_script};

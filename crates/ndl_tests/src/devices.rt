@@ -1,8 +1,7 @@
 //! Runs over devices that move a few bytes at a time, and whose calls go wrong.
 use crate::fakes::{FakeReader, FakeWriter, Fault, FaultyCall};
 use crate::session::status_of;
-use ndl_session::session;
-use ndl_text::Watched;
+use ndl_session::{Watched, session};
 use std::alloc::Global;
 use std::io::ErrorKind;
 use std::process::Abort;

@@ -1,5 +1,6 @@
 //! What `read_script` answers: what a script says, or the first line that can't be read.
-use ndl_answer::{CanIndexCheckMode, ReadError, Script, read_script};
+use ndarray_layout::CanIndexCheckMode;
+use ndl_session::{ReadError, Script, read_script};
 use std::alloc::{AllocError, Global};
 use std::test::Fail;
 

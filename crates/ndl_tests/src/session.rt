@@ -1,6 +1,5 @@
 //! Whole runs.
-use ndl_session::session;
-use ndl_text::Watched;
+use ndl_session::{Watched, session};
 use std::alloc::Global;
 use std::fmt::Write;
 use std::process::Abort;

@@ -1,6 +1,6 @@
 //! Each rule of what a failure is, by an example.
 use crate::fakes::{FakeReader, FakeWriter, Fault};
-use ndl_text::Watched;
+use ndl_session::Watched;
 use std::io::{ErrorKind, Read, Write};
 use std::process::Abort;
 

@@ -1,7 +1,5 @@
 //! What is printed of a text and of words.
-use example_tiles_edits::{Edit, edited};
-use example_tiles_picture::{read_picture, text_of_picture};
-use example_tiles_words::read_edits;
+use example_tiles_edits::{Edit, edited, read_edits, read_picture, text_of_picture};
 use std::alloc::{AllocError, Global};
 
 /// The text of the picture that edits make of the one that a text spells, or the message of why there is none.

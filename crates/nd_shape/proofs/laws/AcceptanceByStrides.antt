@@ -1,8 +1,8 @@
 -- Laws of layouts that are accepted by their own strides or by given ones.
-use Rattle.std.proofs.Common.{◌≡◌, ℕ, ◌≤◌, List, None, arith}
+use Rattle.std.proofs.Common.{◌≡◌, ℕ, ◌≤◌, false, List, None, arith}
 use Rattle.std.proofs.lemmas.Grind.{common_steps}
 use Rattle.nd_base.specs.Signed.{all_signed}
-use Rattle.nd_base.specs.Size.{size, nonzero_size, limit}
+use Rattle.nd_base.specs.Size.{size, nonzero_size, is_empty, limit}
 use Rattle.nd_base.specs.Span.{low_span}
 use Rattle.nd_base.specs.ValidLayout.{IsValidLayout}
 use Rattle.nd_base.specs.declared.order.Order.{Order}
@@ -15,7 +15,8 @@ use Rattle.nd_shape.specs.declared.checks.CanIndexCheckMode.TheVariants.{OwnedMu
 use Rattle.nd_shape.specs.declared.shape_builder.Strides.{Strides}
 use Rattle.nd_shape.specs.declared.shape_builder.Strides.TheVariants.{C, F, Custom}
 use Rattle.nd_shape.specs.ShapeBuilder.{standard_strides, strides_list}
-use Rattle.nd_shape.proofs.laws.StandardStrides.{standard_valid, standard_low_span, standard_inside, standard_distinct}
+use Rattle.nd_shape.specs.OwnedRule.{MeetsOwnedRule}
+use Rattle.nd_shape.proofs.laws.StandardStrides.{standard_valid, standard_low_span, standard_inside, standard_distinct, standard_meets_rule}
 use Rattle.nd_shape.proofs.laws.Acceptance.{accepted_valid, accepted_lies_inside, accepted_distinct}
 
 -- ---- shapes by their own strides
@@ -37,6 +38,10 @@ standard_accepted_valid order len shape h = standard_valid order shape (standard
 -- and every two indices have offsets of their own
 pub standard_accepted_distinct : (order : Order) (len : ℕ) (shape : List ℕ) → acceptance_of_standard len shape ≡ None → HasDistinctOffsets shape (all_signed (standard_strides order shape))
 standard_accepted_distinct order len shape h = standard_distinct order shape (standard_size len shape h)
+
+-- by the no-alias rule, where there is an index
+pub standard_accepted_rule : (order : Order) (len : ℕ) (shape : List ℕ) → acceptance_of_standard len shape ≡ None → is_empty shape ≡ false → MeetsOwnedRule shape (all_signed (standard_strides order shape))
+standard_accepted_rule order len shape h some = standard_meets_rule order shape (standard_size len shape h) some
 
 -- ---- by their own strides or by given ones
 from_low_span : (order : Order) (len : ℕ) (shape : List ℕ) → acceptance_of_standard len shape ≡ None → LiesInside len (low_span shape (all_signed (standard_strides order shape))) shape (all_signed (standard_strides order shape))

@@ -20,7 +20,8 @@ use Rattle.nd_dim.proofs.laws.Strides.{default_count, default_small, fortran_at,
 use Rattle.nd_base.specs.DistinctOffsets.{HasDistinctOffsets}
 use Rattle.nd_base.specs.Inside.{LiesInside}
 use Rattle.nd_shape.specs.ShapeBuilder.{standard_strides}
-use Rattle.nd_shape.proofs.laws.DefaultStrides.{default_strides_distinct, default_strides_span, fortran_strides_distinct, fortran_strides_span}
+use Rattle.nd_shape.specs.OwnedRule.{MeetsOwnedRule}
+use Rattle.nd_shape.proofs.laws.DefaultStrides.{default_strides_distinct, default_strides_meet_rule, default_strides_span, fortran_strides_distinct, fortran_strides_meet_rule, fortran_strides_span}
 
 -- ---- one stride for each axis, none past the limit
 -- of a shape with a zero length they are zeros
@@ -108,3 +109,8 @@ standard_inside order len shape top room index h =
 pub standard_distinct : (order : Order) (shape : List ℕ) → nonzero_size shape ≤ limit → HasDistinctOffsets shape (all_signed (standard_strides order shape))
 standard_distinct RowMajor shape top = rw (standard_signed RowMajor shape top) (default_strides_distinct shape)
 standard_distinct ColumnMajor shape top = rw (standard_signed ColumnMajor shape top) (fortran_strides_distinct shape)
+
+-- where there is an index, by the no-alias rule of owned mode itself
+pub standard_meets_rule : (order : Order) (shape : List ℕ) → nonzero_size shape ≤ limit → is_empty shape ≡ false → MeetsOwnedRule shape (all_signed (standard_strides order shape))
+standard_meets_rule RowMajor shape top some = rw (standard_signed RowMajor shape top) (default_strides_meet_rule shape some)
+standard_meets_rule ColumnMajor shape top some = rw (standard_signed ColumnMajor shape top) (fortran_strides_meet_rule shape some)

@@ -3,10 +3,10 @@
 ghost use Rattle.std.specs.Borrow.{sem};
 ghost use Rattle.std.specs.Io.BufRead.{Rests};
 ghost use Rattle.std.specs.Option.{option_map};
-ghost use Rattle.std.specs.Prelude.{◌≡◌, ◌<◌, ◌≤◌, ◌^◌, drop, length, slice_get, IsOk, IfOk};
+ghost use Rattle.std.specs.Prelude.{◌≡◌, ◌<◌, ◌≤◌, ◌^◌, true, drop, length, slice_get, IsOk, IfOk};
 ghost use Rattle.nd_base.specs.Dim.{lengths};
 ghost use Rattle.nd_base.specs.Indices.{indices_in};
-ghost use Rattle.nd_base.specs.Size.{size};
+ghost use Rattle.nd_base.specs.Size.{size, is_empty};
 
 use crate::indexes::order::{Columns, Rows, WalkOrder};
 use nd_base::{INLINE_AXES, IxDyn, Lengths};
@@ -53,14 +53,21 @@ impl<O: WalkOrder> Cursor<O> {
     ///
     /// The caller ensures that the product of the lengths is less than 2^64 (`size_checked`).
     ///
-    /// Errors: out of memory; none where there are at most 4 axes.
+    /// # Errors
+    ///
+    /// Out of memory; never where there are at most 4 axes, or where a length is 0.
+    ///
+    /// `[2,2]` in row-major order: (0, 0), (0, 1), (1, 0), (1, 1).
     pub fn new(alloc: Global, dim: IxDyn) -> Result<Self, AllocError>
         requires { size (lengths dim) < 2 ^ 64 }
         ensures items { IfOk result (λ cursor. cursor ≡ indices_in O.order (lengths dim)) }
         ensures memory { length (lengths dim) ≤ INLINE_AXES → IsOk result }
+        ensures no_index { is_empty (lengths dim) ≡ true → IsOk result }
     {
-        let index = IxDyn::zeros(alloc, dim.ndim())?;
         let left = product(dim.slice());
+        // (without an index to lend none is kept, which takes no memory)
+        let axes = if left == 0 { 0 } else { dim.ndim() };
+        let index = IxDyn::zeros(alloc, axes)?;
         Ok(Cursor {
             dim,
             index,

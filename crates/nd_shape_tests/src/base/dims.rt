@@ -2,11 +2,12 @@
 ghost use Rattle.std.specs.Prelude.{◌<◌, ◌≤◌, length};
 
 use crate::base::lists::ixdyn;
+use crate::dim::checks::gives;
 use nd_base::{
     Dim, FixedCount, Ix1, Ix2, Ix3, IxDyn, Lengths, new_ix0, new_ix1, new_ix2, new_ix3, new_ix4,
     new_ix5, new_ix6,
 };
-use std::alloc::{AllocError, Global};
+use std::alloc::Global;
 
 /// A value of a fixed count of axes has these lengths.
 fn is<const N: usize>(dim: Dim<[usize; N]>, lens: [usize; N]) -> bool {
@@ -100,13 +101,6 @@ fn has(alloc: Global, lens: &[usize], other: &[usize]) -> bool
 {
     let dim = ixdyn(alloc, lens);
     dim.slice() == lens && dim.ndim() == lens.len() && !dim.equal(&ixdyn(alloc, other))
-}
-
-fn gives(made: Result<IxDyn, AllocError>, lens: &[usize]) -> bool {
-    match made {
-        Ok(made) => made.slice() == lens,
-        Err(_) => false,
-    }
 }
 
 #[test]

@@ -1,20 +1,17 @@
 //! Refusals, their kinds and what they print.
-use nd_base::{ErrorKind, LayoutError, ShapeError, from_kind};
-use std::alloc::{AllocError, Global};
+ghost use Rattle.std.specs.Prelude.{◌≡◌, [], ◌∷◌, IfErr, IfOk, alloc_error};
+ghost use Rattle.nd_base.specs.declared.error.LayoutError.TheVariants.{Memory};
 
-fn is(printed: &Result<String, AllocError>, text: &str) -> bool {
-    match printed {
-        Ok(printed) => printed.as_str() == text,
-        Err(_) => false,
-    }
-}
+use nd_base::{ErrorKind, LayoutError, ShapeError, from_kind};
+use std::alloc::{AllocError, AllocFailed, Global};
+use test_tables::is_printed;
 
 /// A refusal of a kind prints the text, and is its own copy.
 fn prints(alloc: Global, kind: ErrorKind, text: &str) -> bool {
     let error = ShapeError::from_kind(kind);
     error.kind() == kind
-        && is(&error.to_string(alloc), text)
-        && is(&format!(in alloc; "{error:?}"), text)
+        && is_printed(error.to_string(alloc), text)
+        && is_printed(format!(in alloc; "{error:?}"), text)
         && error.clone().unwrap() == error
 }
 
@@ -65,4 +62,21 @@ fn converts(rt: HostRuntime) {
         matches!(&shape, LayoutError::Shape(fault) if fault.kind() == ErrorKind::Overflow)
             && matches!(&memory, LayoutError::Memory(_))
     );
+}
+
+/// Two numbers, by calls that fail with an `AllocError` and with an `AllocFailed`.
+fn two_numbers(alloc: Global) -> Result<Vec<usize>, LayoutError>
+    ensures numbers { IfOk result (λ numbers. numbers.items ≡ 1 ∷ 2 ∷ []) }
+    ensures memory { IfErr result (λ error. error ≡ Memory alloc_error) }
+{
+    let mut numbers = vec![in alloc; 1usize]?;
+    numbers.push(2)?;
+    Ok(numbers)
+}
+
+#[test]
+fn a_push_converts(rt: HostRuntime) {
+    let refused: LayoutError = AllocFailed { value: 7usize }.into();
+    assert!(rt; matches!(&refused, LayoutError::Memory(_)));
+    assert!(rt; two_numbers(rt.alloc()).is_ok_and(|numbers| numbers.len() == 2));
 }

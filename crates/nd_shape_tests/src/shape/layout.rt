@@ -6,6 +6,7 @@ use crate::tables::{Told, hold};
 use nd_dim::Lengths;
 use nd_shape::{CanIndexCheckMode, Layout, can_index_slice, is_layout_c, is_layout_f};
 use std::alloc::Global;
+use test_tables::is_printed;
 
 /// How the indices of a layout lie one after another, or that it isn't valid.
 pub(crate) fn orders<D: Lengths>(dim: &D, strides: &D) -> &'static str {
@@ -53,10 +54,7 @@ fn r5_rows(rt: HostRuntime) {
 
 /// Whether a set of bits prints this text and has this tendency.
 fn prints(alloc: Global, layout: Layout, text: &str, tendency: i32) -> bool {
-    match format!(in alloc; "{layout:?}") {
-        Ok(printed) => printed.as_str() == text && layout.tendency() == tendency,
-        Err(_) => false,
-    }
+    is_printed(format!(in alloc; "{layout:?}"), text) && layout.tendency() == tendency
 }
 
 #[test]

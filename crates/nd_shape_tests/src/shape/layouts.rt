@@ -13,7 +13,7 @@ use nd_shape::{
     offset_from_low_addr_ptr_to_logical_ptr, size_of_shape_checked,
 };
 use std::alloc::Global;
-use test_tables::{Lists, made, or_fault};
+use test_tables::{Lists, is_printed, made, or_fault};
 
 /// The size of an element, and how many there are.
 type Data = (usize, usize);
@@ -56,14 +56,6 @@ fn ask<D: Lengths>(data: Data, dim: &D, strides: &D, index: &D) -> Answer {
     )
 }
 
-/// Whether this is what a row says, as it is printed.
-fn is_printed(alloc: Global, claim: Answer, answer: &str) -> bool {
-    match format!(in alloc; "{claim:?}") {
-        Ok(text) => text.as_str() == answer,
-        Err(_) => false,
-    }
-}
-
 /// Whether a row says all this of a layout. A list of another count is no index of a type that fixes
 /// its count.
 pub(crate) fn is_laid_out<D: Lengths>(
@@ -74,7 +66,10 @@ pub(crate) fn is_laid_out<D: Lengths>(
 ) -> bool {
     let data = (row.fourth.at(0), row.fourth.at(1));
     match made::<D>(alloc, row.third.as_slice()) {
-        Some(index) => is_printed(alloc, ask(data, dim, strides, &index), row.answer),
+        Some(index) => {
+            let claim = ask(data, dim, strides, &index);
+            is_printed(format!(in alloc; "{claim:?}"), row.answer)
+        },
         None => D::NDIM.is_some(),
     }
 }

@@ -16,7 +16,7 @@ use Rattle.nd_slice.specs.declared.elem.SliceInfoElem.TheVariants as elem
 use Rattle.nd_slice.specs.Picks.{slice_with, nearest, start_meaning, end_meaning, range, between, picks}
 use Rattle.nd_slice.specs.Selected.{selected}
 use Rattle.nd_slice.specs.Sliced.{sliced_shape}
-use Rattle.nd_slice.proofs.laws.Between.{length-between, between_within, pick_up}
+use Rattle.nd_slice.proofs.laws.Between.{length-between, pick_up}
 
 -- ---- of a range
 length-between_one : (start end : ℕ) → length (between (pos 1) start end) ≡ end - start

@@ -4,10 +4,10 @@ ghost use Rattle.std.specs.Int.{IsGcd, int_signum};
 ghost use Rattle.nd_base.specs.Signed.{magnitude};
 ghost use Rattle.nd_slice.specs.Equation.{with_sign_of};
 
-/// The greatest common divisor of two numbers, and a multiple of each: the two multiples differ by
-/// the divisor.
+/// The greatest common divisor of two numbers, and two Bezout coefficients without their signs: these
+/// multiples of the numbers differ by the divisor.
 #[derive(Clone, Copy)]
-pub(crate) struct Cofactors {
+pub(crate) struct BezoutCoefficients {
     pub(crate) gcd: usize,
     /// What the first number is multiplied by.
     pub(crate) first: usize,
@@ -17,8 +17,8 @@ pub(crate) struct Cofactors {
     pub(crate) first_is_greater: bool,
 }
 
-/// Finds the greatest common divisor of two numbers and its cofactors, by Euclid's steps.
-pub(crate) fn common_divisor(a: usize, b: usize) -> Cofactors
+/// Finds the greatest common divisor of two numbers and its Bezout coefficients, by Euclid's steps.
+pub(crate) fn common_divisor(a: usize, b: usize) -> BezoutCoefficients
     requires first_some { 0 < a }
     requires first_small { a ≤ 2 ^ 63 }
     requires second_some { 0 < b }
@@ -49,7 +49,7 @@ pub(crate) fn common_divisor(a: usize, b: usize) -> Cofactors
         next_second = after_second;
         first_is_greater = !first_is_greater;
     }
-    Cofactors {
+    BezoutCoefficients {
         gcd,
         first,
         second,

@@ -1,9 +1,9 @@
 -- Laws of strides that keep the places of a layout: there are some exactly where the sizes agree and no joint is bad.
-use Rattle.std.proofs.Common.{◌≡◌, ℕ, suc, ◌%◌, ◌<◌, false, ℤ, pos, List, [], ◌∷◌, length, get_or, map, reverse, refl, sym, ap, ◌∙◌, inl, inr, arith, subst}
+use Rattle.std.proofs.Common.{◌≡◌, ℕ, suc, ◌-◌, ◌%◌, ◌<◌, false, ℤ, pos, List, [], ◌∷◌, length, get_or, map, reverse, refl, sym, ap, ◌∙◌, inl, inr, arith, subst}
 use Rattle.std.specs.Prelude.{◌↔◌, ◌==◌, Bool, Some, None, if◌then◌else◌}
-use Rattle.std.proofs.lemmas.Bool.{cases_Bool, cond-true, cond-false, eq-eqb, eqb-true}
+use Rattle.std.proofs.lemmas.Bool.{cases_Bool, cases_lt, cond-true, cond-false, eq-eqb, eqb-true}
 use Rattle.std.proofs.lemmas.Int.{ints}
-use Rattle.std.proofs.lemmas.List.{get_or-map, length-map, length-reverse, reverse-reverse}
+use Rattle.std.proofs.lemmas.List.{get_or-map, get_or-reverse, get_or_past, length-map, length-reverse, reverse-reverse}
 use Rattle.std.proofs.lemmas.List.FromFn.{fill_by_all, length-map-range_with_len}
 use Rattle.nd_base.specs.declared.error.ErrorKind.TheVariants.{IncompatibleShape, IncompatibleLayout}
 use Rattle.nd_base.specs.declared.order.Order.{Order}
@@ -16,12 +16,13 @@ use Rattle.nd_base.specs.Size.{size, is_empty}
 use Rattle.nd_base.proofs.laws.Indices.{get_or-indices_in, length-indices_in}
 use Rattle.nd_base.proofs.laws.Offset.{offset_of-reverse}
 use Rattle.nd_base.proofs.laws.Reading.{length-as_read, as_read-as_read, size-as_read, is_empty-as_read}
-use Rattle.ndarray_layout.specs.reshape.ForcedStrides.{forced_strides, indices_after, offset_at_rank, stride_at}
+use Rattle.nd_dim.specs.Strides.{size_after}
+use Rattle.ndarray_layout.specs.reshape.ForcedStrides.{forced_strides, offset_at_rank, stride_at}
 use Rattle.ndarray_layout.specs.reshape.Joints.{has_bad_joint}
 use Rattle.ndarray_layout.specs.reshape.Keeps.{Keeps, AgreeOnLonger}
 use Rattle.nd_base.specs.Reading.{as_read}
 use Rattle.ndarray_layout.specs.reshape.ReshapeFault.{reshape_fault}
-use Rattle.ndarray_layout.specs.reshape.Walk.{PlacesAlike}
+use Rattle.ndarray_layout.specs.private.ReshapeProgress.{PlacesAlike}
 use Rattle.ndarray_layout.proofs.reshapes.Complete.{good-of-alike, alike-of-good}
 use Rattle.ndarray_layout.proofs.reshapes.Forced.{forced-of-alike, alike-forced}
 
@@ -105,7 +106,7 @@ keeps-exactly order from strides to some more e = (λ fits. make fits, λ k. fit
 -- ---- and then the strides of the definition do
 -- on each axis of more than one entry all strides that keep the places are those of the definition
 pub keeps-forced : (order : Order) (from : List ℕ) (strides : List ℤ) (to : List ℕ) (others : List ℤ) (axis : ℕ) → is_empty to ≡ false → length from ≡ length strides → Keeps order from strides to others →
-    axis < length to → 1 < get_or (as_read order to) axis 0 → get_or (as_read order others) axis (pos 0) ≡ offset_at_rank (as_read order from) (as_read order strides) (indices_after (as_read order to) axis)
+    axis < length to → 1 < get_or (as_read order to) axis 0 → get_or (as_read order others) axis (pos 0) ≡ offset_at_rank (as_read order from) (as_read order strides) (size_after (as_read order to) axis)
 keeps-forced order from strides to others axis more e k l long =
     let sizes = size-of-keeps order from strides to others k in
     let equal : length (as_read order to) ≡ length (as_read order others) = length-as_read order to ∙ k.same_count ∙ sym (length-as_read order others) in
@@ -162,9 +163,34 @@ fault-complete order from strides to some more e =
     let kept = keeps-exactly order from strides to some more e in
     (λ none. kept.0 (fits.0 none), λ k. fits.1 (kept.1 k))
 
+-- an item counted from the back
+from-back : {A : Type 0} (items : List A) (axis : ℕ) (d : A) → axis < length items → get_or (reverse items) (length items - 1 - axis) d ≡ get_or items axis d
+from-back items axis d l =
+    let back : length items - 1 - (length items - 1 - axis) ≡ axis = omega arith in
+    get_or-reverse items (length items - 1 - axis) d (omega arith) ∙ ap (λ k. get_or items k d) back
+
+longer-within : (lens : List ℕ) (axis : ℕ) → 1 < get_or lens axis 0 → axis < length lens
+longer-within lens axis long = elim (cases_lt axis (length lens)) [
+  | inl within ↦ within
+  | inr past ↦ let none = get_or_past lens axis 0 past in absurd (omega (arith, none, long))
+]
+
+-- what agrees as it is read agrees as it stands
+agree-as_read : (order : Order) (to : List ℕ) (others strides : List ℤ) → length to ≡ length others → length to ≡ length strides
+    → ((axis : ℕ) → axis < length to → 1 < get_or (as_read order to) axis 0 → get_or (as_read order others) axis (pos 0) ≡ get_or (as_read order strides) axis (pos 0))
+    → AgreeOnLonger to others strides
+agree-as_read RowMajor to others strides e g agree axis long = agree axis (longer-within to axis long) long
+agree-as_read ColumnMajor to others strides e g agree axis long =
+    let l = longer-within to axis long in
+    let back = length to - 1 - axis in
+    let one : get_or (reverse others) back (pos 0) ≡ get_or others axis (pos 0) = ap (λ n. get_or (reverse others) (n - 1 - axis) (pos 0)) e ∙ from-back others axis (pos 0) (omega arith) in
+    let other : get_or (reverse strides) back (pos 0) ≡ get_or strides axis (pos 0) = ap (λ n. get_or (reverse strides) (n - 1 - axis) (pos 0)) g ∙ from-back strides axis (pos 0) (omega arith) in
+    sym one ∙ agree back (omega arith) (subst (λ n. 1 < n) (sym (from-back to axis 0 l)) long) ∙ other
+
 -- all strides that do agree with those of the definition on each axis of more than one entry
-pub keeps-agree : (order : Order) (from : List ℕ) (strides : List ℤ) (to : List ℕ) (others : List ℤ) → is_empty from ≡ false → is_empty to ≡ false → length from ≡ length strides → Keeps order from strides to others → AgreeOnLonger order to others (forced_strides order from strides to)
-keeps-agree order from strides to others some more e k axis l long =
-    let fits = (keeps-exactly order from strides to some more e).1 (others, k) in
+pub keeps-agree : (order : Order) (from : List ℕ) (strides : List ℤ) (to : List ℕ) (others : List ℤ) → is_empty from ≡ false → is_empty to ≡ false → length from ≡ length strides → Keeps order from strides to others → AgreeOnLonger to others (forced_strides order from strides to)
+keeps-agree order from strides to others some more e k =
+    let forced = forced-keeps order from strides to some more e ((keeps-exactly order from strides to some more e).1 (others, k)) in
+    agree-as_read order to others (forced_strides order from strides to) k.same_count forced.same_count (λ axis l long.
     keeps-forced order from strides to others axis more e k l long
-    ∙ sym (keeps-forced order from strides to (forced_strides order from strides to) axis more e (forced-keeps order from strides to some more e fits) l long)
+    ∙ sym (keeps-forced order from strides to (forced_strides order from strides to) axis more e forced l long))

@@ -16,7 +16,7 @@ use Rattle.nd_base.proofs.laws.Rank.{is_index-index_of_rank}
 use Rattle.nd_base.proofs.laws.Size.{size_of_nonempty, size_take_more, size_take_le, size_drop_le, size_from, drop_nonempty}
 use Rattle.nd_base.proofs.laws.Span.{low_high_span}
 use Rattle.ndarray_layout.specs.reshape.ReshapeFault.{fault_as_read}
-use Rattle.ndarray_layout.specs.reshape.Walk.{PlacesAlike, IsDense, segment, CanWalk, GoodBelow, IsReached, IsBlock}
+use Rattle.ndarray_layout.specs.private.ReshapeProgress.{PlacesAlike, IsDense, segment, CanWalk, GoodBelow, IsReached, IsBlock}
 use Rattle.ndarray_layout.proofs.reshapes.Blocks.{length-seg, first-block}
 use Rattle.ndarray_layout.proofs.reshapes.Halfway.{halfway-first, halfway-reached, len-some}
 use Rattle.ndarray_layout.proofs.reshapes.Reached.{take-mono, sizes-fault}

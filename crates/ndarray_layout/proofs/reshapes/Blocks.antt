@@ -7,7 +7,7 @@ use Rattle.std.proofs.lemmas.List.{take_more, get_or-drop, length-drop, length-t
 use Rattle.nd_base.specs.Size.{size, is_empty}
 use Rattle.nd_base.proofs.laws.Size.{size_take_more}
 use Rattle.ndarray_layout.specs.reshape.Joints.{cumulative_products}
-use Rattle.ndarray_layout.specs.reshape.Walk.{Member, IsDense, IsBlock, segment}
+use Rattle.ndarray_layout.specs.private.ReshapeProgress.{Member, IsDense, IsBlock, segment}
 use Rattle.ndarray_layout.proofs.reshapes.Reached.{LastLonger, take-mono, no-product}
 use Rattle.ndarray_layout.proofs.reshapes.DenseRuns.{dense-push, dense-push-one}
 

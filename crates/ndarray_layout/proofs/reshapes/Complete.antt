@@ -9,7 +9,7 @@ use Rattle.nd_base.specs.Size.{size, is_empty}
 use Rattle.nd_base.proofs.laws.Size.{size_of_nonempty, size-reverse}
 use Rattle.ndarray_layout.specs.reshape.Joints.{loose_joints, cumulative_products, is_bad_joint, has_bad_joint}
 use Rattle.ndarray_layout.proofs.reshapes.Joins.{long_axes, joints, joints-of-long, tail-of-joint, joint-of-tail, count-reverse}
-use Rattle.ndarray_layout.specs.reshape.Walk.{Member, PlacesAlike}
+use Rattle.ndarray_layout.specs.private.ReshapeProgress.{Member, PlacesAlike}
 use Rattle.ndarray_layout.proofs.reshapes.Members.{member-of-any, any-of-member}
 use Rattle.ndarray_layout.proofs.reshapes.Products.{long_lens, tail-of-product, product-of-tail, size-long_lens}
 use Rattle.ndarray_layout.proofs.reshapes.Ranks.{long-long_axes, long-reverse, count-long_axes, lens-long_axes, offset-at-rank, long-kept, long-left}

@@ -9,7 +9,7 @@ use Rattle.nd_base.specs.Offset.{offset_of}
 use Rattle.nd_base.specs.Rank.{index_of_rank}
 use Rattle.nd_base.specs.Size.{size, is_empty}
 use Rattle.nd_base.proofs.laws.Size.{size_of_nonempty, size-append, size-push}
-use Rattle.ndarray_layout.specs.reshape.Walk.{PlacesAlike, IsDense}
+use Rattle.ndarray_layout.specs.private.ReshapeProgress.{PlacesAlike, IsDense}
 use Rattle.ndarray_layout.proofs.reshapes.Joins.{is_empty-rest}
 use Rattle.nd_base.proofs.laws.Times.{times_times, times_sum}
 

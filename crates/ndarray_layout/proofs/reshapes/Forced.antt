@@ -11,8 +11,9 @@ use Rattle.nd_base.specs.Rank.{index_of_rank}
 use Rattle.nd_base.specs.Size.{size, is_empty}
 use Rattle.nd_base.proofs.laws.Rank.{is_index-index_of_rank}
 use Rattle.nd_base.proofs.laws.Size.{size_of_nonempty, size_from, size_drop_le, drop_nonempty}
-use Rattle.ndarray_layout.specs.reshape.ForcedStrides.{indices_after, offset_at_rank, stride_of_one, stride_at}
-use Rattle.ndarray_layout.specs.reshape.Walk.{PlacesAlike}
+use Rattle.nd_dim.specs.Strides.{size_after}
+use Rattle.ndarray_layout.specs.reshape.ForcedStrides.{offset_at_rank, stride_of_one, stride_at}
+use Rattle.ndarray_layout.specs.private.ReshapeProgress.{PlacesAlike}
 use Rattle.ndarray_layout.proofs.reshapes.Joins.{is_empty-rest}
 
 -- the first index lies at the beginning
@@ -25,8 +26,8 @@ offset-first (len ∷ lens) (stride ∷ strides) =
     rw (zero-div (size lens), none) (omega (arith, ints, rest))
 
 -- an axis of several entries has fewer indices after it than there are
-pub indices_after-below : (lens : List ℕ) (axis : ℕ) → is_empty lens ≡ false → axis < length lens → 1 < get_or lens axis 0 → indices_after lens axis < size lens
-indices_after-below lens axis h l long =
+pub size_after-below : (lens : List ℕ) (axis : ℕ) → is_empty lens ≡ false → axis < length lens → 1 < get_or lens axis 0 → size_after lens axis < size lens
+size_after-below lens axis h l long =
     let some = size_of_nonempty (drop (axis + 1) lens) (drop_nonempty lens (axis + 1) h) in
     let whole = size_from lens axis l in
     let within = size_drop_le lens axis h in
@@ -35,7 +36,7 @@ indices_after-below lens axis h l long =
     omega arith
 
 -- the index after so many as an axis has after it has a 1 there, and zeros
-pub offset-of-axis : (lens : List ℕ) (strides : List ℤ) (axis : ℕ) → is_empty lens ≡ false → length lens ≡ length strides → axis < length lens → 1 < get_or lens axis 0 → offset_of strides (index_of_rank lens (indices_after lens axis)) ≡ get_or strides axis (pos 0)
+pub offset-of-axis : (lens : List ℕ) (strides : List ℤ) (axis : ℕ) → is_empty lens ≡ false → length lens ≡ length strides → axis < length lens → 1 < get_or lens axis 0 → offset_of strides (index_of_rank lens (size_after lens axis)) ≡ get_or strides axis (pos 0)
 offset-of-axis [] strides axis h e l long = absurd (omega arith)
 offset-of-axis (len ∷ lens) [] axis h e l long = absurd (omega arith)
 offset-of-axis (len ∷ lens) (stride ∷ strides) zero h e l long =
@@ -46,9 +47,9 @@ offset-of-axis (len ∷ lens) (stride ∷ strides) zero h e l long =
     ap₂ (λ q r. (pos q *ℤ stride) +ℤ offset_of strides (index_of_rank lens r)) first later ∙ omega (arith, ints, rest)
 offset-of-axis (len ∷ lens) (stride ∷ strides) (suc axis) h e l long =
     let none = is_empty-rest len lens h in
-    let q = indices_after lens axis in
-    let few : q < size lens = indices_after-below lens axis none (omega arith) long in
-    let same : indices_after (len ∷ lens) (suc axis) ≡ q = ap (λ n. size (drop n (len ∷ lens))) (add-one (suc axis)) ∙ sym (ap (λ n. size (drop n lens)) (add-one axis)) in
+    let q = size_after lens axis in
+    let few : q < size lens = size_after-below lens axis none (omega arith) long in
+    let same : size_after (len ∷ lens) (suc axis) ≡ q = ap (λ n. size (drop n (len ∷ lens))) (add-one (suc axis)) ∙ sym (ap (λ n. size (drop n lens)) (add-one axis)) in
     let rest = offset-of-axis lens strides axis none (omega arith) (omega arith) long in
     ap (λ r. offset_of (stride ∷ strides) (index_of_rank (len ∷ lens) r)) same
     ∙ ap₂ (λ i r. (pos i *ℤ stride) +ℤ offset_of strides (index_of_rank lens r)) (div-eq_of_lt few) (mod-eq_of_lt few)
@@ -75,15 +76,15 @@ offset-agree (len ∷ lens) (stride ∷ strides) (other ∷ others) (i ∷ index
 
 -- ---- strides that keep the places
 -- on a longer axis they are those of the definition
-pub forced-of-alike : (from : List ℕ) (strides : List ℤ) (to : List ℕ) (others : List ℤ) (axis : ℕ) → is_empty to ≡ false → size from ≡ size to → length to ≡ length others → PlacesAlike from strides to others → axis < length to → 1 < get_or to axis 0 → get_or others axis (pos 0) ≡ offset_at_rank from strides (indices_after to axis)
+pub forced-of-alike : (from : List ℕ) (strides : List ℤ) (to : List ℕ) (others : List ℤ) (axis : ℕ) → is_empty to ≡ false → size from ≡ size to → length to ≡ length others → PlacesAlike from strides to others → axis < length to → 1 < get_or to axis 0 → get_or others axis (pos 0) ≡ offset_at_rank from strides (size_after to axis)
 forced-of-alike from strides to others axis more sizes e alike l long =
-    let few = indices_after-below to axis more l long in
-    sym (offset-of-axis to others axis more e l long) ∙ alike (indices_after to axis) (omega arith)
+    let few = size_after-below to axis more l long in
+    sym (offset-of-axis to others axis more e l long) ∙ alike (size_after to axis) (omega arith)
 
 -- and the strides of the definition keep the places wherever some do
-pub stride_at-long : (from : List ℕ) (strides : List ℤ) (to : List ℕ) (axis : ℕ) → 1 < get_or to axis 0 → stride_at from strides to axis ≡ offset_at_rank from strides (indices_after to axis)
-stride_at-long from strides to zero h = cond-true (nat_lt 1 (get_or to 0 0)) (offset_at_rank from strides (indices_after to 0)) (stride_of_one from strides to 0 (pos 1)) (lt-ltb 1 (get_or to 0 0) h)
-stride_at-long from strides to (suc axis) h = cond-true (nat_lt 1 (get_or to (suc axis) 0)) (offset_at_rank from strides (indices_after to (suc axis))) (stride_of_one from strides to (suc axis) (stride_at from strides to axis)) (lt-ltb 1 (get_or to (suc axis) 0) h)
+pub stride_at-long : (from : List ℕ) (strides : List ℤ) (to : List ℕ) (axis : ℕ) → 1 < get_or to axis 0 → stride_at from strides to axis ≡ offset_at_rank from strides (size_after to axis)
+stride_at-long from strides to zero h = cond-true (nat_lt 1 (get_or to 0 0)) (offset_at_rank from strides (size_after to 0)) (stride_of_one from strides to 0 (pos 1)) (lt-ltb 1 (get_or to 0 0) h)
+stride_at-long from strides to (suc axis) h = cond-true (nat_lt 1 (get_or to (suc axis) 0)) (offset_at_rank from strides (size_after to (suc axis))) (stride_of_one from strides to (suc axis) (stride_at from strides to axis)) (lt-ltb 1 (get_or to (suc axis) 0) h)
 
 pub alike-forced : (from : List ℕ) (strides : List ℤ) (to : List ℕ) (others : List ℤ) → is_empty to ≡ false → size from ≡ size to → length to ≡ length others → PlacesAlike from strides to others → PlacesAlike from strides to (map (stride_at from strides to) (below (length to)))
 alike-forced from strides to others more sizes e alike r l =

@@ -8,7 +8,7 @@ use Rattle.nd_base.specs.Size.{size, is_empty, limit}
 use Rattle.nd_base.proofs.laws.Size.{size_take_more, size_take_le}
 use Rattle.ndarray_layout.specs.reshape.Joints.{cumulative_products}
 use Rattle.ndarray_layout.specs.reshape.ReshapeFault.{fault_as_read}
-use Rattle.ndarray_layout.specs.reshape.Walk.{Member, GoodBelow, CanWalk, IsReached, IsBlock}
+use Rattle.ndarray_layout.specs.private.ReshapeProgress.{Member, GoodBelow, CanWalk, IsReached, IsBlock}
 use Rattle.ndarray_layout.proofs.reshapes.Blocks.{IsBetween, first-block, block-longer, block-one, longer-first, longer-one, between-first, between-to, between-from, between-none}
 use Rattle.ndarray_layout.proofs.reshapes.Reached.{LastLonger, take-mono, member-product, good-more, joint-of-apart, no-joint, bad-joint-fault, sizes-fault}
 

@@ -4,7 +4,7 @@ use Rattle.std.proofs.Math.Nat.{mul-le-mul_left}
 use Rattle.std.proofs.lemmas.Bool.{cases_lt, cases_eq}
 use Rattle.nd_base.specs.Size.{size, is_empty}
 use Rattle.nd_base.proofs.laws.Size.{size_take_more}
-use Rattle.ndarray_layout.specs.reshape.Walk.{IsInside}
+use Rattle.ndarray_layout.specs.private.ReshapeProgress.{IsInside}
 use Rattle.ndarray_layout.proofs.reshapes.Reached.{take-mono}
 
 grows : (lens : List ℕ) (k : ℕ) → is_empty lens ≡ false → k < length lens → 1 < get_or lens k 0 → size (take k lens) < size (take (k + 1) lens)

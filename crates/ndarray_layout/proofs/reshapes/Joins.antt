@@ -8,7 +8,7 @@ use Rattle.std.proofs.lemmas.Bool.Decides.{Decides-int_eq}
 use Rattle.std.specs.Ordering.{int_eq}
 use Rattle.nd_base.specs.Size.{is_empty}
 use Rattle.ndarray_layout.specs.reshape.Joints.{first_longer, is_loose, loose_joints}
-use Rattle.ndarray_layout.specs.reshape.Walk.{Member}
+use Rattle.ndarray_layout.specs.private.ReshapeProgress.{Member}
 use Rattle.ndarray_layout.proofs.reshapes.Members.{member-left, member-right, member-cases, member-times, times-member}
 use Rattle.ndarray_layout.proofs.reshapes.Values.{Axes, count}
 use Rattle.ndarray_layout.proofs.reshapes.Tails.{IsLooseTail}

@@ -3,7 +3,7 @@ use Rattle.std.proofs.Common.{◌≡◌, ℕ, ◌*◌, Bool, true, ◌||◌, Lis
 use Rattle.std.specs.List.{list_any}
 use Rattle.std.proofs.lemmas.Bool.{or_cases}
 use Rattle.std.proofs.Math.Bool.{or-true, true-or}
-use Rattle.ndarray_layout.specs.reshape.Walk.{Member}
+use Rattle.ndarray_layout.specs.private.ReshapeProgress.{Member}
 
 -- a test that some element passes
 pub member-of-any : (p : ℕ → Bool) (xs : List ℕ) → list_any p xs ≡ true → (x : ℕ) × Member xs x × (p x ≡ true)

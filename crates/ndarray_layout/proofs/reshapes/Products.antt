@@ -8,7 +8,7 @@ use Rattle.nd_base.specs.Size.{size, is_empty}
 use Rattle.nd_base.proofs.laws.Size.{size-append, size-reverse, size_of_nonempty}
 use Rattle.ndarray_layout.specs.reshape.Joints.{cumulative_products}
 use Rattle.ndarray_layout.proofs.reshapes.Joins.{is_empty-rest, one-of-short}
-use Rattle.ndarray_layout.specs.reshape.Walk.{Member}
+use Rattle.ndarray_layout.specs.private.ReshapeProgress.{Member}
 use Rattle.ndarray_layout.proofs.reshapes.Members.{member-times, times-member}
 use Rattle.ndarray_layout.proofs.reshapes.Tails.{IsTail, tail-one, cancel}
 

@@ -9,7 +9,7 @@ use Rattle.nd_base.specs.Size.{size, is_empty}
 use Rattle.nd_base.proofs.laws.Size.{size_of_nonempty, size_take_more}
 use Rattle.ndarray_layout.specs.reshape.Joints.{first_longer, is_loose, loose_joints, cumulative_products, is_bad_joint, has_bad_joint}
 use Rattle.ndarray_layout.specs.reshape.ReshapeFault.{fault_as_read}
-use Rattle.ndarray_layout.specs.reshape.Walk.{Member, GoodBelow}
+use Rattle.ndarray_layout.specs.private.ReshapeProgress.{Member, GoodBelow}
 use Rattle.ndarray_layout.proofs.reshapes.Joins.{is_empty-rest, loose-apart, apart-loose, of-choice, to-choice}
 use Rattle.ndarray_layout.proofs.reshapes.Members.{member-of-any, any-of-member, member-left, member-right, member-cases, member-times, times-member}
 use Rattle.ndarray_layout.proofs.reshapes.Tails.{cancel}

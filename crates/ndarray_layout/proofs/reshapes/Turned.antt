@@ -17,7 +17,7 @@ use Rattle.ndarray_layout.specs.reshape.Joints.{has_bad_joint}
 use Rattle.ndarray_layout.specs.reshape.Keeps.{Keeps}
 use Rattle.nd_base.specs.Reading.{as_read}
 use Rattle.ndarray_layout.specs.reshape.ReshapeFault.{reshape_fault, fault_as_read}
-use Rattle.ndarray_layout.specs.reshape.Walk.{CanWalk, PlacesAlike}
+use Rattle.ndarray_layout.specs.private.ReshapeProgress.{CanWalk, PlacesAlike}
 use Rattle.ndarray_layout.proofs.reshapes.Complete.{good-of-alike}
 use Rattle.nd_base.proofs.laws.Reading.{length-as_read, as_read-as_read, size-as_read, is_empty-as_read}
 use Rattle.ndarray_layout.proofs.laws.Keeps.{fault-exactly, forced-keeps}

@@ -3,7 +3,7 @@ use Rattle.std.proofs.Common.{◌≡◌, ℕ, ◌+◌, ◌-◌, ◌*◌, ◌<◌
 use Rattle.std.proofs.lemmas.List.{take-take, drop-take, take-append-drop, drop-drop, get_or-drop, get_or-take, length-take-le}
 use Rattle.nd_base.specs.Size.{size, is_empty}
 use Rattle.nd_base.proofs.laws.Size.{size_of_nonempty, size-append, drop_nonempty}
-use Rattle.ndarray_layout.specs.reshape.Walk.{PlacesAlike, IsDense, segment}
+use Rattle.ndarray_layout.specs.private.ReshapeProgress.{PlacesAlike, IsDense, segment}
 use Rattle.ndarray_layout.proofs.reshapes.Blocks.{length-seg}
 use Rattle.ndarray_layout.proofs.reshapes.Products.{nonempty-parts}
 use Rattle.ndarray_layout.proofs.reshapes.DenseRuns.{run-of-dense, places-append, dense-of-products}

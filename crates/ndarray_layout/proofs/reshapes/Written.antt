@@ -6,7 +6,7 @@ use Rattle.nd_base.specs.Indices.{below}
 use Rattle.nd_base.specs.Signed.{signed, all_signed}
 use Rattle.nd_base.specs.Size.{size}
 use Rattle.ndarray_layout.specs.reshape.ForcedStrides.{stride_at}
-use Rattle.ndarray_layout.specs.reshape.Walk.{PlacesAlike, CanWalk, IsReached, IsBlock, IsInside, HasStridesUpTo}
+use Rattle.ndarray_layout.specs.private.ReshapeProgress.{PlacesAlike, CanWalk, IsReached, IsBlock, IsInside, HasStridesUpTo}
 use Rattle.ndarray_layout.proofs.reshapes.Advance.{in-of-len, take-same, reached-both, alike-both, reached-from, alike-from, reached-to, alike-to, alike-block}
 use Rattle.ndarray_layout.proofs.reshapes.Ones.{ones-first, ones-from, ones-to, ones-both, ones-block, written-kept, strides-whole}
 use Rattle.ndarray_layout.proofs.reshapes.Reached.{joint-product}

@@ -1,18 +1,14 @@
 -- The strides that a reshape gives the axes of the new shape.
-use Rattle.std.specs.Prelude.{◌≡◌, ℕ, zero, suc, ◌+◌, ◌==◌, ◌&&◌, Bool, nat_lt, ℤ, pos, negsuc, if◌then◌else◌, List, [], ◌∷◌, length, map, take, drop, slice_index, slice_index_or, refl}
+use Rattle.std.specs.Prelude.{◌≡◌, ℕ, zero, suc, ◌==◌, ◌&&◌, Bool, nat_lt, ℤ, pos, negsuc, if◌then◌else◌, List, [], ◌∷◌, length, map, slice_index, slice_index_or, refl}
 use Rattle.std.specs.List.{filter, list_any}
 use Rattle.nd_base.specs.declared.order.Order.{Order}
 use Rattle.nd_base.specs.declared.order.Order.TheVariants.{RowMajor, ColumnMajor}
 use Rattle.nd_base.specs.Indices.{below}
 use Rattle.nd_base.specs.Offset.{offset_of}
 use Rattle.nd_base.specs.Rank.{index_of_rank}
-use Rattle.nd_base.specs.Size.{size}
-use Rattle.ndarray_layout.specs.reshape.Joints.{cumulative_products}
 use Rattle.nd_base.specs.Reading.{as_read}
-
--- how many indices come before the second entry of an axis: the product of the lengths read after it
-abbrev pub indices_after : List ℕ → ℕ → ℕ
-indices_after lens axis = size (drop (axis + 1) lens)
+use Rattle.nd_dim.specs.Strides.{size_after, size_until}
+use Rattle.ndarray_layout.specs.reshape.Joints.{cumulative_products}
 
 -- how far the index of a rank lies from the first one
 abbrev pub offset_at_rank : List ℕ → List ℤ → ℕ → ℤ
@@ -20,7 +16,7 @@ offset_at_rank lens strides r = offset_of strides (index_of_rank lens r)
 
 -- an axis of length 1 with this product of lengths read before it
 abbrev pub is_one_at : List ℕ → ℕ → ℕ → Bool
-is_one_at lens product axis = slice_index lens axis == 1 && size (take axis lens) == product
+is_one_at lens product axis = slice_index lens axis == 1 && size_until lens axis == product
 
 -- the strides of all such axes
 abbrev pub strides_of_ones : List ℕ → List ℤ → ℕ → List ℤ
@@ -34,14 +30,14 @@ ones_before lens product axis = length (filter (is_one_at lens product) (below a
 -- same position among those there, or 1 where it has fewer; elsewhere that of the axis read just before
 abbrev pub stride_of_one : List ℕ → List ℤ → List ℕ → ℕ → ℤ → ℤ
 stride_of_one from strides to axis previous =
-    (if list_any (λ product. product == size (take axis to)) (cumulative_products from)
-    then slice_index_or (strides_of_ones from strides (size (take axis to))) (ones_before to (size (take axis to)) axis) (pos 1)
+    (if list_any (λ product. product == size_until to axis) (cumulative_products from)
+    then slice_index_or (strides_of_ones from strides (size_until to axis)) (ones_before to (size_until to axis) axis) (pos 1)
     else previous)
 
--- an axis of more than one entry steps as far as the old layout does over as many indices
+-- an axis of more than one entry steps as far as the old layout does over as many indices as the axes read after it have
 abbrev pub stride_of_axis : List ℕ → List ℤ → List ℕ → ℕ → ℤ → ℤ
 stride_of_axis from strides to axis previous =
-    (if nat_lt 1 (slice_index to axis) then offset_at_rank from strides (indices_after to axis) else stride_of_one from strides to axis previous)
+    (if nat_lt 1 (slice_index to axis) then offset_at_rank from strides (size_after to axis) else stride_of_one from strides to axis previous)
 
 abbrev pub stride_at : List ℕ → List ℤ → List ℕ → ℕ → ℤ
 stride_at from strides to zero = stride_of_axis from strides to 0 (pos 1)

@@ -5,7 +5,7 @@
 use crate::owned::items::{Halved, Item, are, counted};
 use crate::owned::large::{are_fifty_written, is_turned};
 use crate::owned::words::{list, strides, writes};
-use crate::words::{argument, dim, number, word};
+use crate::words::{argument, dim, meaning, number, word};
 use nd_owned::OwnedArray;
 use ndarray_layout::{Ix0, Ix2, IxDyn, LayoutError, Lengths, StrideShape};
 use std::alloc::Global;
@@ -15,24 +15,49 @@ use test_tables::{Row, layout_fault_name};
 /// An array, or why there is none, and the items that are handed back.
 type Made<T, D> = Result<OwnedArray<T, D>, (LayoutError, Vec<T>)>;
 
+/// The call of a row.
+#[derive(Clone, Copy)]
+enum Call {
+    FromShapeVec,
+    MultiSet,
+    Items,
+    Get,
+    Set,
+    /// The items of a slice that turns all axes, and writes to it.
+    AllFromTheBack,
+    /// Writes to each of 50 entries of the first axis.
+    FiftyFromTheBack,
+}
+
+/// The calls by their words.
+static CALLS: [(&str, Call); 7] = [
+    ("from_shape_vec", Call::FromShapeVec),
+    ("multi_set", Call::MultiSet),
+    ("items", Call::Items),
+    ("get", Call::Get),
+    ("set", Call::Set),
+    ("all_from_the_back", Call::AllFromTheBack),
+    ("fifty_from_the_back", Call::FiftyFromTheBack),
+];
+
 /// What a row says.
 #[derive(Clone, Copy)]
-pub struct Told<'a> {
+pub struct Case<'a> {
     layout: &'a str,
-    call: &'a str,
+    call: Call,
     given: &'a str,
     answer: &'a str,
 }
 
-impl<'a> Told<'a> {
+impl<'a> Case<'a> {
     /// What a row says; `None` where it is no row.
     fn read(line: &'a str) -> Option<Self> {
         let (layout, rest) = line.split_once(": ")?;
         let (asked, answer) = rest.split_once(" => ")?;
         let (call, given) = asked.split_once(" ").unwrap_or((asked, ""));
-        Some(Told {
+        Some(Case {
             layout,
-            call,
+            call: meaning(&CALLS, call)?,
             given,
             answer,
         })
@@ -76,25 +101,25 @@ fn name(answer: Result<(), LayoutError>) -> &'static str {
 fn is_written<T: Item, D: Lengths>(
     rt: &impl Abort,
     alloc: Global,
-    told: Told<'_>,
+    case: Case<'_>,
     array: &mut OwnedArray<T, D>,
 ) -> bool {
-    let writes = writes(rt, alloc, told.given);
+    let writes = writes(rt, alloc, case.given);
     let answer = name(array.multi_set(alloc, writes.as_slice()));
-    told.says(answer) && told.leaves(rt, array.stored())
+    case.says(answer) && case.leaves(rt, array.stored())
 }
 
 /// The items of a slice are these, or they are refused so.
 fn are_read<T: Item, D: Lengths>(
     rt: &impl Abort,
     alloc: Global,
-    told: Told<'_>,
+    case: Case<'_>,
     array: &OwnedArray<T, D>,
 ) -> bool {
-    let slice = argument(rt, alloc, &mut Row::new(told.given));
+    let slice = argument(rt, alloc, &mut Row::new(case.given));
     match array.items(alloc, &slice) {
-        Ok(items) => are(items.as_slice(), list(rt, told.answer).as_slice()),
-        Err(fault) => told.says(layout_fault_name(&fault)),
+        Ok(items) => are(items.as_slice(), list(rt, case.answer).as_slice()),
+        Err(fault) => case.says(layout_fault_name(&fault)),
     }
 }
 
@@ -102,13 +127,13 @@ fn are_read<T: Item, D: Lengths>(
 fn is_got<T: Item, D: Lengths>(
     rt: &impl Abort,
     alloc: Global,
-    told: Told<'_>,
+    case: Case<'_>,
     array: &OwnedArray<T, D>,
 ) -> bool {
-    let index: D = dim(rt, alloc, &mut Row::new(told.given));
+    let index: D = dim(rt, alloc, &mut Row::new(case.given));
     match array.get(&index) {
-        Some(item) => item == T::of(list(rt, told.answer).at(0)),
-        None => told.says("none"),
+        Some(item) => item == T::of(list(rt, case.answer).at(0)),
+        None => case.says("none"),
     }
 }
 
@@ -116,13 +141,13 @@ fn is_got<T: Item, D: Lengths>(
 fn is_set<T: Item, D: Lengths>(
     rt: &impl Abort,
     alloc: Global,
-    told: Told<'_>,
+    case: Case<'_>,
     array: &mut OwnedArray<T, D>,
 ) -> bool {
-    let row = &mut Row::new(told.given);
+    let row = &mut Row::new(case.given);
     let index: D = dim(rt, alloc, row);
     let is_index = array.set(&index, T::of(number(rt, row)));
-    told.says(if is_index { "true" } else { "false" }) && told.leaves(rt, array.stored())
+    case.says(if is_index { "true" } else { "false" }) && case.leaves(rt, array.stored())
 }
 
 // ---- rows
@@ -131,33 +156,35 @@ fn is_set<T: Item, D: Lengths>(
 fn answers<T: Item, D: Lengths>(
     rt: &impl Abort,
     alloc: Global,
-    told: Told<'_>,
+    case: Case<'_>,
     array: &mut OwnedArray<T, D>,
 ) -> bool {
-    match told.call {
-        "multi_set" => is_written(rt, alloc, told, array),
-        "items" => are_read(rt, alloc, told, array),
-        "get" => is_got(rt, alloc, told, array),
-        "set" => is_set(rt, alloc, told, array),
-        "all_from_the_back" => is_turned(rt, alloc, told.given, array),
-        "fifty_from_the_back" => are_fifty_written(rt, alloc, told.given, array),
-        _ => told.says("Ok") && told.leaves(rt, array.stored()),
+    match case.call {
+        Call::FromShapeVec => case.says("Ok") && case.leaves(rt, array.stored()),
+        Call::MultiSet => is_written(rt, alloc, case, array),
+        Call::Items => are_read(rt, alloc, case, array),
+        Call::Get => is_got(rt, alloc, case, array),
+        Call::Set => is_set(rt, alloc, case, array),
+        Call::AllFromTheBack => is_turned(rt, alloc, case.given, array),
+        Call::FiftyFromTheBack => are_fifty_written(rt, alloc, case.given, array),
     }
 }
 
 /// Whether there is to be no array for this fault, and all items are handed back.
-fn is_refused<T: Item>(rt: &impl Abort, told: Told<'_>, fault: &LayoutError, items: &[T]) -> bool {
-    told.call == "from_shape_vec" && told.says(layout_fault_name(fault)) && told.leaves(rt, items)
+fn is_refused<T: Item>(rt: &impl Abort, case: Case<'_>, fault: &LayoutError, items: &[T]) -> bool {
+    matches!(case.call, Call::FromShapeVec)
+        && case.says(layout_fault_name(fault))
+        && case.leaves(rt, items)
 }
 
 /// A row holds.
-fn row_holds<T: Item, D: Lengths>(rt: &impl Abort, alloc: Global, told: Told<'_>) -> bool {
-    match array::<T, D>(rt, alloc, told.layout) {
+fn row_holds<T: Item, D: Lengths>(rt: &impl Abort, alloc: Global, case: Case<'_>) -> bool {
+    match array::<T, D>(rt, alloc, case.layout) {
         Ok(array) => {
             let mut array = array;
-            answers(rt, alloc, told, &mut array)
+            answers(rt, alloc, case, &mut array)
         },
-        Err((fault, items)) => is_refused(rt, told, &fault, items.as_slice()),
+        Err((fault, items)) => is_refused(rt, case, &fault, items.as_slice()),
     }
 }
 
@@ -176,11 +203,11 @@ pub enum Kind {
 
 /// A row holds of arrays of a kind.
 pub fn array_holds(rt: &impl Abort, alloc: Global, kind: Kind, line: &str) -> bool {
-    let told = Told::read(line).expect(rt, "a row");
+    let case = Case::read(line).expect(rt, "a row");
     match kind {
-        Kind::NumbersWithoutAxes => row_holds::<usize, Ix0>(rt, alloc, told),
-        Kind::NumbersInRows => row_holds::<usize, Ix2>(rt, alloc, told),
-        Kind::Numbers => row_holds::<usize, IxDyn>(rt, alloc, told),
-        Kind::Halves => row_holds::<Halved, IxDyn>(rt, alloc, told),
+        Kind::NumbersWithoutAxes => row_holds::<usize, Ix0>(rt, alloc, case),
+        Kind::NumbersInRows => row_holds::<usize, Ix2>(rt, alloc, case),
+        Kind::Numbers => row_holds::<usize, IxDyn>(rt, alloc, case),
+        Kind::Halves => row_holds::<Halved, IxDyn>(rt, alloc, case),
     }
 }

@@ -1,5 +1,5 @@
 //! Layouts and what is asked of them, as rows of tables tell it.
-use crate::words::{dim, number, word};
+use crate::words::{dim, meaning, number, word};
 use CanIndexCheckMode::{OwnedMutable, ReadOnly};
 use Fit::{Clamp, Strict};
 use Order::{ColumnMajor, RowMajor};
@@ -84,27 +84,30 @@ pub fn read_question(rt: &impl Abort, row: &mut Row<'_>) -> Question {
     match word(rt, row) {
         "view" => Question::View,
         "span" => Question::Span,
-        word => Question::Of(about_view(word).expect(rt, "a question")),
+        word => Question::Of(meaning(&QUESTIONS, word).expect(rt, "a question")),
     }
 }
 
-/// The question about a view that a word names, if it names one.
-fn about_view(word: &str) -> Option<OfView> {
-    match word {
-        "at" => Some(OfView::Place),
-        "picked" => Some(OfView::Picked(Strict)),
-        "clamp_picked" => Some(OfView::Picked(Clamp)),
-        "collapse" => Some(OfView::Collapse),
-        "merge" => Some(OfView::Merge),
-        "in_order" => Some(OfView::InOrder),
-        "second_row" => Some(OfView::SecondRow(Made::Broadcast)),
-        "second_row_by_rows" => Some(OfView::SecondRow(Made::Reshape(RowMajor))),
-        "second_row_by_columns" => Some(OfView::SecondRow(Made::Reshape(ColumnMajor))),
-        "by_rows" => Some(OfView::Made(Made::Reshape(RowMajor))),
-        "by_columns" => Some(OfView::Made(Made::Reshape(ColumnMajor))),
-        "broadcast" => Some(OfView::Made(Made::Broadcast)),
-        "slice" => Some(OfView::Made(Made::Slice(Strict))),
-        "clamp" => Some(OfView::Made(Made::Slice(Clamp))),
-        _ => None,
-    }
-}
+/// The questions about a view, by their words.
+static QUESTIONS: [(&str, OfView); 14] = [
+    ("at", OfView::Place),
+    ("picked", OfView::Picked(Strict)),
+    ("clamp_picked", OfView::Picked(Clamp)),
+    ("collapse", OfView::Collapse),
+    ("merge", OfView::Merge),
+    ("in_order", OfView::InOrder),
+    ("second_row", OfView::SecondRow(Made::Broadcast)),
+    (
+        "second_row_by_rows",
+        OfView::SecondRow(Made::Reshape(RowMajor)),
+    ),
+    (
+        "second_row_by_columns",
+        OfView::SecondRow(Made::Reshape(ColumnMajor)),
+    ),
+    ("by_rows", OfView::Made(Made::Reshape(RowMajor))),
+    ("by_columns", OfView::Made(Made::Reshape(ColumnMajor))),
+    ("broadcast", OfView::Made(Made::Broadcast)),
+    ("slice", OfView::Made(Made::Slice(Strict))),
+    ("clamp", OfView::Made(Made::Slice(Clamp))),
+];

@@ -16,11 +16,11 @@ use test_tables::Row;
 
 // ---- axes
 
-/// An axis as it is told: its number, its length and its stride.
-type Told = (usize, usize, isize);
+/// An axis: its number, its length and its stride.
+type AxisParts = (usize, usize, isize);
 
 /// Whether an axis is told, or none.
-fn is(axis: Option<AxisDescription>, told: Option<&Told>) -> bool {
+fn is(axis: Option<AxisDescription>, told: Option<&AxisParts>) -> bool {
     match axis {
         Some(axis) => match told {
             Some(told) => axis.axis.0 == told.0 && axis.len == told.1 && axis.stride == told.2,
@@ -32,7 +32,7 @@ fn is(axis: Option<AxisDescription>, told: Option<&Told>) -> bool {
 
 /// Whether these are told from the front and from the back in turn, six times, and none where none is
 /// told.
-fn are_in_turn(mut axes: Axes<'_>, told: &[Told]) -> bool {
+fn are_in_turn(mut axes: Axes<'_>, told: &[AxisParts]) -> bool {
     is(axes.next(), told.get(0))
         && is(axes.next_back(), told.get(1))
         && is(axes.next(), told.get(2))
@@ -42,7 +42,7 @@ fn are_in_turn(mut axes: Axes<'_>, told: &[Told]) -> bool {
 }
 
 /// Whether the axes of the view of a shape and strides are told in turn.
-fn owned_is_in_turn<D: Lengths>(dim: D, strides: D, len: usize, told: &[Told]) -> bool {
+fn owned_is_in_turn<D: Lengths>(dim: D, strides: D, len: usize, told: &[AxisParts]) -> bool {
     match owned(dim, strides, len) {
         Ok(view) => are_in_turn(view.axes(), told),
         Err(_) => false,
@@ -66,7 +66,7 @@ enum Asked<'a> {
     /// How many axes both have.
     Axes(usize),
     /// The axes of both in turn.
-    InTurn(&'a [Told]),
+    InTurn(&'a [AxisParts]),
 }
 
 /// Whether this holds of a view itself.

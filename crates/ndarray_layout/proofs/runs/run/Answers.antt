@@ -34,7 +34,7 @@ there c = next c.args.steps.now c.loop-at.at c.index-steps-at.result c.loop-at-t
 pub returns-in-Err-clause-ended : goal.returns-in-Err-clause-ended
 returns-in-Err-clause-ended c =
     let stays = c.in-Err.ensures.refusal in
-    rw (stays) (ended_by (map step_value c.args.steps.now) c.loop-at.at (step_value c.index-steps-at.result) c.args.view c.loop-at.view c.in-Err.fault (there c) c.loop-at.invariant.fits c.loop-at.invariant.left (refused c))
+    rw (stays) (λ kind is. ended_by (map step_value c.args.steps.now) c.loop-at.at (step_value c.index-steps-at.result) c.args.view c.loop-at.view c.in-Err.fault kind (there c) c.loop-at.invariant.fits c.loop-at.invariant.left (refused c) is)
 
 pub returns-in-Err-clause-stopped : goal.returns-in-Err-clause-stopped
 returns-in-Err-clause-stopped c =
@@ -59,6 +59,17 @@ returns-in-Err-clause-stopped_places c =
     let stays = c.in-Err.ensures.refusal in
     let steps = take c.loop-at.at (map step_value c.args.steps.now) in
     rw (stays) (subst (KeepsPlaces (run_of steps c.args.view).source c.args.view) c.loop-at.invariant.left (run_sound steps c.args.view c.start-start.ensures.is_view).places)
+
+pub returns-in-Err-clause-stopped_inside : goal.returns-in-Err-clause-stopped_inside
+returns-in-Err-clause-stopped_inside c =
+    let steps = take c.loop-at.at (map step_value c.args.steps.now) in
+    λ len within. LiesWithin-kept len (run_of steps c.args.view).source c.args.view _ (returns-in-Err-clause-stopped_places c) within
+
+pub returns-in-Err-clause-stopped_distinct : goal.returns-in-Err-clause-stopped_distinct
+returns-in-Err-clause-stopped_distinct c =
+    let stays = c.in-Err.ensures.refusal in
+    let steps = take c.loop-at.at (map step_value c.args.steps.now) in
+    rw (stays) (λ apart distinct. subst HasDistinctPlaces c.loop-at.invariant.left ((run_sound steps c.args.view c.start-start.ensures.is_view).distinct apart distinct))
 
 pub loop-at-preserved : goal.loop-at-preserved
 loop-at-preserved c =

@@ -1,7 +1,7 @@
 -- A part of the block is read.
 use Rattle.std.proofs.Common.{◌+◌, ◌-◌, length}
 use Rattle.nd_base.specs.Signed.{all_signed, signed}
-use Rattle.ndarray_layout.specs.reshape.Walk.{IsInside}
+use Rattle.ndarray_layout.specs.private.ReshapeProgress.{IsInside}
 use Rattle.ndarray_layout.proofs.reshapes.Halfway.{IsHalfway}
 use Rattle.ndarray_layout.proofs.reshape.walk.next_block.Given as goal
 

@@ -1,7 +1,7 @@
 -- Both shapes are read so far, and the axes that are read have their strides.
 use Rattle.std.proofs.Common.{◌≡◌, ◌+◌, ◌-◌, length}
 use Rattle.nd_base.specs.Signed.{all_signed}
-use Rattle.ndarray_layout.specs.reshape.Walk.{HasStridesUpTo}
+use Rattle.ndarray_layout.specs.private.ReshapeProgress.{HasStridesUpTo}
 use Rattle.ndarray_layout.proofs.reshape.walk.walk.Given as goal
 
 abbrev pub invariant-loop-at : goal.invariant-loop-at

@@ -1,11 +1,13 @@
 -- The first index lies as far on as the layout reaches down.
-use Rattle.std.proofs.Common.{◌≡◌, ℕ, ◌≤◌, List, arith}
+use Rattle.std.proofs.Common.{◌≡◌, ℕ, ◌≤◌, List, arith, subst, sym}
 use Rattle.nd_base.specs.Signed.{all_signed}
 use Rattle.nd_base.specs.Size.{nonzero_size, limit}
 use Rattle.nd_base.specs.Span.{low_span}
 use Rattle.nd_base.specs.ValidLayout.{IsValidLayout}
 use Rattle.nd_base.proofs.laws.NonzeroSize.{size_le_nonzero_size}
 use Rattle.ndarray_layout.specs.View.{IsView, view_of}
+use Rattle.nd_shape.specs.OwnedRule.{MeetsOwnedRule}
+use Rattle.ndarray_layout.proofs.AcceptedRule.{by_strides_meet}
 use Rattle.ndarray_layout.proofs.laws.View.{lowest_view}
 use Rattle.ndarray_layout.proofs.strided.Strided.from_shape.Goals as goal
 
@@ -26,3 +28,8 @@ invariant_of-result g c =
 pub returns-clause-is_view : goal.returns-clause-is_view
 returns-clause-is_view g c =
     view_along c.offset_from_low_addr_ptr_to_logical_ptr-start.result (g.D.Lengths.list c.args.shape.dim) (g.D.Lengths.list c.in_ok-strides.strides) _ c.offset_from_low_addr_ptr_to_logical_ptr-start.ensures c.in_ok-strides.ensures.list c.in_ok-can_index_slice_with_strides.ensures.valid
+
+pub returns-clause-rule : goal.returns-clause-rule
+returns-clause-rule g c = λ why some.
+    subst (λ strides. MeetsOwnedRule (g.D.Lengths.list c.args.shape.dim) (all_signed strides)) (sym c.in_ok-strides.ensures.list)
+    (by_strides_meet g.D.Lengths.list c.args.elem_size c.args.len c.args.mode (g.D.Lengths.list c.args.shape.dim) c.args.shape.strides (sym c.in_ok-can_index_slice_with_strides.ensures.fault) why some)

@@ -11,7 +11,7 @@ use Rattle.nd_slice.specs.Sliced.{sliced_shape, sliced_strides, sliced_offset}
 use Rattle.nd_slice.specs.Selected.{selected}
 use Rattle.ndarray_layout.specs.DistinctPlaces.{HasDistinctPlaces}
 use Rattle.ndarray_layout.specs.KeepsPlaces.{KeepsPlaces}
-use Rattle.ndarray_layout.specs.SlicedView.{IsSliceOf, slice_of, slice_refusal}
+use Rattle.ndarray_layout.specs.SlicedView.{slice_of, slice_refusal}
 use Rattle.ndarray_layout.specs.View.{View, IsView, LiesWithin, view_of}
 use Rattle.ndarray_layout.proofs.laws.SlicedView.{fits_of_no_refusal, sliced_start_within, IsView-slice_of, KeepsPlaces-slice_of, LiesWithin-slice_of, HasDistinctPlaces-slice_of}
 use Rattle.ndarray_layout.proofs.strided.Strided.slice.Given.{Over}
@@ -58,7 +58,7 @@ pub invariant_of-result : goal.invariant_of-result
 invariant_of-result g c = made g c IsView (IsView-slice_of c.args.fit (g.S.SliceElems.list c.args.slices.now) c.args.self.now)
 
 pub returns-clause-sliced : goal.returns-clause-sliced
-returns-clause-sliced g c = made g c (IsSliceOf c.args.fit (g.S.SliceElems.list c.args.slices.now) c.args.self.now) (λ whole fits. refl)
+returns-clause-sliced g c = made g c (λ v. v ≡ slice_of c.args.fit (g.S.SliceElems.list c.args.slices.now) c.args.self.now) (λ whole fits. refl)
 
 pub returns-clause-is_view : goal.returns-clause-is_view
 returns-clause-is_view g c = made g c IsView (IsView-slice_of c.args.fit (g.S.SliceElems.list c.args.slices.now) c.args.self.now)

@@ -3,7 +3,7 @@ use Rattle.std.proofs.Common.{◌≡◌, ◌≢◌, ◌+◌, ◌*◌, ◌<◌, �
 use Rattle.std.proofs.Math.ListN.{length-set}
 use Rattle.nd_base.specs.Size.{nonzero_size}
 use Rattle.nd_base.proofs.laws.NonzeroSize.{nonzero_size_pos, nonzero_size_from_other}
-use Rattle.ndarray_layout.specs.LongerAxes.{of_longer}
+use Rattle.ndarray_layout.specs.private.LongerAxes.{of_longer}
 use Rattle.ndarray_layout.proofs.LongerSteps.{few_of_room, of_longer_at_one, of_longer_at_other, room_at, room_more, size_of_zero_at, whole_at_end, written_more}
 use Rattle.ndarray_layout.proofs.strided.longer.longer_axes.Goals as goal
 use Rattle.ndarray_layout.proofs.strided.longer.longer_axes.Goals.{then-len-gt1, else-len-gt1}

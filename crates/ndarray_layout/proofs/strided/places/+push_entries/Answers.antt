@@ -8,7 +8,7 @@ use Rattle.nd_base.specs.declared.order.Order.{Order}
 use Rattle.nd_base.specs.declared.order.Order.TheVariants.{RowMajor}
 use Rattle.ndarray_layout.specs.View.{IsView, view_places}
 use Rattle.nd_base.specs.Reading.{as_read}
-use Rattle.ndarray_layout.specs.Walk.{view_as_read, row_view}
+use Rattle.ndarray_layout.specs.private.ReadView.{view_as_read, row_view}
 use Rattle.ndarray_layout.proofs.Walks.{IsEntry, entry_of, as_read_signed, places_more, row_after, view_of_row, size_of_row, walk_whole}
 use Rattle.ndarray_layout.proofs.strided.places.+push_entries.Goals as goal
 

@@ -5,14 +5,14 @@ use Rattle.nd_base.specs.declared.order.Order.{Order}
 use Rattle.nd_base.specs.declared.order.Order.TheVariants.{RowMajor}
 use Rattle.nd_base.specs.Signed.{all_signed}
 use Rattle.nd_base.specs.Size.{size}
-use Rattle.ndarray_layout.specs.LongerAxes.{of_longer}
+use Rattle.ndarray_layout.specs.private.LongerAxes.{of_longer}
 use Rattle.ndarray_layout.specs.View.{IsView, view_of, view_places}
 use Rattle.nd_base.specs.Reading.{as_read}
-use Rattle.ndarray_layout.specs.Walk.{view_as_read}
-use Rattle.ndarray_layout.proofs.laws.LongerAxes.{all_signed-of_longer, IsView-longer_view, size-of_longer, view_places-longer_view}
+use Rattle.ndarray_layout.specs.private.ReadView.{view_as_read}
+use Rattle.ndarray_layout.proofs.LongerAxes.{all_signed-of_longer, IsView-longer_view, size-of_longer, view_places-longer_view}
 use Rattle.ndarray_layout.proofs.laws.View.{no_places}
 use Rattle.nd_base.proofs.laws.Reading.{size-as_read}
-use Rattle.ndarray_layout.proofs.laws.Walk.{places-as_read, IsView-as_read}
+use Rattle.ndarray_layout.proofs.ReadView.{places-as_read, IsView-as_read}
 use Rattle.ndarray_layout.proofs.strided.places.push_places.Goals as goal
 
 -- what is walked is the view without its axes of length 1

@@ -4,7 +4,7 @@ use Rattle.std.proofs.lemmas.List.{map-append, append-nil}
 use Rattle.nd_base.specs.Signed.{signed}
 use Rattle.nd_base.specs.declared.order.Order.TheVariants.{RowMajor}
 use Rattle.ndarray_layout.specs.View.{view_places}
-use Rattle.ndarray_layout.specs.Walk.{row_view}
+use Rattle.ndarray_layout.specs.private.ReadView.{row_view}
 use Rattle.ndarray_layout.proofs.Walks.{entry_within, row_more, row_after}
 use Rattle.ndarray_layout.proofs.strided.places.push_row.Goals as goal
 

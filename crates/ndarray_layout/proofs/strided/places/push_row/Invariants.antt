@@ -3,7 +3,7 @@ use Rattle.std.proofs.Common.{◌≡◌, ◌+◌, pos, ◌++◌, map, vec_len, v
 use Rattle.nd_base.specs.Signed.{signed}
 use Rattle.nd_base.specs.declared.order.Order.TheVariants.{RowMajor}
 use Rattle.ndarray_layout.specs.View.{view_places}
-use Rattle.ndarray_layout.specs.Walk.{row_view}
+use Rattle.ndarray_layout.specs.private.ReadView.{row_view}
 use Rattle.ndarray_layout.proofs.strided.places.push_row.Given as goal
 
 abbrev pub invariant-loop-entry : goal.invariant-loop-entry

@@ -1,0 +1,4 @@
+pub mod Numbers
+pub mod PictureText
+pub mod PrintedPicture
+pub mod Words

@@ -1,2 +1,0 @@
-pub mod PictureText
-pub mod PrintedPicture

@@ -1,3 +1,0 @@
-pub mod Digits
-pub mod FirstWord
-pub mod laws

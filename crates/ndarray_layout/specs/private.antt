@@ -1,0 +1,3 @@
+pub mod LongerAxes
+pub mod ReadView
+pub mod ReshapeProgress

@@ -1,0 +1,61 @@
+-- The words of a line that makes a layout.
+use Rattle.std.specs.Prelude.{◌≡◌, ℕ, ℤ, pos, negsuc, Option, Some, None, if◌then◌else◌, List, [], ◌∷◌, codes, refl}
+use Rattle.std.specs.Str.{bytes_eq}
+use Rattle.ndarray_layout.specs.declared.CanIndexCheckMode.{CanIndexCheckMode}
+use Rattle.ndarray_layout.specs.declared.CanIndexCheckMode.TheVariants.{OwnedMutable, ReadOnly}
+use Rattle.ndl_session.specs.declared.script.data_line.Layout.{Layout}
+use Rattle.ndl_session.specs.script.Reading.{◌>>=◌}
+use Rattle.ndl_session.specs.text.Lines.{words_of}
+use Rattle.ndl_session.specs.text.Numbers.{number_of}
+use Rattle.ndl_session.specs.script.Lists.{lengths_of, strides_of}
+
+-- a layout over some data: how many elements the data has, whether indices may share one, and the axes
+pub record LayoutValue : Type 0 where
+  pub len : ℕ
+  pub mode : CanIndexCheckMode
+  pub shape : List ℕ
+  pub strides : List ℤ
+
+-- a layout of the program by what its lists hold
+abbrev pub layout_value : Layout → LayoutValue
+layout_value l = record { len = l.len; mode = l.mode; shape = l.shape.items; strides = l.strides.items }
+
+-- the mode that a word names
+abbrev pub mode_of : List ℕ → Option CanIndexCheckMode
+mode_of word = if bytes_eq word (codes "owned") then Some OwnedMutable else if bytes_eq word (codes "read") then Some ReadOnly else None
+
+-- the layout of four words: the length of the data, the mode, the shape and the strides
+abbrev pub layout_of_words : List (List ℕ) → Option LayoutValue
+layout_of_words (len ∷ mode ∷ shape ∷ strides ∷ []) = do
+  len ← number_of len
+  mode ← mode_of mode
+  shape ← lengths_of shape
+  strides ← strides_of strides
+  Some (record { len = len; mode = mode; shape = shape; strides = strides })
+layout_of_words _ = None
+
+-- the layout of a line's words: `data`, the length of the data, the mode, the shape and the strides
+abbrev pub layout_of : List (List ℕ) → Option LayoutValue
+layout_of [] = None
+layout_of (keyword ∷ words) = if bytes_eq keyword (codes "data") then layout_of_words words else None
+
+-- examples
+a_shape_kept : (layout : Layout) → layout.shape.items ≡ 2 ∷ 3 ∷ [] → (layout_value layout).shape ≡ 2 ∷ 3 ∷ []
+a_shape_kept layout same = same
+
+mode_misspelled : mode_of (codes "Read") ≡ None
+mode_misspelled = refl
+
+two_axes : layout_of (words_of (codes "  data 06 owned 2,3   -3,1"))
+    ≡ Some (record { len = 6; mode = OwnedMutable; shape = 2 ∷ 3 ∷ []; strides = negsuc 2 ∷ pos 1 ∷ [] })
+two_axes = refl
+
+counts_may_differ : layout_of (words_of (codes "data 6 read 2,3 1"))
+    ≡ Some (record { len = 6; mode = ReadOnly; shape = 2 ∷ 3 ∷ []; strides = pos 1 ∷ [] })
+counts_may_differ = refl
+
+no_axes : layout_of (words_of (codes "data 1 owned - -")) ≡ Some (record { len = 1; mode = OwnedMutable; shape = []; strides = [] })
+no_axes = refl
+
+a_word_missing : layout_of (words_of (codes "data 4 owned 4")) ≡ None
+a_word_missing = refl

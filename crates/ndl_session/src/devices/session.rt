@@ -1,0 +1,104 @@
+//! A session over a reader and a writer.
+//!
+//! `Read` and `Write` are not in scope here: devices are read and written by `read_whole` and
+//! `write_whole` alone, which require that no call before them failed.
+ghost use Rattle.std.specs.Prelude.{◌≡◌, ◌≢◌, ◌≤◌, ◌↔◌, ◌⊎◌, true, false, Err, IfOk, IfSome, IsTrue, OnOk};
+ghost use Rattle.std.specs.Io.KnownBytes.{Appends, IsAtEnd};
+ghost use Rattle.ndl_session.specs.Answer.{answer_of, IsReply};
+ghost use Rattle.ndl_session.specs.devices.Whole.{AppendsBeginning};
+ghost use Rattle.ndl_session.specs.devices.Session.{input_failed_text, out_of_memory_text, AppendsAnswerBeginning};
+ghost use Rattle.ndl_session.specs.devices.Watched.{device, has_failed};
+
+use crate::answer::{Answer, answer_to};
+use crate::devices::watched::Watched;
+use crate::devices::whole::{InputError, read_whole, write_whole};
+use std::alloc::Global;
+use std::io;
+
+/// The whole text where a read failed.
+const INPUT_FAILED_TEXT: &[u8] = b"input failed\n";
+
+/// The whole text where an allocation failed.
+const OUT_OF_MEMORY_TEXT: &[u8] = b"out of memory\n";
+
+/// The status where an allocation failed.
+const OUT_OF_MEMORY: u8 = 3;
+
+/// The status where a read or a write failed.
+const DEVICE_FAILED: u8 = 4;
+
+/// Reads the whole input, writes the whole text of the answer to it, and returns its status: 0, 1 or 2,
+/// and 3 or 4 where something fails.
+///
+/// The caller ensures that no read or write of either device has failed before.
+///
+/// Where a read fails, the whole text is `input failed` and a line feed, and the status is 4. Where no
+/// read fails and an allocation does, for the input or for the answer, the whole text is `out of
+/// memory` and a line feed, and the status is 3. Where a write fails or takes no byte, a beginning of
+/// that text has gone out, nothing more is written, and the status is 4.
+pub fn session<R: io::Read, W: io::Write>(
+    alloc: Global,
+    reader: &mut Watched<R>,
+    writer: &mut Watched<W>,
+) -> u8
+    requires reader { has_failed reader.old ≡ false }
+    requires writer { has_failed writer.old ≡ false }
+
+    // The status.
+    ensures status { result ≤ 4 }
+    ensures failed { (result ≡ 4)
+        ↔ (IsTrue (has_failed reader.new) ⊎ IsTrue (has_failed writer.new)) }
+
+    // Where nothing fails.
+    ensures answered { result ≢ 3 → result ≢ 4
+        → IfSome (R.remaining (device reader.old)) (λ input.
+        Appends (W.contents (device writer.old)) (W.contents (device writer.new))
+        (answer_of input).text × (result ≡ (answer_of input).status)) }
+    ensures read { result ≢ 3 → result ≢ 4
+        → IsAtEnd (R.remaining (device reader.new)) }
+
+    // Where an allocation or a read fails, and no write does.
+    ensures memory { result ≡ 3 → Appends (W.contents (device writer.old))
+        (W.contents (device writer.new)) out_of_memory_text }
+    ensures input { has_failed reader.new ≡ true → has_failed writer.new ≡ false
+        → Appends (W.contents (device writer.old)) (W.contents (device writer.new))
+        input_failed_text }
+
+    // Where a write fails.
+    ensures cut { has_failed reader.new ≡ false → has_failed writer.new ≡ true
+        → AppendsAnswerBeginning (W.contents (device writer.old))
+        (W.contents (device writer.new)) (R.remaining (device reader.old)) }
+    ensures input_cut { has_failed reader.new ≡ true → has_failed writer.new ≡ true
+        → AppendsBeginning (W.contents (device writer.old)) (W.contents (device writer.new))
+        input_failed_text }
+{
+    let status = match answer_input(alloc, reader) {
+        Ok(answer) => {
+            write_whole(writer, answer.text.as_bytes());
+            answer.status
+        }
+        Err(InputError::ReadFailed) => {
+            write_whole(writer, INPUT_FAILED_TEXT);
+            DEVICE_FAILED
+        }
+        Err(InputError::OutOfMemory) => {
+            write_whole(writer, OUT_OF_MEMORY_TEXT);
+            OUT_OF_MEMORY
+        }
+    };
+    let write_failed = writer.failed();
+    if write_failed { DEVICE_FAILED } else { status }
+}
+
+/// The answer to all the bytes that are left to read.
+fn answer_input<R: io::Read>(alloc: Global, reader: &mut Watched<R>) -> Result<Answer, InputError>
+    requires { has_failed reader.old ≡ false }
+    ensures answer { IfOk result (λ answer. IfSome (R.remaining (device reader.old)) (λ input.
+        IsReply answer (answer_of input))) }
+    ensures small { IfOk result (λ answer. answer.status ≤ 2) }
+    ensures end { OnOk result (IsAtEnd (R.remaining (device reader.new))) }
+    ensures failed { IsTrue (has_failed reader.new) ↔ (result ≡ Err InputError.ReadFailed) }
+{
+    let input = read_whole(alloc, reader)?;
+    Ok(answer_to(alloc, &input)?)
+}

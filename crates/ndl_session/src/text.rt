@@ -1,0 +1,5 @@
+//! Bytes as text: the lines of a script, their words, the numbers that these spell, and the lines of an answer.
+pub(crate) mod lines;
+pub(crate) mod numbers;
+pub(crate) mod printing;
+pub(crate) mod words;

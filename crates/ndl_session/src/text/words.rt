@@ -1,0 +1,29 @@
+//! The words of a line, and the parts of a text.
+ghost use Rattle.std.specs.Prelude.{◌≡◌, ◌<◌, ◌==◌, [], ◌∷◌, map, length, IfOk, IfSome, MatchOption};
+ghost use Rattle.std.specs.List.{after_first};
+ghost use Rattle.ndl_session.specs.text.Lines.{parts, words_of};
+
+use std::alloc::{AllocError, Global};
+
+/// The words of a line: what stands between its spaces.
+///
+/// Errors: out of memory.
+pub(super) fn words(alloc: Global, line: &[u8]) -> Result<Vec<&[u8]>, AllocError>
+    ensures { IfOk result (λ v. map (λ word. word.now) v.items ≡ words_of line.now) }
+{
+    line.split(|b| *b == b' ')
+        .filter(|word| !word.is_empty())
+        .collect(alloc)
+}
+
+/// The parts of a text before and after the first separator; `None` without one.
+pub(crate) fn split_once(text: &[u8], separator: u8) -> Option<(&[u8], &[u8])>
+    ensures parts { MatchOption result (parts separator text.now ≡ text.now ∷ [])
+        (λ found. parts separator text.now ≡ found.0.now ∷ parts separator found.1.now) }
+    ensures rest { MatchOption result (after_first (λ b. b == separator) text.now ≡ [])
+        (λ found. found.1.now ≡ after_first (λ b. b == separator) text.now) }
+    ensures shorter { IfSome result (λ found. length found.1.now < length text.now) }
+{
+    let at = text.iter().position(|b| *b == separator)?;
+    Some((&text[..at], &text[at + 1..]))
+}

@@ -1,4 +1,0 @@
-pub mod Digits
-pub mod FirstLine
-pub mod Pieces
-pub mod laws

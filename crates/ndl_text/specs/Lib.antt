@@ -1,6 +1,0 @@
-pub mod Bytes
-pub mod Device
-pub mod Lines
-pub mod Numbers
-pub mod Text
-pub mod Watched

@@ -1,0 +1,74 @@
+"""Reads crates.txt, a line `NAME: LIBRARY ..` for each crate, and the sources of the crates that it lists.
+
+A library with no line of its own is one of the kit. What follows a `#` is a comment.
+"""
+import dataclasses, hashlib, os
+
+PARTS = ("src", "specs", "proofs")
+SOURCES = (".rt", ".antt")
+
+
+@dataclasses.dataclass(frozen=True)
+class Line:
+    """A line of the list: the crate's name, with what stands beside it before the colon, and the libraries that it uses."""
+
+    name: str
+    words: tuple
+    libraries: tuple
+
+    def text(self):
+        """The line as it is written, with single spaces."""
+        return f"{' '.join((self.name, *self.words))}: {' '.join(self.libraries)}".rstrip()
+
+
+def parse_line(text):
+    """What a line of crates.txt says, or None where it names no crate."""
+    head, _, libraries = text.partition("#")[0].partition(":")
+    if not head.strip():
+        return None
+    name, *words = head.split()
+    return Line(name, tuple(words), tuple(libraries.replace(",", " ").split()))
+
+
+def read_list(top):
+    """The lines of a repository's crates.txt by the names of their crates, in the order of the file."""
+    with open(f"{top}/crates.txt", encoding="utf-8") as file:
+        lines = filter(None, map(parse_line, file))
+        return {line.name: line for line in lines}
+
+
+def crates_below(lines, name):
+    """The lines of a crate and of all that it depends on, each after those of the libraries that it lists."""
+    if name not in lines:
+        raise LookupError(f"crates.txt names no crate {name}")
+    found, entered = [], set()
+    waiting = [(name, False)]
+    while waiting:
+        crate, is_reached = waiting.pop()
+        if is_reached:
+            found.append(lines[crate])
+        elif crate not in entered:
+            entered.add(crate)
+            waiting.append((crate, True))
+            waiting.extend((library, False) for library in reversed(lines[crate].libraries) if library in lines)
+    return found
+
+
+def source_files(top, name):
+    """The sources of a crate, in the order of their paths."""
+    for part in PARTS:
+        for folder, folders, files in os.walk(f"{top}/crates/{name}/{part}"):
+            folders.sort()
+            yield from (f"{folder}/{file}" for file in sorted(files) if file.endswith(SOURCES))
+
+
+def stamp_of(top, name):
+    """A short word for what a program is made of: the sources of its crate and of those below, and their lines of crates.txt."""
+    digest = hashlib.sha256()
+    for line in crates_below(read_list(top), name):
+        digest.update(f"{line.text()}\n".encode())
+        for path in source_files(top, line.name):
+            with open(path, "rb") as file:
+                text = file.read()
+            digest.update(f"{os.path.relpath(path, top)} {len(text)}\n".encode() + text)
+    return digest.hexdigest()[:16]
