@@ -19,7 +19,7 @@ pub use nd_dim::{
     incompatible_shapes, magnitude_at, new_dim, product, step_by_columns, step_by_rows,
 };
 
-// Layouts: acceptance, shapes and their builders, walks, common shapes, merges.
+// Layouts: acceptance, shapes and their builders, iterators over indices, common shapes, merges.
 pub use nd_shape::{
     Axes, AxisDescription, CanIndexCheckMode, IndexCursor, IndexCursorF, Indices, IndicesIter,
     IndicesIterF, Layout, NdIndex, Shape, ShapeBuilder, StrideShape, Strides, accept, all_indices,

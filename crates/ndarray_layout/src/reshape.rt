@@ -14,21 +14,29 @@ use crate::reshape::walk::fill_reshaped;
 use nd_base::{LayoutError, Lengths, Order};
 use std::alloc::Global;
 
-/// The strides by which a layout is one of another shape: its elements, read in the order, are the same, one
-/// after another, and none is moved.
+/// The strides along which another shape has a layout's elements in an order, with none moved.
 ///
-/// A joint is the place between two axes of `from` of more than one entry, where the earlier one as they are
-/// read doesn't step over just the whole of the later one. Strides exist, any whole numbers, exactly where the
-/// sizes agree and each joint lies between two axes of `to` as well; on axes of more than one entry there
-/// is one choice alone. An axis of length 1 takes the stride of the axis of length 1 of `from` that stands at
-/// the same product of lengths read, the first one that of the first one and so on, and 1 where `from` has fewer
-/// there; at a product that `from` doesn't have it takes the stride of the axis read before it.
+/// `from` and `strides` are the layout, `to` is the shape; strides are in elements and with their
+/// sign (`signed`). A joint is the place between two axes of `from` of length greater than 1, where
+/// the stride of the earlier one, as they are read in the order, is not the length of the later one
+/// times its stride. Strides exist, any whole numbers, if and only if the sizes agree and each
+/// joint lies between two axes of `to` as well; on axes of length greater than 1 there is one
+/// choice alone. An axis of length 1 takes the stride of the axis of length 1 of `from` that stands
+/// at the same product of lengths read, the first one that of the first one and so on, and 1 where
+/// `from` has fewer there; at a product that `from` doesn't have it takes the stride of the axis
+/// read before it.
 ///
-/// The caller ensures that the layout is valid, that the size of `to` fits an `isize`, and that no length is 0.
+/// The caller ensures that the layout is valid, that the size of `to` is at most `isize::MAX`, and
+/// that no length is 0.
 ///
-/// Errors: out of memory, before any other, and none where `E` fixes the count of axes or `to` has at most 4;
-/// then `IncompatibleLayout` where a joint before the size of `to` lies within an axis of `to`; then
-/// `IncompatibleShape` where the sizes differ. ndarray's `reshape_dim`.
+/// # Errors
+///
+/// Out of memory, before any other, and never where `E` fixes the count of axes or `to` has at most
+/// 4; then `IncompatibleLayout` where a joint before the size of `to` lies within an axis of `to`;
+/// then `IncompatibleShape` where the sizes differ.
+///
+/// `[2,3]` with strides `[3,1]` to `[3,2]`: `[2,1]` in row-major order, `IncompatibleLayout` in
+/// column-major order. ndarray's `reshape_dim`.
 pub fn reshape_dim<D: Lengths, E: Lengths>(
     alloc: Global,
     from: &D,

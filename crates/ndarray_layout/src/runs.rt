@@ -3,9 +3,9 @@ ghost use Rattle.std.specs.Prelude.{◌≡◌, ℕ, ◌<◌, length, None, Some,
 ghost use Rattle.std.specs.Result.{result_err};
 ghost use Rattle.nd_base.specs.declared.error.ErrorKind.{ErrorKind};
 ghost use Rattle.nd_base.specs.declared.error.LayoutError.TheVariants.{Shape};
-ghost use Rattle.ndarray_layout.specs.MergedView.{merge_fault, merge_of};
 ghost use Rattle.ndarray_layout.specs.DistinctPlaces.{HasDistinctPlaces};
 ghost use Rattle.ndarray_layout.specs.KeepsPlaces.{KeepsPlaces};
+ghost use Rattle.ndarray_layout.specs.MergedView.{merge_fault, merge_of};
 ghost use Rattle.ndarray_layout.specs.Run.{run_of, AllFit, StopsAt, IsRefusedBy, HasNoBroadcast, NeedNoMemory};
 ghost use Rattle.ndarray_layout.specs.Step.{may_want_memory, step_fault, step_value, view_after};
 ghost use Rattle.ndarray_layout.specs.View.{IsView, LiesWithin};
@@ -30,7 +30,8 @@ pub enum Step {
     Broadcast(IxDyn),
 }
 
-/// A run that ended before its last step was taken. The project's own.
+/// The error of a run: the step that was not taken, why, and the view that the steps before it
+/// left. The project's own.
 #[derive(Debug, Drop)]
 pub struct Stopped {
     /// How many steps were taken, which is the number of the one that was not, from 0 on.
@@ -41,8 +42,8 @@ pub struct Stopped {
     pub view: Strided<IxDyn>,
 }
 
-/// Merges an axis into another one where a stride has the entries of both; where none has,
-/// `IncompatibleLayout` is the last of the faults. A refusal leaves the view.
+/// Merges an axis into another one. Errors: those of `Strided::merge`, then `IncompatibleLayout`
+/// where no stride has the entries of both; the view is unchanged.
 fn merge_axes_of(view: &mut Strided<IxDyn>, take: Axis, into: Axis) -> Result<(), ShapeError>
     ensures fault { result_err result ≡ merge_fault take.0 into.0 view.old }
     ensures refusal { OnErr result (view.new ≡ view.old) }
@@ -63,10 +64,10 @@ fn step_to(view: &mut Strided<IxDyn>, next: Strided<IxDyn>)
     *view = next;
 }
 
-/// Takes one step. A refusal leaves the view.
+/// Takes one step. After an error the view is unchanged.
 ///
-/// Errors: why the step is refused, never memory where it leaves at most 4 axes. The caller ensures
-/// that the view is one.
+/// Errors: why the step is not taken; never out of memory where it leaves at most 4 axes. The
+/// caller ensures that the view is one.
 fn take_step(alloc: Global, view: &mut Strided<IxDyn>, step: &Step) -> Result<(), LayoutError>
     requires { IsView view.old }
     ensures fits { OnOk result (step_fault view.old (step_value step.now) ≡ None) }
@@ -95,14 +96,22 @@ fn take_step(alloc: Global, view: &mut Strided<IxDyn>, step: &Step) -> Result<()
     Ok(())
 }
 
-/// Takes steps one after another, each from the view that the one before it left. The first that is
-/// refused ends the run.
+/// The view that steps leave, each taken from the view that the one before it left.
 ///
-/// Errors of a step: those of `Strided::slice`; `OutOfBounds` for a collapse of no such axis or
-/// entry; for a merge `OutOfBounds` where an axis is missing, then `Unsupported` for one axis twice,
-/// then `IncompatibleLayout` where no stride has the entries of both; those of `Strided::reshape` and
-/// `Strided::broadcast`. Out of memory comes last, in a reshape before the fault of its strides, and
-/// never where the step leaves at most 4 axes. The project's own.
+/// The first step with an error ends the run, and the view that the steps before it left comes with
+/// the error. Either view lies within the data of the first one; where no two indices of the first
+/// one alias, no two of it do, unless a step that was taken is a broadcast.
+///
+/// # Errors
+///
+/// Of a slice, a reshape and a broadcast those of `Strided::slice`, `Strided::reshape` and
+/// `Strided::broadcast`; of a collapse `OutOfBounds` where there is no such axis or entry; of a
+/// merge `OutOfBounds` where an axis is missing, then `Unsupported` for one axis twice, then
+/// `IncompatibleLayout` where no stride has the entries of both. Out of memory comes last, in a
+/// reshape before the error of its strides, and never where the step leaves at most 4 axes.
+///
+/// Entry 1 of axis 0, then axis 0 into axis 1, of `[2,3]`, `[3,1]` from 0: `[1,3]`, `[3,1]` from 3.
+/// The project's own.
 pub fn run(alloc: Global, view: Strided<IxDyn>, steps: &[Step]) -> Result<Strided<IxDyn>, Stopped>
     ensures fits { IfOk result (λ v. (run_of (map step_value steps.now) view).fault ≡ None) }
     ensures each_fits { IsOk result → AllFit (map step_value steps.now) view }

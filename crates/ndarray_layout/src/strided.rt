@@ -13,8 +13,8 @@ mod slicing;
 use nd_base::Lengths;
 use std::marker::Model;
 
-/// A shape with strides over data, and the place of its first index there. Each index of the shape
-/// has a place in the data.
+/// A view of data: a shape, a stride for each axis, and the place of the first index. The place of an
+/// index is its number of elements from the start of the data, from 0 to `isize::MAX`.
 #[derive(Debug, Drop)]
 pub struct Strided<D: Lengths> {
     start: usize,

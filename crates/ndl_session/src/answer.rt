@@ -112,9 +112,9 @@ fn list(alloc: Global, view: &Strided<IxDyn>) -> Result<Answer, AllocError>
     let mut text = String::new(alloc);
     let lens = view.axes().map(|axis| axis.len);
     let strides = view.axes().map(|axis| axis.stride);
-    push_line(&mut text, "shape", ",", lens)?;
-    push_line(&mut text, "strides", ",", strides)?;
+    push_line(alloc, &mut text, "shape", ",", lens)?;
+    push_line(alloc, &mut text, "strides", ",", strides)?;
     let places = view.places(alloc, Order::RowMajor)?;
-    push_line(&mut text, "places", " ", places.iter().copied())?;
+    push_line(alloc, &mut text, "places", " ", places.iter().copied())?;
     Ok(Answer { text, status: 0 })
 }

@@ -22,7 +22,7 @@ use Rattle.nd_base.proofs.laws.Turned.{least_offset, greatest_offset}
 use Rattle.ndarray_layout.specs.reshape.Joints.{has_bad_joint}
 use Rattle.ndarray_layout.specs.reshape.ForcedStrides.{forced_strides}
 use Rattle.ndarray_layout.specs.reshape.Keeps.{Keeps}
-use Rattle.ndarray_layout.specs.Reading.{as_read}
+use Rattle.nd_base.specs.Reading.{as_read}
 use Rattle.ndarray_layout.specs.reshape.ReshapeFault.{reshape_fault}
 use Rattle.nd_base.proofs.laws.Reading.{size-as_read}
 use Rattle.ndarray_layout.proofs.laws.Keeps.{Fits, alike-of-keeps, forced-keeps, keeps-exactly, offset-as_read, size-of-keeps}

@@ -1,14 +1,14 @@
-//! One walk over the axes of two shapes, in the order of reading, that finds the strides of a reshape.
-ghost use Rattle.std.specs.Prelude.{◌≡◌, ◌≢◌, ◌↔◌, ◌+◌, ◌-◌, ◌*◌, ◌<◌, ◌≤◌, ℕ, Some, None, false, pos, ◌*ℤ◌, IsTrue, IfOk, IfErr, OnOk, length, take, drop, map, slice_index};
+//! One pass over the axes of two shapes, in the order of reading, that finds the strides of a reshape.
 ghost use Rattle.std.specs.Int.{w64};
 ghost use Rattle.std.specs.Int.RustNames.{FitsSigned};
+ghost use Rattle.std.specs.Prelude.{◌≡◌, ◌≢◌, ◌↔◌, ◌+◌, ◌-◌, ◌*◌, ◌<◌, ◌≤◌, ℕ, Some, None, false, pos, ◌*ℤ◌, IsTrue, IfOk, IfErr, OnOk, length, take, drop, map, slice_index};
 ghost use Rattle.nd_base.specs.Indices.{below};
 ghost use Rattle.nd_base.specs.Signed.{signed as signed_reading, all_signed};
 ghost use Rattle.nd_base.specs.Size.{size, nonzero_size, is_empty, limit};
 ghost use Rattle.nd_base.specs.ValidLayout.{IsValidLayout};
+ghost use Rattle.ndarray_layout.specs.private.ReshapeProgress.{CanWalk, IsReached, IsBlock, IsInside, HasStridesUpTo, PlacesAlike};
 ghost use Rattle.ndarray_layout.specs.reshape.ForcedStrides.{forced_strides, stride_at};
 ghost use Rattle.ndarray_layout.specs.reshape.ReshapeFault.{reshape_fault, fault_as_read};
-ghost use Rattle.ndarray_layout.specs.private.ReshapeProgress.{CanWalk, IsReached, IsBlock, IsInside, HasStridesUpTo, PlacesAlike};
 
 use crate::sequence::{Forward, Reverse, Sequence, SequenceMut};
 use nd_base::{ErrorKind, Lengths, Order, ShapeError, from_kind, signed, unsigned};
@@ -21,7 +21,7 @@ struct Reached {
 }
 
 /// Axes of both shapes that are read next, up to where they have as many indices again. Those of the
-/// old one can be walked as one axis, with this step.
+/// old one step as one axis, by this step.
 #[derive(Clone, Copy)]
 struct Block {
     end: Reached,
@@ -37,7 +37,7 @@ fn item<S: Sequence>(items: &S, k: usize) -> usize
     items[k]
 }
 
-/// Whether an axis of this stride and one of this length after it, with its own, can be walked as one.
+/// Whether an axis of this stride and one of this length after it, with the stride `next`, step as one.
 #[inline(always)]
 fn is_whole(stride: usize, len: usize, next: usize) -> bool
     requires { len ≤ limit }
@@ -48,7 +48,7 @@ fn is_whole(stride: usize, len: usize, next: usize) -> bool
 
 /// Reads axes of both shapes until they have as many indices again.
 ///
-/// Errors: `IncompatibleLayout` and `IncompatibleShape`, where the whole reshape is refused so.
+/// Errors: `IncompatibleLayout` or `IncompatibleShape`, that of the whole reshape.
 #[inline(always)]
 fn next_block<S: Sequence, T: Sequence>(
     from: &S,
@@ -57,18 +57,27 @@ fn next_block<S: Sequence, T: Sequence>(
     start: Reached,
 ) -> Result<Block, ShapeError>
     requires can_walk { CanWalk (S.items from.now) (all_signed (S.items strides.now)) (T.items to.now) }
-    requires reached { IsReached (S.items from.now) (all_signed (S.items strides.now)) (T.items to.now) start.from_axes start.to_axes }
+    requires reached { IsReached (S.items from.now) (all_signed (S.items strides.now))
+        (T.items to.now) start.from_axes start.to_axes }
     requires from_count { length (S.items from.now) ≤ usize.MAX }
     requires to_count { length (T.items to.now) ≤ usize.MAX }
     requires from_left { start.from_axes < length (S.items from.now) }
     requires to_left { start.to_axes < length (T.items to.now) }
     requires from_longer { 1 < slice_index (S.items from.now) start.from_axes }
     requires to_longer { 1 < slice_index (T.items to.now) start.to_axes }
-    ensures fault { IfErr result (λ kind. fault_as_read (S.items from.now) (all_signed (S.items strides.now)) (T.items to.now) ≡ Some kind) }
-    ensures reached { IfOk result (λ block. IsReached (S.items from.now) (all_signed (S.items strides.now)) (T.items to.now) block.end.from_axes block.end.to_axes) }
+    ensures fault { IfErr result
+        (λ kind. fault_as_read (S.items from.now) (all_signed (S.items strides.now))
+        (T.items to.now) ≡ Some kind) }
+    ensures reached { IfOk result
+        (λ block. IsReached (S.items from.now) (all_signed (S.items strides.now)) (T.items to.now)
+        block.end.from_axes block.end.to_axes) }
     ensures further { IfOk result (λ block. start.to_axes < block.end.to_axes) }
-    ensures block { IfOk result (λ block. IsBlock (S.items from.now) (all_signed (S.items strides.now)) start.from_axes block.end.from_axes (signed_reading block.step)) }
-    ensures inside { IfOk result (λ block. IsInside (S.items from.now) (T.items to.now) start.to_axes block.end.from_axes block.end.to_axes) }
+    ensures block { IfOk result
+        (λ block. IsBlock (S.items from.now) (all_signed (S.items strides.now)) start.from_axes
+        block.end.from_axes (signed_reading block.step)) }
+    ensures inside { IfOk result
+        (λ block. IsInside (S.items from.now) (T.items to.now) start.to_axes block.end.from_axes
+        block.end.to_axes) }
 {
     let (mut from_end, mut to_end) = (start.from_axes + 1, start.to_axes + 1);
     let mut from_product = item(from, start.from_axes);
@@ -105,7 +114,7 @@ fn next_block<S: Sequence, T: Sequence>(
 }
 
 /// Writes the strides of the axes from `start` up to `end`, the last of which has the stride `step`, so that
-/// they can be walked as one axis.
+/// they step as one axis.
 #[inline(always)]
 fn write_block<T: Sequence, O: SequenceMut>(
     to: &T,
@@ -118,10 +127,14 @@ fn write_block<T: Sequence, O: SequenceMut>(
     requires ahead { start < end }
     requires within { end ≤ length (T.items to.now) }
     requires len_fits { (k : ℕ) → k < length (T.items to.now) → slice_index (T.items to.now) k ≤ limit }
-    requires steps_fit { (k : ℕ) → start ≤ k → k < end → FitsSigned w64 (pos (size (drop (k + 1) (take end (T.items to.now)))) *ℤ signed_reading step) }
+    requires steps_fit { (k : ℕ) → start ≤ k → k < end →
+        FitsSigned w64
+        (pos (size (drop (k + 1) (take end (T.items to.now)))) *ℤ signed_reading step) }
     ensures written { (k : ℕ) → start ≤ k → k < end →
-        signed_reading (slice_index (O.items out.new) k) ≡ pos (size (drop (k + 1) (take end (T.items to.now)))) *ℤ signed_reading step }
-    ensures kept { (k : ℕ) → k < start → slice_index (O.items out.new) k ≡ slice_index (O.items out.old) k }
+        signed_reading (slice_index (O.items out.new) k)
+        ≡ pos (size (drop (k + 1) (take end (T.items to.now)))) *ℤ signed_reading step }
+    ensures kept { (k : ℕ) → k < start →
+        slice_index (O.items out.new) k ≡ slice_index (O.items out.old) k }
     ensures room { length (O.items out.new) ≡ length (O.items out.old) }
     ensures target { O.same_target out.old out.new }
 {
@@ -135,7 +148,7 @@ fn write_block<T: Sequence, O: SequenceMut>(
 
 /// Reads both shapes further, where both have axes left, and writes the strides of the new axes that it reads.
 ///
-/// Errors: `IncompatibleLayout` and `IncompatibleShape`, where the whole reshape is refused so.
+/// Errors: `IncompatibleLayout` or `IncompatibleShape`, that of the whole reshape.
 #[inline(always)]
 fn advance<S: Sequence, T: Sequence, O: SequenceMut>(
     from: &S,
@@ -150,11 +163,17 @@ fn advance<S: Sequence, T: Sequence, O: SequenceMut>(
     requires from_left { at.from_axes < length (S.items from.now) }
     requires to_left { at.to_axes < length (T.items to.now) }
     requires room { length (O.items out.old) ≡ length (T.items to.now) }
-    requires written { HasStridesUpTo (S.items from.now) (all_signed (S.items strides.now)) (T.items to.now) (all_signed (O.items out.old)) at.from_axes at.to_axes }
-    ensures fault { IfErr result (λ kind. fault_as_read (S.items from.now) (all_signed (S.items strides.now)) (T.items to.now) ≡ Some kind) }
-    ensures further { IfOk result (λ next. at.from_axes + at.to_axes < next.from_axes + next.to_axes) }
+    requires written { HasStridesUpTo (S.items from.now) (all_signed (S.items strides.now))
+        (T.items to.now) (all_signed (O.items out.old)) at.from_axes at.to_axes }
+    ensures fault { IfErr result
+        (λ kind. fault_as_read (S.items from.now) (all_signed (S.items strides.now))
+        (T.items to.now) ≡ Some kind) }
+    ensures further { IfOk result
+        (λ next. at.from_axes + at.to_axes < next.from_axes + next.to_axes) }
     ensures room { IfOk result (λ next. length (O.items out.new) ≡ length (T.items to.now)) }
-    ensures written { IfOk result (λ next. HasStridesUpTo (S.items from.now) (all_signed (S.items strides.now)) (T.items to.now) (all_signed (O.items out.new)) next.from_axes next.to_axes) }
+    ensures written { IfOk result
+        (λ next. HasStridesUpTo (S.items from.now) (all_signed (S.items strides.now))
+        (T.items to.now) (all_signed (O.items out.new)) next.from_axes next.to_axes) }
     ensures target { O.same_target out.old out.new }
 {
     let from_len = item(from, at.from_axes);
@@ -184,11 +203,14 @@ fn advance<S: Sequence, T: Sequence, O: SequenceMut>(
     Ok(block.end)
 }
 
-/// Whether each axis from this one on has one entry.
+/// Whether each axis from this one on has length 1.
 #[inline(always)]
 fn only_ones<S: Sequence>(lens: &S, start: usize) -> bool
-    ensures ones { IsTrue result → (k : ℕ) → start ≤ k → k < length (S.items lens.now) → slice_index (S.items lens.now) k ≡ 1 }
-    ensures longer { result ≡ false → (k : ℕ) × (start ≤ k) × (k < length (S.items lens.now)) × (slice_index (S.items lens.now) k ≢ 1) }
+    ensures ones { IsTrue result → (k : ℕ) → start ≤ k → k < length (S.items lens.now) →
+        slice_index (S.items lens.now) k ≡ 1 }
+    ensures longer { result ≡ false →
+        (k : ℕ) × (start ≤ k) × (k < length (S.items lens.now))
+        × (slice_index (S.items lens.now) k ≢ 1) }
 {
     for k in start..lens.len() {
         if item(lens, k) != 1 {
@@ -201,8 +223,10 @@ fn only_ones<S: Sequence>(lens: &S, start: usize) -> bool
 /// Writes a stride of 1 for each axis from this one on.
 #[inline(always)]
 fn write_ones<O: SequenceMut>(out: &mut O, start: usize)
-    ensures written { (k : ℕ) → start ≤ k → k < length (O.items out.old) → slice_index (O.items out.new) k ≡ 1 }
-    ensures kept { (k : ℕ) → k < start → slice_index (O.items out.new) k ≡ slice_index (O.items out.old) k }
+    ensures written { (k : ℕ) → start ≤ k → k < length (O.items out.old) →
+        slice_index (O.items out.new) k ≡ 1 }
+    ensures kept { (k : ℕ) → k < start →
+        slice_index (O.items out.new) k ≡ slice_index (O.items out.old) k }
     ensures room { length (O.items out.new) ≡ length (O.items out.old) }
     ensures target { O.same_target out.old out.new }
 {
@@ -213,7 +237,7 @@ fn write_ones<O: SequenceMut>(out: &mut O, start: usize)
 
 /// Writes the strides of a reshape, where all sequences are in the order of reading.
 ///
-/// Errors: `IncompatibleLayout` where a joint is bad, and then `IncompatibleShape` where the sizes differ.
+/// Errors: `IncompatibleLayout` where a joint is bad, then `IncompatibleShape` where the sizes differ.
 #[inline(always)]
 fn walk<S: Sequence, T: Sequence, O: SequenceMut>(
     from: &S,
@@ -223,10 +247,17 @@ fn walk<S: Sequence, T: Sequence, O: SequenceMut>(
 ) -> Result<(), ShapeError>
     requires can_walk { CanWalk (S.items from.now) (all_signed (S.items strides.now)) (T.items to.now) }
     requires room { length (O.items out.old) ≡ length (T.items to.now) }
-    ensures fault { IfErr result (λ kind. fault_as_read (S.items from.now) (all_signed (S.items strides.now)) (T.items to.now) ≡ Some kind) }
+    ensures fault { IfErr result
+        (λ kind. fault_as_read (S.items from.now) (all_signed (S.items strides.now))
+        (T.items to.now) ≡ Some kind) }
     ensures sizes { IfOk result (λ done. size (S.items from.now) ≡ size (T.items to.now)) }
-    ensures alike { IfOk result (λ done. PlacesAlike (S.items from.now) (all_signed (S.items strides.now)) (T.items to.now) (all_signed (O.items out.new))) }
-    ensures strides { IfOk result (λ done. all_signed (O.items out.new) ≡ map (stride_at (S.items from.now) (all_signed (S.items strides.now)) (T.items to.now)) (below (length (T.items to.now)))) }
+    ensures alike { IfOk result
+        (λ done. PlacesAlike (S.items from.now) (all_signed (S.items strides.now)) (T.items to.now)
+        (all_signed (O.items out.new))) }
+    ensures strides { IfOk result
+        (λ done. all_signed (O.items out.new)
+        ≡ map (stride_at (S.items from.now) (all_signed (S.items strides.now)) (T.items to.now))
+        (below (length (T.items to.now)))) }
     ensures room { IfOk result (λ done. length (O.items out.new) ≡ length (T.items to.now)) }
     ensures target { O.same_target out.old out.new }
 {
@@ -244,9 +275,9 @@ fn walk<S: Sequence, T: Sequence, O: SequenceMut>(
     Ok(())
 }
 
-/// Writes the strides of a reshape, with a copy of the walk for each order.
+/// Writes the strides of a reshape, with a copy of the pass for each order.
 ///
-/// Errors: `IncompatibleLayout` where a joint is bad, and then `IncompatibleShape` where the sizes differ.
+/// Errors: `IncompatibleLayout` where a joint is bad, then `IncompatibleShape` where the sizes differ.
 #[inline(always)]
 pub(super) fn fill_reshaped<E: Lengths>(
     order: Order,
@@ -260,9 +291,12 @@ pub(super) fn fill_reshaped<E: Lengths>(
     requires to_some { is_empty to.now ≡ false }
     requires to_fits { nonzero_size to.now ≤ limit }
     requires room { length (E.list out.old) ≡ length to.now }
-    ensures fault { IfErr result (λ kind. reshape_fault order from.now (all_signed strides.now) to.now ≡ Some kind) }
+    ensures fault { IfErr result
+        (λ kind. reshape_fault order from.now (all_signed strides.now) to.now ≡ Some kind) }
     ensures fits { OnOk result (reshape_fault order from.now (all_signed strides.now) to.now ≡ None) }
-    ensures strides { OnOk result (all_signed (E.list out.new) ≡ forced_strides order from.now (all_signed strides.now) to.now) }
+    ensures strides { OnOk result
+        (all_signed (E.list out.new)
+        ≡ forced_strides order from.now (all_signed strides.now) to.now) }
 {
     match order {
         Order::RowMajor => walk(

@@ -1,7 +1,7 @@
-//! Shapes that a view can be read as one of, and the strides that it has then.
+//! Views stretched to a shape, and the strides that they have then.
 ghost use Rattle.std.specs.Prelude.{◌≡◌, ◌≤◌, None, length, IfOk, IsOk, ℕ, ◌<◌};
-ghost use Rattle.nd_base.specs.Lengths.{NeedsNoMemory};
 ghost use Rattle.std.specs.Result.{result_err};
+ghost use Rattle.nd_base.specs.Lengths.{NeedsNoMemory};
 ghost use Rattle.nd_base.specs.ShapeFault.{shape_fault};
 ghost use Rattle.nd_base.specs.Signed.{all_signed};
 ghost use Rattle.ndarray_layout.specs.BroadcastView.{broadcast_fault, broadcast_strides, takes_in, broadcast_of, broadcast_source};
@@ -31,8 +31,8 @@ fn stretches_to(view_shape: &[usize], shape: &[usize]) -> bool
     true
 }
 
-/// Whether a view of a shape can be read as one of another: `IncompatibleShape` where the other is not
-/// the shape that both have in common, and then `Overflow` where it is too large.
+/// Checks that a view of a shape can be read as one of another. Errors: `IncompatibleShape` where
+/// the other is not the shape that both have in common, then `Overflow` where it is too large.
 #[inline(always)]
 fn check_broadcast<E: Lengths>(view_shape: &[usize], shape: &E) -> Result<(), ShapeError>
     ensures { result_err result ≡ broadcast_fault (E.list shape.now) view_shape.now }
@@ -67,9 +67,10 @@ fn stretch_strides(
     }
 }
 
-/// The same as a value of the type of the shape.
+/// The strides along which a view is read as one of a shape with no fewer axes, as a value of the
+/// shape's type (`stretch_strides`).
 ///
-/// Errors: out of memory; none where the type fixes the count or there are at most 4 axes.
+/// Errors: out of memory; never where the type fixes the count of axes or there are at most 4.
 #[inline(always)]
 fn stretched<E: Lengths>(
     alloc: Global,
@@ -88,9 +89,8 @@ fn stretched<E: Lengths>(
     Ok(new_strides)
 }
 
-/// The lengths and the strides with which a view is read as one of a shape. Refused as `check_broadcast`
-/// refuses it, and then out of memory, never where the type fixes the count or there are at most 4
-/// axes. The caller ensures that the view has a stride for each length.
+/// The lengths and the strides with which a view is read as one of a shape. The caller ensures that
+/// the view has a stride for each length. Errors: those of `Strided::broadcast`.
 #[inline(always)]
 fn broadcast_axes<E: Lengths>(
     alloc: Global,
@@ -113,12 +113,19 @@ fn broadcast_axes<E: Lengths>(
 }
 
 impl<D: Lengths> Strided<D> {
-    /// The same data read as a view of a shape that this one's can be stretched to: new axes come first,
-    /// and along them and along axes of length 1 that have another length now all entries are one. Their
-    /// strides are 0; the other axes keep theirs. Refused with `IncompatibleShape` where the shape is not the
-    /// one that it and the view's have in common, then with `Overflow` where the product of its lengths
-    /// that are not 0 passes the greatest `isize`; and then out of memory, never where the type fixes the
-    /// count or there are at most 4 axes. `broadcast` of ndarray.
+    /// The same data read as a view of a shape that this one's can be stretched to.
+    ///
+    /// New axes come first. Along them, and along axes of length 1 that have another length now,
+    /// all entries are one, and the stride is 0; the other axes keep their strides.
+    ///
+    /// # Errors
+    ///
+    /// `IncompatibleShape` where the shape is not the one that it and the view's have in common;
+    /// then `Overflow` where the product of its lengths that are not 0 is greater than
+    /// `isize::MAX`; then out of memory, never where the type fixes the count of axes or there are
+    /// at most 4.
+    ///
+    /// `[1,4]` with strides `[9,-1]` to `[2,3,4]`: strides `[0,0,-1]`. ndarray's `broadcast`.
     pub fn broadcast<E: Lengths>(&self, alloc: Global, shape: &E) -> Result<Strided<E>, LayoutError>
         ensures refusal { shape_fault result ≡ broadcast_fault (E.list shape.now) self.now.shape }
         ensures memory { broadcast_fault (E.list shape.now) self.now.shape ≡ None →

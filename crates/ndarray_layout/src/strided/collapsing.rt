@@ -1,7 +1,7 @@
-//! Which entries of an axis can be taken.
+//! One entry of an axis.
 ghost use Rattle.std.specs.Prelude.{◌≡◌, ◌↔◌, IsTrue, None, ℕ, ◌<◌, OnErr, OnOk};
-ghost use Rattle.ndarray_layout.specs.CollapsedView.{collapse_fault, collapse_of, collapse_source};
 ghost use Rattle.std.specs.Result.{result_err};
+ghost use Rattle.ndarray_layout.specs.CollapsedView.{collapse_fault, collapse_of, collapse_source};
 ghost use Rattle.ndarray_layout.specs.DistinctPlaces.{HasDistinctPlaces};
 ghost use Rattle.ndarray_layout.specs.KeepsPlaces.{KeepsPlaces};
 ghost use Rattle.ndarray_layout.specs.View.{IsView, LiesWithin};
@@ -19,9 +19,15 @@ fn has_entry(shape: &[usize], axis: Axis, index: usize) -> bool
 }
 
 impl<D: Lengths> Strided<D> {
-    /// Takes one entry of an axis: the axis has a length of 1 then, and keeps its stride. Refused with
-    /// `OutOfBounds` where there is no such axis or the index is not below its length, and then the
-    /// view stays. `collapse_axis` of ndarray.
+    /// Takes one entry of an axis: the axis has length 1 then, and keeps its stride.
+    ///
+    /// # Errors
+    ///
+    /// `OutOfBounds` where there is no such axis or the index is not less than its length; the view
+    /// is unchanged.
+    ///
+    /// Entry 1 of axis 0 of `[2,3]`, `[3,1]` from 0: `[1,3]`, `[3,1]` from 3. ndarray's
+    /// `collapse_axis`.
     pub fn collapse(&mut self, axis: Axis, index: usize) -> Result<(), ShapeError>
         ensures fault { result_err result ≡ collapse_fault self.old.shape axis.0 index }
         ensures refusal { OnErr result (self.new ≡ self.old) }

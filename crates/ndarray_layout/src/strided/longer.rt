@@ -1,13 +1,13 @@
-//! The axes of a layout with another length than 1.
+//! The axes of a layout of another length than 1.
 ghost use Rattle.std.specs.Prelude.{◌≡◌, ◌≤◌, length, take, IfNone, IfSome};
 ghost use Rattle.nd_base.specs.Size.{nonzero_size, size, limit};
 ghost use Rattle.ndarray_layout.specs.private.LongerAxes.{of_longer};
 
-/// How many axes of two entries or more a shape can have: the product of its lengths that are not 0 is at
-/// most the greatest `isize`.
+/// How many axes of length greater than 1 a shape can have: the product of its lengths that are not 0
+/// is at most `isize::MAX`.
 pub(super) const MOST_AXES: usize = 62;
 
-/// The lengths and the strides of the axes with another length than 1, from the first axis on.
+/// The lengths and the strides of the axes of another length than 1, from the first axis on.
 #[derive(Drop)]
 pub(super) struct LongerAxes {
     count: usize,
@@ -33,7 +33,7 @@ impl LongerAxes {
     }
 }
 
-/// The axes with another length than 1; `None` where one has no entry.
+/// The axes of another length than 1; `None` where one has length 0.
 pub(super) fn longer_axes(shape: &[usize], strides: &[usize]) -> Option<LongerAxes>
     requires counts { length shape.now ≡ length strides.now }
     requires fits { nonzero_size shape.now ≤ limit }

@@ -1,17 +1,17 @@
-//! Views of layouts that are accepted, and the same view once more.
-ghost use Rattle.std.specs.Prelude.{◌≡◌, ◌⊎◌, ◌<◌, false, None, length, IfOk, IsOk};
+//! Views of accepted layouts, and copies of a view.
 ghost use Rattle.std.specs.Option.{IsSome};
+ghost use Rattle.std.specs.Prelude.{◌≡◌, ◌⊎◌, ◌<◌, false, None, length, IfOk, IsOk};
 ghost use Rattle.std.specs.Result.{result_err};
-ghost use Rattle.nd_base.specs.Signed.{all_signed};
-ghost use Rattle.nd_shape.specs.Acceptance.{acceptance};
-ghost use Rattle.nd_shape.specs.AcceptanceByStrides.{acceptance_by_strides};
-ghost use Rattle.nd_shape.specs.ShapeBuilder.{custom_strides, strides_list};
-ghost use Rattle.nd_shape.specs.declared.checks.CanIndexCheckMode.TheVariants.{OwnedMutable};
 ghost use Rattle.nd_base.specs.Lengths.{NeedsNoMemory};
 ghost use Rattle.nd_base.specs.ShapeFault.{shape_fault};
+ghost use Rattle.nd_base.specs.Signed.{all_signed};
 ghost use Rattle.nd_base.specs.Size.{is_empty};
 ghost use Rattle.nd_base.specs.Span.{low_span};
+ghost use Rattle.nd_shape.specs.Acceptance.{acceptance};
+ghost use Rattle.nd_shape.specs.AcceptanceByStrides.{acceptance_by_strides};
 ghost use Rattle.nd_shape.specs.OwnedRule.{MeetsOwnedRule};
+ghost use Rattle.nd_shape.specs.ShapeBuilder.{custom_strides, strides_list};
+ghost use Rattle.nd_shape.specs.declared.checks.CanIndexCheckMode.TheVariants.{OwnedMutable};
 ghost use Rattle.ndarray_layout.specs.DistinctPlaces.{HasDistinctPlaces};
 ghost use Rattle.ndarray_layout.specs.View.{IsView, LiesWithin, view_of};
 
@@ -24,8 +24,17 @@ use nd_shape::{
 use std::alloc::{AllocError, Global};
 
 impl<D: Lengths> Strided<D> {
-    /// The view of a shape and strides over data of `len` elements of `elem_size` bytes, with the
-    /// lowest element of the view first in the data. Refused as `can_index_slice` refuses it.
+    /// The view of a shape and strides over data of `len` elements of `elem_size` bytes.
+    ///
+    /// `dim` and `strides` are one number for each axis; strides are in elements and with their
+    /// sign (`signed`). The lowest place of the view is 0, the first element of the data. Each
+    /// index is in bounds, and in owned mode no two indices alias.
+    ///
+    /// # Errors
+    ///
+    /// Those of `can_index_slice`, in its order.
+    ///
+    /// `[3]` with the stride `[-1]` over 3 elements: (0) lies at 2. The project's own.
     pub fn new(
         dim: D,
         strides: D,
@@ -53,10 +62,19 @@ impl<D: Lengths> Strided<D> {
         })
     }
 
-    /// The view of a shape by its own strides or by given ones, over data of `len` elements of
-    /// `elem_size` bytes, with the lowest element of the view first in the data. Refused as
-    /// `can_index_slice_with_strides` refuses it, and then out of memory: never where the strides are
-    /// given, where the type fixes the count or where there are at most 4 axes.
+    /// The view of a shape by its own strides, row-major or column-major, or by given ones, over
+    /// data of `len` elements of `elem_size` bytes.
+    ///
+    /// The lowest place of the view is 0, the first element of the data. Each index is in bounds,
+    /// and in owned mode no two indices alias. In owned mode, and along the shape's own strides in
+    /// any mode, a view with an index satisfies the no-alias rule of owned mode (`MeetsOwnedRule`).
+    ///
+    /// # Errors
+    ///
+    /// Those of `can_index_slice_with_strides`, in its order; then out of memory, never where the
+    /// strides are given, where the type fixes the count of axes or where there are at most 4.
+    ///
+    /// `[2,3]` in column-major order over 6 elements: strides `[1,2]`. The project's own.
     pub fn from_shape(
         alloc: Global,
         shape: StrideShape<D>,
@@ -95,9 +113,13 @@ impl<D: Lengths> Strided<D> {
         })
     }
 
-    /// The same view, with a shape and strides of its own. In place of `Clone` in ndarray.
+    /// The same view, with a shape and strides of its own.
     ///
-    /// Errors: out of memory; none where the type fixes the count or there are at most 4 axes.
+    /// # Errors
+    ///
+    /// Out of memory; never where the type fixes the count of axes or there are at most 4.
+    ///
+    /// In place of ndarray's `Clone`.
     pub fn duplicate(&self, alloc: Global) -> Result<Self, AllocError>
         ensures view { IfOk result (λ v. v ≡ self.now) }
         ensures is_view { IfOk result (λ v. IsView v) }

@@ -1,17 +1,17 @@
-//! Which axes can be named for a merge.
+//! One axis merged into another.
 ghost use Rattle.std.specs.Prelude.{◌≡◌, ℕ, ◌<◌, IfOk, IsTrue, ◌↔◌, if◌then◌else◌, OnErr};
 ghost use Rattle.std.specs.Result.{result_err};
-ghost use Rattle.ndarray_layout.specs.MergedView.{axes_fault, HasMergedStride, merge_of, merge_source};
 ghost use Rattle.ndarray_layout.specs.DistinctPlaces.{HasDistinctPlaces};
 ghost use Rattle.ndarray_layout.specs.KeepsPlaces.{KeepsPlaces};
+ghost use Rattle.ndarray_layout.specs.MergedView.{axes_fault, HasMergedStride, merge_of, merge_source};
 ghost use Rattle.ndarray_layout.specs.View.{IsView, LiesWithin};
 
 use crate::strided::Strided;
 use nd_base::{Axis, ErrorKind, Lengths, ShapeError, from_kind};
 use nd_shape::merge_axes;
 
-/// Checks that a shape has two axes, and that they are not one: refused with `OutOfBounds` where it lacks
-/// one of them, and then with `Unsupported` for one axis twice.
+/// Checks that a shape has two axes, and that they are not one. Errors: `OutOfBounds` where it
+/// lacks one of them, then `Unsupported` for one axis twice.
 #[inline(always)]
 fn check_axes(shape: &[usize], take: Axis, into: Axis) -> Result<(), ShapeError>
     ensures { result_err result ≡ axes_fault shape.now take.0 into.0 }
@@ -26,17 +26,25 @@ fn check_axes(shape: &[usize], take: Axis, into: Axis) -> Result<(), ShapeError>
 }
 
 impl<D: Lengths> Strided<D> {
-    /// Whether the axis `take` was merged into the axis `into`: after `Ok(false)` the view is unchanged.
-    /// They are merged where one stride has the entries of both: then the axis `into` has them all, that of
-    /// `take` moving slowest among them, and `take` keeps one entry, or none where there are none.
+    /// Whether the axis `take` was merged into the axis `into`: after `Ok(false)` the view is
+    /// unchanged.
     ///
-    /// Errors: `OutOfBounds` where there is no such axis, then `Unsupported` for one axis twice; the view is
-    /// unchanged. `[2,3]` with strides `[3,1]`, axis 0 into axis 1, becomes `[1,6]` with `[3,1]`.
-    /// ndarray's `merge_axes`.
+    /// They are merged where one stride has the entries of both: then the axis `into` has them all,
+    /// that of `take` moving slowest among them, and `take` keeps one entry, or none where there
+    /// are none.
+    ///
+    /// # Errors
+    ///
+    /// `OutOfBounds` where there is no such axis, then `Unsupported` for one axis twice; the view
+    /// is unchanged.
+    ///
+    /// Axis 0 into axis 1 of `[2,3]` with strides `[3,1]`: `[1,6]` with `[3,1]`. ndarray's
+    /// `merge_axes`.
     pub fn merge(&mut self, take: Axis, into: Axis) -> Result<bool, ShapeError>
         ensures fault { result_err result ≡ axes_fault self.old.shape take.0 into.0 }
         ensures refusal { OnErr result (self.new ≡ self.old) }
-        ensures fits { IfOk result (λ merged. IsTrue merged ↔ HasMergedStride take.0 into.0 self.old) }
+        ensures fits { IfOk result (λ merged.
+            IsTrue merged ↔ HasMergedStride take.0 into.0 self.old) }
         ensures merged { IfOk result (λ merged.
             self.new ≡ (if merged then merge_of take.0 into.0 self.old else self.old)) }
         ensures is_view { IsView self.new }

@@ -1,15 +1,15 @@
 //! The places of all indices of a view, one after another.
+ghost use Rattle.std.specs.List.{All};
+ghost use Rattle.std.specs.Option.{option_map};
 ghost use Rattle.std.specs.Prelude.{◌≡◌, ◌+◌, ◌<◌, ◌≤◌, ◌^◌, pos, ◌+ℤ◌, ◌*ℤ◌, ◌≤ℤ◌, [], ◌∷◌, ◌++◌, map, length, MatchOption, vec_len, vec_capacity, ℕ, None, IfOk, IsOk, Some, slice_get};
+ghost use Rattle.nd_base.specs.Rank.{index_of_rank_in};
+ghost use Rattle.nd_base.specs.Reading.{as_read};
 ghost use Rattle.nd_base.specs.Signed.{signed as signed_reading, all_signed};
 ghost use Rattle.nd_base.specs.Size.{size, limit};
 ghost use Rattle.nd_base.specs.declared.order.Order.TheVariants.{RowMajor};
-ghost use Rattle.ndarray_layout.specs.View.{IsView, view_of, view_places, LiesWithin, place_at};
-ghost use Rattle.nd_base.specs.Reading.{as_read};
-ghost use Rattle.ndarray_layout.specs.private.ReadView.{view_as_read, row_view};
-ghost use Rattle.std.specs.List.{All};
-ghost use Rattle.std.specs.Option.{option_map};
 ghost use Rattle.nd_shape.specs.Axes.{axes};
-ghost use Rattle.nd_base.specs.Rank.{index_of_rank_in};
+ghost use Rattle.ndarray_layout.specs.View.{IsView, view_of, view_places, LiesWithin, place_at};
+ghost use Rattle.ndarray_layout.specs.private.ReadView.{view_as_read, row_view};
 
 use crate::strided::Strided;
 use crate::strided::longer::longer_axes;
@@ -17,8 +17,8 @@ use nd_base::{Lengths, Order, stride_offset};
 use nd_dim::product;
 use std::alloc::{AllocError, Global};
 
-/// Appends the places of all indices, in an order, to a list with room for them. Axes of length 1 are left out
-/// first, so that no more calls nest than there are axes of two entries or more.
+/// Appends the places of all indices, in an order, to a list with room for them. Axes of length 1
+/// are left out first, so that no more calls nest than there are axes of length greater than 1.
 ///
 /// The caller ensures that these lists make a view, and that the list has room for all places.
 fn push_places(
@@ -111,8 +111,8 @@ fn entry_place(start: usize, i: usize, stride: usize) -> usize
     offset_place(start, stride_offset(i, stride))
 }
 
-/// The place at an offset from another one. The caller ensures that neither is past the greatest `isize`, and
-/// that the new one is not below 0.
+/// The place at an offset from another one. The caller ensures that neither is greater than
+/// `isize::MAX`, and that the new one is not less than 0.
 pub(super) fn offset_place(start: usize, offset: isize) -> usize
     requires first { start ≤ limit }
     requires low { pos 0 ≤ℤ (pos start +ℤ offset) }
@@ -123,9 +123,17 @@ pub(super) fn offset_place(start: usize, offset: isize) -> usize
 }
 
 impl<D: Lengths> Strided<D> {
-    /// The places of all indices of the shape, in an order.
+    /// The places of all indices, in row-major order (the last axis moves fastest) or in
+    /// column-major order (the first one does).
     ///
-    /// Errors: out of memory; none where there is no index.
+    /// Takes time and memory for each index, and none for axes of length 1.
+    ///
+    /// # Errors
+    ///
+    /// Out of memory; none where there is no index.
+    ///
+    /// `[2,3]` with strides `[-3,1]` from 3: 3 4 5 0 1 2 in row-major order, 3 0 4 1 5 2 in
+    /// column-major order. The project's own.
     pub fn places(&self, alloc: Global, order: Order) -> Result<Vec<usize>, AllocError>
         ensures items { IfOk result (λ v. map pos v.items ≡ view_places order self.now) }
         ensures len { IfOk result (λ v. vec_len v ≡ size self.now.shape) }

@@ -1,8 +1,8 @@
 //! What a view has, and where its indices lie.
 ghost use Rattle.std.specs.Iterator.{YieldsFirst, YieldsLast};
 ghost use Rattle.std.specs.Iterator.Runs.{YieldsInOrder, YieldsInReverse};
-ghost use Rattle.std.specs.Prelude.{◌≡◌, ◌<◌, ◌↔◌, IsTrue, pos, IfOk, Some};
 ghost use Rattle.std.specs.Option.{option_map, option_or};
+ghost use Rattle.std.specs.Prelude.{◌≡◌, ◌<◌, ◌↔◌, IsTrue, pos, IfOk, Some};
 ghost use Rattle.std.specs.Result.{result_err};
 ghost use Rattle.nd_base.specs.Signed.{all_signed};
 ghost use Rattle.nd_shape.specs.Axes.{axes, axes_left};
@@ -47,7 +47,9 @@ impl<D: Lengths> Strided<D> {
         &self.strides
     }
 
-    /// The axes with their lengths and strides, each once, from the first or from the last on.
+    /// Iterator over the axes with their lengths and strides, from the first axis or from the last.
+    ///
+    /// `[2,3]` with strides `[3,1]`: 2 and 3 of axis 0, 3 and 1 of axis 1. ndarray's `axes`.
     pub fn axes(&self) -> Axes<'_>
         ensures list { axes_left result ≡ axes self.now.shape self.now.strides }
         ensures in_order { YieldsInOrder (YieldsFirst axes_left) axes_left }
@@ -57,7 +59,10 @@ impl<D: Lengths> Strided<D> {
         axes_of(&self.dim, &self.strides)
     }
 
-    /// The place of an index in the data; `None` where it is no index of the shape.
+    /// The place of an index, in elements from the start of the data; `None` where it is no index
+    /// of the shape.
+    ///
+    /// `[2,3]` with strides `[3,1]` from 0: (1,2) lies at 5, and (2,0) nowhere. The project's own.
     pub fn place<I: NdIndex<D>>(&self, index: &I) -> Option<usize>
         ensures { option_map pos result ≡ checked_place self.now (I.index_list index.now) }
     {
@@ -65,27 +70,36 @@ impl<D: Lengths> Strided<D> {
         Some(offset_place(self.start, offset))
     }
 
-    /// Whether two slices of the view share an index: one whose entry on every axis is among the picks of
-    /// both arguments. Before two parts of an array are written at once, this says whether they share an
-    /// element: where no two indices of the view have one place, the answer is true exactly where the two
-    /// slices have a place in common. On any other view, as one that is broadcast, slices that share no
-    /// index may still share a place. Without axes the answer is true; where either argument picks nothing
-    /// of an axis it is false. Takes no memory.
+    /// Whether two slices of the view intersect: some index has each of its coordinates among the
+    /// picks of both arguments.
     ///
-    /// Errors: those of `check_slice` on the shape for the first argument, then for the second. ndarray asks
-    /// `slices_intersect` before `multi_slice_mut` lends several parts.
+    /// Before two parts of an array are written at once, this says whether they share an element:
+    /// where no two indices of the view alias, the result is true if and only if the two slices
+    /// have a place in common. On any other view, as one that is broadcast, slices that share no
+    /// index may still share a place. Without axes the result is true; where an argument picks
+    /// nothing of an axis it is false. Takes no memory.
+    ///
+    /// # Errors
+    ///
+    /// Those of `check_slice` on the shape for the first argument, then for the second.
+    ///
+    /// The first row and the last column of `[2,3]`: true; the first row and the last row: false.
+    /// ndarray asks `slices_intersect` before `multi_slice_mut` lends several parts.
     pub fn meets<A: SliceElems, B: SliceElems>(
         &self,
         first: &A,
         second: &B,
         fit: Fit,
     ) -> Result<bool, ShapeError>
-        ensures fault { result_err result ≡ option_or (argument_fault fit self.now.shape (A.list first.now))
+        ensures fault { result_err result ≡ option_or
+            (argument_fault fit self.now.shape (A.list first.now))
             (argument_fault fit self.now.shape (B.list second.now)) }
         ensures meet { IfOk result (λ meet. IsTrue meet ↔
             Meet fit self.now.shape (A.list first.now) (B.list second.now)) }
         ensures places { IfOk result (λ meet. HasDistinctPlaces self.now → (IsTrue meet ↔
-            SharePlace (slice_of fit (A.list first.now) self.now) (slice_of fit (B.list second.now) self.now))) }
+            SharePlace
+            (slice_of fit (A.list first.now) self.now)
+            (slice_of fit (B.list second.now) self.now))) }
     {
         slices_intersect(&self.dim, first, second, fit)
     }

@@ -2,10 +2,9 @@
 ghost use Rattle.std.specs.Prelude.{◌≡◌, ◌↔◌, ℕ, None, length, IfErr, IfOk, IsOk, OnOk};
 ghost use Rattle.nd_base.specs.Lengths.{NeedsNoMemory};
 ghost use Rattle.nd_base.specs.Signed.{all_signed};
-ghost use Rattle.ndarray_layout.specs.ReshapedView.{IsReshapeRefusal, ReshapeFits, reshape_of, reshape_refusal, reshape_source};
-ghost use Rattle.ndarray_layout.specs.ReshapedView.{reshaped_strides as strides_of};
 ghost use Rattle.ndarray_layout.specs.DistinctPlaces.{HasDistinctPlaces};
 ghost use Rattle.ndarray_layout.specs.KeepsPlaces.{KeepsPlaces};
+ghost use Rattle.ndarray_layout.specs.ReshapedView.{IsReshapeRefusal, ReshapeFits, reshape_of, reshape_refusal, reshape_source, reshaped_strides as strides_of};
 ghost use Rattle.ndarray_layout.specs.View.{IsView, LiesWithin, view_places};
 
 use crate::reshape::reshape_dim;
@@ -15,8 +14,8 @@ use nd_shape::size_of_shape_checked;
 use std::alloc::Global;
 
 impl<D: Lengths> Strided<D> {
-    /// The strides along which a shape has the places of the view in an order; 0 where there is no index.
-    /// Refused as `reshape` is.
+    /// The strides along which a shape has the places of the view in an order; 0 where there is no
+    /// index. Errors: those of `reshape`.
     fn reshaped_strides<E: Lengths>(
         &self,
         alloc: Global,
@@ -43,14 +42,22 @@ impl<D: Lengths> Strided<D> {
     }
 
     /// The same places along another shape: each index of it has the place of the index of the view
-    /// before which as many come in the order. The start stays, and no element is moved. Refused with
-    /// `Overflow` where the product of the lengths that are not 0 passes the greatest `isize`, then with
-    /// `IncompatibleShape` where one of the two shapes alone has an index. Then it may be out of memory,
-    /// never where the type fixes the count or there are at most 4 axes. At last `IncompatibleLayout`,
-    /// where two axes would have to step as one and don't, and `IncompatibleShape`, where the sizes
-    /// differ: so a shape of permitted size is refused exactly where no strides at all have these places,
-    /// memory aside. Where there is no index the strides are 0. What `to_shape` of ndarray does where it
-    /// copies nothing.
+    /// with the same flat index, in row-major or in column-major order.
+    ///
+    /// The first index stays where it is, and no element is moved. Where there is no index the
+    /// strides are 0. A shape of permitted size has another error than out of memory if and only if
+    /// no strides at all have these places.
+    ///
+    /// # Errors
+    ///
+    /// `Overflow` where the product of the lengths that are not 0 is greater than `isize::MAX`;
+    /// then `IncompatibleShape` where one of the two shapes alone has no index; then out of memory,
+    /// never where the type fixes the count of axes or there are at most 4; then
+    /// `IncompatibleLayout` where two axes would have to step as one and don't; then
+    /// `IncompatibleShape` where the sizes differ.
+    ///
+    /// `[2,3]` with strides `[3,1]` to `[3,2]`: `[2,1]` in row-major order, `IncompatibleLayout` in
+    /// column-major order. What ndarray's `to_shape` does where it copies nothing.
     pub fn reshape<E: Lengths>(
         &self,
         alloc: Global,

@@ -1,4 +1,4 @@
-//! The shape and the strides that a slice argument leaves of a layout.
+//! Slices of a view, and the shape and the strides that a slice argument leaves.
 ghost use Rattle.std.specs.Prelude.{◌≡◌, ◌↔◌, ◌⊎◌, ◌<◌, ◌≤◌, ◌^◌, IsTrue, IsFalse, Some, None, IfOk, IsOk, OnErr, OnOk, length, ℕ};
 ghost use Rattle.std.specs.Result.{result_err};
 ghost use Rattle.nd_base.specs.Lengths.{NeedsNoMemory};
@@ -7,16 +7,16 @@ ghost use Rattle.nd_base.specs.Signed.{signed as signed_reading, all_signed};
 ghost use Rattle.nd_base.specs.Size.{limit};
 ghost use Rattle.nd_base.specs.Span.{reach};
 ghost use Rattle.nd_base.specs.ValidLayout.{IsValidLayout};
-ghost use Rattle.nd_slice.specs.Picks.{picks};
-ghost use Rattle.nd_slice.specs.SliceFault.{slice_fault};
-ghost use Rattle.nd_slice.specs.Picked.{picked_stride, first_offset};
 ghost use Rattle.nd_slice.specs.ArgumentFault.{first_fault, in_count, out_count};
 ghost use Rattle.nd_slice.specs.Counts.{HasCounts};
-ghost use Rattle.nd_slice.specs.Sliced.{sliced_shape, sliced_strides, sliced_offset};
-ghost use Rattle.ndarray_layout.specs.SlicedView.{slice_of, slice_refusal};
+ghost use Rattle.nd_slice.specs.Picked.{picked_stride, first_offset};
+ghost use Rattle.nd_slice.specs.Picks.{picks};
 ghost use Rattle.nd_slice.specs.Selected.{selected};
+ghost use Rattle.nd_slice.specs.SliceFault.{slice_fault};
+ghost use Rattle.nd_slice.specs.Sliced.{sliced_shape, sliced_strides, sliced_offset};
 ghost use Rattle.ndarray_layout.specs.DistinctPlaces.{HasDistinctPlaces};
 ghost use Rattle.ndarray_layout.specs.KeepsPlaces.{KeepsPlaces};
+ghost use Rattle.ndarray_layout.specs.SlicedView.{slice_of, slice_refusal};
 ghost use Rattle.ndarray_layout.specs.View.{IsView, LiesWithin};
 
 use crate::strided::Strided;
@@ -45,8 +45,8 @@ fn needs_memory(fixed: Option<usize>, ndim: usize) -> bool
     fixed.is_none() && ndim > INLINE_AXES
 }
 
-/// Slices one axis: the length and the stride that are left, and how many elements the first pick lies
-/// after the first entry. Fails as `do_slice` does.
+/// Slices one axis: the length and the stride that are left, and how many elements the first pick
+/// lies after the first entry. Errors: those of `do_slice`.
 #[inline(always)]
 fn slice_axis(
     len: usize,
@@ -68,10 +68,11 @@ fn slice_axis(
     Ok((len, stride, offset))
 }
 
-/// Writes the lengths and the strides that an argument for as many axes as there are leaves, one for
-/// each element but an index, into lists with as many places. Answers how many elements the first index
-/// that is left lies after the first index of the shape. Fails as the first element at fault does, and
-/// then says nothing of the lists.
+/// Writes the lengths and the strides that an argument for as many axes as there are leaves, one
+/// for each element but an index, into lists with as many numbers. Returns how many elements the
+/// first index that is left lies after the first index of the shape.
+///
+/// Errors: that of the first element with one. Then the lists hold any numbers.
 #[inline(always)]
 fn write_axes(
     elems: &[SliceInfoElem],
@@ -122,8 +123,8 @@ fn write_axes(
     Ok(offset)
 }
 
-/// Checks the elements of an argument for as many axes as there are, where the lengths that it leaves may
-/// ask for memory, since faults come before refused memory.
+/// Checks the elements of an argument for as many axes as there are, where the lengths that it
+/// leaves may take memory, since errors of elements come before out of memory.
 #[inline(always)]
 fn check_before_memory(
     fixed: Option<usize>,
@@ -143,11 +144,9 @@ fn check_before_memory(
     Ok(())
 }
 
-/// The lengths and the strides that an argument leaves, and how many elements the first index that is left
-/// lies after the first index of the shape. The caller ensures that the layout is valid. Fails with
-/// `IncompatibleShape` where the argument is for more axes or fewer than the shape has, or leaves more or
-/// fewer than the type `E` fixes; then as the first element at fault does, with `OutOfBounds` or
-/// `Unsupported`; and then out of memory, never for at most 4 axes or a type that fixes their count.
+/// The lengths and the strides that an argument leaves, and how many elements the first index that
+/// is left lies after the first index of the shape. The caller ensures that the layout is valid.
+/// Errors: those of `Strided::slice`.
 #[inline(always)]
 fn sliced_axes<E: Lengths>(
     alloc: Global,
@@ -186,12 +185,23 @@ fn sliced_axes<E: Lengths>(
 }
 
 impl<D: Lengths> Strided<D> {
-    /// The view of the same data that a slice argument leaves. Refused with `IncompatibleShape`
-    /// where the argument is for more axes or fewer, or leaves more or fewer than the type `E`
-    /// fixes; then as the first element at fault is: with `OutOfBounds` for an index that is not on its
-    /// axis, or a bound that is not and is not to be clamped, with `Unsupported` for a step of 0; and
-    /// then out of memory, never where `E` fixes the count or at most 4 axes are left. `slice` and
-    /// `slice_collapse` of ndarray.
+    /// The view of the same data that a slice argument leaves.
+    ///
+    /// A range with a step keeps its axis, an index takes one entry and drops the axis, and
+    /// `NewAxis` adds an axis of length 1. `fit` says what becomes of a bound past its axis: an
+    /// error, or the nearest bound. Each index that is left has the place of the index that it
+    /// stands for.
+    ///
+    /// # Errors
+    ///
+    /// `IncompatibleShape` where the argument is for more axes than there are or for fewer, or
+    /// leaves more or fewer than the type `E` fixes; then that of the first element with one:
+    /// `OutOfBounds` for an index that is not on its axis, or a bound that is not and is not to be
+    /// clamped, `Unsupported` for a step of 0; then out of memory, never where `E` fixes the count
+    /// of axes or at most 4 are left.
+    ///
+    /// `1..;-2` of `[4]` with the stride `[3]` from 5: `[2]`, `[-6]` from 14. ndarray's `slice` and
+    /// `slice_collapse`.
     #[inline]
     pub fn slice<E: Lengths, S: SliceElems>(
         &self,
@@ -205,7 +215,8 @@ impl<D: Lengths> Strided<D> {
             NeedsNoMemory E.NDIM (out_count (S.list slices.now)) → IsOk result }
         ensures sliced { IfOk result (λ v. v ≡ slice_of fit (S.list slices.now) self.now) }
         ensures is_view { IfOk result (λ v. IsView v) }
-        ensures places { IfOk result (λ v. KeepsPlaces (selected fit (S.list slices.now) self.now.shape) self.now v) }
+        ensures places { IfOk result (λ v.
+            KeepsPlaces (selected fit (S.list slices.now) self.now.shape) self.now v) }
         ensures inside { IfOk result (λ v. (len : ℕ) → LiesWithin len self.now → LiesWithin len v) }
         ensures distinct { IfOk result (λ v. HasDistinctPlaces self.now → HasDistinctPlaces v) }
     {

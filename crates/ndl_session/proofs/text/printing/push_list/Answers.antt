@@ -6,25 +6,25 @@ use Rattle.ndl_session.proofs.text.printing.push_list.Goals as goal
 pub returns-in_default-clause-kept : goal.returns-in_default-clause-kept
 returns-in_default-clause-kept g c = grows_once _ _ _ _ _ (grows_not _) c.push_str.ensures.bytes
 
-pub returns-in_err-push_str-clause-kept : goal.returns-in_err-push_str-clause-kept
-returns-in_err-push_str-clause-kept g c = grows_once _ _ _ _ _ (grows_not _) c.push_str-2.ensures.bytes
+pub returns-in_err-push_number-clause-kept : goal.returns-in_err-push_number-clause-kept
+returns-in_err-push_number-clause-kept g c = grows_once _ _ _ _ _ (grows_not _) c.push_number.ensures.bytes
 
-pub returns-in_err-push_str-2-clause-kept : goal.returns-in_err-push_str-2-clause-kept
-returns-in_err-push_str-2-clause-kept g c =
+pub returns-in_err-push_str-clause-kept : goal.returns-in_err-push_str-clause-kept
+returns-in_err-push_str-clause-kept g c =
     grows_once _ _ _ _ _
-    (grows_on _ _ _ (grows_once _ _ _ _ _ (grows_not _) c.push_str-2.ensures.bytes) (_, c.loop-number.invariant))
+    (grows_on _ _ _ (grows_once _ _ _ _ _ (grows_not _) c.push_number.ensures.bytes) (_, c.loop-number.invariant))
     c.push_str-in-loop-number.ensures.bytes
 
-pub returns-in_err-push_str-3-clause-kept : goal.returns-in_err-push_str-3-clause-kept
-returns-in_err-push_str-3-clause-kept g c =
+pub returns-in_err-push_number-2-clause-kept : goal.returns-in_err-push_number-2-clause-kept
+returns-in_err-push_number-2-clause-kept g c =
     grows_once _ _ _ _ _
     (grows_once _ _ _ _ _
-    (grows_on _ _ _ (grows_once _ _ _ _ _ (grows_not _) c.push_str-2.ensures.bytes) (_, c.loop-number.invariant))
+    (grows_on _ _ _ (grows_once _ _ _ _ _ (grows_not _) c.push_number.ensures.bytes) (_, c.loop-number.invariant))
     c.push_str-in-loop-number.ensures.bytes)
-    c.push_str-in-loop-number-2.ensures.bytes
+    c.push_number-in-loop-number.ensures.bytes
 
 pub returns-clause-kept : goal.returns-clause-kept
-returns-clause-kept g c = grows_on _ _ _ (grows_once _ _ _ _ _ (grows_not _) c.push_str-2.ensures.bytes) (_, c.loop-number.invariant)
+returns-clause-kept g c = grows_on _ _ _ (grows_once _ _ _ _ _ (grows_not _) c.push_number.ensures.bytes) (_, c.loop-number.invariant)
 
 -- The first number, and then those of the loop.
 pub returns-clause-list : goal.returns-clause-list
