@@ -16,7 +16,7 @@ use Rattle.ndarray_layout.specs.declared.LayoutError.TheVariants.{Shape, Memory}
 use Rattle.ndarray_layout.specs.ArgumentFault.{argument_fault}
 use Rattle.ndarray_layout.specs.Meet.{Meet}
 use Rattle.ndarray_layout.specs.ShapeFault.{shape_fault}
-use Rattle.nd_owned.specs.Checks.{IsIntersectionFaultOf}
+use Rattle.nd_owned.specs.private.Checks.{IsIntersectionFaultOf}
 use Rattle.nd_owned.specs.Writes.{Write, IsFaultOfWrites, IsIntersectionFault, counts_fault, has_count, slices_fault}
 
 -- ---- a list that a function was applied to, at its next item

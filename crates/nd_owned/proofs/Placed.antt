@@ -7,7 +7,7 @@ use Rattle.std.proofs.lemmas.List.{append-nil, drop_more, get_or-append-add, get
 use Rattle.std.proofs.lemmas.List.Elements.{All-append, All-head, All-tail, Contains-append_left, Contains-append_right}
 use Rattle.ndarray_layout.specs.Inside.{IsInside}
 use Rattle.nd_owned.specs.Owned.{item_at_place}
-use Rattle.nd_owned.specs.Rows.{AreInside, HasWritten}
+use Rattle.nd_owned.specs.private.Rows.{AreInside, HasWritten}
 
 -- an item of a list is the same whatever stands for a missing one
 pub other_default : {X : Type 0} (xs : List X) (i : ℕ) (d e : X) → i < length xs → get_or xs i d ≡ get_or xs i e

@@ -9,7 +9,7 @@ use Rattle.std.proofs.lemmas.Option.{slice_get-get_or}
 use Rattle.ndarray_layout.specs.Indices.{below}
 use Rattle.ndarray_layout.specs.Inside.{IsInside}
 use Rattle.nd_owned.specs.Owned.{item_at_place}
-use Rattle.nd_owned.specs.Rows.{HasWritten, row_places}
+use Rattle.nd_owned.specs.private.Rows.{HasWritten, row_places}
 use Rattle.nd_owned.proofs.Placed.{all_first, both_written, one_written, pairs_first}
 
 -- ---- a row

@@ -20,7 +20,7 @@ use Rattle.ndarray_layout.proofs.laws.SharePlace.{meet_of_shared_place}
 use Rattle.ndarray_layout.proofs.laws.SlicedView.{HasDistinctPlaces-slice_of}
 use Rattle.ndarray_layout.proofs.laws.View.{length-view_places}
 use Rattle.nd_owned.specs.Owned.{item_at_place}
-use Rattle.nd_owned.specs.Rows.{HasWritten}
+use Rattle.nd_owned.specs.private.Rows.{HasWritten}
 use Rattle.nd_owned.specs.Writes.{Write, AreApart, IsWritten, KeepsOthers, has_count, slices_fault, write_places}
 use Rattle.nd_owned.proofs.Faults.{both_none}
 use Rattle.nd_owned.proofs.Placed.{other_default}

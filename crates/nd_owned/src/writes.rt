@@ -6,9 +6,9 @@ ghost use Rattle.ndarray_layout.specs.declared.Fit.TheVariants.{Strict};
 ghost use Rattle.ndarray_layout.specs.ArgumentFault.{argument_fault};
 ghost use Rattle.ndarray_layout.specs.ShapeFault.{shape_fault};
 ghost use Rattle.ndarray_layout.specs.View.{LiesWithin};
-ghost use Rattle.nd_owned.specs.Rows.{AreInside, HasWritten, rows_places};
-ghost use Rattle.nd_owned.specs.Checks.{IsIntersectionFaultOf};
 ghost use Rattle.nd_owned.specs.Writes.{HaveNoItems, IsIntersectionFault, counts_fault, has_count, slices_fault, write_of, write_places};
+ghost use Rattle.nd_owned.specs.private.Checks.{IsIntersectionFaultOf};
+ghost use Rattle.nd_owned.specs.private.Rows.{AreInside, HasWritten, rows_places};
 
 use crate::rows::{Rows, rows_of};
 use ndarray_layout::{

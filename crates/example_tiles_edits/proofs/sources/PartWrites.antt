@@ -1,8 +1,8 @@
 -- The parts of a picture that is cut: they fit and share no pixel, and what is written at all of them is the picture with its parts mirrored.
 use Rattle.std.proofs.Common.{◌≡◌, ℕ, ◌+◌, ◌-◌, ◌*◌, ◌/◌, ◌%◌, ◌<◌, ◌≤◌, ℤ, pos, negsuc, true, inl, inr, Option, Some, None, List, [], ◌∷◌, ◌++◌, length, get_or, map, refl, sym, ap, ◌∙◌, subst, arith}
-use Rattle.std.specs.Prelude.{slice_get, IsSomeAnd, MatchOption}
+use Rattle.std.specs.Prelude.{slice_get, IsSomeAnd, MatchOption, if◌then◌else◌}
 use Rattle.std.specs.List.{All, AllZip, Contains, list_all, range_with_len}
-use Rattle.std.specs.Option.{option_map}
+use Rattle.std.specs.Option.{option_map, option_or}
 use Rattle.std.proofs.lemmas.Bool.{eq-eqb, le-leb}
 use Rattle.std.proofs.lemmas.Grind.{get_or_default_zero}
 use Rattle.std.proofs.lemmas.List.{length-map}
@@ -13,6 +13,7 @@ use Rattle.std.proofs.lemmas.Nat.{div-add-mod', div-mul-add, div_below, mod-mul-
 use Rattle.std.proofs.lemmas.Option.{slice_get-get_or, slice_get-map, slice_get_within}
 use Rattle.std.proofs.lemmas.Slice.Zip.{AllZip-left, AllZip-long}
 use Rattle.ndarray_layout.specs.declared.ErrorKind.{ErrorKind}
+use Rattle.ndarray_layout.specs.declared.ErrorKind.TheVariants.{IncompatibleShape}
 use Rattle.ndarray_layout.specs.declared.Fit.TheVariants.{Strict}
 use Rattle.ndarray_layout.specs.declared.Order.TheVariants.{RowMajor}
 use Rattle.ndarray_layout.specs.declared.Slice.{Slice}
@@ -29,7 +30,7 @@ use Rattle.ndarray_layout.proofs.laws.Rank.{slice_get-rank_in}
 use Rattle.ndarray_layout.proofs.laws.SlicedView.{KeepsPlaces-slice_of}
 use Rattle.ndarray_layout.proofs.laws.View.{length-view_places}
 use Rattle.nd_owned.specs.Owned.{Owned, item_at_place}
-use Rattle.nd_owned.specs.Writes.{IsFaultBy, IsFaultOfWrites, IsMeetFault, IsWritten, SomeMeet, Write, has_count, slices_fault}
+use Rattle.nd_owned.specs.Writes.{IsFaultOfWrites, IsIntersectionFault, IsWritten, SomeIntersect, Write, counts_fault, has_count, slices_fault}
 use Rattle.example_tiles_edits.specs.declared.picture.Extent.{Extent}
 use Rattle.example_tiles_edits.specs.picture.Picture.{Image, IsWithin, Position}
 use Rattle.example_tiles_edits.specs.declared.edits.edit.Span.{Span}
@@ -177,19 +178,23 @@ meet_in_one extent count one other first second (x ∷ y ∷ [], is, p, q) =
     (sym (part_is height (one / count) x (picked_range _ _ _ _ x first.rows p.0)) ∙ part_is height (other / count) x (picked_range _ _ _ _ x second.rows q.0))
     (sym (part_is width (one % count) y (picked_range _ _ _ _ y first.columns p.1.0)) ∙ part_is width (other % count) y (picked_range _ _ _ _ y second.columns q.1.0))
 
-none_meet : (extent : Extent) (count : ℕ) (items : List ℕ) (writes : List (Write ℕ)) → CanCut extent count → AreMirrored (record { items = items; view = whole_view extent }) extent count writes → SomeMeet (shape_of extent) writes → ⊥
-none_meet extent count items writes can are some =
-    let array : Owned ℕ = record { items = items; view = whole_view extent } in
-    let first = each array extent count writes some.first some.one are some.one_there in
-    let second = each array extent count writes some.second some.other are some.other_there in
-    let meet : Meet Strict (shape_of extent) (elements_of_part (part_of extent count some.first)) (elements_of_part (part_of extent count some.second)) =
-    subst (λ e. Meet Strict (shape_of extent) e (elements_of_part (part_of extent count some.second))) first.1.slice (subst (λ e. Meet Strict (shape_of extent) some.one.slice e) second.1.slice some.meet) in
-    let same = meet_in_one extent count some.first some.second (picks_of extent count some.first can first.0) (picks_of extent count some.second can second.0) meet in
-    omega (arith, some.earlier, same)
+-- what is there, and what holds of it
+found : (o : Option (Write ℕ)) (P : Write ℕ → Type 0) → IsSomeAnd o P → (write : Write ℕ) × (o ≡ Some write) × P write
+found None P here = absurd here
+found (Some write) P here = (write, refl, here)
 
-no_meet_fault : (shape : List ℕ) (writes : List (Write ℕ)) (kind : ErrorKind) → (SomeMeet shape writes → ⊥) → IsMeetFault shape writes (Some kind) → ⊥
-no_meet_fault shape writes kind none (inl (is, some)) = none some
-no_meet_fault shape writes kind none (inr (is, apart)) = absurd (cc)
+none_intersect : (extent : Extent) (count : ℕ) (items : List ℕ) (writes : List (Write ℕ)) → CanCut extent count → AreMirrored (record { items = items; view = whole_view extent }) extent count writes → SomeIntersect (shape_of extent) writes → ⊥
+none_intersect extent count items writes can are (i, j, earlier, some) =
+    let array : Owned ℕ = record { items = items; view = whole_view extent } in
+    let shape = shape_of extent in
+    let one = found (slice_get writes i) (λ one. IsSomeAnd (slice_get writes j) (λ other. Meet Strict shape one.slice other.slice)) some in
+    let other = found (slice_get writes j) (λ other. Meet Strict shape one.0.slice other.slice) one.2 in
+    let first = each array extent count writes i one.0 are one.1 in
+    let second = each array extent count writes j other.0 are other.1 in
+    let meet : Meet Strict shape (elements_of_part (part_of extent count i)) (elements_of_part (part_of extent count j)) =
+    subst (λ e. Meet Strict shape e (elements_of_part (part_of extent count j))) first.1.slice (subst (λ e. Meet Strict shape one.0.slice e) second.1.slice other.2) in
+    let same = meet_in_one extent count i j (picks_of extent count i can first.0) (picks_of extent count j can second.0) meet in
+    omega (arith, earlier, same)
 
 pub not_refused_at : (extent : Extent) (count : ℕ) (items : List ℕ) (writes : List (Write ℕ)) (kind : ErrorKind) → CanCut extent count → AreMirrored (record { items = items; view = whole_view extent }) extent count writes → IsFaultOfWrites (shape_of extent) writes (Some kind) → ⊥
 not_refused_at extent count items writes kind can are fault =
@@ -203,9 +208,11 @@ not_refused_at extent count items writes kind can are fault =
     let write = get_or writes k d in
     let here = each array extent count writes k write are (slice_get-get_or writes k d below) in
     counted extent count k items write can here.0 here.1) in
-    let of_counts : IsFaultBy None (list_all (has_count shape) writes) shape writes (Some kind) = subst (λ o. IsFaultBy o (list_all (has_count shape) writes) shape writes (Some kind)) fit fault in
-    let of_meet : IsMeetFault shape writes (Some kind) = subst (λ b. IsFaultBy None b shape writes (Some kind)) counts of_counts in
-    no_meet_fault shape writes kind (none_meet extent count items writes can are) of_meet
+    let of_counts : counts_fault shape writes ≡ None =
+    ap (λ o. option_or o (if list_all (has_count shape) writes then None else Some IncompatibleShape)) fit ∙ ap (λ b. if b then None else Some IncompatibleShape) counts in
+    let of_intersection : IsIntersectionFault shape writes (Some kind) =
+    subst (λ o. MatchOption o (IsIntersectionFault shape writes (Some kind)) (λ first. Some kind ≡ Some first)) of_counts fault in
+    none_intersect extent count items writes can are of_intersection.1
 
 -- ---- the pixel that is written at a position
 part_pixel : (extent : Extent) (count k i j : ℕ) (items new : List ℕ) (write : Write ℕ) → IsView (whole_view extent) → PartPicks extent count k → IsMirrored (record { items = items; view = whole_view extent }) (part_of extent count k) write → IsWritten (whole_view extent) new write

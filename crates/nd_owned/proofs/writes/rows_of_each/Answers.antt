@@ -5,7 +5,7 @@ use Rattle.std.proofs.lemmas.List.{length-map}
 use Rattle.ndarray_layout.specs.declared.Fit.TheVariants.{Strict}
 use Rattle.ndarray_layout.specs.ArgumentFault.{argument_fault}
 use Rattle.nd_owned.specs.declared.rows.Rows.{Rows}
-use Rattle.nd_owned.specs.Rows.{AreInside, rows_places}
+use Rattle.nd_owned.specs.private.Rows.{AreInside, rows_places}
 use Rattle.nd_owned.specs.Writes.{write_of, write_places}
 use Rattle.nd_owned.proofs.Faults.{all_pushed, handed_on, have_counts, of_this, this}
 use Rattle.nd_owned.proofs.Placed.{parts_pushed, parts_skipped}

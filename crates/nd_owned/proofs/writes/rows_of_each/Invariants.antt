@@ -2,7 +2,7 @@
 use Rattle.std.proofs.Common.{◌≡◌, ℕ, length, map, take}
 use Rattle.std.specs.List.{All, flat_map}
 use Rattle.ndarray_layout.specs.View.{LiesWithin}
-use Rattle.nd_owned.specs.Rows.{AreInside, rows_places}
+use Rattle.nd_owned.specs.private.Rows.{AreInside, rows_places}
 use Rattle.nd_owned.specs.Writes.{write_of, write_places}
 use Rattle.nd_owned.proofs.writes.rows_of_each.Given as goal
 

@@ -2,7 +2,7 @@
 use Rattle.std.proofs.Common.{◌≢◌, ◌+◌, length, take, sym, subst}
 use Rattle.std.specs.List.{flat_map}
 use Rattle.ndarray_layout.specs.Inside.{IsInside}
-use Rattle.nd_owned.specs.Rows.{AreInside, HasWritten, rows_places}
+use Rattle.nd_owned.specs.private.Rows.{AreInside, HasWritten, rows_places}
 use Rattle.nd_owned.proofs.Placed.{all_together, one_more_written, pairs_of_part, parts_more}
 use Rattle.nd_owned.proofs.writes.write_all.Goals as goal
 

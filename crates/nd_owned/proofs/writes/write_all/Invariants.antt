@@ -1,7 +1,7 @@
 -- The items of the writes so far are at their places, and nothing else has changed.
 use Rattle.std.proofs.Common.{◌≢◌, take}
 use Rattle.std.specs.List.{AllPairs, flat_map}
-use Rattle.nd_owned.specs.Rows.{HasWritten, rows_places}
+use Rattle.nd_owned.specs.private.Rows.{HasWritten, rows_places}
 use Rattle.nd_owned.proofs.writes.write_all.Given as goal
 
 abbrev pub invariant-loop-write : goal.invariant-loop-write

@@ -3,7 +3,7 @@ use Rattle.std.proofs.Common.{◌≡◌, ◌++◌, None, length, map, take, drop
 use Rattle.std.proofs.lemmas.List.{take_at}
 use Rattle.std.specs.List.{All, flat_map}
 use Rattle.nd_owned.specs.declared.rows.Rows.{Rows}
-use Rattle.nd_owned.specs.Rows.{rows_places}
+use Rattle.nd_owned.specs.private.Rows.{rows_places}
 use Rattle.nd_owned.specs.Writes.{IsFaultOfWrites, IsWritten, KeepsOthers, write_of}
 use Rattle.nd_owned.proofs.Faults.{handed_on, have_counts, no_fault}
 use Rattle.nd_owned.proofs.Slices.{all_distinct, all_written, at_places, others_kept}
