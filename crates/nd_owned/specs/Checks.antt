@@ -1,27 +1,19 @@
 -- A slice and those after it: what the contracts of private functions speak of.
-use Rattle.std.specs.Prelude.{◌≡◌, ℕ, pos, ◌⊎◌, Option, Some, None, List, [], ◌∷◌, slice_get, refl}
-use Rattle.std.proofs.Common.{inl, inr}
+use Rattle.std.specs.Prelude.{◌≡◌, ℕ, pos, Option, Some, None, IsSomeAnd, List, [], ◌∷◌, slice_get, refl}
 use Rattle.std.proofs.lemmas.Bool.{ltb-true}
 use Rattle.std.specs.List.{All}
 use Rattle.ndarray_layout.specs.declared.ErrorKind.{ErrorKind}
 use Rattle.ndarray_layout.specs.declared.ErrorKind.TheVariants.{Unsupported}
-use Rattle.ndarray_layout.specs.declared.Fit.TheVariants.{Strict}
-use Rattle.ndarray_layout.specs.declared.SliceInfoElem.{SliceInfoElem}
 use Rattle.ndarray_layout.specs.declared.SliceInfoElem.TheVariants as elem
+use Rattle.nd_owned.specs.Writes.{Write, AreApart}
+use Rattle.ndarray_layout.specs.declared.Fit.TheVariants.{Strict}
 use Rattle.ndarray_layout.specs.Meet.{Meet}
-use Rattle.nd_owned.specs.Writes.{Write}
 
--- a slice shares an index with one of those of a list
-pub record MeetsOneOf {T : Type 0} (shape : List ℕ) (slice : List SliceInfoElem) (writes : List (Write T)) : Type 0 where
-  pub at : ℕ
-  pub other : Write T
-  pub there : slice_get writes at ≡ Some other
-  pub meet : Meet Strict shape slice other.slice
-
--- a fault, or none, is that of a slice that shares an index with one of those of a list, where it does
-abbrev pub IsMeetFaultOf : {T : Type 0} → List ℕ → List SliceInfoElem → List (Write T) → Option ErrorKind → Type 0
-IsMeetFaultOf shape slice writes fault =
-    ((fault ≡ Some Unsupported) × MeetsOneOf shape slice writes) ⊎ ((fault ≡ None) × All (λ other. Meet Strict shape slice other.slice → ⊥) writes)
+-- the error, or none, of a slice that is to share an index with none of those of a list
+abbrev pub IsIntersectionFaultOf : {T : Type 0} → List ℕ → Write T → List (Write T) → Option ErrorKind → Type 0
+IsIntersectionFaultOf shape one others None = All (AreApart shape one) others
+IsIntersectionFaultOf shape one others (Some kind) =
+    (kind ≡ Unsupported) × (at : ℕ) × IsSomeAnd (slice_get others at) (λ other. Meet Strict shape one.slice other.slice)
 
 -- examples
 abbrev first : Write ℕ
@@ -30,14 +22,11 @@ first = record { slice = elem.Index (pos 0) ∷ []; items = 7 ∷ [] }
 abbrev second : Write ℕ
 second = record { slice = elem.Index (pos 1) ∷ []; items = 8 ∷ [] }
 
-meets_itself : MeetsOneOf (2 ∷ []) first.slice (second ∷ first ∷ [])
-meets_itself = record {
-  at = 1;
-  other = first;
-  there = refl;
-  meet = (0 ∷ [], refl, ((0, ltb-true 0 1 refl, refl), tt), ((0, ltb-true 0 1 refl, refl), tt));
-}
+abbrev shared : Meet Strict (2 ∷ []) first.slice first.slice
+shared = (0 ∷ [], refl, ((0, ltb-true 0 1 refl, refl), tt), ((0, ltb-true 0 1 refl, refl), tt))
 
-not_unsaid : IsMeetFaultOf (2 ∷ []) first.slice (first ∷ []) None → ⊥
-not_unsaid (inl (is, meets)) = absurd (cc)
-not_unsaid (inr (is, apart)) = apart 0 first (ltb-true 0 1 refl) (0 ∷ [], refl, ((0, ltb-true 0 1 refl, refl), tt), ((0, ltb-true 0 1 refl, refl), tt))
+intersects_itself : IsIntersectionFaultOf (2 ∷ []) first (second ∷ first ∷ []) (Some Unsupported)
+intersects_itself = (refl, 1, shared)
+
+not_unsaid : IsIntersectionFaultOf (2 ∷ []) first (first ∷ []) None → ⊥
+not_unsaid apart = apart 0 first (ltb-true 0 1 refl) shared

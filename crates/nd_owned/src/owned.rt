@@ -15,11 +15,11 @@ ghost use Rattle.ndarray_layout.specs.Signed.{all_signed};
 ghost use Rattle.ndarray_layout.specs.SlicedView.{slice_of};
 ghost use Rattle.ndarray_layout.specs.Span.{low_span};
 ghost use Rattle.ndarray_layout.specs.View.{view_of, view_places};
-ghost use Rattle.nd_owned.specs.Owned.{IsOwned, item_at, item_at_place, shape_fault_of, with_item};
-ghost use Rattle.nd_owned.specs.Writes.{IsFaultOfWrites, IsOfNone, IsWritten, KeepsOthers, write_of};
+ghost use Rattle.nd_owned.specs.Owned.{IsOfNone, IsOwned, item_at, item_at_place, shape_fault_of, with_item};
+ghost use Rattle.nd_owned.specs.Writes.{HaveNoItems, IsFaultOfWrites, IsWritten, KeepsOthers, write_of};
 
 use crate::rows::rows_of;
-use crate::writes::{check_writes, rows_of_each, write_all};
+use crate::writes::{check_apart, check_counts, rows_of_each, write_all};
 use ndarray_layout::{
     CanIndexCheckMode, LayoutError, Lengths, NdIndex, SliceElems, SliceInfoElem, StrideShape,
     Strided,
@@ -144,16 +144,17 @@ impl<T: Copy, D: Lengths> OwnedArray<T, D> {
         writes: &[(Vec<SliceInfoElem>, Vec<T>)],
     ) -> Result<(), LayoutError>
         ensures fault { IsFaultOfWrites self.old.view.shape (map write_of writes.now) (shape_fault result) }
-        ensures memory { shape_fault result ≡ None → length writes.now ≡ 0 → IsOk result }
+        ensures memory { shape_fault result ≡ None → HaveNoItems (map write_of writes.now) → IsOk result }
         ensures unchanged { OnErr result (self.new ≡ self.old) }
         ensures view { self.new.view ≡ self.old.view }
         ensures count { length self.new.items ≡ length self.old.items }
         ensures written { OnOk result (All (IsWritten self.old.view self.new.items) (map write_of writes.now)) }
         ensures kept { OnOk result (KeepsOthers self.old.view (map write_of writes.now) self.old.items self.new.items) }
     {
-        check_writes(&self.view, writes)?;
+        check_counts(&self.view, writes)?;
+        check_apart(&self.view, writes)?;
         let rows = rows_of_each(alloc, &self.view, writes)?;
-        write_all(self.items.as_mut_slice(), rows.as_slice(), writes);
+        write_all(self.items.as_mut_slice(), rows.as_slice());
         Ok(())
     }
 }
