@@ -2,9 +2,10 @@
 ghost use Rattle.std.specs.Prelude.{◌≡◌, ℕ, ◌+◌, ◌-◌, pos, [], ◌∷◌, IfOk, IfSome, IsOk, IsTrue, None, Some, length, slice_get};
 ghost use Rattle.ndarray_layout.specs.declared.Fit.TheVariants.{Strict};
 ghost use Rattle.ndarray_layout.specs.ArgumentFault.{argument_fault};
+ghost use Rattle.ndarray_layout.specs.DistinctPlaces.{HasDistinctPlaces};
 ghost use Rattle.ndarray_layout.specs.Indices.{is_index};
 ghost use Rattle.ndarray_layout.specs.ShapeFault.{shape_fault};
-ghost use Rattle.ndarray_layout.specs.View.{place_at};
+ghost use Rattle.ndarray_layout.specs.View.{LiesWithin, place_at};
 
 use ndarray_layout::{Fit, Ix2, LayoutError, SliceInfoElem, Strided};
 use std::alloc::Global;
@@ -23,6 +24,8 @@ pub fn band(
     ensures memory { shape_fault result ≡ None → IsOk result }
     ensures place { IfOk result (λ band. (i j : ℕ) → IsTrue (is_index band.shape (i ∷ j ∷ [])) →
         place_at band (i ∷ j ∷ []) ≡ place_at picture.now ((rows.start + i) ∷ j ∷ [])) }
+    ensures inside { IfOk result (λ band. (len : ℕ) → LiesWithin len picture.now → LiesWithin len band) }
+    ensures distinct { IfOk result (λ band. HasDistinctPlaces picture.now → HasDistinctPlaces band) }
 {
     let rows = (rows.start as isize)..(rows.end as isize);
     let part: [SliceInfoElem; 2] = [rows.into(), (..).into()];
@@ -46,6 +49,8 @@ pub fn crop(
         (rows.end - rows.start) ∷ (columns.end - columns.start) ∷ []) }
     ensures place { IfOk result (λ crop. (i j : ℕ) → IsTrue (is_index crop.shape (i ∷ j ∷ [])) →
         place_at crop (i ∷ j ∷ []) ≡ place_at picture.now ((rows.start + i) ∷ (columns.start + j) ∷ [])) }
+    ensures inside { IfOk result (λ crop. (len : ℕ) → LiesWithin len picture.now → LiesWithin len crop) }
+    ensures distinct { IfOk result (λ crop. HasDistinctPlaces picture.now → HasDistinctPlaces crop) }
 {
     let rows = (rows.start as isize)..(rows.end as isize);
     let columns = (columns.start as isize)..(columns.end as isize);
