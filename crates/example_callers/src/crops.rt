@@ -1,5 +1,5 @@
 //! Parts of a picture by bounds.
-ghost use Rattle.std.specs.Prelude.{◌≡◌, ℕ, ◌+◌, ◌-◌, pos, [], ◌∷◌, IfOk, IfSome, IsOk, IsTrue, None, Some, length, slice_get};
+ghost use Rattle.std.specs.Prelude.{◌≡◌, ℕ, ◌+◌, ◌-◌, pos, [], ◌∷◌, IfOk, IfSome, IsOk, IsTrue, None, Some, map, slice_get, slice_index};
 ghost use Rattle.ndarray_layout.specs.declared.Fit.TheVariants.{Strict};
 ghost use Rattle.ndarray_layout.specs.ArgumentFault.{argument_fault};
 ghost use Rattle.ndarray_layout.specs.DistinctPlaces.{HasDistinctPlaces};
@@ -22,6 +22,8 @@ pub fn band(
     ensures fault { shape_fault result ≡ argument_fault Strict picture.now.shape
         (SliceInfoElem.Slice (pos rows.start) (Some (pos rows.end)) (pos 1) ∷ SliceInfoElem.Slice (pos 0) None (pos 1) ∷ []) }
     ensures memory { shape_fault result ≡ None → IsOk result }
+    ensures shape { IfOk result (λ band. band.shape ≡
+        (rows.end - rows.start) ∷ slice_index picture.now.shape 1 ∷ []) }
     ensures place { IfOk result (λ band. (i j : ℕ) → IsTrue (is_index band.shape (i ∷ j ∷ [])) →
         place_at band (i ∷ j ∷ []) ≡ place_at picture.now ((rows.start + i) ∷ j ∷ [])) }
     ensures inside { IfOk result (λ band. (len : ℕ) → LiesWithin len picture.now → LiesWithin len band) }
@@ -67,7 +69,8 @@ pub fn cut(
     row: u32,
     rows: u32,
 ) -> Result<Vec<Strided<Ix2>>, LayoutError>
-    ensures count { IfOk result (λ parts. length parts.items ≡ 2) }
+    ensures shapes { IfOk result (λ parts. map (λ part. part.shape) parts.items ≡
+        (row ∷ slice_index picture.now.shape 1 ∷ []) ∷ ((rows - row) ∷ slice_index picture.now.shape 1 ∷ []) ∷ []) }
     ensures upper { IfOk result (λ parts. IfSome (slice_get parts.items 0) (λ upper.
         (i j : ℕ) → IsTrue (is_index upper.shape (i ∷ j ∷ [])) →
         place_at upper (i ∷ j ∷ []) ≡ place_at picture.now (i ∷ j ∷ []))) }
