@@ -1,5 +1,5 @@
 -- The parts of a picture that is cut: they fit and share no pixel, and what is written at all of them is the picture with its parts mirrored.
-use Rattle.std.proofs.Common.{◌≡◌, ℕ, ◌+◌, ◌-◌, ◌*◌, ◌/◌, ◌%◌, ◌<◌, ◌≤◌, ℤ, pos, negsuc, true, inl, inr, Option, Some, None, List, [], ◌∷◌, ◌++◌, length, get_or, map, refl, sym, ap, ◌∙◌, subst, arith}
+use Rattle.std.proofs.Common.{◌≡◌, ℕ, ◌+◌, ◌-◌, ◌*◌, ◌/◌, ◌%◌, ◌<◌, ◌≤◌, ℤ, pos, negsuc, true, Option, Some, None, List, [], ◌∷◌, ◌++◌, length, get_or, map, refl, sym, ap, ◌∙◌, subst, arith}
 use Rattle.std.specs.Prelude.{slice_get, IsSomeAnd, MatchOption}
 use Rattle.std.specs.List.{All, AllZip, Contains, list_all, range_with_len}
 use Rattle.std.specs.Option.{option_map}
@@ -29,7 +29,7 @@ use Rattle.ndarray_layout.proofs.laws.Rank.{slice_get-rank_in}
 use Rattle.ndarray_layout.proofs.laws.SlicedView.{KeepsPlaces-slice_of}
 use Rattle.ndarray_layout.proofs.laws.View.{length-view_places}
 use Rattle.nd_owned.specs.Owned.{Owned, item_at_place}
-use Rattle.nd_owned.specs.Writes.{IsFaultBy, IsFaultOfWrites, IsMeetFault, IsWritten, SomeMeet, Write, has_count, slices_fault}
+use Rattle.nd_owned.specs.Writes.{IsFaultOfWrites, IsIntersectionFault, IsWritten, SomeIntersect, Write, counts_fault, has_count, slices_fault}
 use Rattle.example_tiles_edits.specs.declared.picture.Extent.{Extent}
 use Rattle.example_tiles_edits.specs.Picture.{Image, IsWithin, Position}
 use Rattle.example_tiles_edits.specs.declared.edits.edit.Span.{Span}
@@ -177,19 +177,23 @@ meet_in_one extent count one other first second (x ∷ y ∷ [], is, p, q) =
     (sym (part_is height (one / count) x (picked_range _ _ _ _ x first.rows p.0)) ∙ part_is height (other / count) x (picked_range _ _ _ _ x second.rows q.0))
     (sym (part_is width (one % count) y (picked_range _ _ _ _ y first.columns p.1.0)) ∙ part_is width (other % count) y (picked_range _ _ _ _ y second.columns q.1.0))
 
-none_meet : (extent : Extent) (count : ℕ) (items : List ℕ) (writes : List (Write ℕ)) → CanCut extent count → AreMirrored (record { items = items; view = whole_view extent }) extent count writes → SomeMeet (shape_of extent) writes → ⊥
-none_meet extent count items writes can are some =
-    let array : Owned ℕ = record { items = items; view = whole_view extent } in
-    let first = each array extent count writes some.first some.one are some.one_there in
-    let second = each array extent count writes some.second some.other are some.other_there in
-    let meet : Meet Strict (shape_of extent) (elements_of_part (part_of extent count some.first)) (elements_of_part (part_of extent count some.second)) =
-    subst (λ e. Meet Strict (shape_of extent) e (elements_of_part (part_of extent count some.second))) first.1.slice (subst (λ e. Meet Strict (shape_of extent) some.one.slice e) second.1.slice some.meet) in
-    let same = meet_in_one extent count some.first some.second (picks_of extent count some.first can first.0) (picks_of extent count some.second can second.0) meet in
-    omega (arith, some.earlier, same)
+-- what a list has at a position, where something holds of it
+there : {A : Type 0} (P : A → Type 0) (found : Option A) → IsSomeAnd found P → (x : A) × (found ≡ Some x) × P x
+there P None holds = absurd holds
+there P (Some x) holds = (x, refl, holds)
 
-no_meet_fault : (shape : List ℕ) (writes : List (Write ℕ)) (kind : ErrorKind) → (SomeMeet shape writes → ⊥) → IsMeetFault shape writes (Some kind) → ⊥
-no_meet_fault shape writes kind none (inl (is, some)) = none some
-no_meet_fault shape writes kind none (inr (is, apart)) = absurd (cc)
+none_intersect : (extent : Extent) (count : ℕ) (items : List ℕ) (writes : List (Write ℕ)) → CanCut extent count → AreMirrored (record { items = items; view = whole_view extent }) extent count writes → SomeIntersect (shape_of extent) writes → ⊥
+none_intersect extent count items writes can are (i, j, earlier, both) =
+    let array : Owned ℕ = record { items = items; view = whole_view extent } in
+    let shared = λ (one : Write ℕ). λ (other : Write ℕ). Meet Strict (shape_of extent) one.slice other.slice in
+    let one = there (λ w. IsSomeAnd (slice_get writes j) (shared w)) (slice_get writes i) both in
+    let other = there (shared one.0) (slice_get writes j) one.2 in
+    let first = each array extent count writes i one.0 are one.1 in
+    let second = each array extent count writes j other.0 are other.1 in
+    let meet : Meet Strict (shape_of extent) (elements_of_part (part_of extent count i)) (elements_of_part (part_of extent count j)) =
+    subst (λ e. Meet Strict (shape_of extent) e (elements_of_part (part_of extent count j))) first.1.slice (subst (λ e. Meet Strict (shape_of extent) one.0.slice e) second.1.slice other.2) in
+    let same = meet_in_one extent count i j (picks_of extent count i can first.0) (picks_of extent count j can second.0) meet in
+    omega (arith, earlier, same)
 
 pub not_refused_at : (extent : Extent) (count : ℕ) (items : List ℕ) (writes : List (Write ℕ)) (kind : ErrorKind) → CanCut extent count → AreMirrored (record { items = items; view = whole_view extent }) extent count writes → IsFaultOfWrites (shape_of extent) writes (Some kind) → ⊥
 not_refused_at extent count items writes kind can are fault =
@@ -203,9 +207,9 @@ not_refused_at extent count items writes kind can are fault =
     let write = get_or writes k d in
     let here = each array extent count writes k write are (slice_get-get_or writes k d below) in
     counted extent count k items write can here.0 here.1) in
-    let of_counts : IsFaultBy None (list_all (has_count shape) writes) shape writes (Some kind) = subst (λ o. IsFaultBy o (list_all (has_count shape) writes) shape writes (Some kind)) fit fault in
-    let of_meet : IsMeetFault shape writes (Some kind) = subst (λ b. IsFaultBy None b shape writes (Some kind)) counts of_counts in
-    no_meet_fault shape writes kind (none_meet extent count items writes can are) of_meet
+    let none : counts_fault shape writes ≡ None = rw (fit, counts) refl in
+    let intersection : IsIntersectionFault shape writes (Some kind) = subst (λ first. MatchOption first (IsIntersectionFault shape writes (Some kind)) (λ other. Some kind ≡ Some other)) none fault in
+    none_intersect extent count items writes can are intersection.1
 
 -- ---- the pixel that is written at a position
 part_pixel : (extent : Extent) (count k i j : ℕ) (items new : List ℕ) (write : Write ℕ) → IsView (whole_view extent) → PartPicks extent count k → IsMirrored (record { items = items; view = whole_view extent }) (part_of extent count k) write → IsWritten (whole_view extent) new write
