@@ -8,10 +8,10 @@ use nd_owned::OwnedArray;
 use ndarray_layout::{LayoutError, Lengths, SliceInfoElem};
 use std::alloc::{AllocError, Global};
 
-/// Writes pixels at several parts of a picture, and answers whether they were written: not where a part doesn't fit, has
-/// another count of pixels than are given for it, or shares an index with another part. Then the picture stays.
+/// Whether pixels were written at several parts of a picture. They are not where a part doesn't fit, has another count of pixels
+/// than are given for it, or shares an index with another part. Then the picture is unchanged.
 ///
-/// Errors: out of memory; none where no part has a pixel, or where they are refused. The picture stays then as well.
+/// Errors: out of memory; none where no part has a pixel, or where the parts don't fit. The picture is unchanged.
 pub fn write_parts<D: Lengths>(
     alloc: Global,
     picture: &mut OwnedArray<u8, D>,

@@ -5,15 +5,15 @@ use Rattle.nd_dim.specs.Contiguous.{is_contiguous}
 use Rattle.nd_dim.proofs.laws.Contiguous.{contiguous_exactly}
 use Rattle.nd_dim.proofs.dimension.Dimension.is_contiguous.Goals as goal
 
-pub returns : goal.returns
-returns g c =
+pub returns-clause-rule : goal.returns-clause-rule
+returns-clause-rule g c =
+    let lens = g.Self.Lengths.list c.args.dim.now in
+    c.is_contiguous.ensures ∙ ap (λ xs. is_contiguous xs (all_signed c.slice-2.result.now)) c.slice.ensures.list ∙ ap (λ xs. is_contiguous lens (all_signed xs)) c.slice-2.ensures.list
+
+pub returns-clause-exact : goal.returns-clause-exact
+returns-clause-exact g c some =
     let lens = g.Self.Lengths.list c.args.dim.now in
     let strides = all_signed (g.Self.Lengths.list c.args.strides.now) in
     let count : length lens ≡ length strides = c.requires.same_count ∙ sym (length-map (g.Self.Lengths.list c.args.strides.now) signed) in
-    let rule : c.is_contiguous.result ≡ is_contiguous lens strides = c.is_contiguous.ensures ∙ ap (λ xs. is_contiguous xs (all_signed c.slice-2.result.now)) c.slice.ensures.list ∙ ap (λ xs. is_contiguous lens (all_signed xs)) c.slice-2.ensures.list in
-    record {
-      rule = rule;
-      exact = λ some.
-          let exactly = contiguous_exactly lens strides count some in
-          (λ t. exactly.0 (sym rule ∙ t), λ stretch. rule ∙ exactly.1 stretch);
-    }
+    let exactly = contiguous_exactly lens strides count some in
+    (λ t. exactly.0 (sym (returns-clause-rule g c) ∙ t), λ stretch. returns-clause-rule g c ∙ exactly.1 stretch)
