@@ -1,15 +1,6 @@
 -- The parts of a picture that is cut: they fit and share no pixel, and what is written at all of them is the picture with its parts mirrored.
-<<<<<<< HEAD
 use Rattle.std.proofs.Common.{◌≡◌, ℕ, ◌+◌, ◌-◌, ◌*◌, ◌/◌, ◌%◌, ◌<◌, ◌≤◌, ℤ, pos, negsuc, true, Option, Some, None, List, [], ◌∷◌, ◌++◌, length, get_or, map, refl, sym, ap, ◌∙◌, subst, arith}
-=======
-<<<<<<< HEAD:crates/example_tiles_edits/proofs/PartWrites.antt
-use Rattle.std.proofs.Common.{◌≡◌, ℕ, ◌+◌, ◌-◌, ◌*◌, ◌/◌, ◌%◌, ◌<◌, ◌≤◌, ℤ, pos, negsuc, true, Option, Some, None, List, [], ◌∷◌, ◌++◌, length, get_or, map, refl, sym, ap, ◌∙◌, subst, arith}
-use Rattle.std.specs.Prelude.{slice_get, IsSomeAnd, MatchOption}
-=======
-use Rattle.std.proofs.Common.{◌≡◌, ℕ, ◌+◌, ◌-◌, ◌*◌, ◌/◌, ◌%◌, ◌<◌, ◌≤◌, ℤ, pos, negsuc, true, inl, inr, Option, Some, None, List, [], ◌∷◌, ◌++◌, length, get_or, map, refl, sym, ap, ◌∙◌, subst, arith}
->>>>>>> 1f13888a8d84eaa51dd663fd6e1d77f983ccf429
 use Rattle.std.specs.Prelude.{slice_get, IsSomeAnd, MatchOption, if◌then◌else◌}
->>>>>>> 75e68cee9085ba8b9ab474167a6ae2d758ccd683:crates/example_tiles_edits/proofs/sources/PartWrites.antt
 use Rattle.std.specs.List.{All, AllZip, Contains, list_all, range_with_len}
 use Rattle.std.specs.Option.{option_map, option_or}
 use Rattle.std.proofs.lemmas.Bool.{eq-eqb, le-leb}
@@ -187,23 +178,6 @@ meet_in_one extent count one other first second (x ∷ y ∷ [], is, p, q) =
     (sym (part_is height (one / count) x (picked_range _ _ _ _ x first.rows p.0)) ∙ part_is height (other / count) x (picked_range _ _ _ _ x second.rows q.0))
     (sym (part_is width (one % count) y (picked_range _ _ _ _ y first.columns p.1.0)) ∙ part_is width (other % count) y (picked_range _ _ _ _ y second.columns q.1.0))
 
-<<<<<<< HEAD:crates/example_tiles_edits/proofs/PartWrites.antt
--- what a list has at a position, where something holds of it
-there : {A : Type 0} (P : A → Type 0) (found : Option A) → IsSomeAnd found P → (x : A) × (found ≡ Some x) × P x
-there P None holds = absurd holds
-there P (Some x) holds = (x, refl, holds)
-
-none_intersect : (extent : Extent) (count : ℕ) (items : List ℕ) (writes : List (Write ℕ)) → CanCut extent count → AreMirrored (record { items = items; view = whole_view extent }) extent count writes → SomeIntersect (shape_of extent) writes → ⊥
-none_intersect extent count items writes can are (i, j, earlier, both) =
-    let array : Owned ℕ = record { items = items; view = whole_view extent } in
-    let shared = λ (one : Write ℕ). λ (other : Write ℕ). Meet Strict (shape_of extent) one.slice other.slice in
-    let one = there (λ w. IsSomeAnd (slice_get writes j) (shared w)) (slice_get writes i) both in
-    let other = there (shared one.0) (slice_get writes j) one.2 in
-    let first = each array extent count writes i one.0 are one.1 in
-    let second = each array extent count writes j other.0 are other.1 in
-    let meet : Meet Strict (shape_of extent) (elements_of_part (part_of extent count i)) (elements_of_part (part_of extent count j)) =
-    subst (λ e. Meet Strict (shape_of extent) e (elements_of_part (part_of extent count j))) first.1.slice (subst (λ e. Meet Strict (shape_of extent) one.0.slice e) second.1.slice other.2) in
-=======
 -- what is there, and what holds of it
 found : (o : Option (Write ℕ)) (P : Write ℕ → Type 0) → IsSomeAnd o P → (write : Write ℕ) × (o ≡ Some write) × P write
 found None P here = absurd here
@@ -219,7 +193,6 @@ none_intersect extent count items writes can are (i, j, earlier, some) =
     let second = each array extent count writes j other.0 are other.1 in
     let meet : Meet Strict shape (elements_of_part (part_of extent count i)) (elements_of_part (part_of extent count j)) =
     subst (λ e. Meet Strict shape e (elements_of_part (part_of extent count j))) first.1.slice (subst (λ e. Meet Strict shape one.0.slice e) second.1.slice other.2) in
->>>>>>> 75e68cee9085ba8b9ab474167a6ae2d758ccd683:crates/example_tiles_edits/proofs/sources/PartWrites.antt
     let same = meet_in_one extent count i j (picks_of extent count i can first.0) (picks_of extent count j can second.0) meet in
     omega (arith, earlier, same)
 
@@ -235,17 +208,11 @@ not_refused_at extent count items writes kind can are fault =
     let write = get_or writes k d in
     let here = each array extent count writes k write are (slice_get-get_or writes k d below) in
     counted extent count k items write can here.0 here.1) in
-<<<<<<< HEAD:crates/example_tiles_edits/proofs/PartWrites.antt
-    let none : counts_fault shape writes ≡ None = rw (fit, counts) refl in
-    let intersection : IsIntersectionFault shape writes (Some kind) = subst (λ first. MatchOption first (IsIntersectionFault shape writes (Some kind)) (λ other. Some kind ≡ Some other)) none fault in
-    none_intersect extent count items writes can are intersection.1
-=======
     let of_counts : counts_fault shape writes ≡ None =
     ap (λ o. option_or o (if list_all (has_count shape) writes then None else Some IncompatibleShape)) fit ∙ ap (λ b. if b then None else Some IncompatibleShape) counts in
     let of_intersection : IsIntersectionFault shape writes (Some kind) =
     subst (λ o. MatchOption o (IsIntersectionFault shape writes (Some kind)) (λ first. Some kind ≡ Some first)) of_counts fault in
     none_intersect extent count items writes can are of_intersection.1
->>>>>>> 75e68cee9085ba8b9ab474167a6ae2d758ccd683:crates/example_tiles_edits/proofs/sources/PartWrites.antt
 
 -- ---- the pixel that is written at a position
 part_pixel : (extent : Extent) (count k i j : ℕ) (items new : List ℕ) (write : Write ℕ) → IsView (whole_view extent) → PartPicks extent count k → IsMirrored (record { items = items; view = whole_view extent }) (part_of extent count k) write → IsWritten (whole_view extent) new write
