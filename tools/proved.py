@@ -5,30 +5,35 @@ and memory allow: RT_JOBS, if it is set, is how many.
 """
 import contextlib, os, re
 
+from crate_list import read_list
 from programs import TOP, NoProgram
 
 PAUSE = 20  # seconds between two lines that say how far the proofs are
 
 
 class Proofs:
-    """Says how far the proofs are: each crate once it is done, and how many are."""
+    """Says how far the proofs are: each crate once it is done, and then which can be proved now."""
 
     def __init__(self, building):
-        self.building, self.told = building, 0
+        self.building, self.lines, self.done = building, read_list(TOP), []
 
     def tell(self):
         """Says which crates are done, each once."""
-        count = len(self.building.crates)
-        done = [name for name in re.findall(r"^== (\w+)$", self.building.logged(), re.M) if name in self.building.crates]
-        for name in done[self.told :]:
-            self.told += 1
-            self.building.say(f"{name} is done, {self.told} of {count} crates")
+        crates = self.building.crates
+        done = [name for name in re.findall(r"^== (\w+)$", self.building.logged(), re.M) if name in crates]
+        for number, name in enumerate(done[len(self.done) :], len(self.done) + 1):
+            self.building.say(f"{name} is done, {number} of {len(crates)} crates")
+        self.done = done
 
     def progress(self):
         self.tell()
+        crates = self.building.crates
         last = (self.building.logged().splitlines() or [""])[-1]
-        waits = last.startswith("rt: waiting")
-        return last[len("rt: ") :] if waits else f"{self.told} of {len(self.building.crates)} crates are done"
+        if last.startswith("rt: waiting"):
+            return last[len("rt: ") :]
+        waits = lambda name: any(library in crates and library not in self.done for library in self.lines[name].libraries)
+        ready = [name for name in crates if name not in self.done and not waits(name)]
+        return f"{len(self.done)} of {len(crates)} crates are done; at work or next: {', '.join(ready)}"
 
 
 def compile_proved(building):

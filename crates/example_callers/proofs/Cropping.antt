@@ -1,12 +1,13 @@
 -- An index of a crop stands for the starts plus it, by the law `selected_by_ranges`.
 use Rattle.std.proofs.Common.{◌≡◌, ℕ, ◌+◌, ◌-◌, ℤ, pos, Option, Some, Result, Ok, Err, List, [], ◌∷◌, length, sym, ap, ◌∙◌, arith}
-use Rattle.std.specs.Prelude.{IfOk, IsTrue}
+use Rattle.std.specs.Prelude.{IfOk, IsTrue, None, slice_index}
 use Rattle.ndarray_layout.specs.declared.Fit.TheVariants.{Strict}
 use Rattle.ndarray_layout.specs.declared.LayoutError.{LayoutError}
 use Rattle.ndarray_layout.specs.declared.SliceInfoElem.{SliceInfoElem}
 use Rattle.ndarray_layout.specs.ArgumentFault.{in_count}
 use Rattle.ndarray_layout.specs.Indices.{is_index}
 use Rattle.ndarray_layout.specs.KeepsPlaces.{KeepsPlaces}
+use Rattle.ndarray_layout.specs.Picks.{picks, slice_with}
 use Rattle.ndarray_layout.specs.Selected.{selected}
 use Rattle.ndarray_layout.specs.ShapeFault.{shape_fault}
 use Rattle.ndarray_layout.specs.Sliced.{sliced_shape}
@@ -36,12 +37,30 @@ sizes top bottom left right (rows ∷ columns ∷ []) count =
     cc
 sizes top bottom left right (rows ∷ columns ∷ more ∷ shape) count = absurd (omega arith)
 
+-- `..` leaves all columns
+sizes_of_band : (top bottom : ℕ) (shape : List ℕ) → 2 ≡ length shape → sliced_shape Strict (ranges (top ∷ 0 ∷ []) (Some (pos bottom) ∷ None ∷ [])) shape ≡ (bottom - top) ∷ slice_index shape 1 ∷ []
+sizes_of_band top bottom [] count = absurd (omega arith)
+sizes_of_band top bottom (rows ∷ []) count = absurd (omega arith)
+sizes_of_band top bottom (rows ∷ columns ∷ []) count =
+    let first = length-picks_by_one Strict rows (pos top) (Some (pos bottom)) in
+    let all : length (picks Strict columns (slice_with (pos 0) None (pos 1))) ≡ columns = omega (arith, length-picks_by_one Strict columns (pos 0) None) in
+    cc
+sizes_of_band top bottom (rows ∷ columns ∷ more ∷ shape) count = absurd (omega arith)
+
+-- an argument with two elements that fits is for two axes
+two_axes : (view : View) (elems : List SliceInfoElem) → in_count elems ≡ 2 → None ≡ slice_refusal Strict (Some 2) view.shape elems → 2 ≡ length view.shape
+two_axes view elems two none = sym two ∙ (elements_of_no_fault Strict view.shape elems (fits_of_no_refusal Strict (Some 2) view.shape elems (sym none))).0
+
+pub shape_of_band : (view : View) (elems : List SliceInfoElem) (top bottom : ℕ) (made : Result View LayoutError) → elems ≡ ranges (top ∷ 0 ∷ []) (Some (pos bottom) ∷ None ∷ [])
+    → shape_fault made ≡ slice_refusal Strict (Some 2) view.shape elems → IfOk made (λ band. band ≡ slice_of Strict elems view)
+    → IfOk made (λ band. band.shape ≡ (bottom - top) ∷ slice_index view.shape 1 ∷ [])
+shape_of_band view elems top bottom (Ok band) are fault is =
+    ap (λ made. made.shape) is ∙ ap (λ all. sliced_shape Strict all view.shape) are ∙ sizes_of_band top bottom view.shape (two_axes view elems (ap in_count are) fault)
+shape_of_band view elems top bottom (Err e) are fault is = tt
+
 pub shape_of_crop : (view : View) (elems : List SliceInfoElem) (top bottom left right : ℕ) (made : Result View LayoutError) → elems ≡ ranges (top ∷ left ∷ []) (Some (pos bottom) ∷ Some (pos right) ∷ [])
     → shape_fault made ≡ slice_refusal Strict (Some 2) view.shape elems → IfOk made (λ crop. crop ≡ slice_of Strict elems view)
     → IfOk made (λ crop. crop.shape ≡ (bottom - top) ∷ (right - left) ∷ [])
 shape_of_crop view elems top bottom left right (Ok crop) are fault is =
-    let none = fits_of_no_refusal Strict (Some 2) view.shape elems (sym fault) in
-    let counts = (elements_of_no_fault Strict view.shape elems none).0 in
-    let two : 2 ≡ length view.shape = sym (ap in_count are) ∙ counts in
-    ap (λ made. made.shape) is ∙ ap (λ all. sliced_shape Strict all view.shape) are ∙ sizes top bottom left right view.shape two
+    ap (λ made. made.shape) is ∙ ap (λ all. sliced_shape Strict all view.shape) are ∙ sizes top bottom left right view.shape (two_axes view elems (ap in_count are) fault)
 shape_of_crop view elems top bottom left right (Err e) are fault is = tt

@@ -50,7 +50,8 @@ where
     Ok(pixels[view.place(&index).unwrap()])
 }
 
-/// How many indices of a view have a pixel that is at least so bright. No memory is taken for a list of them.
+/// How many indices of a view have a pixel of at least this brightness, by a loop over the indices. No memory is taken for a list
+/// of them.
 ///
 /// Errors: out of memory; none where the type fixes the count of axes or there are at most 4.
 pub fn count_bright<D: Dimension + Copy>(

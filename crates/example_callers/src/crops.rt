@@ -1,10 +1,11 @@
 //! Parts of a picture by bounds.
-ghost use Rattle.std.specs.Prelude.{◌≡◌, ℕ, ◌+◌, ◌-◌, pos, [], ◌∷◌, IfOk, IfSome, IsOk, IsTrue, None, Some, length, slice_get};
+ghost use Rattle.std.specs.Prelude.{◌≡◌, ℕ, ◌+◌, ◌-◌, pos, [], ◌∷◌, IfOk, IfSome, IsOk, IsTrue, None, Some, map, slice_get, slice_index};
 ghost use Rattle.ndarray_layout.specs.declared.Fit.TheVariants.{Strict};
 ghost use Rattle.ndarray_layout.specs.ArgumentFault.{argument_fault};
+ghost use Rattle.ndarray_layout.specs.DistinctPlaces.{HasDistinctPlaces};
 ghost use Rattle.ndarray_layout.specs.Indices.{is_index};
 ghost use Rattle.ndarray_layout.specs.ShapeFault.{shape_fault};
-ghost use Rattle.ndarray_layout.specs.View.{place_at};
+ghost use Rattle.ndarray_layout.specs.View.{LiesWithin, place_at};
 
 use ndarray_layout::{Fit, Ix2, LayoutError, SliceInfoElem, Strided};
 use std::alloc::Global;
@@ -21,8 +22,12 @@ pub fn band(
     ensures fault { shape_fault result ≡ argument_fault Strict picture.now.shape
         (SliceInfoElem.Slice (pos rows.start) (Some (pos rows.end)) (pos 1) ∷ SliceInfoElem.Slice (pos 0) None (pos 1) ∷ []) }
     ensures memory { shape_fault result ≡ None → IsOk result }
+    ensures shape { IfOk result (λ band. band.shape ≡
+        (rows.end - rows.start) ∷ slice_index picture.now.shape 1 ∷ []) }
     ensures place { IfOk result (λ band. (i j : ℕ) → IsTrue (is_index band.shape (i ∷ j ∷ [])) →
         place_at band (i ∷ j ∷ []) ≡ place_at picture.now ((rows.start + i) ∷ j ∷ [])) }
+    ensures inside { IfOk result (λ band. (len : ℕ) → LiesWithin len picture.now → LiesWithin len band) }
+    ensures distinct { IfOk result (λ band. HasDistinctPlaces picture.now → HasDistinctPlaces band) }
 {
     let rows = (rows.start as isize)..(rows.end as isize);
     let part: [SliceInfoElem; 2] = [rows.into(), (..).into()];
@@ -46,6 +51,8 @@ pub fn crop(
         (rows.end - rows.start) ∷ (columns.end - columns.start) ∷ []) }
     ensures place { IfOk result (λ crop. (i j : ℕ) → IsTrue (is_index crop.shape (i ∷ j ∷ [])) →
         place_at crop (i ∷ j ∷ []) ≡ place_at picture.now ((rows.start + i) ∷ (columns.start + j) ∷ [])) }
+    ensures inside { IfOk result (λ crop. (len : ℕ) → LiesWithin len picture.now → LiesWithin len crop) }
+    ensures distinct { IfOk result (λ crop. HasDistinctPlaces picture.now → HasDistinctPlaces crop) }
 {
     let rows = (rows.start as isize)..(rows.end as isize);
     let columns = (columns.start as isize)..(columns.end as isize);
@@ -62,7 +69,8 @@ pub fn cut(
     row: u32,
     rows: u32,
 ) -> Result<Vec<Strided<Ix2>>, LayoutError>
-    ensures count { IfOk result (λ parts. length parts.items ≡ 2) }
+    ensures shapes { IfOk result (λ parts. map (λ part. part.shape) parts.items ≡
+        (row ∷ slice_index picture.now.shape 1 ∷ []) ∷ ((rows - row) ∷ slice_index picture.now.shape 1 ∷ []) ∷ []) }
     ensures upper { IfOk result (λ parts. IfSome (slice_get parts.items 0) (λ upper.
         (i j : ℕ) → IsTrue (is_index upper.shape (i ∷ j ∷ [])) →
         place_at upper (i ∷ j ∷ []) ≡ place_at picture.now (i ∷ j ∷ []))) }

@@ -5,6 +5,7 @@ ghost use Rattle.ndarray_layout.specs.declared.Order.TheVariants.{RowMajor};
 ghost use Rattle.ndarray_layout.specs.declared.Strides.TheVariants.{C};
 ghost use Rattle.ndarray_layout.specs.AcceptanceByStrides.{acceptance_by_strides};
 ghost use Rattle.ndarray_layout.specs.Dim.{lengths};
+ghost use Rattle.ndarray_layout.specs.DistinctPlaces.{HasDistinctPlaces};
 ghost use Rattle.ndarray_layout.specs.Indices.{is_index};
 ghost use Rattle.ndarray_layout.specs.Lengths.{NeedsNoMemory};
 ghost use Rattle.ndarray_layout.specs.Rank.{index_of_rank_in, rank_in};
@@ -35,6 +36,7 @@ pub fn grid(
     ensures place { IfOk result (λ grid. (i j : ℕ) → IsTrue (is_index (rows ∷ columns ∷ []) (i ∷ j ∷ [])) →
         place_at grid (i ∷ j ∷ []) ≡ pos (i * columns + j)) }
     ensures inside { IfOk result (λ grid. LiesWithin (length items.now) grid) }
+    ensures distinct { IfOk result (λ grid. HasDistinctPlaces grid) }
 {
     let shape = StrideShape {
         dim: new_ix2(rows, columns),
@@ -55,6 +57,7 @@ pub fn in_shape(alloc: Global, items: &[u8], dim: IxDyn) -> Result<Strided<IxDyn
     ensures place { IfOk result (λ view. (index : List ℕ) → IsTrue (is_index (lengths dim) index) →
         place_at view index ≡ pos (rank_in RowMajor (lengths dim) index)) }
     ensures inside { IfOk result (λ view. LiesWithin (length items.now) view) }
+    ensures distinct { IfOk result (λ view. HasDistinctPlaces view) }
 {
     let shape = StrideShape {
         dim,
@@ -80,6 +83,8 @@ pub fn in_rows<D: Lengths>(
     ensures line { IfOk result (λ grid. (len i j : ℕ) → view.now.shape ≡ len ∷ [] →
         IsTrue (is_index (rows ∷ columns ∷ []) (i ∷ j ∷ [])) →
         place_at grid (i ∷ j ∷ []) ≡ place_at view.now ((i * columns + j) ∷ [])) }
+    ensures inside { IfOk result (λ grid. (len : ℕ) → LiesWithin len view.now → LiesWithin len grid) }
+    ensures distinct { IfOk result (λ grid. HasDistinctPlaces view.now → HasDistinctPlaces grid) }
 {
     view.reshape(alloc, &new_ix2(rows, columns), Order::RowMajor)
 }

@@ -1,17 +1,17 @@
 //! Writes several parts of an owned array at once, all of them or none.
-ghost use Rattle.std.specs.Prelude.{◌≡◌, IfOk, IsOk, IsTrue, None, OnErr, Some, false, length, map};
+ghost use Rattle.std.specs.Prelude.{◌≡◌, IfOk, IsOk, IsTrue, None, OnErr, Some, false, map};
 ghost use Rattle.std.specs.List.{All};
 ghost use Rattle.ndarray_layout.specs.declared.ErrorKind.{ErrorKind};
-ghost use Rattle.nd_owned.specs.Writes.{IsFaultOfWrites, IsWritten, KeepsOthers, write_of};
+ghost use Rattle.nd_owned.specs.Writes.{HaveNoItems, IsFaultOfWrites, IsWritten, KeepsOthers, write_of};
 
 use nd_owned::OwnedArray;
 use ndarray_layout::{LayoutError, Lengths, SliceInfoElem};
 use std::alloc::{AllocError, Global};
 
-/// Writes pixels at several parts of a picture, and answers whether they were written: not where a part doesn't fit, has
-/// another count of pixels than are given for it, or shares an index with another part. Then the picture stays.
+/// Whether pixels were written at several parts of a picture. They are not where a part doesn't fit, has another count of pixels
+/// than are given for it, or shares an index with another part. Then the picture is unchanged.
 ///
-/// Errors: out of memory; none where there are no parts, or where they are refused. The picture stays then as well.
+/// Errors: out of memory; none where no part has a pixel, or where the parts don't fit. The picture is unchanged.
 pub fn write_parts<D: Lengths>(
     alloc: Global,
     picture: &mut OwnedArray<u8, D>,
@@ -29,7 +29,7 @@ pub fn write_parts<D: Lengths>(
     ensures view { picture.new.view ≡ picture.old.view }
     ensures no_memory { OnErr result (picture.new ≡ picture.old) }
     ensures asked { OnErr result (IsFaultOfWrites picture.old.view.shape (map write_of parts.now) None) }
-    ensures memory { length parts.now ≡ 0 → IsOk result }
+    ensures memory { HaveNoItems (map write_of parts.now) → IsOk result }
 {
     match picture.multi_set(alloc, parts) {
         Ok(()) => Ok(true),

@@ -1,4 +1,5 @@
-//! Reads a picture in the format PGM (P2) from standard input, edits it as the arguments say, and prints it.
+//! Reads a picture in the format PGM, plain (P2) or binary (P5), from standard input, edits it as the arguments say, and prints it
+//! in the plain format.
 #![tactic(auto)]
 
 use anyhow::Result;

@@ -1,12 +1,8 @@
-pub mod Axes
 pub mod Begun
-pub mod Cuts
 pub mod Digits
-pub mod EditSteps
-pub mod FirstWord
-pub mod InTurn
-pub mod Misfits
-pub mod PartWrites
-pub mod Pixels
+pub mod FirstByte
+pub mod Gaps
+pub mod Raster
 pub mod Spelled
 pub mod laws
+pub mod sources

@@ -1,4 +1,7 @@
+pub mod BinaryPicture
+pub mod FirstWords
 pub mod Numbers
-pub mod PictureText
+pub mod PictureWords
 pub mod PrintedPicture
+pub mod SpelledPicture
 pub mod Words

@@ -7,7 +7,7 @@ use Rattle.std.proofs.lemmas.Bool.{both_ways}
 use Rattle.std.specs.Int.{div_ceil}
 use Rattle.std.specs.Option.{option_map}
 use Rattle.example_tiles_edits.specs.declared.picture.Extent.{Extent}
-use Rattle.example_tiles_edits.specs.Picture.{Image, IsWithin, Position, pixel_at}
+use Rattle.example_tiles_edits.specs.picture.Picture.{Image, IsWithin, Position, pixel_at}
 use Rattle.example_tiles_edits.specs.declared.edits.edit.Edit.{Edit}
 use Rattle.example_tiles_edits.specs.declared.edits.edit.Edit.TheVariants.{Crop, FlipRows, FlipColumns, Every, Mirror}
 use Rattle.example_tiles_edits.specs.declared.edits.edit.Misfit.{Misfit}

@@ -1,10 +1,9 @@
 pub mod EditError
 pub mod EditWords
 pub mod Edits
+pub mod FirstWords
 pub mod Numbers
 pub mod Parts
-pub mod Picture
-pub mod PictureText
-pub mod PrintedPicture
 pub mod Slices
 pub mod Words
+pub mod picture

@@ -11,7 +11,7 @@ use Rattle.ndarray_layout.specs.View.{view_places}
 use Rattle.nd_owned.specs.Owned.{Owned, item_at_place}
 use Rattle.nd_owned.specs.Writes.{Write}
 use Rattle.example_tiles_edits.specs.declared.picture.Extent.{Extent}
-use Rattle.example_tiles_edits.specs.Picture.{Image}
+use Rattle.example_tiles_edits.specs.picture.Picture.{Image}
 use Rattle.example_tiles_edits.specs.declared.edits.edit.Span.{Span}
 use Rattle.example_tiles_edits.specs.declared.edits.mirror.Part.{Part}
 use Rattle.example_tiles_edits.specs.Slices.{of_span, whole_view}

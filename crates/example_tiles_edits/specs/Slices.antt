@@ -13,7 +13,7 @@ use Rattle.ndarray_layout.specs.Step.{StepValue, SliceBy}
 use Rattle.ndarray_layout.specs.Strides.{default_strides}
 use Rattle.ndarray_layout.specs.View.{View}
 use Rattle.example_tiles_edits.specs.declared.picture.Extent.{Extent}
-use Rattle.example_tiles_edits.specs.Picture.{IsWithin, Position, pixel_count, place_in}
+use Rattle.example_tiles_edits.specs.picture.Picture.{IsWithin, Position, pixel_count, place_in}
 use Rattle.example_tiles_edits.specs.declared.edits.edit.Edit.{Edit}
 use Rattle.example_tiles_edits.specs.declared.edits.edit.Edit.TheVariants.{Crop, FlipRows, FlipColumns, Every, Mirror}
 use Rattle.example_tiles_edits.specs.declared.edits.edit.Span.{Span}

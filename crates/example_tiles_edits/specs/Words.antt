@@ -1,5 +1,5 @@
 -- The words of a text, each with the number of its line.
-use Rattle.std.specs.Prelude.{◌≡◌, ℕ, ◌+◌, ◌==◌, Bool, true, nat_lt, List, [], ◌∷◌, ◌++◌, length, map, codes, refl}
+use Rattle.std.specs.Prelude.{◌≡◌, ℕ, ◌==◌, Bool, true, nat_lt, List, [], ◌∷◌, length, map, codes, refl}
 use Rattle.std.specs.Char.{is_ascii_whitespace}
 use Rattle.std.specs.List.{before_first, enumerate_from, filter, flat_map, slice_split}
 
@@ -33,10 +33,6 @@ words_of_line line = with_number line.0 (words_of (before_first is_comment line.
 abbrev pub words_from : ℕ → List ℕ → List NumberedWord
 words_from number text = flat_map words_of_line (enumerate_from number (lines_of text))
 
--- the words of the rest of a line without a comment, and of the text after it
-abbrev pub words_left : ℕ → List ℕ → List ℕ → List NumberedWord
-words_left number line after = with_number number (words_of line) ++ words_from (number + 1) after
-
 -- examples
 comment_begins : is_comment 35 ≡ true
 comment_begins = refl
@@ -55,9 +51,6 @@ no_words = refl
 
 after_a_comment : words_from 1 (codes "P2 # a b\n#c\n 3 4#5\n") ≡ (1, codes "P2") ∷ (3, codes "3") ∷ (3, codes "4") ∷ []
 after_a_comment = refl
-
-rest_of_a_line : words_left 7 (codes " ab") (codes "c\nd") ≡ (7, codes "ab") ∷ (8, codes "c") ∷ (9, codes "d") ∷ []
-rest_of_a_line = refl
 
 third_line_only : words_of_line (3, codes "a #b") ≡ (3, codes "a") ∷ []
 third_line_only = refl

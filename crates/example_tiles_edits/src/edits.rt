@@ -1,6 +1,6 @@
 //! Edits of pictures, each pixel of the result taken from the place in the source that the edits name.
 ghost use Rattle.std.specs.Prelude.{◌≡◌, ◌<◌, IfOk, None, length};
-ghost use Rattle.example_tiles_edits.specs.Picture.{IsPicture, image};
+ghost use Rattle.example_tiles_edits.specs.picture.Picture.{IsPicture, image};
 ghost use Rattle.example_tiles_edits.specs.Edits.{AreBegun, IsEdited, first_misfit};
 ghost use Rattle.example_tiles_edits.specs.EditError.{misfit_of};
 ghost use Rattle.example_tiles_edits.specs.Slices.{IsSplit};

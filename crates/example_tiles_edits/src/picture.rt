@@ -1,4 +1,8 @@
 //! Pictures in grey.
+mod binary;
+pub(crate) mod fault;
+mod header;
+mod plain;
 pub(crate) mod printing;
 pub(crate) mod reading;
 
@@ -13,7 +17,7 @@ pub struct Extent {
 
 impl Extent {
     ghost use Rattle.std.specs.Prelude.{◌≡◌, ◌*◌};
-    ghost use Rattle.example_tiles_edits.specs.Picture.{pixel_count};
+    ghost use Rattle.example_tiles_edits.specs.picture.Picture.{pixel_count};
 
     /// How many pixels a picture of this extent has.
     pub(crate) fn pixel_count(self) -> usize

@@ -1,8 +1,8 @@
 //! The words of a text, one after another, each with the number of its line, and the numbers that they spell.
-ghost use Rattle.std.specs.Prelude.{◌≡◌, ℕ, ◌+◌, ◌<◌, [], ◌∷◌, ◌++◌, length, MatchOption};
-ghost use Rattle.std.specs.List.{before_first};
+ghost use Rattle.std.specs.Prelude.{◌≡◌, [], ◌++◌, false, MatchOption};
+ghost use Rattle.std.specs.List.{All};
+ghost use Rattle.example_tiles_edits.specs.FirstWords.{IsAfterLine, IsApart, IsSkipped, IsTaken, ends_word, words_left};
 ghost use Rattle.example_tiles_edits.specs.Numbers.{number_of};
-ghost use Rattle.example_tiles_edits.specs.Words.{is_comment, words_from, words_of, words_of_line};
 
 use std::marker::Model;
 
@@ -25,94 +25,103 @@ pub(crate) struct Word<'a> {
     pub(crate) text: &'a [u8],
 }
 
-/// The words that are left of a text: what stands between white space, without the comments, each from a `#` to the end
-/// of its line.
+/// What is left of a text, to be taken word by word: what stands between white space, without the comments, each from a `#`
+/// to the end of its line.
 #[derive(Debug, Drop)]
 pub(crate) struct Words<'a> {
     number: usize,
-    line: &'a [u8],
-    after: &'a [u8],
+    rest: &'a [u8],
 }
 
 impl<'a> Model for Words<'a> {
-    ghost use Rattle.std.specs.Prelude.{List, ◌+◌, ◌<◌, ◌^◌, length};
-    ghost use Rattle.example_tiles_edits.specs.Words.{NumberedWord, words_left};
+    ghost use Rattle.std.specs.Prelude.{◌+◌, ◌<◌, ◌^◌, length};
+    ghost use Rattle.example_tiles_edits.specs.FirstWords.{TextLeft};
 
-    ghost Value = { List NumberedWord };
+    ghost Value = { TextLeft };
 
-    ghost view = { λ w. words_left w.number w.line.now w.after.now };
+    ghost view = { λ w. record { number = w.number; bytes = w.rest.now } };
 
-    ghost invariant = { λ w. w.number + length w.after.now < 2 ^ 64 };
+    ghost invariant = { λ w. w.number + length w.rest.now < 2 ^ 64 };
 }
 
-/// The first line of a text, without what ends it, and the text after it.
-fn split_line(text: &[u8]) -> (&[u8], &[u8])
-    ensures words { (number : ℕ) → words_from number text.now ≡
-        words_of_line (number, result.0.now) ++ words_from (number + 1) result.1.now }
-    ensures shorter { 0 < length text.now → length result.1.now < length text.now }
+/// Whether a byte ends a word.
+fn ends_word(byte: u8) -> bool
+    ensures { result ≡ ends_word byte }
 {
-    match text.iter().position(|b| *b == b'\n') {
-        Some(at) => (&text[..at], &text[at + 1..]),
+    byte.is_ascii_whitespace() || byte == b'#'
+}
+
+/// The bytes up to the first that ends a word, and the text from there on.
+fn split_word(text: &[u8]) -> (&[u8], &[u8])
+    ensures parts { text.now ≡ result.0.now ++ result.1.now }
+    ensures plain { All (λ b. ends_word b ≡ false) result.0.now }
+    ensures apart { IsApart result.1.now }
+{
+    match text.iter().position(|byte| ends_word(*byte)) {
+        Some(at) => text.split_at(at),
         None => (text, &[]),
     }
 }
 
-/// A line up to its comment, or all of it.
-fn without_comment(line: &[u8]) -> &[u8]
-    ensures { result.now ≡ before_first is_comment line.now }
+/// The text after its first line; nothing where it is one line.
+fn after_line(text: &[u8]) -> &[u8]
+    ensures { IsAfterLine text.now result.now }
 {
-    match line.iter().position(|b| *b == b'#') {
-        Some(at) => &line[..at],
-        None => line,
-    }
-}
-
-/// The first word of a line, and the line after it; `None` where it has none.
-fn split_word(line: &[u8]) -> Option<(&[u8], &[u8])>
-    ensures { MatchOption result (words_of line.now ≡ [])
-        (λ found. words_of line.now ≡ found.0.now ∷ words_of found.1.now) }
-{
-    let start = line.iter().position(|b| !b.is_ascii_whitespace())?;
-    let word = &line[start..];
-    match word.iter().position(|b| b.is_ascii_whitespace()) {
-        Some(end) => Some((&word[..end], &word[end..])),
-        None => Some((word, &[])),
+    match text.iter().position(|byte| *byte == b'\n') {
+        Some(at) => &text[at + 1..],
+        None => &[],
     }
 }
 
 impl<'a> Words<'a> {
     /// The words of a text.
     pub(crate) fn new(text: &'a [u8]) -> Self
-        ensures { result ≡ words_from 1 text.now }
+        ensures { result ≡ record { number = 1; bytes = text.now } }
     {
-        let (line, after) = split_line(text);
         Words {
             number: 1,
-            line: without_comment(line),
-            after,
+            rest: text,
+        }
+    }
+
+    /// The bytes that are left of the text.
+    pub(crate) fn rest(&self) -> &'a [u8]
+        ensures { result.now ≡ self.now.bytes }
+    {
+        self.rest
+    }
+
+    /// Skips white space and comments.
+    fn skip_gap(&mut self)
+        ensures { IsSkipped self.old self.new }
+    {
+        while let [first, rest @ ..] = self.rest {
+            if *first == b'#' {
+                self.rest = after_line(rest);
+                self.number += 1;
+            } else if first.is_ascii_whitespace() {
+                self.rest = rest;
+                self.number += usize::from(*first == b'\n');
+            } else {
+                return;
+            }
         }
     }
 
     /// Takes the first of the words that are left; `None` where none is.
     pub(crate) fn take(&mut self) -> Option<Word<'a>>
-        ensures { MatchOption result ((self.old ≡ []) × (self.new ≡ []))
-            (λ word. self.old ≡ (word.line, word.text.now) ∷ self.new) }
+        ensures { MatchOption result (words_left self.old ≡ [])
+            (λ word. IsTaken self.old (word.line, word.text.now) self.new) }
     {
-        loop {
-            if let Some((text, rest)) = split_word(self.line) {
-                self.line = rest;
-                return Some(Word {
-                    line: self.number,
-                    text,
-                });
-            }
-            if self.after.is_empty() {
-                return None;
-            }
-            let (line, after) = split_line(self.after);
-            self.number += 1;
-            self.line = without_comment(line);
-            self.after = after;
+        self.skip_gap();
+        let (text, rest) = split_word(self.rest);
+        if text.is_empty() {
+            return None;
         }
+        self.rest = rest;
+        Some(Word {
+            line: self.number,
+            text,
+        })
     }
 }

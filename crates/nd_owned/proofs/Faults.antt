@@ -1,23 +1,23 @@
 -- Faults of lists of writes, and what holds of each of them, one write after another.
-use Rattle.std.proofs.Common.{◌≡◌, ℕ, zero, suc, ◌+◌, ◌-◌, ◌<◌, ◌≤◌, Bool, true, false, inl, inr, Option, Some, None, Result, Ok, Err, List, [], ◌∷◌, ◌++◌, length, get_or, map, take, drop, refl, sym, ap, subst, ◌∙◌, zero-add, arith}
+use Rattle.std.proofs.Common.{◌≡◌, ℕ, zero, suc, ◌+◌, ◌-◌, ◌<◌, ◌≤◌, Bool, true, false, ◌&&◌, cond, Option, Some, None, Result, Ok, Err, List, [], ◌∷◌, ◌++◌, length, get_or, map, take, drop, refl, sym, ap, subst, ◌∙◌, zero-add, arith}
 use Rattle.std.specs.List.{All, AllPairs, drop-map, list_all}
-use Rattle.std.specs.Prelude.{slice_get}
+use Rattle.std.specs.Prelude.{IsSomeAnd, MatchOption, slice_get}
 use Rattle.std.specs.Option.{option_or, option_map}
 use Rattle.std.specs.Result.{IsErrAnd}
-use Rattle.std.proofs.lemmas.List.{drop_more, drop_all, get_or-map, length-map, length-drop, map-append, map_more, take_all}
+use Rattle.std.proofs.lemmas.List.{drop_more, drop_all, get_or-map, length-map, length-drop, take_all}
 use Rattle.std.proofs.lemmas.List.Elements.{All-append, All-cons}
 use Rattle.std.proofs.lemmas.List.Kept.{AllPairs-cons}
 use Rattle.std.proofs.lemmas.Option.{slice_get-get_or, slice_get-map}
 use Rattle.ndarray_layout.specs.declared.ErrorKind.{ErrorKind}
+use Rattle.ndarray_layout.specs.declared.ErrorKind.TheVariants.{IncompatibleShape}
 use Rattle.ndarray_layout.specs.declared.Fit.TheVariants.{Strict}
 use Rattle.ndarray_layout.specs.declared.LayoutError.{LayoutError}
 use Rattle.ndarray_layout.specs.declared.LayoutError.TheVariants.{Shape, Memory}
-use Rattle.ndarray_layout.specs.declared.SliceInfoElem.{SliceInfoElem}
 use Rattle.ndarray_layout.specs.ArgumentFault.{argument_fault}
 use Rattle.ndarray_layout.specs.Meet.{Meet}
 use Rattle.ndarray_layout.specs.ShapeFault.{shape_fault}
-use Rattle.nd_owned.specs.Checks.{IsMeetFaultOf}
-use Rattle.nd_owned.specs.Writes.{Write, AreApart, IsFaultBy, IsFaultOfWrites, IsMeetFault, has_count, slices_fault}
+use Rattle.nd_owned.specs.private.Checks.{IsIntersectionFaultOf}
+use Rattle.nd_owned.specs.Writes.{Write, IsFaultOfWrites, IsIntersectionFault, counts_fault, has_count, slices_fault}
 
 -- ---- a list that a function was applied to, at its next item
 within : {X Y : Type 0} (f : X → Y) (xs : List X) (i : ℕ) → i < length xs → i < length (map f xs)
@@ -46,16 +46,7 @@ ended f xs i end = drop_all i (map f xs) (omega (arith, length-map xs f))
 pub of_this : {X Y : Type 0} (P : Y → Type 0) (f : X → Y) (xs : List X) (i : ℕ) (x : X) → i < length xs → x ≡ get_or xs i x → All P (map f xs) → P (f x)
 of_this P f xs i x below is all = subst P (sym (this f xs i x below is)) (all i (f x) (within f xs i below))
 
--- one more item of two lists
-pub one_more : {A B C : Type 0} (f : A → C) (g : B → C) (old new : List A) (x : A) (ys : List B) (i : ℕ) (y : B) → new ≡ old ++ x ∷ [] → i < length ys → y ≡ get_or ys i y → f x ≡ g y
-    → map f old ≡ map g (take i ys) → map f new ≡ map g (take (i + 1) ys)
-one_more f g old new x ys i y pushed below is same before =
-    ap (map f) pushed
-    ∙ map-append f old (x ∷ [])
-    ∙ ap (λ zs. zs ++ f x ∷ []) before
-    ∙ ap (λ z. map g (take i ys) ++ z ∷ []) (same ∙ ap g is)
-    ∙ sym (map_more g ys i y below)
-
+-- one more item of a list
 pub all_pushed : {A : Type 0} (P : A → Type 0) (old new : List A) (x : A) → new ≡ old ++ x ∷ [] → All P old → P x → All P new
 all_pushed P old new x pushed all this = subst (All P) (sym pushed) (All-append P old (x ∷ []) all (All-cons P x [] this (λ k d below. absurd (omega arith))))
 
@@ -82,6 +73,20 @@ handed_on Y (Ok x) error is none = refl
 handed_on Y (Err (Memory e)) error is none = refl
 handed_on Y (Err (Shape kind)) error is none = subst (λ e. shape_fault {X = Y} (Err e) ≡ None) (sym is) none
 
+-- ---- counts of items
+-- whether there are as many items for each, by those so far and the next
+pub next_count : {T X : Type 0} (f : X → Write T) (shape : List ℕ) (xs : List X) (i : ℕ) (x : X) (have this : Bool) → i < length xs → x ≡ get_or xs i x → has_count shape (f x) ≡ this
+    → list_all (has_count shape) (map f xs) ≡ (have && list_all (has_count shape) (drop i (map f xs)))
+    → list_all (has_count shape) (map f xs) ≡ (have && (this && list_all (has_count shape) (drop (i + 1) (map f xs))))
+next_count f shape xs i x have this below is counts before =
+    before
+    ∙ ap (λ ys. have && list_all (has_count shape) ys) (next f xs i x below is)
+    ∙ ap (λ b. have && (b && list_all (has_count shape) (drop (i + 1) (map f xs)))) counts
+
+pub none_more : (have after : Bool) → (have && (false && after)) ≡ false
+none_more true after = refl
+none_more false after = refl
+
 -- ---- facts of each item, or of each two, by what is left
 pub all_more : {X : Type 0} (P : X → Type 0) (xs left after : List X) (x : X) → left ≡ x ∷ after → P x → (All P left → All P xs) → All P after → All P xs
 all_more P xs left after x e this before all = before (subst (All P) (sym e) (All-cons P x after this all))
@@ -95,45 +100,42 @@ pairs_more R xs left after x e this before all = before (subst (AllPairs R) (sym
 pub pairs_ended : {X : Type 0} (R : X → X → Type 0) (xs left : List X) → left ≡ [] → (AllPairs R left → AllPairs R xs) → AllPairs R xs
 pairs_ended R xs left e before = before (subst (AllPairs R) (sym e) (λ i j d earlier below. absurd (omega arith)))
 
--- ---- slices that meet
+-- ---- slices that share an index
 got_later : {X : Type 0} (n : ℕ) (xs : List X) (k : ℕ) → slice_get (drop n xs) k ≡ slice_get xs (n + k)
 got_later zero xs k = ap (slice_get xs) (sym (zero-add k))
 got_later (suc n) [] k = refl
 got_later (suc n) (x ∷ xs) k = let e : suc n + k ≡ suc (n + k) = omega arith in rw e (got_later n xs k)
 
--- one that meets a slice after it is one of two that meet
-pub met_later : {T : Type 0} (shape : List ℕ) (writes after : List (Write T)) (i : ℕ) (write : Write T) (kind : ErrorKind) → slice_get writes i ≡ Some write → after ≡ drop (i + 1) writes
-    → IsMeetFaultOf shape write.slice after (Some kind) → IsMeetFault shape writes (Some kind)
-met_later shape writes after i write kind here e (inl (is, meets)) = inl (
-  is,
-  record {
-    first = i;
-    second = i + 1 + meets.at;
-    one = write;
-    other = meets.other;
-    earlier = omega arith;
-    one_there = here;
-    other_there = sym (got_later (i + 1) writes meets.at) ∙ ap (λ xs. slice_get xs meets.at) (sym e) ∙ meets.there;
-    meet = meets.meet;
-  },
-)
-met_later shape writes after i write kind here e (inr (is, apart)) = absurd (cc)
+-- one that shares an index with a slice after it is one of two that do
+pub of_two : {T : Type 0} (shape : List ℕ) (writes after : List (Write T)) (i : ℕ) (write : Write T) (kind : ErrorKind) → slice_get writes i ≡ Some write → after ≡ drop (i + 1) writes
+    → IsIntersectionFaultOf shape write after (Some kind) → IsIntersectionFault shape writes (Some kind)
+of_two {T = T} shape writes after i write kind here e (is, at, shared) =
+    let meets = λ (one : Write T). λ (other : Write T). Meet Strict shape one.slice other.slice in
+    let there : slice_get after at ≡ slice_get writes (i + 1 + at) = ap (λ xs. slice_get xs at) e ∙ got_later (i + 1) writes at in (
+      is,
+      (
+        i,
+        i + 1 + at,
+        omega arith,
+        subst (λ one. IsSomeAnd one (λ w. IsSomeAnd (slice_get writes (i + 1 + at)) (meets w))) (sym here)
+            (subst (λ other. IsSomeAnd other (meets write)) there shared),
+      ),
+    )
 
-pub none_met : {T : Type 0} (shape : List ℕ) (slice : List SliceInfoElem) (writes : List (Write T)) → IsMeetFaultOf shape slice writes None → All (λ other. Meet Strict shape slice other.slice → ⊥) writes
-none_met shape slice writes (inl (is, meets)) = absurd (cc)
-none_met shape slice writes (inr (is, apart)) = apart
-
--- ---- writes without a fault
-pub record HaveNoFault {T : Type 0} (shape : List ℕ) (writes : List (Write T)) : Type 0 where
+-- ---- writes whose slices fit and have their counts
+pub record HaveCounts {T : Type 0} (shape : List ℕ) (writes : List (Write T)) : Type 0 where
   pub fit : slices_fault shape writes ≡ None
   pub counts : list_all (has_count shape) writes ≡ true
-  pub apart : AllPairs (AreApart shape) writes
 
-pub no_fault : {T : Type 0} (shape : List ℕ) (writes : List (Write T)) → IsFaultOfWrites shape writes None → HaveNoFault shape writes
-no_fault shape writes none = by (slices_fault shape writes) (list_all (has_count shape) writes) refl refl none
+pub have_counts : {T : Type 0} (shape : List ℕ) (writes : List (Write T)) → counts_fault shape writes ≡ None → HaveCounts shape writes
+have_counts shape writes none =
+    let parts = both_none (slices_fault shape writes) (cond (list_all (has_count shape) writes) None (Some IncompatibleShape)) none in
+    record { fit = parts.0; counts = by (list_all (has_count shape) writes) parts.1 }
   where
-    by : (fault : Option ErrorKind) (counts : Bool) → slices_fault shape writes ≡ fault → list_all (has_count shape) writes ≡ counts → IsFaultBy fault counts shape writes None → HaveNoFault shape writes
-    by (Some kind) counts e f is = absurd (cc)
-    by None false e f is = absurd (cc)
-    by None true e f (inl (is, meet)) = absurd (cc)
-    by None true e f (inr (is, apart)) = record { fit = e; counts = f; apart = apart }
+    by : (have : Bool) → cond have None (Some IncompatibleShape) ≡ None → have ≡ true
+    by true is = refl
+    by false is = absurd (cc)
+
+-- writes without an error
+pub no_fault : {T : Type 0} (shape : List ℕ) (writes : List (Write T)) → counts_fault shape writes ≡ None → IsIntersectionFault shape writes None → IsFaultOfWrites shape writes None
+no_fault shape writes none apart = subst (λ fault. MatchOption fault (IsIntersectionFault shape writes None) (λ kind. None ≡ Some kind)) (sym none) apart

@@ -14,7 +14,7 @@ use Rattle.ndarray_layout.specs.Size.{size, limit}
 use Rattle.ndarray_layout.specs.View.{View, IsView, LiesWithin, place_at, view_places}
 use Rattle.ndarray_layout.proofs.laws.CollapsedView.{entry_of_no_fault, places-collapse_of_last}
 use Rattle.ndarray_layout.proofs.laws.View.{no_places, places_lie_within, view_place}
-use Rattle.nd_owned.specs.Rows.{AreInside, IsLastAxis, row_places}
+use Rattle.nd_owned.specs.private.Rows.{AreInside, IsLastAxis, row_places}
 use Rattle.nd_owned.proofs.RowPlaces.{rows_of_none}
 
 -- a size by one of the axes

@@ -3,11 +3,11 @@ use Rattle.std.proofs.Common.{◌≡◌, ◌≢◌, ℕ, zero, suc, ◌+◌, ◌
 use Rattle.std.specs.List.{All, AllPairs, Contains, flat_map}
 use Rattle.std.specs.Prelude.{slice_get}
 use Rattle.std.proofs.lemmas.Grind.{flat_map-append}
-use Rattle.std.proofs.lemmas.List.{append-nil, drop_more, get_or-append-add, get_or_append_left, length-append, map-append, take-append-drop, take_more}
+use Rattle.std.proofs.lemmas.List.{append-nil, drop_more, get_or-append-add, get_or_append_left, length-append, map-append, nil_from_length, take-append-drop, take_more}
 use Rattle.std.proofs.lemmas.List.Elements.{All-append, All-head, All-tail, Contains-append_left, Contains-append_right}
 use Rattle.ndarray_layout.specs.Inside.{IsInside}
 use Rattle.nd_owned.specs.Owned.{item_at_place}
-use Rattle.nd_owned.specs.Rows.{AreInside, HasWritten}
+use Rattle.nd_owned.specs.private.Rows.{AreInside, HasWritten}
 
 -- an item of a list is the same whatever stands for a missing one
 pub other_default : {X : Type 0} (xs : List X) (i : ℕ) (d e : X) → i < length xs → get_or xs i d ≡ get_or xs i e
@@ -22,7 +22,7 @@ number_of_turn given xs i same below =
     (under, ap (λ those. get_or those i 0) same ∙ other_default xs i 0 (get_or given i 0) under)
 
 -- a function of each item of a list that is the same as another one there
-pub map_same : {X Y : Type 0} (f g : X → Y) (xs : List X) → All (λ x. f x ≡ g x) xs → map f xs ≡ map g xs
+map_same : {X Y : Type 0} (f g : X → Y) (xs : List X) → All (λ x. f x ≡ g x) xs → map f xs ≡ map g xs
 map_same f g [] same = refl
 map_same f g (x ∷ xs) same =
     ap (λ y. y ∷ map f xs) (All-head (λ x. f x ≡ g x) x xs same) ∙ ap (λ ys. g x ∷ ys) (map_same f g xs (All-tail (λ x. f x ≡ g x) x xs same))
@@ -31,7 +31,7 @@ map_same f g (x ∷ xs) same =
 pub all_first : {X : Type 0} (P : X → Type 0) (xs ys : List X) → All P (xs ++ ys) → All P xs
 all_first P xs ys all = λ k d below. subst P (get_or_append_left xs ys d k below) (all k d (omega (arith, length-append xs ys)))
 
-pub all_second : {X : Type 0} (P : X → Type 0) (xs ys : List X) → All P (xs ++ ys) → All P ys
+all_second : {X : Type 0} (P : X → Type 0) (xs ys : List X) → All P (xs ++ ys) → All P ys
 all_second P xs ys all = λ k d below. subst P (get_or-append-add xs ys k d) (all (length xs + k) d (omega (arith, length-append xs ys)))
 
 pub pairs_first : {X : Type 0} (R : X → X → Type 0) (xs ys : List X) → AllPairs R (xs ++ ys) → AllPairs R xs
@@ -40,20 +40,20 @@ pairs_first R xs ys pairs = λ i j d earlier below.
     subst (λ x. R x (get_or xs j d)) first
     (subst (R (get_or (xs ++ ys) i d)) (get_or_append_left xs ys d j below) (pairs i j d earlier (omega (arith, length-append xs ys))))
 
-pub pairs_second : {X : Type 0} (R : X → X → Type 0) (xs ys : List X) → AllPairs R (xs ++ ys) → AllPairs R ys
+pairs_second : {X : Type 0} (R : X → X → Type 0) (xs ys : List X) → AllPairs R (xs ++ ys) → AllPairs R ys
 pairs_second R xs ys pairs = λ i j d earlier below.
     let from = length xs in
     subst (λ x. R x (get_or ys j d)) (get_or-append-add xs ys i d)
     (subst (R (get_or (xs ++ ys) (from + i) d)) (get_or-append-add xs ys j d) (pairs (from + i) (from + j) d (omega arith) (omega (arith, length-append xs ys))))
 
 -- where no item is there twice, none of the one part is in the other
-pub parts_apart : {X : Type 0} (xs ys : List X) → AllPairs (λ one other. one ≢ other) (xs ++ ys) → All (λ x. Contains ys x → ⊥) xs
+parts_apart : {X : Type 0} (xs ys : List X) → AllPairs (λ one other. one ≢ other) (xs ++ ys) → All (λ x. Contains ys x → ⊥) xs
 parts_apart xs ys distinct = λ k d below here.
     distinct k (length xs + here.0) d (omega arith) (omega (arith, here.1, length-append xs ys))
     (get_or_append_left xs ys d k below ∙ sym here.2 ∙ other_default ys here.0 (get_or xs k d) d here.1 ∙ sym (get_or-append-add xs ys here.0 d))
 
 -- ---- a list of lists, at one of them
-pub parts_of : {A X : Type 0} (f : A → List X) (xs : List A) (i : ℕ) (x : A) → i < length xs → x ≡ get_or xs i x
+parts_of : {A X : Type 0} (f : A → List X) (xs : List A) (i : ℕ) (x : A) → i < length xs → x ≡ get_or xs i x
     → flat_map f xs ≡ (flat_map f (take i xs) ++ f x) ++ flat_map f (drop (i + 1) xs)
 parts_of f xs i x below is =
     let cut : xs ≡ (take i xs ++ x ∷ []) ++ drop (i + 1) xs =
@@ -70,6 +70,20 @@ parts_more f xs i x below is =
     ap (flat_map f) (take_more xs i x below ∙ ap (λ y. take i xs ++ y ∷ []) (sym is))
     ∙ flat_map-append f (take i xs) (x ∷ [])
     ∙ ap (λ ys. flat_map f (take i xs) ++ ys) (append-nil (f x))
+
+-- one that has nothing adds nothing
+pub parts_skipped : {A X : Type 0} (f : A → List X) (xs : List A) (i : ℕ) (x : A) → i < length xs → x ≡ get_or xs i x → length (f x) ≡ 0 → flat_map f (take (i + 1) xs) ≡ flat_map f (take i xs)
+parts_skipped f xs i x below is none = parts_more f xs i x below is ∙ ap (λ ys. flat_map f (take i xs) ++ ys) (nil_from_length (f x) none) ∙ append-nil (flat_map f (take i xs))
+
+-- one more of two lists of lists
+pub parts_pushed : {A B X : Type 0} (f : A → List X) (g : B → List X) (old new : List A) (x : A) (ys : List B) (i : ℕ) (y : B) → new ≡ old ++ x ∷ [] → i < length ys → y ≡ get_or ys i y → f x ≡ g y
+    → flat_map f old ≡ flat_map g (take i ys) → flat_map f new ≡ flat_map g (take (i + 1) ys)
+parts_pushed f g old new x ys i y pushed below is same before =
+    ap (flat_map f) pushed
+    ∙ flat_map-append f old (x ∷ [])
+    ∙ ap (λ zs. flat_map f old ++ zs) (append-nil (f x) ∙ same)
+    ∙ ap (λ zs. zs ++ g y) before
+    ∙ sym (parts_more g ys i y below is)
 
 all_of_part : {A X : Type 0} (P : X → Type 0) (f : A → List X) (xs : List A) (i : ℕ) (x : A) → i < length xs → x ≡ get_or xs i x → All P (flat_map f xs) → All P (f x)
 all_of_part P f xs i x below is all =

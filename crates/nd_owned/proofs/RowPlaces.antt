@@ -9,23 +9,23 @@ use Rattle.std.proofs.lemmas.Option.{slice_get-get_or}
 use Rattle.ndarray_layout.specs.Indices.{below}
 use Rattle.ndarray_layout.specs.Inside.{IsInside}
 use Rattle.nd_owned.specs.Owned.{item_at_place}
-use Rattle.nd_owned.specs.Rows.{HasWritten, row_places}
+use Rattle.nd_owned.specs.private.Rows.{HasWritten, row_places}
 use Rattle.nd_owned.proofs.Placed.{all_first, both_written, one_written, pairs_first}
 
 -- ---- a row
-pub length-row_places : (start : ℕ) (stride : ℤ) (len : ℕ) → length (row_places start stride len) ≡ len
+length-row_places : (start : ℕ) (stride : ℤ) (len : ℕ) → length (row_places start stride len) ≡ len
 length-row_places start stride len = length-map-range_with_len (λ entry. pos start +ℤ (pos entry *ℤ stride)) 0 len
 
 -- the place of an entry
-pub get_or-row_places : (start : ℕ) (stride : ℤ) (len entry : ℕ) (d : ℤ) → entry < len → get_or (row_places start stride len) entry d ≡ pos start +ℤ (pos entry *ℤ stride)
+get_or-row_places : (start : ℕ) (stride : ℤ) (len entry : ℕ) (d : ℤ) → entry < len → get_or (row_places start stride len) entry d ≡ pos start +ℤ (pos entry *ℤ stride)
 get_or-row_places start stride len entry d below = get_or-map-range_with_len (λ n. pos start +ℤ (pos n *ℤ stride)) 0 len entry entry d below (omega arith)
 
 -- the row with one place more
-pub row_more : (start : ℕ) (stride : ℤ) (len : ℕ) → row_places start stride (len + 1) ≡ row_places start stride len ++ (pos start +ℤ (pos len *ℤ stride)) ∷ []
+row_more : (start : ℕ) (stride : ℤ) (len : ℕ) → row_places start stride (len + 1) ≡ row_places start stride len ++ (pos start +ℤ (pos len *ℤ stride)) ∷ []
 row_more start stride len = map-range_with_len_more (λ n. pos start +ℤ (pos n *ℤ stride)) 0 len len (omega arith)
 
 -- its first places
-pub take-row_places : (start : ℕ) (stride : ℤ) (len entry : ℕ) → entry ≤ len → take entry (row_places start stride len) ≡ row_places start stride entry
+take-row_places : (start : ℕ) (stride : ℤ) (len entry : ℕ) → entry ≤ len → take entry (row_places start stride len) ≡ row_places start stride entry
 take-row_places start stride len entry within = take-map-range_with_len (λ n. pos start +ℤ (pos n *ℤ stride)) 0 len entry within
 
 -- each place of a row that lies inside does
@@ -182,9 +182,3 @@ rows_of_one (start ∷ starts) =
 pub rows_of_none : (stride : ℤ) (starts : List ℕ) → flat_map (λ start. row_places start stride 0) starts ≡ []
 rows_of_none stride [] = refl
 rows_of_none stride (start ∷ starts) = rows_of_none stride starts
-
--- where there is no place in rows that have some, no row begins
-pub no_rows : (stride : ℤ) (len : ℕ) (starts : List ℕ) → 0 < len → flat_map (λ start. row_places start stride len) starts ≡ [] → starts ≡ []
-no_rows stride len [] some none = refl
-no_rows stride zero (start ∷ starts) some none = absurd (omega arith)
-no_rows stride (suc len) (start ∷ starts) some none = absurd (cc)

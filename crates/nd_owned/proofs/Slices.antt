@@ -1,10 +1,9 @@
 -- Slices of a view whose places are distinct: no place is listed twice by slices of which no two share an index, and what writes there leave.
-use Rattle.std.proofs.Common.{◌≡◌, ◌≢◌, ℕ, suc, ◌<◌, ℤ, pos, true, false, Bool, Some, None, inl, inr, List, [], ◌∷◌, ◌++◌, length, get_or, map, take, refl, sym, ap, ◌∙◌, arith, ◌&&◌}
+use Rattle.std.proofs.Common.{◌≡◌, ◌≢◌, ℕ, suc, ◌<◌, ℤ, pos, true, false, Bool, Some, None, inl, inr, List, [], ◌∷◌, ◌++◌, length, get_or, map, take, refl, sym, ap, subst, ◌∙◌, arith, ◌&&◌}
 use Rattle.std.specs.List.{All, AllPairs, Contains, flat_map, list_all}
 use Rattle.std.proofs.lemmas.Bool.{eqb-true}
 use Rattle.std.proofs.lemmas.List.{append_cancel_left, get_or-map, length-map, map-append, take_at}
 use Rattle.std.proofs.lemmas.List.Elements.{All-append, All-cons, All-head, All-tail, Contains-append_cases, Contains-get_or}
-use Rattle.std.proofs.lemmas.List.Folds.{flat_map-map}
 use Rattle.std.proofs.lemmas.List.Kept.{AllPairs-cons}
 use Rattle.ndarray_layout.specs.declared.Fit.TheVariants.{Strict}
 use Rattle.ndarray_layout.specs.declared.Order.{Order}
@@ -21,16 +20,10 @@ use Rattle.ndarray_layout.proofs.laws.SharePlace.{meet_of_shared_place}
 use Rattle.ndarray_layout.proofs.laws.SlicedView.{HasDistinctPlaces-slice_of}
 use Rattle.ndarray_layout.proofs.laws.View.{length-view_places}
 use Rattle.nd_owned.specs.Owned.{item_at_place}
-use Rattle.nd_owned.specs.Rows.{HasWritten}
+use Rattle.nd_owned.specs.private.Rows.{HasWritten}
 use Rattle.nd_owned.specs.Writes.{Write, AreApart, IsWritten, KeepsOthers, has_count, slices_fault, write_places}
 use Rattle.nd_owned.proofs.Faults.{both_none}
 use Rattle.nd_owned.proofs.Placed.{other_default}
-
--- what two lists have at one position, where functions of them are the same
-pub at_both : {A B C : Type 0} (f : A → C) (g : B → C) (xs : List A) (ys : List B) (k : ℕ) (x : A) (y : B) → map f xs ≡ map g ys → k < length xs → f (get_or xs k x) ≡ g (get_or ys k y)
-at_both f g xs ys k x y same below =
-    let there : k < length ys = omega (arith, length-map xs f, ap length same, length-map ys g) in
-    sym (get_or-map f xs k x (f x) below) ∙ ap (λ zs. get_or zs k (f x)) same ∙ get_or-map g ys k y (f x) there
 
 -- ---- lists of lists
 -- what is in none of them is not in all of them together
@@ -84,7 +77,7 @@ listed order view place here =
     (get_or indices here.0 [], All-indices_in order view.shape here.0 [] below, sym (get_or-map (place_at view) indices here.0 [] place below) ∙ here.2)
 
 -- ---- what holds of each of the writes
-each_fits : {T : Type 0} (shape : List ℕ) (writes : List (Write T)) → slices_fault shape writes ≡ None → All (λ write. argument_fault Strict shape write.slice ≡ None) writes
+pub each_fits : {T : Type 0} (shape : List ℕ) (writes : List (Write T)) → slices_fault shape writes ≡ None → All (λ write. argument_fault Strict shape write.slice ≡ None) writes
 each_fits shape [] none = λ k d below. absurd (omega arith)
 each_fits shape (write ∷ writes) none =
     let parts = both_none (argument_fault Strict shape write.slice) (slices_fault shape writes) none in
@@ -95,22 +88,13 @@ both_true true second both = (refl, both)
 both_true false second both = absurd (cc)
 
 -- as many items as places
-each_count : {T : Type 0} (view : View) (writes : List (Write T)) → list_all (has_count view.shape) writes ≡ true → All (λ write. length (write_places view write) ≡ length write.items) writes
+pub each_count : {T : Type 0} (view : View) (writes : List (Write T)) → list_all (has_count view.shape) writes ≡ true → All (λ write. length (write_places view write) ≡ length write.items) writes
 each_count view [] all = λ k d below. absurd (omega arith)
 each_count view (write ∷ writes) all =
     let parts = both_true (has_count view.shape write) (list_all (has_count view.shape) writes) all in
     All-cons (λ one. length (write_places view one) ≡ length one.items) write writes
     (length-view_places RowMajor (slice_of Strict write.slice view) ∙ sym (eqb-true (length write.items) (size (sliced_shape Strict write.slice view.shape)) parts.0))
     (each_count view writes parts.1)
-
-pub same_counts : {T : Type 0} (view : View) (writes : List (Write T)) → list_all (has_count view.shape) writes ≡ true → map length (map (write_places view) writes) ≡ map (λ write. length write.items) writes
-same_counts {T = T} view writes all = by writes (each_count view writes all)
-  where
-    by : (writes : List (Write T)) → All (λ write. length (write_places view write) ≡ length write.items) writes → map length (map (write_places view) writes) ≡ map (λ write. length write.items) writes
-    by [] counts = refl
-    by (write ∷ writes) counts =
-        ap (λ n. n ∷ map length (map (write_places view) writes)) (All-head (λ one. length (write_places view one) ≡ length one.items) write writes counts)
-        ∙ ap (λ ns. length write.items ∷ ns) (by writes (All-tail (λ one. length (write_places view one) ≡ length one.items) write writes counts))
 
 -- ---- the places of all of them
 -- those of slices that share no index have none in common
@@ -139,11 +123,16 @@ all_distinct {T = T} view writes v distinct none apart = by writes (each_fits vi
         no_shared_place view write (get_or writes j other) (get_or (write_places view write) k d) v distinct fits (others j other there) (alone j other there)
         (Contains-get_or (write_places view write) k d below) here))
 
--- lists of lists are the same together where each is
-pub together : {A B X : Type 0} (f : A → List X) (g : B → List X) (xs : List A) (ys : List B) → map f xs ≡ map g ys → flat_map f xs ≡ flat_map g ys
-together f g xs ys same = sym (flat_map-map (λ list. list) f xs) ∙ ap (flat_map (λ list. list)) same ∙ flat_map-map (λ list. list) g ys
-
 -- ---- what is left
+-- what is written at the places of parts, where these are the places of the writes
+pub at_places : {A T : Type 0} (f : A → List ℤ) (h : A → List T) (view : View) (writes : List (Write T)) (given parts : List A) (old new : List T) → given ≡ parts
+    → flat_map f parts ≡ flat_map (write_places view) writes → flat_map h parts ≡ flat_map (λ write. write.items) writes
+    → (AllPairs (λ one other. one ≢ other) (flat_map f given) → HasWritten (flat_map f given) (flat_map h given) old new)
+    → AllPairs (λ one other. one ≢ other) (flat_map (write_places view) writes) → HasWritten (flat_map (write_places view) writes) (flat_map (λ write. write.items) writes) old new
+at_places f h view writes given parts old new same places items left =
+    subst (λ zs. AllPairs (λ one other. one ≢ other) zs → HasWritten zs (flat_map (λ write. write.items) writes) old new) (ap (flat_map f) same ∙ places)
+    (subst (λ xs. AllPairs (λ one other. one ≢ other) (flat_map f given) → HasWritten (flat_map f given) xs old new) (ap (flat_map h) same ∙ items) left)
+
 pub all_written : {T : Type 0} (view : View) (writes : List (Write T)) (old new : List T) → list_all (has_count view.shape) writes ≡ true
     → HasWritten (flat_map (write_places view) writes) (flat_map (λ write. write.items) writes) old new → All (IsWritten view new) writes
 all_written {T = T} view writes old new counts left = by writes (each_count view writes counts) left.written

@@ -1,7 +1,6 @@
-pub mod Checks
 pub mod Owned
-pub mod Rows
 pub mod Writes
+pub mod private
 pub use Rattle.ndarray_layout.specs.AcceptanceByStrides
 pub use Rattle.ndarray_layout.specs.ArgumentFault
 pub use Rattle.ndarray_layout.specs.Lengths

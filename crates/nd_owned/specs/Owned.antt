@@ -1,13 +1,21 @@
 -- What an owned array holds: its items, and a view by which each index of its shape has one of them to itself.
 use Rattle.std.specs.Prelude.{◌≡◌, ℕ, ℤ, pos, negsuc, Option, Some, None, Result, Ok, Err, if◌then◌else◌, List, [], ◌∷◌, nat_eq, slice_get, slice_index, slice_set, refl}
 use Rattle.std.proofs.Common.{ap, eq-eqb}
+use Rattle.std.proofs.Math.Dec.{lit≤}
 use Rattle.std.proofs.lemmas.Bool.{both_ways}
 use Rattle.ndarray_layout.specs.declared.ErrorKind.{ErrorKind}
 use Rattle.ndarray_layout.specs.declared.LayoutError.{LayoutError}
 use Rattle.ndarray_layout.specs.declared.LayoutError.TheVariants.{Shape, Memory}
-use Rattle.ndarray_layout.specs.Indices.{is_index}
-use Rattle.ndarray_layout.specs.Signed.{magnitude}
+use Rattle.ndarray_layout.specs.declared.Fit.TheVariants.{Strict}
+use Rattle.ndarray_layout.specs.declared.SliceInfoElem.{SliceInfoElem}
+use Rattle.ndarray_layout.specs.declared.SliceInfoElem.TheVariants as elem
+use Rattle.ndarray_layout.specs.ArgumentFault.{argument_fault, out_count}
 use Rattle.ndarray_layout.specs.DistinctPlaces.{HasDistinctPlaces}
+use Rattle.ndarray_layout.specs.Indices.{is_index}
+use Rattle.ndarray_layout.specs.Lengths.{NeedsNoMemory}
+use Rattle.ndarray_layout.specs.Signed.{magnitude}
+use Rattle.ndarray_layout.specs.Size.{size}
+use Rattle.ndarray_layout.specs.Sliced.{sliced_shape}
 use Rattle.ndarray_layout.specs.View.{View, IsView, LiesWithin, place_at}
 
 -- the items, and the view that has places among them; items at no place are spare ones
@@ -43,6 +51,12 @@ shape_fault_of (Ok x) = None
 shape_fault_of (Err (Shape kind, y)) = Some kind
 shape_fault_of (Err (Memory e, y)) = None
 
+-- a slice without fault picks nothing, and leaves no more axes than a value keeps in itself
+pub record IsOfNone (shape : List ℕ) (slice : List SliceInfoElem) : Type 0 where
+  pub fits : argument_fault Strict shape slice ≡ None
+  pub few : NeedsNoMemory None (out_count slice)
+  pub none : size (sliced_shape Strict slice shape) ≡ 0
+
 -- examples
 item_of_two_indices : IsOwned 2 (record { start = 0; shape = 2 ∷ []; strides = pos 0 ∷ [] }) → ⊥
 item_of_two_indices owned =
@@ -65,3 +79,12 @@ no_third = refl
 
 last_replaced : (with_item back_to_front (1 ∷ []) 5).items ≡ 5 ∷ 8 ∷ 9 ∷ []
 last_replaced = refl
+
+abbrev all_of_axis : SliceInfoElem
+all_of_axis = elem.Slice (pos 0) None (pos 1)
+
+no_row : IsOfNone (2 ∷ 3 ∷ []) (elem.Slice (pos 0) (Some (pos 0)) (pos 1) ∷ all_of_axis ∷ [])
+no_row = record { fits = refl; few = lit≤ tt; none = refl }
+
+some_row : IsOfNone (2 ∷ 3 ∷ []) (elem.Index (pos 0) ∷ all_of_axis ∷ []) → ⊥
+some_row is = both_ways (nat_eq 3 0) refl (eq-eqb 3 0 is.none)

@@ -1,8 +1,7 @@
--- Lists of items that are to be written at slices of an array: for which fault that is refused, and what it leaves.
-use Rattle.std.specs.Prelude.{◌≡◌, ℕ, ◌<◌, ℤ, pos, Bool, true, false, ◌==◌, ◌⊎◌, Option}
-use Rattle.std.specs.Prelude.{Some, None, List, [], ◌∷◌, length, map, slice_get, slice_index_or, unwrap_or, nat_eq, refl}
-use Rattle.std.proofs.Common.{ap, eq-eqb, inl, inr}
-use Rattle.std.proofs.Math.Dec.{lit≤}
+-- Lists of items that are to be written at slices of an array: the error of such a list, and what the writes leave.
+use Rattle.std.specs.Prelude.{◌≡◌, ℕ, ◌<◌, ℤ, pos, Bool, true, false, ◌==◌, if◌then◌else◌, Option, Some, None, IsSomeAnd, MatchOption}
+use Rattle.std.specs.Prelude.{List, [], ◌∷◌, length, map, slice_get, slice_index_or, unwrap_or, nat_eq, refl}
+use Rattle.std.proofs.Common.{ap, eq-eqb}
 use Rattle.std.proofs.Math.Nat.{not-suc-le-zero}
 use Rattle.std.proofs.lemmas.Bool.{both_ways, ltb-true}
 use Rattle.std.specs.List.{All, AllPairs, Contains, list_all}
@@ -14,8 +13,7 @@ use Rattle.ndarray_layout.specs.declared.Fit.TheVariants.{Strict}
 use Rattle.ndarray_layout.specs.declared.Order.TheVariants.{RowMajor}
 use Rattle.ndarray_layout.specs.declared.SliceInfoElem.{SliceInfoElem}
 use Rattle.ndarray_layout.specs.declared.SliceInfoElem.TheVariants as elem
-use Rattle.ndarray_layout.specs.ArgumentFault.{argument_fault, out_count}
-use Rattle.ndarray_layout.specs.Lengths.{NeedsNoMemory}
+use Rattle.ndarray_layout.specs.ArgumentFault.{argument_fault}
 use Rattle.ndarray_layout.specs.Meet.{Meet}
 use Rattle.ndarray_layout.specs.Size.{size}
 use Rattle.ndarray_layout.specs.Sliced.{sliced_shape}
@@ -32,7 +30,7 @@ pub record Write (T : Type 0) : Type 0 where
 abbrev pub write_of : {T A B : Type 0} → Vec SliceInfoElem A × Vec T B → Write T
 write_of pair = record { slice = pair.0.items; items = pair.1.items }
 
--- the fault of the first slice that doesn't fit a shape
+-- the error of the first slice that doesn't fit a shape
 abbrev pub slices_fault : {T : Type 0} → List ℕ → List (Write T) → Option ErrorKind
 slices_fault shape [] = None
 slices_fault shape (write ∷ writes) = option_or (argument_fault Strict shape write.slice) (slices_fault shape writes)
@@ -41,40 +39,33 @@ slices_fault shape (write ∷ writes) = option_or (argument_fault Strict shape w
 abbrev pub has_count : {T : Type 0} → List ℕ → Write T → Bool
 has_count shape write = length write.items == size (sliced_shape Strict write.slice shape)
 
--- a slice without fault picks nothing, and leaves no more axes than a value keeps in itself
-pub record IsOfNone (shape : List ℕ) (slice : List SliceInfoElem) : Type 0 where
-  pub fits : argument_fault Strict shape slice ≡ None
-  pub few : NeedsNoMemory None (out_count slice)
-  pub none : size (sliced_shape Strict slice shape) ≡ 0
+-- the error of the first slice that doesn't fit, else that of a count of items that isn't its slice's
+abbrev pub counts_fault : {T : Type 0} → List ℕ → List (Write T) → Option ErrorKind
+counts_fault shape writes = option_or (slices_fault shape writes) (if list_all (has_count shape) writes then None else Some IncompatibleShape)
 
 -- the slices share no index
 abbrev pub AreApart : {T : Type 0} → List ℕ → Write T → Write T → Type 0
 AreApart shape one other = Meet Strict shape one.slice other.slice → ⊥
 
--- two of the slices, at different positions of the list, share an index
-pub record SomeMeet {T : Type 0} (shape : List ℕ) (writes : List (Write T)) : Type 0 where
-  pub first : ℕ
-  pub second : ℕ
-  pub one : Write T
-  pub other : Write T
-  pub earlier : first < second
-  pub one_there : slice_get writes first ≡ Some one
-  pub other_there : slice_get writes second ≡ Some other
-  pub meet : Meet Strict shape one.slice other.slice
+-- the slices at two positions of the list, i before j, share an index
+abbrev pub SomeIntersect : {T : Type 0} → List ℕ → List (Write T) → Type 0
+SomeIntersect shape writes =
+    (i : ℕ) × (j : ℕ) × (i < j)
+    × IsSomeAnd (slice_get writes i) (λ one. IsSomeAnd (slice_get writes j) (λ other. Meet Strict shape one.slice other.slice))
 
--- a fault, or none, is that of slices of which two share an index, where two do
-abbrev pub IsMeetFault : {T : Type 0} → List ℕ → List (Write T) → Option ErrorKind → Type 0
-IsMeetFault shape writes fault = ((fault ≡ Some Unsupported) × SomeMeet shape writes) ⊎ ((fault ≡ None) × AllPairs (AreApart shape) writes)
+-- the error, or none, of slices that fit
+abbrev pub IsIntersectionFault : {T : Type 0} → List ℕ → List (Write T) → Option ErrorKind → Type 0
+IsIntersectionFault shape writes None = AllPairs (AreApart shape) writes
+IsIntersectionFault shape writes (Some kind) = (kind ≡ Unsupported) × SomeIntersect shape writes
 
--- a fault, or none, is that of writing on a shape: that of the first slice that doesn't fit, then that of a count of items that isn't the slice's,
--- then that of slices that share an index
-abbrev pub IsFaultBy : {T : Type 0} → Option ErrorKind → Bool → List ℕ → List (Write T) → Option ErrorKind → Type 0
-IsFaultBy (Some kind) counts shape writes fault = fault ≡ Some kind
-IsFaultBy None false shape writes fault = fault ≡ Some IncompatibleShape
-IsFaultBy None true shape writes fault = IsMeetFault shape writes fault
-
+-- the error, or none, of a list of writes, in this order: that of the first slice that doesn't fit; IncompatibleShape for a count of items that isn't
+-- its slice's; Unsupported for two slices that share an index
 abbrev pub IsFaultOfWrites : {T : Type 0} → List ℕ → List (Write T) → Option ErrorKind → Type 0
-IsFaultOfWrites shape writes fault = IsFaultBy (slices_fault shape writes) (list_all (has_count shape) writes) shape writes fault
+IsFaultOfWrites shape writes fault = MatchOption (counts_fault shape writes) (IsIntersectionFault shape writes fault) (λ kind. fault ≡ Some kind)
+
+-- no list has an item, as where each slice picks nothing
+abbrev pub HaveNoItems : {T : Type 0} → List (Write T) → Type 0
+HaveNoItems writes = All (λ write. length write.items ≡ 0) writes
 
 -- the places of a slice of a view, the first axis moving slowest
 abbrev pub write_places : {T : Type 0} → View → Write T → List ℤ
@@ -123,42 +114,24 @@ second_slice_at_fault = refl
 slice_before_count : IsFaultOfWrites (2 ∷ 3 ∷ []) (short_column ∷ tenth_row ∷ []) (Some OutOfBounds)
 slice_before_count = refl
 
-count_before_meeting : IsFaultOfWrites (2 ∷ 3 ∷ []) (first_row ∷ short_column ∷ []) (Some IncompatibleShape)
-count_before_meeting = refl
+count_before_intersection : IsFaultOfWrites (2 ∷ 3 ∷ []) (first_row ∷ short_column ∷ []) (Some IncompatibleShape)
+count_before_intersection = refl
 
-no_row : IsOfNone (2 ∷ 3 ∷ []) (elem.Slice (pos 0) (Some (pos 0)) (pos 1) ∷ all_of_axis ∷ [])
-no_row = record { fits = refl; few = lit≤ tt; none = refl }
-
-some_row : IsOfNone (2 ∷ 3 ∷ []) first_row.slice → ⊥
-some_row is = both_ways (nat_eq 3 0) refl (eq-eqb 3 0 is.none)
-
-meeting_before_count : IsFaultOfWrites (2 ∷ 3 ∷ []) (first_row ∷ short_column ∷ []) (Some Unsupported) → ⊥
-meeting_before_count fault = let same : Some Unsupported ≡ Some IncompatibleShape = fault in cc
+intersection_before_count : IsFaultOfWrites (2 ∷ 3 ∷ []) (first_row ∷ short_column ∷ []) (Some Unsupported) → ⊥
+intersection_before_count fault = let same : Some Unsupported ≡ Some IncompatibleShape = fault in cc
 
 at_the_corner : Meet Strict (2 ∷ 3 ∷ []) first_row.slice first_column.slice
 at_the_corner =
     (0 ∷ 0 ∷ [], refl, ((0, ltb-true 0 1 refl, refl), ((0, ltb-true 0 3 refl, refl), tt)), ((0, ltb-true 0 2 refl, refl), ((0, ltb-true 0 1 refl, refl), tt)))
 
-row_meets_column : SomeMeet (2 ∷ 3 ∷ []) (first_row ∷ first_column ∷ [])
-row_meets_column = record {
-  first = 0;
-  second = 1;
-  one = first_row;
-  other = first_column;
-  earlier = ltb-true 0 1 refl;
-  one_there = refl;
-  other_there = refl;
-  meet = at_the_corner;
-}
-
 row_and_column : IsFaultOfWrites (2 ∷ 3 ∷ []) (first_row ∷ first_column ∷ []) (Some Unsupported)
-row_and_column = inl (refl, row_meets_column)
+row_and_column = (refl, (0, 1, ltb-true 0 1 refl, at_the_corner))
 
 row_and_column_apart : AreApart (2 ∷ 3 ∷ []) first_row first_column → ⊥
 row_and_column_apart apart = apart at_the_corner
 
 nothing_to_write : IsFaultOfWrites {T = ℕ} (2 ∷ 3 ∷ []) [] None
-nothing_to_write = inr (refl, λ i j d earlier below. absurd (not-suc-le-zero below))
+nothing_to_write = λ i j d earlier below. absurd (not-suc-le-zero below)
 
 row_written : IsWritten two_by_three (10 ∷ 11 ∷ 12 ∷ 3 ∷ 4 ∷ 5 ∷ 6 ∷ []) first_row
 row_written = refl

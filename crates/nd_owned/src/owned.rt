@@ -15,11 +15,11 @@ ghost use Rattle.ndarray_layout.specs.Signed.{all_signed};
 ghost use Rattle.ndarray_layout.specs.SlicedView.{slice_of};
 ghost use Rattle.ndarray_layout.specs.Span.{low_span};
 ghost use Rattle.ndarray_layout.specs.View.{view_of, view_places};
-ghost use Rattle.nd_owned.specs.Owned.{IsOwned, item_at, item_at_place, shape_fault_of, with_item};
-ghost use Rattle.nd_owned.specs.Writes.{IsFaultOfWrites, IsOfNone, IsWritten, KeepsOthers, write_of};
+ghost use Rattle.nd_owned.specs.Owned.{IsOfNone, IsOwned, item_at, item_at_place, shape_fault_of, with_item};
+ghost use Rattle.nd_owned.specs.Writes.{HaveNoItems, IsFaultOfWrites, IsWritten, KeepsOthers, write_of};
 
 use crate::rows::rows_of;
-use crate::writes::{check_writes, rows_of_each, write_all};
+use crate::writes::{check_apart, check_counts, rows_of_each, write_all};
 use ndarray_layout::{
     CanIndexCheckMode, LayoutError, Lengths, NdIndex, SliceElems, SliceInfoElem, StrideShape,
     Strided,
@@ -27,8 +27,8 @@ use ndarray_layout::{
 use std::alloc::Global;
 use std::marker::Model;
 
-/// An array that owns its items: each index of its shape has one of them to itself, at its place in the
-/// list of the items. Items at no place of the layout are kept as they are.
+/// An array that owns its items. Each index of its shape has an item, at its place in the list of the items, and no two
+/// indices alias. Items at no place of the layout are spare ones, and no call but `stored` shows them.
 #[derive(Drop)]
 pub struct OwnedArray<T: Copy, D: Lengths> {
     items: Vec<T>,
@@ -47,11 +47,17 @@ impl<T: Copy, D: Lengths> Model for OwnedArray<T, D> {
 }
 
 impl<T: Copy, D: Lengths> OwnedArray<T, D> {
-    /// The array of a shape, by its own strides or by given ones, over a list of items, with the lowest
-    /// place of the layout first in the list. Items past the layout, or between its places, stay.
+    /// The array of a shape, by its own strides or by given ones, over a list of items.
     ///
-    /// Errors: those of `Strided::from_shape` for data of as many elements of one byte, to be written; the list is
-    /// handed back. ndarray's `from_shape_vec`.
+    /// The lowest place of the layout is 0, the first item of the list. Items past the layout, or between its places, are
+    /// kept as spare ones.
+    ///
+    /// # Errors
+    ///
+    /// Those of `Strided::from_shape` in owned mode, over as many elements of one byte as the list has items. The list
+    /// comes back with the error.
+    ///
+    /// `[2]` with the stride `[-1]` over 7 8 9: (0) is 8, (1) is 7, and 9 is spare. ndarray's `from_shape_vec`.
     pub fn from_shape_vec(
         alloc: Global,
         shape: StrideShape<D>,
@@ -80,8 +86,7 @@ impl<T: Copy, D: Lengths> OwnedArray<T, D> {
         }
     }
 
-    /// All items as they are stored, with those at no place of the layout. ndarray's `into_raw_vec_and_offset`
-    /// gives them away.
+    /// All items as they are stored, spare ones too. ndarray's `into_raw_vec_and_offset` gives them away.
     #[inline]
     pub fn stored(&self) -> &[T]
         ensures items { result.now ≡ self.now.items }
@@ -90,7 +95,9 @@ impl<T: Copy, D: Lengths> OwnedArray<T, D> {
         self.items.as_slice()
     }
 
-    /// A copy of the item of an index; `None` where it is no index of the shape. ndarray's `get`.
+    /// A copy of the item of an index; `None` where it is no index of the shape.
+    ///
+    /// `[2]` with the stride `[-1]` over 7 8 9: (0) is 8, and (2) is `None`. ndarray's `get`.
     pub fn get<I: NdIndex<D>>(&self, index: &I) -> Option<T>
         ensures found { IsSome result ↔ IsTrue (is_index self.now.view.shape (I.index_list index.now)) }
         ensures item { result ≡ item_at self.now (I.index_list index.now) }
@@ -99,8 +106,9 @@ impl<T: Copy, D: Lengths> OwnedArray<T, D> {
         Some(self.items[place])
     }
 
-    /// Replaces the item of an index, and answers whether it is an index of the shape; else nothing changes.
-    /// ndarray's `get_mut`, with the write.
+    /// Replaces the item of an index, and returns whether it is an index of the shape; else the array is unchanged.
+    ///
+    /// `[2]` with the stride `[-1]` over 7 8 9: 5 at (1) makes it 5 8 9. ndarray's `get_mut`, with the write.
     pub fn set<I: NdIndex<D>>(&mut self, index: &I, item: T) -> bool
         ensures is_index { result ≡ is_index self.old.view.shape (I.index_list index.now) }
         ensures written { self.new ≡ with_item self.old (I.index_list index.now) item }
@@ -114,10 +122,16 @@ impl<T: Copy, D: Lengths> OwnedArray<T, D> {
         }
     }
 
-    /// Copies of the items that a slice picks, the first axis moving slowest.
+    /// Copies of the items that a slice picks, in row-major order.
     ///
-    /// Errors: those of `check_slice` on the shape, then out of memory, never where the slice picks nothing and
-    /// leaves at most 4 axes.
+    /// Each row of neighbours is copied as a whole; where the rows begin is listed first.
+    ///
+    /// # Errors
+    ///
+    /// Those of `check_slice` on the shape, then out of memory; none of memory where the slice picks nothing and leaves at
+    /// most 4 axes.
+    ///
+    /// `..;-1,1..` of `[2,3]` over 0 1 2 3 4 5: 4 5 1 2. The project's own.
     pub fn items<S: SliceElems>(&self, alloc: Global, slices: &S) -> Result<Vec<T>, LayoutError>
         ensures fault { shape_fault result ≡ argument_fault Strict self.now.view.shape (S.list slices.now) }
         ensures items { IfOk result (λ v. map Some v.items ≡ map (item_at_place self.now.items)
@@ -128,32 +142,39 @@ impl<T: Copy, D: Lengths> OwnedArray<T, D> {
         Ok(rows.read(alloc, self.items.as_slice())?)
     }
 
-    /// Writes items at several slices at once, each with the list of items for its indices, the first axis
-    /// moving slowest. All other items stay, those at no place of the layout too. A slice that picks nothing meets
-    /// no other, and an empty list of writes is no fault.
+    /// Writes items at several slices at once, all of them or none.
     ///
-    /// Each slice is compared once with each one after it, so that of `k` slices `k * (k - 1) / 2` pairs are
-    /// compared, each on all axes. Where the rows of all slices begin is listed before the first write.
+    /// Each slice comes with the items for its indices, in row-major order. All other items are unchanged, spare ones too.
+    /// A slice that picks nothing intersects no other, and an empty list of writes is no error.
     ///
-    /// Errors, which change nothing: that of `check_slice` on the shape for the first slice that doesn't fit; then
-    /// `IncompatibleShape` where a list has more items or fewer than its slice picks; then `Unsupported` where two
-    /// slices share an index; at last out of memory. ndarray's `multi_slice_move`, with the writes.
+    /// Each slice is compared once with each one after it: of `k` slices `k * (k - 1) / 2` pairs, each on all axes. Where
+    /// the rows of the slices begin is listed before the first write.
+    ///
+    /// # Errors
+    ///
+    /// That of `check_slice` on the shape for the first slice that doesn't fit; then `IncompatibleShape` where a list has
+    /// more items or fewer than its slice picks; then `Unsupported` where two slices share an index; then out of memory,
+    /// never where no list has an item, as where each slice picks nothing. The array is unchanged after an error.
+    ///
+    /// `0,..` with 10 11 12 and `1,..;2` with 20 21 make 10 11 12 20 4 21 of `[2,3]` over 0 1 2 3 4 5; `0,..` and `..,0`
+    /// share (0,0). ndarray's `multi_slice_move`, with the writes.
     pub fn multi_set(
         &mut self,
         alloc: Global,
         writes: &[(Vec<SliceInfoElem>, Vec<T>)],
     ) -> Result<(), LayoutError>
         ensures fault { IsFaultOfWrites self.old.view.shape (map write_of writes.now) (shape_fault result) }
-        ensures memory { shape_fault result ≡ None → length writes.now ≡ 0 → IsOk result }
+        ensures memory { shape_fault result ≡ None → HaveNoItems (map write_of writes.now) → IsOk result }
         ensures unchanged { OnErr result (self.new ≡ self.old) }
         ensures view { self.new.view ≡ self.old.view }
         ensures count { length self.new.items ≡ length self.old.items }
         ensures written { OnOk result (All (IsWritten self.old.view self.new.items) (map write_of writes.now)) }
         ensures kept { OnOk result (KeepsOthers self.old.view (map write_of writes.now) self.old.items self.new.items) }
     {
-        check_writes(&self.view, writes)?;
+        check_counts(&self.view, writes)?;
+        check_apart(&self.view, writes)?;
         let rows = rows_of_each(alloc, &self.view, writes)?;
-        write_all(self.items.as_mut_slice(), rows.as_slice(), writes);
+        write_all(self.items.as_mut_slice(), rows.as_slice());
         Ok(())
     }
 }

@@ -10,9 +10,8 @@ ghost use Rattle.ndarray_layout.specs.Signed.{signed};
 ghost use Rattle.ndarray_layout.specs.Size.{size};
 ghost use Rattle.ndarray_layout.specs.SlicedView.{slice_of};
 ghost use Rattle.ndarray_layout.specs.View.{IsView, LiesWithin, view_places};
-ghost use Rattle.nd_owned.specs.Owned.{item_at_place};
-ghost use Rattle.nd_owned.specs.Rows.{AreInside, HasWritten, IsLastAxis, row_places, rows_places};
-ghost use Rattle.nd_owned.specs.Writes.{IsOfNone};
+ghost use Rattle.nd_owned.specs.Owned.{IsOfNone, item_at_place};
+ghost use Rattle.nd_owned.specs.private.Rows.{AreInside, HasWritten, IsLastAxis, row_places, rows_places};
 
 use ndarray_layout::{Axis, Fit, IxDyn, LayoutError, Lengths, Order, SliceElems, Strided, signed};
 use std::alloc::{AllocError, Global};

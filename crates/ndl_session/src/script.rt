@@ -74,7 +74,8 @@ fn read_steps(alloc: Global, text: &[u8], number: usize) -> Result<Vec<Step>, Re
 }
 
 /// The script that an input spells. All of it is read before any of it is used: one line that can't
-/// be read makes the whole unreadable.
+/// be read makes the whole unreadable. Of the lines `data 4 owned 4 1` and `slise ..` it returns
+/// `Unreadable(2)`.
 ///
 /// Errors: the first such line, or line 1 where no line has a word; out of memory.
 pub fn read_script(alloc: Global, input: &[u8]) -> Result<Script, ReadError>

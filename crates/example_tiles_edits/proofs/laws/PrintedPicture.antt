@@ -1,20 +1,24 @@
--- The law of printed pictures: the text of a picture spells it.
-use Rattle.std.proofs.Common.{◌≡◌, ℕ, zero, suc, ◌+◌, ◌*◌, ◌^◌, ◌<◌, ◌≤◌, ◌⊎◌, eqb, false, Some, List, [], ◌∷◌, ◌++◌, length, map, take, drop, codes, inl, inr, refl, sym, ap, ◌∙◌, append_assoc, length-drop, arith}
+-- The laws of printed pictures: the text of a picture spells it, in either format.
+use Rattle.std.proofs.Common.{◌≡◌, ℕ, zero, suc, ◌+◌, ◌*◌, ◌^◌, ◌<◌, ◌≤◌, ◌⊎◌, eqb, false, Some, List, [], ◌∷◌, ◌++◌, length, map, take, drop, codes, inl, inr, refl, sym, ap, ◌∙◌, append_assoc, length-drop, lit<, arith}
 use Rattle.std.specs.Char.{is_ascii_whitespace}
 use Rattle.std.specs.Fmt.{decimal}
 use Rattle.std.specs.Int.{IsInRange}
 use Rattle.std.specs.List.{All, flat_map, join_by}
-use Rattle.std.proofs.lemmas.Bool.{and_right, lt-leb, ne_eqb}
+use Rattle.std.proofs.lemmas.Bool.{and_right, lt-leb, ne_eqb, or_from}
 use Rattle.std.proofs.lemmas.Fmt.{decimal_nonempty}
 use Rattle.std.proofs.lemmas.List.{append-nil, length-take-le, map-append, take-append-drop}
-use Rattle.std.proofs.lemmas.List.Elements.{All-append, All-cons, All-drop, All-head, All-nil, All-tail, All-take, All-weaker}
+use Rattle.std.proofs.lemmas.List.Elements.{All-append, All-cons, All-from_recursion, All-drop, All-head, All-nil, All-tail, All-take, All-weaker}
+use Rattle.example_tiles_edits.specs.picture.BinaryPicture.{SpellBinary}
+use Rattle.example_tiles_edits.specs.FirstWords.{IsApart, IsGap, IsWord, StandsFirst, ends_word}
+use Rattle.example_tiles_edits.specs.FirstWords.IsGap.{none, blank}
 use Rattle.example_tiles_edits.specs.Numbers.{number_of}
 use Rattle.example_tiles_edits.specs.Words.{NumberedWord, is_comment, line_feed, with_number, words_from, words_of}
 use Rattle.example_tiles_edits.proofs.laws.Numbers.{digits_of-decimal, number_of-decimal}
 use Rattle.example_tiles_edits.proofs.laws.Words.{words_from-line, words_of-first, words_of-last, words_of_line-plain}
-use Rattle.example_tiles_edits.specs.Picture.{Image, IsPicture}
-use Rattle.example_tiles_edits.specs.PictureText.{SpellNumbers, SpellPicture}
-use Rattle.example_tiles_edits.specs.PrintedPicture.{row_text, rows_of, text_of}
+use Rattle.example_tiles_edits.specs.declared.picture.header.Format.TheVariants.{Plain}
+use Rattle.example_tiles_edits.specs.picture.Picture.{Image, IsPicture}
+use Rattle.example_tiles_edits.specs.picture.PictureWords.{SpellNumbers, SpellPicture}
+use Rattle.example_tiles_edits.specs.picture.PrintedPicture.{binary_text_of, row_text, rows_of, text_of}
 use Rattle.example_tiles_edits.proofs.Begun.{AreAllowed, none_next, pixel_next}
 
 abbrev IsSmall : ℕ → Type 0
@@ -59,9 +63,9 @@ line_of_row (n ∷ numbers) small = All-append IsOfRow (decimal n) (flat_map (λ
 
 -- ---- the words of a line
 words_of_row : (n : ℕ) (numbers : List ℕ) → IsSmall n → All IsSmall numbers → words_of (line_of (n ∷ numbers)) ≡ decimal n ∷ map decimal numbers
-words_of_row n [] small none = rw (append-nil (decimal n)) (words_of-last (decimal n) (some_decimal n small) (plain_decimal n small))
+words_of_row n [] small others = rw (append-nil (decimal n)) (words_of-last (decimal n) (some_decimal n small) (plain_decimal n small))
 words_of_row n (next ∷ numbers) small all =
-    words_of-first (decimal n) (line_of (next ∷ numbers)) (some_decimal n small) (plain_decimal n small)
+    words_of-first (decimal n) (line_of (next ∷ numbers)) 32 (some_decimal n small) (plain_decimal n small) refl
     ∙ ap (λ (words : List (List ℕ)). decimal n ∷ words) (words_of_row next numbers (All-head IsSmall next numbers all) (All-tail IsSmall next numbers all))
 
 words_of_line_of : (numbers : List ℕ) → All IsSmall numbers → words_of (line_of numbers) ≡ map decimal numbers
@@ -107,7 +111,7 @@ rows_small (suc rows) columns pixels small =
 
 -- ---- the numbers of a picture
 allowed_numbers : (columns rows white : ℕ) (pixels : List ℕ) → IsSmall columns → IsSmall rows → 0 < white → white < 2 ^ 16 → length pixels ≡ rows * columns → All (λ pixel. pixel ≤ white) pixels
-    → AreAllowed (columns ∷ rows ∷ white ∷ pixels)
+    → AreAllowed Plain (columns ∷ rows ∷ white ∷ pixels)
 allowed_numbers columns rows white pixels c r w v all dark zero below = record { not_below = omega arith; not_above = omega arith }
 allowed_numbers columns rows white pixels c r w v all dark (suc zero) below = record { not_below = omega arith; not_above = omega arith }
 allowed_numbers columns rows white pixels c r w v all dark (suc (suc zero)) below = record { not_below = omega arith; not_above = omega arith }
@@ -146,4 +150,50 @@ printed_picture image picture columns rows some greatest =
         allowed = allowed_numbers image.extent.columns image.extent.rows image.greatest image.pixels columns rows some greatest picture.complete picture.in_range;
       };
       complete = none_next image.extent.columns image.extent.rows image.greatest image.pixels (omega (arith, picture.complete));
+    }
+
+-- ---- the binary format
+word_of_decimal : (n : ℕ) → IsSmall n → IsWord (decimal n)
+word_of_decimal n small = record {
+  some = some_decimal n small;
+  plain = All-weaker (λ b. IsInRange 48 57 b) (λ b. ends_word b ≡ false) (λ b digit. or_from _ _ (no_white_space b digit) (no_comment b (inr digit))) (decimal n) (digits_of-decimal n (omega arith));
+}
+
+after_white : (gap : List ℕ) (n : ℕ) (rest : List ℕ) → IsSmall n → IsGap gap → IsApart rest → StandsFirst (gap ++ decimal n ++ rest) (decimal n) rest
+after_white gap n rest small is_gap apart = record { gap = gap; parts = refl; is_gap = is_gap; is_word = word_of_decimal n small; apart = apart }
+
+pub printed_binary : (image : Image) → IsPicture image → image.extent.columns < 2 ^ 32 → image.extent.rows < 2 ^ 32 → 0 < image.greatest → image.greatest < 2 ^ 8 → SpellBinary (binary_text_of image) image
+printed_binary image picture columns rows some greatest =
+    let after = codes "\n" ++ image.pixels in
+    let after_rows = codes "\n" ++ decimal image.greatest ++ after in
+    let after_columns = codes " " ++ decimal image.extent.rows ++ after_rows in
+    let after_magic = codes "\n" ++ decimal image.extent.columns ++ after_columns in
+    let magic : StandsFirst (binary_text_of image) (codes "P5") after_magic = record {
+      gap = [];
+      parts = simp append_assoc;
+      is_gap = none;
+      is_word = record { some = lit< tt; plain = All-from_recursion (λ b. ends_word b ≡ false) (codes "P5") (refl, (refl, tt)) };
+      apart = refl;
+    } in
+    record {
+      rest = after;
+      header = record {
+        words = decimal image.extent.columns ∷ decimal image.extent.rows ∷ decimal image.greatest ∷ [];
+        first = (
+          after_magic,
+          magic,
+          (
+            after_columns,
+            after_white (codes "\n") image.extent.columns after_columns columns (blank refl none) refl,
+            (
+              after_rows,
+              after_white (codes " ") image.extent.rows after_rows rows (blank refl none) refl,
+              (after, after_white (codes "\n") image.greatest after (omega arith) (blank refl none) refl, refl),
+            ),
+          ),
+        );
+        spell = rw (number_of-decimal image.extent.columns columns, number_of-decimal image.extent.rows rows, number_of-decimal image.greatest (omega arith)) refl;
+        allowed = record { not_below = some; not_above = omega arith };
+      };
+      pixels = record { space = 10; others = []; parts = ap (λ (bytes : List ℕ). 10 ∷ bytes) (sym (append-nil image.pixels)); blank = refl; picture = picture };
     }

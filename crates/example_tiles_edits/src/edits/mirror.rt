@@ -3,7 +3,7 @@ ghost use Rattle.std.specs.Prelude.{◌≡◌, ◌<◌, ◌*◌, [], ◌∷◌, 
 ghost use Rattle.ndarray_layout.specs.declared.Fit.TheVariants.{Strict};
 ghost use Rattle.ndarray_layout.specs.ArgumentFault.{argument_fault};
 ghost use Rattle.nd_owned.specs.Writes.{write_of};
-ghost use Rattle.example_tiles_edits.specs.Picture.{IsPicture, image};
+ghost use Rattle.example_tiles_edits.specs.picture.Picture.{IsPicture, image};
 ghost use Rattle.example_tiles_edits.specs.declared.edits.edit.Edit.TheVariants.{Mirror};
 ghost use Rattle.example_tiles_edits.specs.Edits.{IsEdited, can_cut};
 ghost use Rattle.example_tiles_edits.specs.Parts.{AreMirrored, IsArrayOf, IsMirrored, elements_of_part, mirrored_elements, part_of, part_span};

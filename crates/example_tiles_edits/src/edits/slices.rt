@@ -3,7 +3,7 @@ ghost use Rattle.std.specs.Prelude.{◌≡◌, ◌<◌, ◌^◌, None, Some, IfO
 ghost use Rattle.std.specs.List.{All, AllPass};
 ghost use Rattle.ndarray_layout.specs.Step.{step_value};
 ghost use Rattle.ndarray_layout.specs.View.{LiesWithin};
-ghost use Rattle.example_tiles_edits.specs.Picture.{IsPicture, image, pixel_count};
+ghost use Rattle.example_tiles_edits.specs.picture.Picture.{IsPicture, image, pixel_count};
 ghost use Rattle.example_tiles_edits.specs.Edits.{IsEdited, first_misfit};
 ghost use Rattle.example_tiles_edits.specs.Slices.{ArePlaces, by_step, elements_of, is_slice, of_span, step_of, whole_view};
 

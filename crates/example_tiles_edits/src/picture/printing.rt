@@ -3,9 +3,9 @@ ghost use Rattle.std.specs.Prelude.{◌≡◌, ◌<◌, ◌++◌, IfOk, OnOk, co
 ghost use Rattle.std.specs.Fmt.{decimal};
 ghost use Rattle.std.specs.List.{flat_map, join_by};
 ghost use Rattle.example_tiles_edits.specs.Words.{words_from};
-ghost use Rattle.example_tiles_edits.specs.Picture.{IsPicture, image, pixel_count};
-ghost use Rattle.example_tiles_edits.specs.PictureText.{SpellPicture};
-ghost use Rattle.example_tiles_edits.specs.PrintedPicture.{row_text, rows_of, text_of};
+ghost use Rattle.example_tiles_edits.specs.picture.Picture.{IsPicture, image, pixel_count};
+ghost use Rattle.example_tiles_edits.specs.picture.PictureWords.{SpellPicture};
+ghost use Rattle.example_tiles_edits.specs.picture.PrintedPicture.{row_text, rows_of, text_of};
 
 use crate::picture::{Extent, Picture};
 use std::alloc::{AllocError, Global};

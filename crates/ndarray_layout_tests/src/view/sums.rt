@@ -11,7 +11,7 @@ use ndarray_layout::{
 use std::alloc::{AllocError, Global};
 
 /// The walk over all indices of a view.
-#[tactic(auto, using(ndarray_layout::proofs::laws::NonzeroSize::size_le_nonzero_size))]
+#[tactic(auto, using(crate::proofs::Sizes::size_le_nonzero_size))]
 fn indices_of<D: Dimension + Copy>(
     alloc: Global,
     view: &Strided<D>,

@@ -10,12 +10,12 @@ use Rattle.ndl_session.specs.devices.Whole.{AppendsBeginning}
 abbrev pub input_failed_text : List ℕ
 input_failed_text = codes "input failed\n"
 
--- the whole text where memory was refused
+-- the whole text where an allocation failed
 abbrev pub out_of_memory_text : List ℕ
 out_of_memory_text = codes "out of memory\n"
 
--- a writer's bytes, where they are known, grow by a beginning that leaves some of it out: of the text where memory was
--- refused, or of the answer to an input, where that is known
+-- a writer's bytes, where they are known, grow by a beginning that leaves some of it out: of the text where an
+-- allocation failed, or of the answer to an input, where that is known
 abbrev pub AppendsAnswerBeginning : Option (List ℕ) → Option (List ℕ) → Option (List ℕ) → Type 0
 AppendsAnswerBeginning old new known_input = AppendsBeginning old new out_of_memory_text
     ⊎ IfSome known_input (λ input. AppendsBeginning old new (answer_of input).text)

@@ -28,7 +28,8 @@ const OUT_OF_MEMORY: u8 = 3;
 const DEVICE_FAILED: u8 = 4;
 
 /// Reads the whole input, writes the whole text of the answer to it, and returns its status: 0, 1 or 2,
-/// and 3 or 4 where something fails.
+/// and 3 or 4 where something fails. To the lines `data 4 owned 4 1` and `slice 1..;-2` it writes the lines
+/// `shape 2`, `strides -2` and `places 3 1`, and returns 0.
 ///
 /// The caller ensures that no read or write of either device has failed before.
 ///

@@ -6,9 +6,9 @@ ghost use Rattle.ndl_session.specs.text.Printing.{line, listed, printed};
 use std::alloc::{AllocError, Global};
 use std::fmt::{Display, Write};
 
-/// Appends a number, printed into `digits` first: where memory is refused, the text is unchanged.
+/// Appends a number, printed into `digits` first.
 ///
-/// Errors: out of memory.
+/// Errors: out of memory; the text is unchanged then.
 fn push_number<T: Display + Copy>(
     text: &mut String,
     digits: &mut String,
@@ -37,7 +37,8 @@ fn push_list<T: Display + Copy, I: Iterator<Item = T>>(
     requires ends { IsFinite (I.remaining numbers) }
     requires known { (x : T) → IsSome (T.output x) }
     ensures list { OnOk result ((list : List T) × Drains I.next_gives numbers list
-        × (string_bytes text.new ≡ string_bytes text.old ++ listed separator.now (map (printed T.output) list))) }
+        × (string_bytes text.new
+        ≡ string_bytes text.old ++ listed separator.now (map (printed T.output) list))) }
     ensures kept { (more : List ℕ) × (string_bytes text.new ≡ string_bytes text.old ++ more) }
 {
     let mut numbers = numbers;
@@ -71,7 +72,8 @@ pub(crate) fn push_line<T: Display + Copy, I: Iterator<Item = T>>(
     requires known { (x : T) → IsSome (T.output x) }
     ensures line { OnOk result ((list : List T) × Drains I.next_gives numbers list
         × (string_bytes text.new
-        ≡ string_bytes text.old ++ line name.now (listed separator.now (map (printed T.output) list)))) }
+        ≡ string_bytes text.old
+        ++ line name.now (listed separator.now (map (printed T.output) list)))) }
     ensures kept { (more : List ℕ) × (string_bytes text.new ≡ string_bytes text.old ++ more) }
 {
     text.push_str(name)?;

@@ -1,5 +1,5 @@
 -- Each item of the loop is an index of the view. It counts where its pixel is bright, and in the end no index is left.
-use Rattle.std.proofs.Common.{◌≡◌, ◌+◌, ◌≤◌, ◌<◌, ◌^◌, ℕ, ℤ, Bool, true, false, cond, List, [], ◌∷◌, length, map, arith, subst, sym, ap, ◌∙◌}
+use Rattle.std.proofs.Common.{◌≡◌, ◌+◌, ◌<◌, ◌^◌, ℕ, ℤ, Bool, true, false, cond, List, [], ◌∷◌, length, map, arith, subst, sym, ap, ◌∙◌}
 use Rattle.std.specs.List.{All, count_by}
 use Rattle.std.specs.Prelude.{nat_le, slice_index}
 use Rattle.std.proofs.lemmas.Bool.{false≢true, le-leb, lt-leb}

@@ -6,7 +6,7 @@ use Rattle.ndarray_layout.specs.declared.LayoutError.{LayoutError}
 use Rattle.ndarray_layout.specs.Indices.{is_index}
 use Rattle.ndarray_layout.specs.View.{View, place_at}
 use Rattle.ndarray_layout.proofs.laws.UnitStep.{ranges}
-use Rattle.example_callers.proofs.Cropping.{place_in_crop}
+use Rattle.example_callers.proofs.Cropping.{place_in_crop, shape_of_band}
 use Rattle.example_callers.proofs.crops.band.Goals as goal
 
 argument : (c : goal.After-slice) → (c.into.result ∷ c.into-2.result ∷ []) ≡ ranges (c.args.rows.start ∷ 0 ∷ []) (Some (pos c.args.rows.end) ∷ None ∷ [])
@@ -26,3 +26,6 @@ pub returns-clause-place : goal.returns-clause-place
 returns-clause-place c =
     from_zero c.args.picture.now c.args.rows.start c.slice.result
     (place_in_crop c.args.picture.now _ c.args.rows.start 0 (Some (pos c.args.rows.end)) None c.slice.result (argument c) c.slice.ensures.sliced c.slice.ensures.places)
+
+pub returns-clause-shape : goal.returns-clause-shape
+returns-clause-shape c = shape_of_band c.args.picture.now _ c.args.rows.start c.args.rows.end c.slice.result (argument c) c.slice.ensures.refusal c.slice.ensures.sliced

@@ -1,5 +1,5 @@
 -- Row i is 2 * i before the last row, and column j is column j, by the laws of what a slice picks.
-use Rattle.std.proofs.Common.{◌≡◌, ◌+◌, ◌-◌, ◌*◌, ◌<◌, pos, negsuc, None, Result, Ok, Err, List, [], ◌∷◌, ℕ, length, true, false, refl, ap, ◌∙◌, arith}
+use Rattle.std.proofs.Common.{◌≡◌, ◌-◌, ◌*◌, ◌<◌, pos, negsuc, None, Result, Ok, Err, List, [], ◌∷◌, ℕ, length, true, false, refl, ap, ◌∙◌, arith}
 use Rattle.std.specs.Prelude.{IfOk, IsTrue, nat_lt, slice_index}
 use Rattle.std.proofs.lemmas.Bool.{and_parts, false≢true, ltb-true}
 use Rattle.ndarray_layout.specs.declared.Fit.TheVariants.{Strict}

@@ -1,5 +1,5 @@
 -- The first edits are the slices before a mirror, or a mirror.
-use Rattle.example_tiles_edits.proofs.InTurn.{fits_before}
+use Rattle.example_tiles_edits.proofs.sources.InTurn.{fits_before}
 use Rattle.example_tiles_edits.proofs.edits.begun.Goals as goal
 
 pub sliced-requires-clause-fit : goal.sliced-requires-clause-fit

@@ -1,9 +1,9 @@
 -- The first edits are made, and then those that are left.
 use Rattle.std.proofs.Common.{sym, subst}
 use Rattle.std.proofs.lemmas.Bool.{eqb-true}
-use Rattle.example_tiles_edits.specs.Picture.{image}
+use Rattle.example_tiles_edits.specs.picture.Picture.{image}
 use Rattle.example_tiles_edits.specs.Edits.{IsEdited}
-use Rattle.example_tiles_edits.proofs.InTurn.{IsEdited-none, fits_left, goes_on_left, nothing_left}
+use Rattle.example_tiles_edits.proofs.sources.InTurn.{IsEdited-none, fits_left, goes_on_left, nothing_left}
 use Rattle.example_tiles_edits.proofs.edits.edited_in_turn.Goals as goal
 
 pub loop-left-init : goal.loop-left-init

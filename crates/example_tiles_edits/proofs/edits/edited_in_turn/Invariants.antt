@@ -1,6 +1,6 @@
 -- What the edits that are left make of this picture, all edits make of the first one.
 use Rattle.std.proofs.Common.{◌≡◌, None, length}
-use Rattle.example_tiles_edits.specs.Picture.{Image, IsPicture, image}
+use Rattle.example_tiles_edits.specs.picture.Picture.{Image, IsPicture, image}
 use Rattle.example_tiles_edits.specs.Edits.{IsEdited, first_misfit}
 use Rattle.example_tiles_edits.proofs.edits.edited_in_turn.Given as goal
 

@@ -5,7 +5,7 @@ use Rattle.std.proofs.lemmas.List.{append-nil, map-append}
 use Rattle.ndarray_layout.specs.Inside.{IsInside}
 use Rattle.ndarray_layout.specs.Signed.{signed}
 use Rattle.nd_owned.specs.Owned.{item_at_place}
-use Rattle.nd_owned.specs.Rows.{row_places}
+use Rattle.nd_owned.specs.private.Rows.{row_places}
 use Rattle.nd_owned.proofs.RowPlaces.{begins, entry_inside, neighbours_within, next_there, read_more, read_neighbours, start_there}
 use Rattle.nd_owned.proofs.rows.read_row.Goals as goal
 

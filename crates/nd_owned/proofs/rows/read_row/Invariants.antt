@@ -2,7 +2,7 @@
 use Rattle.std.proofs.Common.{◌≡◌, ◌+◌, ◌<◌, ◌^◌, pos, ◌+ℤ◌, ◌*ℤ◌, Some, ◌++◌, map, vec_len, vec_capacity}
 use Rattle.ndarray_layout.specs.Signed.{signed}
 use Rattle.nd_owned.specs.Owned.{item_at_place}
-use Rattle.nd_owned.specs.Rows.{row_places}
+use Rattle.nd_owned.specs.private.Rows.{row_places}
 use Rattle.nd_owned.proofs.rows.read_row.Given as goal
 
 abbrev pub invariant-loop-entry : goal.invariant-loop-entry

@@ -3,7 +3,7 @@ use Rattle.std.proofs.Common.{◌≡◌, ◌*◌, length, sym, ap, subst, arith}
 use Rattle.ndarray_layout.specs.declared.Order.TheVariants.{RowMajor}
 use Rattle.ndarray_layout.specs.Signed.{signed}
 use Rattle.ndarray_layout.proofs.laws.View.{length-view_places, size_fits}
-use Rattle.nd_owned.specs.Rows.{AreInside}
+use Rattle.nd_owned.specs.private.Rows.{AreInside}
 use Rattle.nd_owned.proofs.LastAxis.{places_inside}
 use Rattle.nd_owned.proofs.RowPlaces.{length-rows}
 use Rattle.nd_owned.proofs.rows.rows_of_view.Goals as goal

@@ -4,7 +4,7 @@ use Rattle.std.specs.List.{All}
 use Rattle.std.proofs.lemmas.List.{take_all}
 use Rattle.ndarray_layout.specs.Inside.{IsInside}
 use Rattle.ndarray_layout.specs.Signed.{signed}
-use Rattle.nd_owned.specs.Rows.{HasWritten, row_places}
+use Rattle.nd_owned.specs.private.Rows.{HasWritten, row_places}
 use Rattle.nd_owned.proofs.Placed.{none_written}
 use Rattle.nd_owned.proofs.RowPlaces.{after_first, begins, entry_inside, neighbours_within, next_there, start_there, write_more, write_neighbours}
 use Rattle.nd_owned.proofs.rows.write_row.Goals as goal

@@ -2,7 +2,7 @@
 use Rattle.std.proofs.Common.{◌≡◌, ◌≢◌, ◌+◌, ◌<◌, ◌^◌, pos, ◌+ℤ◌, ◌*ℤ◌, length, take}
 use Rattle.std.specs.List.{AllPairs}
 use Rattle.ndarray_layout.specs.Signed.{signed}
-use Rattle.nd_owned.specs.Rows.{HasWritten, row_places}
+use Rattle.nd_owned.specs.private.Rows.{HasWritten, row_places}
 use Rattle.nd_owned.proofs.rows.write_row.Given as goal
 
 abbrev pub invariant-loop-item : goal.invariant-loop-item

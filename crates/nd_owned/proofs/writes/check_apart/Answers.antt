@@ -1,9 +1,9 @@
--- The first slice that meets one after it ends the check.
-use Rattle.std.proofs.Common.{rules, ◌≡◌, ◌+◌, ◌-◌, inr, Some, length, map, take, drop, refl, sym, ap, subst, ◌∙◌}
+-- The first slice that shares an index with one after it ends the check.
+use Rattle.std.proofs.Common.{rules, ◌≡◌, ◌+◌, ◌-◌, Some, length, map, take, drop, sym, ap, subst, ◌∙◌}
 use Rattle.std.specs.List.{All}
 use Rattle.std.specs.Result.{result_err}
-use Rattle.nd_owned.specs.Writes.{AreApart, IsMeetFault, slices_fault, write_of}
-use Rattle.nd_owned.proofs.Faults.{ended, met_later, next, next_fits, none_met, pairs_ended, pairs_more, rest, this_got}
+use Rattle.nd_owned.specs.Writes.{AreApart, IsIntersectionFault, slices_fault, write_of}
+use Rattle.nd_owned.proofs.Faults.{ended, of_two, next, next_fits, pairs_ended, pairs_more, rest, this_got}
 use Rattle.nd_owned.proofs.writes.check_apart.Goals as goal
 
 pub check_apart_from-requires-clause-fits : goal.check_apart_from-requires-clause-fits
@@ -22,8 +22,8 @@ returns-in_err-check_apart_from g c =
     let writes = c.args.writes.now in
     let kind = c.in_err-check_apart_from.field-0.0 in
     let same : result_err c.from_residual.result ≡ Some kind = search rules in
-    subst (IsMeetFault shape (map write_of writes)) (sym same)
-    (met_later shape (map write_of writes) (map write_of (take (length writes - (i + 1)) (drop (i + 1) writes))) i (write_of c.index-writes-at.result) kind
+    subst (IsIntersectionFault shape (map write_of writes)) (sym same)
+    (of_two shape (map write_of writes) (map write_of (take (length writes - (i + 1)) (drop (i + 1) writes))) i (write_of c.index-writes-at.result) kind
     (this_got write_of writes i c.index-writes-at.result c.loop-at-test.true c.index-writes-at.is) (rest write_of writes i) c.in_err-check_apart_from.ensures)
 
 pub loop-at-preserved : goal.loop-at-preserved
@@ -32,15 +32,14 @@ loop-at-preserved g c =
     let shape = c.args.view.now.shape in
     let item = c.index-writes-at.result in
     let writes = map write_of c.args.writes.now in
-    let apart = none_met shape item.0.items (map write_of (take (length c.args.writes.now - (i + 1)) (drop (i + 1) c.args.writes.now))) c.in_ok-check_apart_from.ensures in
     record {
       apart = pairs_more (AreApart shape) writes (drop i writes) (drop (i + 1) writes) (write_of item)
           (next write_of c.args.writes.now i item c.loop-at-test.true c.index-writes-at.is)
-          (subst (All (AreApart shape (write_of item))) (rest write_of c.args.writes.now i) apart) c.loop-at.invariant.apart;
+          (subst (All (AreApart shape (write_of item))) (rest write_of c.args.writes.now i) c.in_ok-check_apart_from.ensures) c.loop-at.invariant.apart;
       fit = (next_fits write_of shape c.args.writes.now i item c.loop-at-test.true c.index-writes-at.is c.loop-at.invariant.fit).1;
     }
 
 pub returns : goal.returns
 returns g c =
     let writes = map write_of c.args.writes.now in
-    inr (refl, pairs_ended (AreApart c.args.view.now.shape) writes (drop c.loop-at.at writes) (ended write_of c.args.writes.now c.loop-at.at c.loop-at-test.false) c.loop-at.invariant.apart)
+    pairs_ended (AreApart c.args.view.now.shape) writes (drop c.loop-at.at writes) (ended write_of c.args.writes.now c.loop-at.at c.loop-at-test.false) c.loop-at.invariant.apart

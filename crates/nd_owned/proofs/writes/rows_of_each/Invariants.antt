@@ -1,16 +1,15 @@
--- The rows of the slices so far; those slices that are left fit.
-use Rattle.std.proofs.Common.{◌≡◌, ℕ, None, length, map, drop, take, vec_len, vec_capacity}
-use Rattle.std.specs.List.{All}
+-- The rows of the slices so far, and the items for them.
+use Rattle.std.proofs.Common.{◌≡◌, ℕ, length, map, take}
+use Rattle.std.specs.List.{All, flat_map}
 use Rattle.ndarray_layout.specs.View.{LiesWithin}
-use Rattle.nd_owned.specs.Rows.{AreInside, rows_places}
-use Rattle.nd_owned.specs.Writes.{slices_fault, write_of, write_places}
+use Rattle.nd_owned.specs.private.Rows.{AreInside, rows_places}
+use Rattle.nd_owned.specs.Writes.{write_of, write_places}
 use Rattle.nd_owned.proofs.writes.rows_of_each.Given as goal
 
 abbrev pub invariant-loop-slice : goal.invariant-loop-slice
 invariant-loop-slice g l = record {
-  fit : slices_fault l.view.shape (drop l.slice-index (map write_of l.writes)) ≡ None;
-  places : map rows_places l.rows.items ≡ map (write_places l.view) (take l.slice-index (map write_of l.writes));
-  inside : (len : ℕ) → LiesWithin len l.view → All (λ rows. AreInside len (rows_places rows)) l.rows.items;
-  len : vec_len l.rows ≡ l.slice-index;
-  capacity : vec_capacity l.rows ≡ length l.writes;
+  places : flat_map (λ one. rows_places one.rows) l.row_items.items ≡ flat_map (write_places l.view) (take l.slice-index (map write_of l.writes));
+  items : flat_map (λ one. one.items.now) l.row_items.items ≡ flat_map (λ write. write.items) (take l.slice-index (map write_of l.writes));
+  counts : All (λ one. length (rows_places one.rows) ≡ length one.items.now) l.row_items.items;
+  inside : (len : ℕ) → LiesWithin len l.view → All (λ one. AreInside len (rows_places one.rows)) l.row_items.items;
 }

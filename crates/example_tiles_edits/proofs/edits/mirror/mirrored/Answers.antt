@@ -2,12 +2,12 @@
 use Rattle.std.proofs.Common.{◌∷◌, [], ◌∙◌, length, map, ap, subst, sym}
 use Rattle.ndarray_layout.specs.View.{IsView}
 use Rattle.nd_owned.specs.Writes.{write_of}
-use Rattle.example_tiles_edits.specs.Picture.{image}
+use Rattle.example_tiles_edits.specs.picture.Picture.{image}
 use Rattle.example_tiles_edits.specs.declared.edits.edit.Edit.TheVariants.{Mirror}
 use Rattle.example_tiles_edits.specs.Edits.{IsEdited}
-use Rattle.example_tiles_edits.proofs.Cuts.{can_cut_parts}
-use Rattle.example_tiles_edits.proofs.InTurn.{IsPicture-edited}
-use Rattle.example_tiles_edits.proofs.PartWrites.{IsEdited-written, none_refused}
+use Rattle.example_tiles_edits.proofs.sources.Cuts.{can_cut_parts}
+use Rattle.example_tiles_edits.proofs.sources.InTurn.{IsPicture-edited}
+use Rattle.example_tiles_edits.proofs.sources.PartWrites.{IsEdited-written, none_refused}
 use Rattle.example_tiles_edits.proofs.edits.mirror.mirrored.Goals as goal
 
 pub memory_alone-requires : goal.memory_alone-requires

@@ -3,8 +3,8 @@ use Rattle.std.proofs.Common.{◌∷◌, [], ap, map, subst, ◌∙◌}
 use Rattle.std.proofs.lemmas.List.{map-append}
 use Rattle.nd_owned.specs.Writes.{write_of}
 use Rattle.example_tiles_edits.specs.Parts.{IsMirrored}
-use Rattle.example_tiles_edits.proofs.Cuts.{can_cut_parts}
-use Rattle.example_tiles_edits.proofs.PartWrites.{mirrored_fits, one_more}
+use Rattle.example_tiles_edits.proofs.sources.Cuts.{can_cut_parts}
+use Rattle.example_tiles_edits.proofs.sources.PartWrites.{mirrored_fits, one_more}
 use Rattle.example_tiles_edits.proofs.edits.mirror.mirrored_parts.Goals as goal
 
 pub mirrored_part-requires : goal.mirrored_part-requires

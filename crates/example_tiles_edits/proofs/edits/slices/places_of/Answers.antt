@@ -1,8 +1,8 @@
 -- The places that the run leaves are those that the edits say.
 use Rattle.std.proofs.Common.{◌∙◌, Some, ap, map}
 use Rattle.ndarray_layout.specs.Step.{step_value}
-use Rattle.example_tiles_edits.specs.Picture.{pixel_count}
-use Rattle.example_tiles_edits.proofs.Pixels.{no_shape_fault, not_refused, of_places}
+use Rattle.example_tiles_edits.specs.picture.Picture.{pixel_count}
+use Rattle.example_tiles_edits.proofs.sources.Pixels.{no_shape_fault, not_refused, of_places}
 use Rattle.example_tiles_edits.proofs.edits.slices.places_of.Goals as goal
 
 pub returns-in-Ok : goal.returns-in-Ok
@@ -15,4 +15,4 @@ returns-in-Ok c =
 pub memory_alone-requires : goal.memory_alone-requires
 memory_alone-requires c =
     let steps = ap (λ xs. map Some (map step_value xs)) c.as_slice.ensures.value ∙ c.in_ok-steps.ensures in
-    no_shape_fault (Unit {0}) c.in-Err.stopped.fault (λ kind is. not_refused c.args.edits.now c.args.extent _ _ _ _ kind _ c.requires.fit steps c.in_ok-view.ensures.view c.in-Err.ensures.ended is)
+    no_shape_fault (Unit {0}) c.in-Err.stopped.fault (λ kind is. not_refused c.args.edits.now c.args.extent _ _ kind c.requires.fit steps c.in_ok-view.ensures.view (c.in-Err.ensures.ended kind is).0)

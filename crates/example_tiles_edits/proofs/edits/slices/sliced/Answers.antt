@@ -1,8 +1,8 @@
 -- The pixels at the places that the edits say, in a picture of the extent that they leave.
 use Rattle.std.proofs.Common.{◌∙◌, sym, ap}
-use Rattle.example_tiles_edits.specs.Picture.{image, pixel_count}
-use Rattle.example_tiles_edits.proofs.InTurn.{IsEdited-gathered, IsPicture-edited}
-use Rattle.example_tiles_edits.proofs.Pixels.{length_gathered}
+use Rattle.example_tiles_edits.specs.picture.Picture.{image, pixel_count}
+use Rattle.example_tiles_edits.proofs.sources.InTurn.{IsEdited-gathered, IsPicture-edited}
+use Rattle.example_tiles_edits.proofs.sources.Pixels.{length_gathered}
 use Rattle.example_tiles_edits.proofs.edits.slices.sliced.Goals as goal
 
 pub returns-clause-edited : goal.returns-clause-edited

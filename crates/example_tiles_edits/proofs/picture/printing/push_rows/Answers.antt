@@ -1,7 +1,7 @@
 -- One row more.
 use Rattle.std.proofs.Common.{◌≡◌, ◌<◌, ◌+◌, ◌-◌, ◌*◌, suc, ℕ, List, ◌++◌, ◌∙◌, append_assoc, string_bytes, arith, take, drop}
 use Rattle.std.specs.List.{flat_map}
-use Rattle.example_tiles_edits.specs.PrintedPicture.{row_text, rows_of}
+use Rattle.example_tiles_edits.specs.picture.PrintedPicture.{row_text, rows_of}
 use Rattle.example_tiles_edits.proofs.picture.printing.push_rows.Goals as goal
 
 one_row_more : (rows i columns : ℕ) (text rest longer row others : List ℕ) → i < rows → longer ≡ text ++ row_text row → row ≡ take columns rest → others ≡ drop columns rest

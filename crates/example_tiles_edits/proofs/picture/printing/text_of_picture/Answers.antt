@@ -1,7 +1,7 @@
 -- The text reads back, since it is the picture's.
 use Rattle.std.proofs.Common.{◌≡◌, string_bytes, append_assoc, rules, arith}
-use Rattle.example_tiles_edits.specs.Picture.{image}
-use Rattle.example_tiles_edits.specs.PrintedPicture.{text_of}
+use Rattle.example_tiles_edits.specs.picture.Picture.{image}
+use Rattle.example_tiles_edits.specs.picture.PrintedPicture.{text_of}
 use Rattle.example_tiles_edits.proofs.laws.PrintedPicture.{printed_picture}
 use Rattle.example_tiles_edits.proofs.picture.printing.text_of_picture.Goals as goal
 

@@ -8,7 +8,7 @@ use Rattle.ndarray_layout.specs.Sliced.{sliced_shape}
 use Rattle.ndarray_layout.specs.SlicedView.{slice_of}
 use Rattle.ndarray_layout.proofs.laws.View.{length-view_places}
 use Rattle.nd_owned.specs.Owned.{item_at_place}
-use Rattle.nd_owned.specs.Rows.{rows_places}
+use Rattle.nd_owned.specs.private.Rows.{rows_places}
 use Rattle.nd_owned.proofs.owned.OwnedArray.items.Goals as goal
 
 pub read-requires-clause-inside : goal.read-requires-clause-inside

@@ -5,7 +5,7 @@ use Rattle.std.proofs.lemmas.Bool.{false≢true}
 use Rattle.std.proofs.lemmas.List.{map-append}
 use Rattle.ndarray_layout.specs.Signed.{signed}
 use Rattle.nd_owned.specs.Owned.{item_at_place}
-use Rattle.nd_owned.specs.Rows.{row_places}
+use Rattle.nd_owned.specs.private.Rows.{row_places}
 use Rattle.nd_owned.proofs.Placed.{inside_of_part, number_of_turn, parts_more}
 use Rattle.nd_owned.proofs.RowPlaces.{length-rows}
 use Rattle.nd_owned.proofs.rows.Rows.read.Goals as goal

@@ -3,7 +3,7 @@ use Rattle.std.proofs.Common.{◌≡◌, ◌*◌, ◌≤◌, Some, map, take, le
 use Rattle.std.specs.List.{flat_map}
 use Rattle.ndarray_layout.specs.Signed.{signed}
 use Rattle.nd_owned.specs.Owned.{item_at_place}
-use Rattle.nd_owned.specs.Rows.{row_places}
+use Rattle.nd_owned.specs.private.Rows.{row_places}
 use Rattle.nd_owned.proofs.rows.Rows.read.Given as goal
 
 abbrev pub invariant-loop-start : goal.invariant-loop-start

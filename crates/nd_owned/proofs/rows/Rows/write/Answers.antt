@@ -5,7 +5,7 @@ use Rattle.std.proofs.Math.Nat.{mul-le-mul_right}
 use Rattle.std.proofs.Math.Seq.{take-add}
 use Rattle.std.proofs.lemmas.List.{drop-drop, length-drop, take_all}
 use Rattle.ndarray_layout.specs.Signed.{signed}
-use Rattle.nd_owned.specs.Rows.{AreInside, HasWritten, row_places}
+use Rattle.nd_owned.specs.private.Rows.{AreInside, HasWritten, row_places}
 use Rattle.nd_owned.proofs.Placed.{inside_of_part, one_more_written, number_of_turn, pairs_of_part}
 use Rattle.nd_owned.proofs.RowPlaces.{length-rows}
 use Rattle.nd_owned.proofs.rows.Rows.write.Goals as goal

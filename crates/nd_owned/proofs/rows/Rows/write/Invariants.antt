@@ -2,7 +2,7 @@
 use Rattle.std.proofs.Common.{◌≡◌, ◌≢◌, ◌*◌, take, drop}
 use Rattle.std.specs.List.{AllPairs, flat_map}
 use Rattle.ndarray_layout.specs.Signed.{signed}
-use Rattle.nd_owned.specs.Rows.{HasWritten, row_places, rows_places}
+use Rattle.nd_owned.specs.private.Rows.{HasWritten, row_places, rows_places}
 use Rattle.nd_owned.proofs.rows.Rows.write.Given as goal
 
 abbrev pub invariant-loop-start : goal.invariant-loop-start
