@@ -27,7 +27,7 @@ pub use walk::{IndicesIter, IndicesIterF};
 /// Out of memory; never where the type fixes the count of axes or there are at most 4, nor from a
 /// dimension, an `IxDynImpl` or a vector.
 ///
-/// `[2,2]`: (0, 0), (0, 1), (1, 0), (1, 1). ndarray's `indices`.
+/// `[3,2]`: (0, 0), (0, 1), (1, 0), (1, 1), (2, 0), (2, 1). ndarray's `indices`.
 pub fn all_indices<D: Lengths, T: IntoDimension<Dim = D>>(
     alloc: Global,
     shape: T,
@@ -48,7 +48,7 @@ pub fn all_indices<D: Lengths, T: IntoDimension<Dim = D>>(
 ///
 /// Out of memory; never where the type fixes the count of axes or there are at most 4.
 ///
-/// `[2,2]`: (0, 0), (1, 0), (0, 1), (1, 1). ndarray's `indices_iter_f`.
+/// `[3,2]`: (0, 0), (1, 0), (2, 0), (0, 1), (1, 1), (2, 1). ndarray's `indices_iter_f`.
 pub fn indices_iter_f<D: Lengths, T: IntoDimension<Dim = D>>(
     alloc: Global,
     shape: T,

@@ -57,7 +57,7 @@ impl<O: WalkOrder> Cursor<O> {
     ///
     /// Out of memory; never where there are at most 4 axes, or where a length is 0.
     ///
-    /// `[2,2]` in row-major order: (0, 0), (0, 1), (1, 0), (1, 1).
+    /// `[3,2]` in row-major order: (0, 0), (0, 1), (1, 0), (1, 1), (2, 0), (2, 1).
     pub fn new(alloc: Global, dim: IxDyn) -> Result<Self, AllocError>
         requires { size (lengths dim) < 2 ^ 64 }
         ensures items { IfOk result (λ cursor. cursor ≡ indices_in O.order (lengths dim)) }
