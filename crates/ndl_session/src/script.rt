@@ -1,7 +1,7 @@
 //! Reads a whole script.
-ghost use Rattle.std.specs.Prelude.{◌≡◌, ◌+◌, ◌<◌, ◌^◌, length, map};
+ghost use Rattle.std.specs.Prelude.{◌≡◌, ◌+◌, ◌<◌, ◌^◌, Ok, length, map};
 ghost use Rattle.ndl_session.specs.text.Lines.{lines_from};
-ghost use Rattle.ndl_session.specs.script.Script.{Gives, script_of, script_value, steps_of_lines};
+ghost use Rattle.ndl_session.specs.script.Script.{Gives, IsScript, ScriptValue, script_of, script_text, script_value, steps_of_lines};
 ghost use Rattle.ndarray_layout.specs.Step.{step_value};
 
 pub(crate) mod data_line;
@@ -75,11 +75,13 @@ fn read_steps(alloc: Global, text: &[u8], number: usize) -> Result<Vec<Step>, Re
 
 /// The script that an input spells. All of it is read before any of it is used: one line that can't
 /// be read makes the whole unreadable. Of the lines `data 4 owned 4 1` and `slise ..` it returns
-/// `Unreadable(2)`.
+/// `Unreadable(2)`. The text of a script is read as that script, whatever its numbers are.
 ///
 /// Errors: the first such line, or line 1 where no line has a word; out of memory.
 pub fn read_script(alloc: Global, input: &[u8]) -> Result<Script, ReadError>
-    ensures { Gives script_value result (script_of input.now) }
+    ensures read { Gives script_value result (script_of input.now) }
+    ensures printed { (script : ScriptValue) → IsScript script → input.now ≡ script_text script
+        → Gives script_value result (Ok script) }
 {
     let Some(line) = next_line(alloc, input, 1)? else {
         return Err(ReadError::Unreadable(1));

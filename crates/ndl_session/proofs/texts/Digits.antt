@@ -16,7 +16,7 @@ use Rattle.std.proofs.lemmas.Str.Ascii.{IsAscii-cons}
 use Rattle.std.proofs.lemmas.Str.Parse.{IsNumeralModel, numerals_by_value, tells_all_ascii_digits, not_in_digits, parse_plain, parse_signed_minus, parse_signed_plain}
 use Rattle.ndl_session.specs.text.Numbers.{is_decimal, number_of, negative_of, signed_number_of}
 
-own : IsNumeralModel (λ ds. all_ascii_digits ds ≡ true) (digits_value 10)
+pub own : IsNumeralModel (λ ds. all_ascii_digits ds ≡ true) (digits_value 10)
 own = numerals_by_value _ tells_all_ascii_digits
 
 chosen : {A E : Type 0} (r : Result A E) (P : Type 0) (b : Bool) (x : A) → OkIff r P x → Decides b P → result_ok r ≡ cond b (Some x) None

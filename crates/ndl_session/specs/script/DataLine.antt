@@ -1,13 +1,15 @@
--- The words of a line that makes a layout.
-use Rattle.std.specs.Prelude.{◌≡◌, ℕ, ℤ, pos, negsuc, Option, Some, None, if◌then◌else◌, List, [], ◌∷◌, codes, refl}
+-- The words of a line that makes a layout, and the layout that they spell.
+use Rattle.std.specs.Prelude.{◌≡◌, ℕ, ℤ, pos, negsuc, Option, Some, None, if◌then◌else◌, List, [], ◌∷◌, codes, decimal, refl}
+use Rattle.std.specs.Fmt.{digits}
+use Rattle.std.specs.List.{All}
 use Rattle.std.specs.Str.{bytes_eq}
 use Rattle.ndarray_layout.specs.declared.CanIndexCheckMode.{CanIndexCheckMode}
 use Rattle.ndarray_layout.specs.declared.CanIndexCheckMode.TheVariants.{OwnedMutable, ReadOnly}
 use Rattle.ndl_session.specs.declared.script.data_line.Layout.{Layout}
 use Rattle.ndl_session.specs.script.Reading.{◌>>=◌}
 use Rattle.ndl_session.specs.text.Lines.{words_of}
-use Rattle.ndl_session.specs.text.Numbers.{number_of}
-use Rattle.ndl_session.specs.script.Lists.{lengths_of, strides_of}
+use Rattle.ndl_session.specs.text.Numbers.{IsIsize, IsUsize, number_of}
+use Rattle.ndl_session.specs.script.Lists.{lengths_of, lengths_text, strides_of, strides_text}
 
 -- a layout over some data: how many elements the data has, whether indices may share one, and the axes
 pub record LayoutValue : Type 0 where
@@ -39,6 +41,21 @@ abbrev pub layout_of : List (List ℕ) → Option LayoutValue
 layout_of [] = None
 layout_of (keyword ∷ words) = if bytes_eq keyword (codes "data") then layout_of_words words else None
 
+-- a layout that a program can have: its numbers are ones of the program
+pub record IsLayout (layout : LayoutValue) : Type 0 where
+  pub len : IsUsize layout.len
+  pub shape : All IsUsize layout.shape
+  pub strides : All IsIsize layout.strides
+
+-- the word of a mode
+abbrev pub mode_text : CanIndexCheckMode → List ℕ
+mode_text OwnedMutable = codes "owned"
+mode_text ReadOnly = codes "read"
+
+-- the words of a layout's line
+abbrev pub layout_words : LayoutValue → List (List ℕ)
+layout_words layout = codes "data" ∷ decimal layout.len ∷ mode_text layout.mode ∷ lengths_text layout.shape ∷ strides_text layout.strides ∷ []
+
 -- examples
 a_shape_kept : (layout : Layout) → layout.shape.items ≡ 2 ∷ 3 ∷ [] → (layout_value layout).shape ≡ 2 ∷ 3 ∷ []
 a_shape_kept layout same = same
@@ -59,3 +76,7 @@ no_axes = refl
 
 a_word_missing : layout_of (words_of (codes "data 4 owned 4")) ≡ None
 a_word_missing = refl
+
+words_of_two_axes : layout_words (record { len = 6; mode = ReadOnly; shape = 2 ∷ 3 ∷ []; strides = negsuc 2 ∷ pos 1 ∷ [] }) ≡ words_of (codes "data 6 read 2,3 -3,1")
+unfolding digits
+words_of_two_axes = refl

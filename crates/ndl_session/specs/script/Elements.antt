@@ -1,13 +1,16 @@
--- The slice arguments that words spell.
-use Rattle.std.specs.Prelude.{◌≡◌, ℕ, ℤ, pos, negsuc, Option, Some, None, if◌then◌else◌, List, [], ◌∷◌, codes, refl}
+-- The slice arguments that words spell, and the words of slice arguments.
+use Rattle.std.specs.Prelude.{◌≡◌, ℕ, ℤ, pos, negsuc, Option, Some, None, IfSome, if◌then◌else◌, List, [], ◌∷◌, map, codes, refl}
+use Rattle.std.specs.Fmt.{digits}
 use Rattle.std.specs.Option.{option_map, option_or}
 use Rattle.std.specs.Str.{bytes_eq}
 use Rattle.ndarray_layout.specs.declared.SliceInfoElem.{SliceInfoElem}
 use Rattle.ndarray_layout.specs.declared.SliceInfoElem.TheVariants as elem
+use Rattle.ndarray_layout.specs.ElementText.{elem_text}
 use Rattle.ndl_session.specs.text.Bytes.{dot, semicolon}
 use Rattle.ndl_session.specs.script.Reading.{◌>>=◌}
 use Rattle.ndl_session.specs.text.Lines.{parts}
-use Rattle.ndl_session.specs.text.Numbers.{signed_number_of}
+use Rattle.ndl_session.specs.text.Numbers.{IsIsize, signed_number_of}
+use Rattle.ndl_session.specs.text.Printing.{listed}
 use Rattle.ndl_session.specs.script.Lists.{list_of}
 
 -- the start of a range by its text, which may be empty: then it is the first entry
@@ -49,6 +52,16 @@ element_of text =
 -- the elements that a word lists
 abbrev pub elements_of : List ℕ → Option (List SliceInfoElem)
 elements_of word = list_of element_of word
+
+-- an element that a program can have: each number of it is an `isize`
+abbrev pub IsElement : SliceInfoElem → Type 0
+IsElement (elem.Slice start end step) = IsIsize start × IfSome end IsIsize × IsIsize step
+IsElement (elem.Index index) = IsIsize index
+IsElement elem.NewAxis = Unit {0}
+
+-- the word of a list of elements
+abbrev pub elements_text : List SliceInfoElem → List ℕ
+elements_text elems = listed (codes ",") (map elem_text elems)
 
 -- examples
 no_start : start_of [] ≡ Some (pos 0)
@@ -131,3 +144,10 @@ no_elements = refl
 
 empty_element : elements_of (codes "..,,..") ≡ None
 empty_element = refl
+
+text_of_each_kind : elements_text (elem.Index (negsuc 0) ∷ elem.NewAxis ∷ elem.Slice (pos 1) (Some (pos 4)) (negsuc 1) ∷ []) ≡ codes "-1,NewAxis,1..4;-2"
+unfolding digits
+text_of_each_kind = refl
+
+text_of_no_elements : elements_text [] ≡ codes "-"
+text_of_no_elements = refl

@@ -1,9 +1,12 @@
--- The lists that words spell.
-use Rattle.std.specs.Prelude.{◌≡◌, ℕ, ℤ, pos, negsuc, Option, Some, None, if◌then◌else◌, List, [], ◌∷◌, codes, refl}
+-- The lists that words spell, and the words of lists.
+use Rattle.std.specs.Prelude.{◌≡◌, ◌≢◌, ℕ, ℤ, pos, negsuc, Option, Some, None, if◌then◌else◌, List, [], ◌∷◌, map, codes, decimal, refl}
+use Rattle.std.specs.Fmt.{digits, signed_decimal}
+use Rattle.std.specs.List.{All}
 use Rattle.std.specs.Str.{bytes_eq}
 use Rattle.ndl_session.specs.text.Bytes.{comma}
 use Rattle.ndl_session.specs.text.Lines.{parts}
 use Rattle.ndl_session.specs.text.Numbers.{number_of, signed_number_of}
+use Rattle.ndl_session.specs.text.Printing.{listed, printed}
 use Rattle.ndl_session.specs.script.Reading.{read_each}
 
 -- the entries that a word lists, separated by commas; `-` is the empty list
@@ -17,6 +20,20 @@ lengths_of word = list_of number_of word
 -- the strides that a word lists, each with its sign
 abbrev pub strides_of : List ℕ → Option (List ℤ)
 strides_of word = list_of signed_number_of word
+
+-- what an entry prints is read as that entry, and is neither cut by a comma nor taken for the empty list
+pub record IsReadBack {A : Type 0} (entry_of : List ℕ → Option A) (output : A → Option (List ℕ)) (entry : A) : Type 0 where
+  pub read : entry_of (printed output entry) ≡ Some entry
+  pub no_comma : All (λ byte. byte ≢ comma) (printed output entry)
+  pub not_empty_list : printed output entry ≢ codes "-"
+
+-- the word of a list of lengths
+abbrev pub lengths_text : List ℕ → List ℕ
+lengths_text lengths = listed (codes ",") (map decimal lengths)
+
+-- the word of a list of strides
+abbrev pub strides_text : List ℤ → List ℕ
+strides_text strides = listed (codes ",") (map signed_decimal strides)
 
 -- examples
 two_lengths : lengths_of (codes "2,03") ≡ Some (2 ∷ 3 ∷ [])
@@ -33,3 +50,14 @@ empty_last_entry = refl
 
 of_signs : strides_of (codes "-3,1") ≡ Some (negsuc 2 ∷ pos 1 ∷ [])
 of_signs = refl
+
+text_of_lengths : lengths_text (2 ∷ 30 ∷ []) ≡ codes "2,30"
+unfolding digits
+text_of_lengths = refl
+
+text_of_strides : strides_text (negsuc 2 ∷ pos 1 ∷ []) ≡ codes "-3,1"
+unfolding digits
+text_of_strides = refl
+
+text_of_no_strides : strides_text [] ≡ codes "-"
+text_of_no_strides = refl

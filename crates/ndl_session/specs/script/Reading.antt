@@ -15,6 +15,11 @@ read_each entry_of (text ∷ texts) = do
   entries ← read_each entry_of texts
   Some (entry ∷ entries)
 
+-- what is made of two readings; nothing where one of them can't be read
+abbrev pub of_both : {A B C : Type 0} → (A → B → C) → Option A → Option B → Option C
+of_both together (Some first) (Some second) = Some (together first second)
+of_both together _ _ = None
+
 -- two readings with faults: what is made of both values, or else the first fault
 abbrev pub both : {A B C E : Type 0} → (A → B → C) → Result A E → Result B E → Result C E
 both together (Ok first) (Ok second) = Ok (together first second)
@@ -34,6 +39,12 @@ both_read = refl
 
 second_unread : (nonzero 2 >>= λ n. nonzero 0) ≡ None
 second_unread = refl
+
+of_two : of_both (λ n m. n + m) (Some 2) (nonzero 1) ≡ Some 3
+of_two = refl
+
+of_one : of_both (λ n m. n + m) (Some 2) (nonzero 0) ≡ None
+of_one = refl
 
 two_texts : read_each length_of (codes "ab" ∷ codes "c" ∷ []) ≡ Some (2 ∷ 1 ∷ [])
 two_texts = refl

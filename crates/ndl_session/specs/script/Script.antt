@@ -1,5 +1,7 @@
--- The script that an input spells, or the number of its first unreadable line.
-use Rattle.std.specs.Prelude.{◌≡◌, ℕ, ◌+◌, pos, negsuc, Option, None, Result, Ok, Err, is_ok, List, [], ◌∷◌, map, codes, refl}
+-- The script that an input spells, or the number of its first unreadable line; and the text of a script.
+use Rattle.std.specs.Prelude.{◌≡◌, ℕ, ◌+◌, pos, negsuc, Option, None, Result, Ok, Err, is_ok, List, [], ◌∷◌, ◌++◌, map, codes, refl}
+use Rattle.std.specs.Fmt.{digits}
+use Rattle.std.specs.List.{All, flat_map}
 use Rattle.std.specs.Option.{ok_or}
 use Rattle.std.proofs.Common.{ap}
 use Rattle.std.proofs.lemmas.Bool.{false≢true}
@@ -12,8 +14,9 @@ use Rattle.ndl_session.specs.declared.script.ReadError.{ReadError}
 use Rattle.ndl_session.specs.declared.script.ReadError.TheVariants as script
 use Rattle.ndl_session.specs.script.Reading.{both}
 use Rattle.ndl_session.specs.text.Lines.{NumberedLine, lines_from}
-use Rattle.ndl_session.specs.script.DataLine.{LayoutValue, layout_value, layout_of}
-use Rattle.ndl_session.specs.script.StepLine.{step_of}
+use Rattle.ndl_session.specs.text.Printing.{listed}
+use Rattle.ndl_session.specs.script.DataLine.{IsLayout, LayoutValue, layout_value, layout_of, layout_words}
+use Rattle.ndl_session.specs.script.StepLine.{IsStep, step_of, step_words}
 
 -- what a script says: a layout, and the steps to take from it, in order
 pub record ScriptValue : Type 0 where
@@ -51,6 +54,19 @@ script_of_lines (line ∷ lines) = both (λ layout steps. record { layout = layo
 -- the script that an input spells, or the number of its first unreadable line
 abbrev pub script_of : List ℕ → Result ScriptValue ℕ
 script_of input = script_of_lines (lines_from 1 input)
+
+-- a script that a program can have: its numbers are ones of the program
+pub record IsScript (script : ScriptValue) : Type 0 where
+  pub layout : IsLayout script.layout
+  pub steps : All IsStep script.steps
+
+-- the line of words: a space between each two of them, and a line feed
+abbrev pub line_text : List (List ℕ) → List ℕ
+line_text words = listed (codes " ") words ++ codes "\n"
+
+-- the text of a script: the line of its layout, and one for each step
+abbrev pub script_text : ScriptValue → List ℕ
+script_text script = flat_map line_text (layout_words script.layout ∷ map step_words script.steps)
 
 -- examples
 abbrev four : LayoutValue
@@ -113,3 +129,10 @@ three_axes = refl
 
 unended_carriage_return : script_of (codes "data 1 owned 1 1\r") ≡ Err 1
 unended_carriage_return = refl
+
+text_of_a_line : line_text (codes "merge" ∷ codes "1" ∷ codes "0" ∷ []) ≡ codes "merge 1 0\n"
+text_of_a_line = refl
+
+text_of_two_steps : script_text (record { layout = four; steps = two_of_four ∷ clamped ∷ [] }) ≡ codes "data 4 owned 4 1\nslice 1..;-2\nclamp 9..\n"
+unfolding digits
+text_of_two_steps = refl

@@ -1,5 +1,7 @@
--- The words of a line that asks for a step.
-use Rattle.std.specs.Prelude.{◌≡◌, ℕ, pos, Option, Some, None, if◌then◌else◌, List, [], ◌∷◌, codes, refl}
+-- The words of a line that asks for a step, and the step that they spell.
+use Rattle.std.specs.Prelude.{◌≡◌, ℕ, pos, Option, Some, None, if◌then◌else◌, List, [], ◌∷◌, codes, decimal, refl}
+use Rattle.std.specs.Fmt.{digits}
+use Rattle.std.specs.List.{All}
 use Rattle.std.specs.Option.{option_map}
 use Rattle.std.specs.Str.{bytes_eq}
 use Rattle.ndarray_layout.specs.declared.Fit.{Fit}
@@ -9,73 +11,64 @@ use Rattle.ndarray_layout.specs.declared.Order.TheVariants.{RowMajor, ColumnMajo
 use Rattle.ndarray_layout.specs.declared.SliceInfoElem.TheVariants as elem
 use Rattle.ndarray_layout.specs.Step.{StepValue, SliceBy, CollapseTo, MergeInto, ReshapeTo, BroadcastTo}
 use Rattle.ndl_session.specs.text.Lines.{words_of}
-use Rattle.ndl_session.specs.text.Numbers.{number_of}
-use Rattle.ndl_session.specs.script.Elements.{elements_of}
-use Rattle.ndl_session.specs.script.Lists.{lengths_of}
-use Rattle.ndl_session.specs.script.Reading.{◌>>=◌}
-
--- what becomes of a bound past its axis, by the word that a slice begins with
-abbrev pub fit_of : List ℕ → Option Fit
-fit_of keyword = if bytes_eq keyword (codes "slice") then Some Strict else if bytes_eq keyword (codes "clamp") then Some Clamp else None
-
--- the slice by a keyword, `slice` or `clamp`, and a word that lists elements
-abbrev pub slice_of_words : List ℕ → List ℕ → Option StepValue
-slice_of_words keyword word = do
-  fit ← fit_of keyword
-  elems ← elements_of word
-  Some (SliceBy elems fit)
-
--- the step by a keyword and a word that is a list: a slice, or the broadcast to a shape
-abbrev pub step_of_list : List ℕ → List ℕ → Option StepValue
-step_of_list keyword word = if bytes_eq keyword (codes "broadcast") then option_map BroadcastTo (lengths_of word) else slice_of_words keyword word
-
--- the step by a keyword and two numbers: the collapse of an axis to an index, or the merge of an axis into another one
-abbrev pub step_of_keyword : List ℕ → ℕ → ℕ → Option StepValue
-step_of_keyword keyword first second =
-    if bytes_eq keyword (codes "collapse") then Some (CollapseTo first second)
-    else if bytes_eq keyword (codes "merge") then Some (MergeInto first second)
-    else None
-
--- the step by a keyword and two words that are numbers
-abbrev pub step_of_numbers : List ℕ → List ℕ → List ℕ → Option StepValue
-step_of_numbers keyword first second = do
-  first ← number_of first
-  second ← number_of second
-  step_of_keyword keyword first second
+use Rattle.ndl_session.specs.text.Numbers.{IsUsize, number_of}
+use Rattle.ndl_session.specs.script.Elements.{IsElement, elements_of, elements_text}
+use Rattle.ndl_session.specs.script.Lists.{lengths_of, lengths_text}
+use Rattle.ndl_session.specs.script.Reading.{of_both}
 
 -- the order that a word names: `C` by rows, `F` by columns
 abbrev pub order_of_word : List ℕ → Option Order
 order_of_word word = if bytes_eq word (codes "C") then Some RowMajor else if bytes_eq word (codes "F") then Some ColumnMajor else None
 
--- the reshape by a word that names an order and one that lists lengths
-abbrev pub reshape_of_words : List ℕ → List ℕ → Option StepValue
-reshape_of_words order word = do
-  order ← order_of_word order
-  shape ← lengths_of word
-  Some (ReshapeTo shape order)
-
--- the step by a keyword and two words: a reshape, or one of two numbers
-abbrev pub step_of_two_words : List ℕ → List ℕ → List ℕ → Option StepValue
-step_of_two_words keyword first second = if bytes_eq keyword (codes "reshape") then reshape_of_words first second else step_of_numbers keyword first second
-
--- the step that the words of a line ask for
+-- the step that the words of a line ask for: a keyword and one word or two
 abbrev pub step_of : List (List ℕ) → Option StepValue
-step_of (keyword ∷ word ∷ []) = step_of_list keyword word
-step_of (keyword ∷ first ∷ second ∷ []) = step_of_two_words keyword first second
+step_of (keyword ∷ word ∷ []) =
+    if bytes_eq keyword (codes "slice") then option_map (λ elems. SliceBy elems Strict) (elements_of word)
+    else if bytes_eq keyword (codes "clamp") then option_map (λ elems. SliceBy elems Clamp) (elements_of word)
+    else if bytes_eq keyword (codes "broadcast") then option_map BroadcastTo (lengths_of word)
+    else None
+step_of (keyword ∷ first ∷ second ∷ []) =
+    if bytes_eq keyword (codes "collapse") then of_both CollapseTo (number_of first) (number_of second)
+    else if bytes_eq keyword (codes "merge") then of_both MergeInto (number_of first) (number_of second)
+    else if bytes_eq keyword (codes "reshape") then of_both (λ order shape. ReshapeTo shape order) (order_of_word first) (lengths_of second)
+    else None
 step_of _ = None
 
+-- a step that a program can have: its numbers are ones of the program
+abbrev pub IsStep : StepValue → Type 0
+IsStep (SliceBy elems fit) = All IsElement elems
+IsStep (CollapseTo axis index) = IsUsize axis × IsUsize index
+IsStep (MergeInto take into) = IsUsize take × IsUsize into
+IsStep (ReshapeTo shape order) = All IsUsize shape
+IsStep (BroadcastTo shape) = All IsUsize shape
+
+-- the keyword of a slice, by what becomes of a bound past its axis
+abbrev pub slice_keyword : Fit → List ℕ
+slice_keyword Strict = codes "slice"
+slice_keyword Clamp = codes "clamp"
+
+-- the word of an order
+abbrev pub order_text : Order → List ℕ
+order_text RowMajor = codes "C"
+order_text ColumnMajor = codes "F"
+
+-- the words of a step's line
+abbrev pub step_words : StepValue → List (List ℕ)
+step_words (SliceBy elems fit) = slice_keyword fit ∷ elements_text elems ∷ []
+step_words (CollapseTo axis index) = codes "collapse" ∷ decimal axis ∷ decimal index ∷ []
+step_words (MergeInto take into) = codes "merge" ∷ decimal take ∷ decimal into ∷ []
+step_words (ReshapeTo shape order) = codes "reshape" ∷ order_text order ∷ lengths_text shape ∷ []
+step_words (BroadcastTo shape) = codes "broadcast" ∷ lengths_text shape ∷ []
+
 -- examples
-clamps : fit_of (codes "clamp") ≡ Some Clamp
-clamps = refl
-
-slices_no_list : slice_of_words (codes "slice") (codes "1,") ≡ None
-slices_no_list = refl
-
 a_slice : step_of (words_of (codes "slice 1..")) ≡ Some (SliceBy (elem.Slice (pos 1) None (pos 1) ∷ []) Strict)
 a_slice = refl
 
 a_clamping_slice : step_of (words_of (codes "clamp 9,NewAxis")) ≡ Some (SliceBy (elem.Index (pos 9) ∷ elem.NewAxis ∷ []) Clamp)
 a_clamping_slice = refl
+
+a_slice_of_no_list : step_of (words_of (codes "slice 1,")) ≡ None
+a_slice_of_no_list = refl
 
 a_collapse : step_of (words_of (codes "collapse 0 07")) ≡ Some (CollapseTo 0 7)
 a_collapse = refl
@@ -104,7 +97,7 @@ an_order_in_small = refl
 without_an_order : step_of (words_of (codes "reshape 3,2")) ≡ None
 without_an_order = refl
 
-a_length_too_large : reshape_of_words (codes "C") (codes "18446744073709551616") ≡ None
+a_length_too_large : step_of (words_of (codes "reshape C 18446744073709551616")) ≡ None
 a_length_too_large = refl
 
 without_elements : step_of (words_of (codes "clamp")) ≡ None
@@ -127,3 +120,14 @@ a_list_for_an_axis = refl
 
 misspelled : step_of (words_of (codes "slise ..")) ≡ None
 misspelled = refl
+
+words_of_a_clamp : step_words (SliceBy (elem.NewAxis ∷ []) Clamp) ≡ words_of (codes "clamp NewAxis")
+words_of_a_clamp = refl
+
+words_of_a_reshape : step_words (ReshapeTo (3 ∷ 2 ∷ []) ColumnMajor) ≡ words_of (codes "reshape F 3,2")
+unfolding digits
+words_of_a_reshape = refl
+
+words_of_a_merge : step_words (MergeInto 1 0) ≡ words_of (codes "merge 1 0")
+unfolding digits
+words_of_a_merge = refl

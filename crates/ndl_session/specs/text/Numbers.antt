@@ -1,6 +1,8 @@
 -- The numbers that words spell.
-use Rattle.std.specs.Prelude.{◌≡◌, ℕ, ◌^◌, ℤ, pos, negsuc, neg_ℤ, Bool, true, false, ◌&&◌, nat_lt, nat_le, if◌then◌else◌}
+use Rattle.std.specs.Prelude.{◌≡◌, ℕ, ◌<◌, ◌^◌, ℤ, pos, negsuc, neg_ℤ, Bool, true, false, ◌&&◌, nat_lt, nat_le, if◌then◌else◌}
 use Rattle.std.specs.Prelude.{Option, Some, None, List, [], length, drop, codes, refl}
+use Rattle.std.specs.Int.{w64}
+use Rattle.std.specs.Int.RustNames.{FitsSigned}
 use Rattle.std.specs.Str.{all_ascii_digits}
 use Rattle.std.specs.Str.Parse.{digits_value, starts_with_minus}
 
@@ -22,6 +24,14 @@ signed_number_of word =
     if starts_with_minus word then negative_of (drop 1 word)
     else if is_decimal word && nat_lt (digits_value 10 word) (2 ^ 63) then Some (pos (digits_value 10 word))
     else None
+
+-- a number that a `usize` can be
+abbrev pub IsUsize : ℕ → Type 0
+IsUsize number = number < 2 ^ 64
+
+-- a number that an `isize` can be
+abbrev pub IsIsize : ℤ → Type 0
+IsIsize number = FitsSigned w64 number
 
 -- examples
 two_digits : is_decimal (codes "07") ≡ true

@@ -1,0 +1,4 @@
+pub mod PrintedElements
+pub mod PrintedLists
+pub mod PrintedNumbers
+pub mod PrintedScript
