@@ -1,7 +1,8 @@
 //! Reads a whole script.
 ghost use Rattle.std.specs.Prelude.{◌≡◌, ◌+◌, ◌<◌, ◌^◌, Ok, length, map};
 ghost use Rattle.ndl_session.specs.text.Lines.{lines_from};
-ghost use Rattle.ndl_session.specs.script.Script.{Gives, IsScript, ScriptValue, script_of, script_text, script_value, steps_of_lines};
+ghost use Rattle.ndl_session.specs.script.Script.{Gives, IsScript, ScriptValue};
+ghost use Rattle.ndl_session.specs.script.Script.{script_of, script_text, script_value, steps_of_lines};
 ghost use Rattle.ndarray_layout.specs.Step.{step_value};
 
 pub(crate) mod data_line;

@@ -1,13 +1,12 @@
 -- Laws of lists: what one prints, with a comma between each two entries, is read as that list.
-use Rattle.std.proofs.Common.{◌≡◌, ◌≢◌, ℕ, ℤ, Option, Some, List, [], ◌∷◌, get_or, map, codes, unwrap_or, refl, sym, ap, ◌∙◌}
+use Rattle.std.proofs.Common.{◌≡◌, ◌≢◌, ℕ, ℤ, Option, Some, List, [], ◌∷◌, get_or, map, codes, decimal, unwrap_or, refl, sym, ap, ◌∙◌}
+use Rattle.std.specs.Fmt.{signed_decimal}
 use Rattle.std.specs.List.{All}
 use Rattle.std.proofs.lemmas.Bool.{false_from_ne_true}
 use Rattle.std.proofs.lemmas.List.Elements.{All-head, All-map, All-tail, All-weaker}
 use Rattle.std.proofs.lemmas.Slice.Eq.{bytes_eq-Decides}
 use Rattle.ndarray_layout.specs.ElementText.{elem_text}
 use Rattle.ndarray_layout.specs.declared.SliceInfoElem.{SliceInfoElem}
-use Rattle.std.specs.Fmt.{signed_decimal}
-use Rattle.std.proofs.Common.{decimal}
 use Rattle.ndl_session.specs.text.Bytes.{comma}
 use Rattle.ndl_session.specs.text.Lines.{parts}
 use Rattle.ndl_session.specs.text.Numbers.{IsIsize, IsUsize, number_of, signed_number_of}
