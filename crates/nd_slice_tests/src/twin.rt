@@ -1,6 +1,6 @@
 //! All slices of an axis of up to six entries with bounds from -6 to 6 or left out and steps from -4 to 4: two of them
 //! meet where an entry, of all those of the axis, is picked by both.
-use crate::meet::meeting;
+use crate::arguments::meeting;
 use Fit::{Clamp, Strict};
 use nd_base::new_ix1;
 use nd_slice::{Fit, Slice, SliceInfoElem};
@@ -107,14 +107,14 @@ fn first_wrong(len: u8, fit: Fit) -> Option<usize> {
 }
 
 #[test]
-fn r10_rows_of_all_slices(rt: HostRuntime) {
+fn all_slices(rt: HostRuntime) {
     for len in 0..7u8 {
         assert!(rt; first_wrong(len, Strict) == None, "{len}");
     }
 }
 
 #[test]
-fn r14_rows_of_all_slices(rt: HostRuntime) {
+fn all_slices_with_moved_bounds(rt: HostRuntime) {
     for len in 0..3u8 {
         assert!(rt; first_wrong(len, Clamp) == None, "{len}");
     }
