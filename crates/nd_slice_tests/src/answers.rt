@@ -7,7 +7,8 @@ fn answers_of_ndarray(rt: HostRuntime) {
     hold(&rt, rt.alloc(), ANSWERED, &Calls);
 }
 
-/// SAMPLE
+/// 51 pairs of arguments, of which 24 meet, on shapes of two to four axes with up to 12 entries. Each answer is what
+/// ndarray's own function gives at its type of any number of axes, called by a program over ndarray's sources.
 const ANSWERED: &str = "\
 slices_intersect Ix2 3,1 ..1;-1,..;2 ..1,0 => meet
 slices_intersect IxDyn 1,12 NewAxis,0,..-1;-1 0..;-1,-5..;2 => meet

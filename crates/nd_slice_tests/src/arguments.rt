@@ -9,7 +9,7 @@ use nd_slice::{
     slices_intersect,
 };
 use std::alloc::Global;
-use test_tables::{AtType, Words, at_type, fault_of, name_of};
+use test_tables::{AtType, Reading, at_type, fault_of, name_of};
 
 /// The whole of an axis.
 const ALL: SliceInfoElem = SliceInfoElem::Slice {
@@ -24,33 +24,6 @@ fn fit_name(answer: Result<(), ShapeError>) -> &'static str {
         Ok(()) => "fits",
         Err(fault) => name_of(Some(fault.kind())),
     }
-}
-
-/// A row of `check_slice` at a dimension type.
-struct Checked<'a, 'b> {
-    words: &'a mut Words<'b>,
-    answer: &'a str,
-    fit: Fit,
-}
-
-impl AtType for Checked<'_, '_> {
-    fn at<D: Lengths>(self, alloc: Global) -> Option<bool> {
-        let Checked { words, answer, fit } = self;
-        let dim: D = words.dim(alloc)?;
-        let elems = words.elems(alloc)?;
-        Some(fit_name(check_slice(&dim, &elems, fit)) == answer)
-    }
-}
-
-/// Whether a row of `check_slice` holds, at the type that it names.
-pub fn argument_holds(
-    alloc: Global,
-    words: &mut Words<'_>,
-    answer: &str,
-    fit: Fit,
-) -> Option<bool> {
-    let ndim = words.ndim()?;
-    at_type(alloc, ndim, Checked { words, answer, fit })
 }
 
 /// Whether each length is at most the greatest `isize`.
@@ -77,27 +50,42 @@ pub fn meeting<D: Lengths, A: SliceElems, B: SliceElems>(
     }
 }
 
-/// A row of `slices_intersect` at a dimension type.
-struct TwoArguments<'a, 'b> {
-    words: &'a mut Words<'b>,
-    answer: &'a str,
-    fit: Fit,
+/// What a row says of arguments.
+#[derive(Clone, Copy)]
+pub enum OfArguments {
+    /// `TYPE SHAPE ARGUMENT => fits`, or the fault.
+    Check(Fit),
+    /// `TYPE SHAPE ARGUMENT ARGUMENT => meet`, or `apart`, or the fault.
+    Intersect(Fit),
 }
 
-impl AtType for TwoArguments<'_, '_> {
+/// A row at a dimension type.
+struct OfRow<'a, 'b> {
+    row: &'a mut Reading<'b>,
+    asked: OfArguments,
+}
+
+impl AtType for OfRow<'_, '_> {
     fn at<D: Lengths>(self, alloc: Global) -> Option<bool> {
-        let TwoArguments { words, answer, fit } = self;
-        let dim: D = words.dim(alloc)?;
-        let first = words.elems(alloc)?;
-        let second = words.elems(alloc)?;
-        Some(meeting(&dim, &first, &second, fit) == answer)
+        let OfRow { row, asked } = self;
+        let dim: D = row.given.dim(alloc)?;
+        let first = row.given.elems(alloc)?;
+        match asked {
+            OfArguments::Check(fit) => Some(
+                row.answer.is(fit_name(check_slice(&dim, &first, fit))),
+            ),
+            OfArguments::Intersect(fit) => {
+                let second = row.given.elems(alloc)?;
+                Some(row.answer.is(meeting(&dim, &first, &second, fit)))
+            }
+        }
     }
 }
 
-/// Whether a row of `slices_intersect` holds, at the type that it names.
-pub fn meeting_holds(alloc: Global, words: &mut Words<'_>, answer: &str, fit: Fit) -> Option<bool> {
-    let ndim = words.ndim()?;
-    at_type(alloc, ndim, TwoArguments { words, answer, fit })
+/// Whether a row about arguments holds, at the type that it names.
+pub fn arguments_hold(alloc: Global, row: &mut Reading<'_>, asked: OfArguments) -> Option<bool> {
+    let ndim = row.given.ndim()?;
+    at_type(alloc, ndim, OfRow { row, asked })
 }
 
 #[test]

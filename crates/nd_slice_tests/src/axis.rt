@@ -3,12 +3,11 @@ ghost use Rattle.std.specs.Prelude.{◌<◌, ◌≤◌, ◌^◌, IsTrue};
 ghost use Rattle.nd_base.specs.Size.{limit};
 ghost use Rattle.nd_base.specs.Span.{reach};
 
-use nd_base::{ErrorKind, new_ix2, signed, unsigned};
+use nd_base::{new_ix2, signed, unsigned};
 use nd_slice::{
-    Fit, Slice, SliceInfoElem, abs_index, do_collapse_axis, do_slice, entry_of, slice_min_max,
-    to_abs_slice,
+    Fit, Slice, SliceInfoElem, do_collapse_axis, do_slice, slice_min_max, to_abs_slice,
 };
-use test_tables::{Words, name_of, or_fault};
+use test_tables::{Reading, Words, name_of};
 
 /// The slice that the next word spells.
 fn slice(words: &mut Words<'_>) -> Option<Slice> {
@@ -27,46 +26,41 @@ fn is_axis(len: usize, stride: isize) -> bool
 }
 
 /// Whether the answer is what a slice of an axis gives, and the length and the stride that the axis has afterwards.
-fn gives(answer: &mut Words<'_>, len: usize, stride: isize, slice: Slice, fit: Fit) -> Option<bool>
+fn gives(row: &mut Reading<'_>, len: usize, stride: isize, slice: Slice, fit: Fit) -> Option<bool>
     requires len_fits { len < 2 ^ 63 }
     requires span_fits { reach len stride ≤ limit }
 {
     let (mut len, mut stride) = (len, unsigned(stride));
     let answers = match do_slice(&mut len, &mut stride, slice, fit) {
-        Ok(offset) => answer.number()? == offset,
-        Err(fault) => answer.is(name_of(Some(fault.kind()))),
+        Ok(offset) => row.answer.number()? == offset,
+        Err(fault) => row.answer.is(name_of(Some(fault.kind()))),
     };
-    Some(answers && answer.length()? == len && answer.number()? == signed(stride))
+    Some(answers && row.answer.length()? == len && row.answer.number()? == signed(stride))
 }
 
 /// Whether a row of `do_slice` holds.
-pub fn slice_holds(words: &mut Words<'_>, answer: &mut Words<'_>, fit: Fit) -> Option<bool> {
-    let (len, stride, slice) = (words.length()?, words.number()?, slice(words)?);
+pub fn slice_holds(row: &mut Reading<'_>, fit: Fit) -> Option<bool> {
+    let (len, stride, slice) = (
+        row.given.length()?,
+        row.given.number()?,
+        slice(&mut row.given)?,
+    );
     if !is_axis(len, stride) {
         return None;
     }
-    gives(answer, len, stride, slice, fit)
+    gives(row, len, stride, slice, fit)
 }
 
 /// Whether a row of `slice_min_max` holds.
-pub fn ends_hold(words: &mut Words<'_>, answer: &mut Words<'_>, fit: Fit) -> Option<bool> {
-    let (len, slice) = (words.length()?, slice(words)?);
+pub fn ends_hold(row: &mut Reading<'_>, fit: Fit) -> Option<bool> {
+    let (len, slice) = (row.given.length()?, slice(&mut row.given)?);
     if to_abs_slice(len, slice, fit).is_err() {
         return None;
     }
     match slice_min_max(len, slice, fit) {
-        Some(ends) => Some((answer.length()?, answer.length()?) == ends),
-        None => Some(answer.is("none")),
+        Some(ends) => Some((row.answer.length()?, row.answer.length()?) == ends),
+        None => Some(row.answer.is("none")),
     }
-}
-
-#[test]
-fn counted_from_the_end(rt: HostRuntime) {
-    let outside = Err(ErrorKind::OutOfBounds);
-    assert!(rt; abs_index(10, 7) == 7 && abs_index(usize::MAX, isize::MIN) == isize::MAX as usize);
-    assert!(rt; or_fault(entry_of(10, -10)) == Ok(0) && or_fault(entry_of(10, 10)) == outside);
-    let slice = Slice::new(-9, Some(-2), -3);
-    assert!(rt; or_fault(to_abs_slice(10, slice, Fit::Strict)) == Ok((1, 8, -3)));
 }
 
 #[test]

@@ -1,5 +1,5 @@
 //! The calls of rows, by their names.
-use crate::arguments::{argument_holds, meeting_holds};
+use crate::arguments::{OfArguments, arguments_hold};
 use crate::axis::{ends_hold, slice_holds};
 use crate::equations::{divisor_holds, sequences_hold, solution_holds};
 use Fit::{Clamp, Strict};
@@ -14,10 +14,8 @@ enum Call {
     DoSlice(Fit),
     /// `LEN SLICE => LEAST GREATEST`, or `none`.
     SliceMinMax(Fit),
-    /// `TYPE SHAPE ARGUMENT => fits`, or the fault.
-    CheckSlice(Fit),
-    /// `TYPE SHAPE ARGUMENT ARGUMENT => meet`, or `apart`, or the fault.
-    SlicesIntersect(Fit),
+    /// `TYPE SHAPE ..`: of arguments.
+    Arguments(OfArguments),
     /// `A B => GCD X Y`.
     ExtendedGcd,
     /// `A B C => LEAST APART`, or `none`.
@@ -31,10 +29,19 @@ static CALLS: [(&str, Call); 11] = [
     ("do_slice_clamped", Call::DoSlice(Clamp)),
     ("slice_min_max", Call::SliceMinMax(Strict)),
     ("slice_min_max_clamped", Call::SliceMinMax(Clamp)),
-    ("check_slice", Call::CheckSlice(Strict)),
-    ("check_slice_clamped", Call::CheckSlice(Clamp)),
-    ("slices_intersect", Call::SlicesIntersect(Strict)),
-    ("slices_intersect_clamped", Call::SlicesIntersect(Clamp)),
+    ("check_slice", Call::Arguments(OfArguments::Check(Strict))),
+    (
+        "check_slice_clamped",
+        Call::Arguments(OfArguments::Check(Clamp)),
+    ),
+    (
+        "slices_intersect",
+        Call::Arguments(OfArguments::Intersect(Strict)),
+    ),
+    (
+        "slices_intersect_clamped",
+        Call::Arguments(OfArguments::Intersect(Clamp)),
+    ),
     ("extended_gcd", Call::ExtendedGcd),
     ("solve_linear_diophantine_eq", Call::Solve),
     ("arith_seq_intersect", Call::ArithSeqIntersect),
@@ -45,15 +52,14 @@ pub struct Calls;
 
 impl Asked for Calls {
     fn holds(&self, alloc: Global, row: &Row<'_>) -> Option<bool> {
-        let mut words = row.words();
+        let reading = &mut row.reading();
         match meaning(&CALLS, row.call)? {
-            Call::DoSlice(fit) => slice_holds(&mut words, &mut row.answers(), fit),
-            Call::SliceMinMax(fit) => ends_hold(&mut words, &mut row.answers(), fit),
-            Call::CheckSlice(fit) => argument_holds(alloc, &mut words, row.answer, fit),
-            Call::SlicesIntersect(fit) => meeting_holds(alloc, &mut words, row.answer, fit),
-            Call::ExtendedGcd => divisor_holds(&mut words, &mut row.answers()),
-            Call::Solve => solution_holds(&mut words, &mut row.answers()),
-            Call::ArithSeqIntersect => sequences_hold(&mut words, row.answer),
+            Call::DoSlice(fit) => slice_holds(reading, fit),
+            Call::SliceMinMax(fit) => ends_hold(reading, fit),
+            Call::Arguments(asked) => arguments_hold(alloc, reading, asked),
+            Call::ExtendedGcd => divisor_holds(reading),
+            Call::Solve => solution_holds(reading),
+            Call::ArithSeqIntersect => sequences_hold(reading),
         }
     }
 }

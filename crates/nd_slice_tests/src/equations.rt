@@ -4,7 +4,7 @@ ghost use Rattle.std.specs.Prelude.{◌≡◌, ◌≤◌, ◌^◌};
 ghost use Rattle.nd_base.specs.Signed.{magnitude};
 
 use nd_slice::{arith_seq_intersect, extended_gcd, solve_linear_diophantine_eq};
-use test_tables::Words;
+use test_tables::{Reading, Words};
 
 /// A number of the type of the calls.
 fn wide(number: isize) -> i128
@@ -22,35 +22,39 @@ fn three(words: &mut Words<'_>) -> Option<(isize, isize, isize)> {
 }
 
 /// Whether a row of `extended_gcd` holds.
-pub fn divisor_holds(words: &mut Words<'_>, answer: &mut Words<'_>) -> Option<bool> {
-    let (a, b, due) = (words.number()?, words.number()?, three(answer)?);
+pub fn divisor_holds(row: &mut Reading<'_>) -> Option<bool> {
+    let (a, b, due) = (
+        row.given.number()?,
+        row.given.number()?,
+        three(&mut row.answer)?,
+    );
     let (gcd, (x, y)) = extended_gcd(wide(a), wide(b));
     Some((gcd, x, y) == (due.0 as i128, due.1 as i128, due.2 as i128))
 }
 
 /// Whether a row of `solve_linear_diophantine_eq` holds.
-pub fn solution_holds(words: &mut Words<'_>, answer: &mut Words<'_>) -> Option<bool> {
-    let (a, b, c) = three(words)?;
+pub fn solution_holds(row: &mut Reading<'_>) -> Option<bool> {
+    let (a, b, c) = three(&mut row.given)?;
     if a == 0 || b == 0 {
         return None;
     }
     match solve_linear_diophantine_eq(wide(a), wide(b), wide(c)) {
         Some((least, apart)) => {
-            let due = (answer.length()?, answer.length()?);
+            let due = (row.answer.length()?, row.answer.length()?);
             Some((least, apart) == (due.0 as i128, due.1 as i128))
         }
-        None => Some(answer.is("none")),
+        None => Some(row.answer.is("none")),
     }
 }
 
 /// Whether a row of `arith_seq_intersect` holds.
-pub fn sequences_hold(words: &mut Words<'_>, answer: &str) -> Option<bool> {
-    let (first, second) = (three(words)?, three(words)?);
+pub fn sequences_hold(row: &mut Reading<'_>) -> Option<bool> {
+    let (first, second) = (three(&mut row.given)?, three(&mut row.given)?);
     if first.2 == 0 || second.2 == 0 {
         return None;
     }
     let meet = arith_seq_intersect(first, second);
-    Some(answer == if meet { "true" } else { "false" })
+    Some(row.answer.is(if meet { "true" } else { "false" }))
 }
 
 // ---- whole ranges

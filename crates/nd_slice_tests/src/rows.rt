@@ -20,8 +20,7 @@ check_slice Ix2 4,5 9..,..;0 => OutOfBounds
 check_slice Ix2 4,5 ..;0,9.. => Unsupported
 check_slice IxDyn 2,3,1,2,4 -1,..,0,NewAxis,2..;-1,-4 => fits
 slices_intersect Ix2 4,5 9..,.. ..;0,.. => OutOfBounds
-slices_intersect Ix2 4,5 ..1,..;0 2..,9.. => Unsupported
-slices_intersect IxDyn 0,5 ..,-6.. ..;0,.. => OutOfBounds";
+slices_intersect Ix2 4,5 ..1,..;0 2..,9.. => Unsupported";
 
 const LEAST_AND_GREATEST: &str = "\
 slice_min_max 0 ..;3 => none
@@ -91,7 +90,8 @@ solve_linear_diophantine_eq 4 6 3 => none
 solve_linear_diophantine_eq -9223372036854775808 9223372036854775807 -1 => 1 9223372036854775807
 arith_seq_intersect 0 9 9 3 9 6 => true
 arith_seq_intersect 0 0 9 3 3 6 => false
-arith_seq_intersect -9223372036854775808 9223372036854775807 1 9223372036854775807 9223372036854775807 -9223372036854775808 => true";
+arith_seq_intersect -9223372036854775808 9223372036854775807 1 \
+9223372036854775807 9223372036854775807 -9223372036854775808 => true";
 
 /// Steps of every size, on axes of every length: a body that looks at each entry doesn't end.
 const STEPS: &str = "\
@@ -117,10 +117,7 @@ do_slice 9223372036854775807 1 ..;-9223372036854775808 => 9223372036854775806 1 
 do_slice 9223372036854775807 1 ..;9223372036854775806 => 0 2 9223372036854775806
 do_slice 9223372036854775807 1 -9223372036854775808.. => OutOfBounds 9223372036854775807 1
 do_slice 1 -9223372036854775808 ..;-1 => 0 1 0
-do_slice 0 -9223372036854775808 ..;-9223372036854775808 => 0 0 0
-do_slice 2 -9223372036854775807 ..;-1 => -9223372036854775807 2 9223372036854775807
 slice_min_max 18446744073709551615 ..;-9223372036854775808 => 9223372036854775806 18446744073709551614
-slice_min_max_clamped 9223372036854775807 -9223372036854775808..;-9223372036854775807 => 9223372036854775806 9223372036854775806
 check_slice Ix1 18446744073709551615 -9223372036854775808 => fits
 check_slice_clamped Ix1 9223372036854775807 -9223372036854775808 => OutOfBounds";
     hold(&rt, rt.alloc(), table, &Calls);
@@ -135,7 +132,6 @@ do_slice_clamped 4 1 9..;0 => Unsupported 4 1
 slice_min_max_clamped 10 -20..8;3 => 0 6
 check_slice_clamped Ix2 4,5 9..,-9..;2 => fits
 check_slice_clamped Ix2 4,5 9..,5 => OutOfBounds
-check_slice_clamped Ix2 4,5 -5,9..;0 => OutOfBounds
 check_slice_clamped Ix2 4,5 9..;0,9 => Unsupported
 slices_intersect_clamped Ix1 5 -9..3 2..99 => meet
 slices_intersect_clamped Ix1 5 9.. .. => apart

@@ -35,10 +35,25 @@ impl<'a> Row<'a> {
         Words::of(self.answer)
     }
 
+    /// The words of both.
+    pub fn reading(&self) -> Reading<'a> {
+        Reading {
+            given: self.words(),
+            answer: self.answers(),
+        }
+    }
+
     /// What the call takes as up to four lists; `None` where a word is no list, or there are more.
     pub fn lists(&self) -> Option<Lists> {
         Lists::read(self.given)
     }
+}
+
+/// The words of a row that are still to be read: those of what the call takes, and those of the answer.
+#[derive(Drop)]
+pub struct Reading<'a> {
+    pub given: Words<'a>,
+    pub answer: Words<'a>,
 }
 
 /// The counts of axes that dimension types fix, by their names.
@@ -53,8 +68,8 @@ static TYPES: [(&str, Option<usize>); 8] = [
     ("IxDyn", None),
 ];
 
-/// Words that are still to be read. Each call reads the next one, and answers `None` (or `false`) where there is none, or it is
-/// no such word.
+/// Words that are still to be read. Each call reads the next one, and answers `None` (or `false`) where there is
+/// none, or it is no such word.
 #[derive(Drop)]
 pub struct Words<'a> {
     words: SplitWhitespace<'a>,

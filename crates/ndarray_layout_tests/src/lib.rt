@@ -1,0 +1,32 @@
+//! Tests of `ndarray_layout` and `nd_owned`, by their public calls: rows of views, of reshapes, of runs and of
+//! arrays, all reshapes of small layouts, and memory that is not refused where it is there.
+#![tactic(auto)]
+
+#[cfg(test)]
+mod answers;
+#[cfg(test)]
+mod array_rows;
+#[cfg(test)]
+mod arrays;
+#[cfg(test)]
+mod calls;
+#[cfg(test)]
+mod items;
+#[cfg(test)]
+mod layout;
+#[cfg(test)]
+mod memory;
+#[cfg(test)]
+mod reshape_rows;
+#[cfg(test)]
+mod reshapes;
+#[cfg(test)]
+mod runs;
+#[cfg(test)]
+mod sequences;
+#[cfg(test)]
+mod twin;
+#[cfg(test)]
+mod view_rows;
+#[cfg(test)]
+mod views;
