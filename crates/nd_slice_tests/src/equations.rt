@@ -3,9 +3,8 @@
 ghost use Rattle.std.specs.Prelude.{◌≡◌, ◌≤◌, ◌^◌};
 ghost use Rattle.nd_base.specs.Signed.{magnitude};
 
-use crate::tables::{Told, hold};
 use nd_slice::{arith_seq_intersect, extended_gcd, solve_linear_diophantine_eq};
-use test_tables::{Row, TableError};
+use test_tables::{Reading, Words};
 
 /// A number of the type of the calls.
 fn wide(number: isize) -> i128
@@ -17,90 +16,45 @@ fn wide(number: isize) -> i128
 
 // ---- rows
 
-/// The next words of a row as two numbers.
-fn two(row: &mut Row<'_>) -> Result<(isize, isize), TableError> {
-    Ok((row.number()?, row.number()?))
+/// The next three words as numbers: of a list the first and the last one, and its step.
+fn three(words: &mut Words<'_>) -> Option<(isize, isize, isize)> {
+    Some((words.number()?, words.number()?, words.number()?))
 }
 
-/// The next words of a row as three numbers: of a list the first and the last one, and its step.
-fn list(row: &mut Row<'_>) -> Result<(isize, isize, isize), TableError> {
-    Ok((row.number()?, row.number()?, row.number()?))
-}
-
-/// A row holds: two numbers, their greatest common divisor, and what each of them is multiplied by.
-fn divisor_holds(row: &mut Row<'_>) -> Result<bool, TableError> {
-    let ((a, b), due) = (two(row)?, list(row)?);
+/// Whether a row of `extended_gcd` holds.
+pub fn divisor_holds(row: &mut Reading<'_>) -> Option<bool> {
+    let (a, b, due) = (
+        row.given.number()?,
+        row.given.number()?,
+        three(&mut row.answer)?,
+    );
     let (gcd, (x, y)) = extended_gcd(wide(a), wide(b));
-    Ok((gcd, x, y) == (due.0 as i128, due.1 as i128, due.2 as i128))
+    Some((gcd, x, y) == (due.0 as i128, due.1 as i128, due.2 as i128))
 }
 
-/// A row holds: the three numbers of an equation, its least solution and how far apart solutions lie, or `none`.
-fn solution_holds(row: &mut Row<'_>) -> Result<bool, TableError> {
-    let (a, b, c) = list(row)?;
+/// Whether a row of `solve_linear_diophantine_eq` holds.
+pub fn solution_holds(row: &mut Reading<'_>) -> Option<bool> {
+    let (a, b, c) = three(&mut row.given)?;
     if a == 0 || b == 0 {
-        return Ok(false);
+        return None;
     }
     match solve_linear_diophantine_eq(wide(a), wide(b), wide(c)) {
         Some((least, apart)) => {
-            let due = (row.length()?, row.length()?);
-            Ok((least, apart) == (due.0 as i128, due.1 as i128))
+            let due = (row.answer.length()?, row.answer.length()?);
+            Some((least, apart) == (due.0 as i128, due.1 as i128))
         }
-        None => Ok(row.word()? == "none"),
+        None => Some(row.answer.is("none")),
     }
 }
 
-/// A row holds: two lists of numbers, and whether they share one.
-fn sequences_hold(row: &mut Row<'_>) -> Result<bool, TableError> {
-    let (first, second) = (list(row)?, list(row)?);
-    let due = row.word()? == "true";
-    Ok(first.2 != 0 && second.2 != 0 && arith_seq_intersect(first, second) == due)
-}
-
-/// What a row tells of numbers.
-#[derive(Clone, Copy)]
-pub enum OfNumbers {
-    /// A common divisor.
-    Divisor,
-    /// The solution of an equation.
-    Solution,
-    /// Whether two lists share a number.
-    Sequences,
-}
-
-/// A row holds.
-pub fn numbers_hold(row: &mut Row<'_>, asked: OfNumbers) -> Result<bool, TableError> {
-    match asked {
-        OfNumbers::Divisor => divisor_holds(row),
-        OfNumbers::Solution => solution_holds(row),
-        OfNumbers::Sequences => sequences_hold(row),
+/// Whether a row of `arith_seq_intersect` holds.
+pub fn sequences_hold(row: &mut Reading<'_>) -> Option<bool> {
+    let (first, second) = (three(&mut row.given)?, three(&mut row.given)?);
+    if first.2 == 0 || second.2 == 0 {
+        return None;
     }
-}
-
-const DIVISORS: &str = "\
-0 0 0 0 0
-0 5 5 0 1
-5 0 5 1 0
-0 -5 5 0 -1
--5 0 5 -1 0";
-
-const SOLUTIONS: &str = "\
--6 9 3 1 3
--9 6 3 1 2
-4 6 3 none
--9223372036854775808 9223372036854775807 -1 1 9223372036854775807
-9223372036854775807 -9223372036854775808 9223372036854775807 1 9223372036854775808";
-
-const SEQUENCES: &str = "\
-0 9 9 3 9 6 true
-0 0 9 3 3 6 false
--9223372036854775808 9223372036854775807 1 9223372036854775807 9223372036854775807 -9223372036854775808 true";
-
-#[test]
-fn r10_rows(rt: HostRuntime) {
-    let alloc = rt.alloc();
-    hold(&rt, alloc, Told::Numbers(OfNumbers::Divisor), DIVISORS);
-    hold(&rt, alloc, Told::Numbers(OfNumbers::Solution), SOLUTIONS);
-    hold(&rt, alloc, Told::Numbers(OfNumbers::Sequences), SEQUENCES);
+    let meet = arith_seq_intersect(first, second);
+    Some(row.answer.is(if meet { "true" } else { "false" }))
 }
 
 // ---- whole ranges
@@ -137,16 +91,31 @@ fn first_wrong_divisor(a: isize) -> Option<isize> {
 }
 
 #[test]
-fn r10_rows_of_divisors(rt: HostRuntime) {
+fn divisors_of_small_numbers(rt: HostRuntime) {
     for a in -20..=20isize {
         assert!(rt; first_wrong_divisor(a) == None, "{a}");
     }
 }
 
-/// The least number from one to another whose multiple by `a` differs from `c` by a multiple of `b`.
+/// Whether a number solves an equation: its multiple by `a` differs from `c` by a multiple of `b`.
+fn solves(a: i128, b: i128, c: i128, x: i128) -> bool {
+    divides(b, c.wrapping_sub(a.wrapping_mul(x)))
+}
+
+/// Whether a number solves an equation, and so do those up to three times as far from it as another tells.
+fn all_solve(a: i128, b: i128, c: i128, least: i128, apart: i128) -> bool {
+    for t in -3..=3isize {
+        if !solves(a, b, c, least.wrapping_add(apart.wrapping_mul(wide(t)))) {
+            return false;
+        }
+    }
+    true
+}
+
+/// The least number from one to another that solves an equation.
 fn least_solution(a: i128, b: i128, c: i128, from: i128, to: i128) -> Option<i128> {
     for x in from..to {
-        if divides(b, c.wrapping_sub(a.wrapping_mul(x))) {
+        if solves(a, b, c, x) {
             return Some(x);
         }
     }
@@ -158,7 +127,8 @@ fn has_solutions(a: i128, b: i128, c: i128, found: Option<(i128, i128)>) -> bool
     match found {
         Some((least, apart)) => {
             let next = least.wrapping_add(apart);
-            least_solution(a, b, c, 0, 8) == Some(least)
+            all_solve(a, b, c, least, apart)
+                && least_solution(a, b, c, 0, 8) == Some(least)
                 && least_solution(a, b, c, least.wrapping_add(1), 17) == Some(next)
         }
         None => least_solution(a, b, c, 0, 8) == None,
@@ -180,7 +150,7 @@ fn first_wrong_solution(a: isize, b: isize) -> Option<isize> {
 }
 
 #[test]
-fn r10_rows_of_equations(rt: HostRuntime) {
+fn solutions_of_small_equations(rt: HostRuntime) {
     for a in -8..=8isize {
         for b in -8..=8isize {
             assert!(rt; first_wrong_solution(a, b) == None, "{a} {b}");
@@ -230,7 +200,7 @@ fn first_wrong_list(first: (isize, isize, isize)) -> Option<usize> {
 }
 
 #[test]
-fn r10_rows_of_sequences(rt: HostRuntime) {
+fn all_short_lists(rt: HostRuntime) {
     for number in 0..LISTS {
         assert!(rt; first_wrong_list(numbered(number)) == None, "{number}");
     }

@@ -1,27 +1,24 @@
-//! Tests of slices, by the public calls of `nd_slice`.
+//! Tests of `nd_slice`, by its public calls: rows of its calls, all slices of short axes compared entry by entry,
+//! numbers under them over whole ranges, slices and elements as values, and arguments by their types.
 #![tactic(auto)]
 
 #[cfg(test)]
+mod answers;
+#[cfg(test)]
 mod arguments;
 #[cfg(test)]
-mod axis_slice;
+mod axis;
 #[cfg(test)]
-mod builders;
-#[cfg(test)]
-mod ends;
-#[cfg(test)]
-mod equality;
+mod calls;
 #[cfg(test)]
 mod equations;
 #[cfg(test)]
 mod info;
 #[cfg(test)]
-mod meet;
-#[cfg(test)]
-mod min_max;
-#[cfg(test)]
-mod tables;
+mod rows;
 #[cfg(test)]
 mod texts;
 #[cfg(test)]
 mod twin;
+#[cfg(test)]
+mod values;

@@ -1,6 +1,6 @@
 //! All slices of an axis of up to six entries with bounds from -6 to 6 or left out and steps from -4 to 4: two of them
 //! meet where an entry, of all those of the axis, is picked by both.
-use crate::meet::meeting;
+use crate::arguments::meeting;
 use Fit::{Clamp, Strict};
 use nd_base::new_ix1;
 use nd_slice::{Fit, Slice, SliceInfoElem};
@@ -30,23 +30,19 @@ struct Bounds {
 }
 
 /// What a bound means on an axis of so many entries.
-fn counted_bound(len: isize, bound: isize, fit: Fit) -> isize {
-    let bound = if bound < 0 {
-        len.wrapping_add(bound)
-    } else {
-        bound
-    };
+fn counted(len: isize, bound: isize, fit: Fit) -> isize {
+    let counted = bound.wrapping_add(if bound < 0 { len } else { 0 });
     match fit {
-        Strict => bound,
-        Clamp => bound.max(0).min(len),
+        Strict => counted,
+        Clamp => counted.max(0).min(len),
     }
 }
 
 /// What a slice means there.
-fn counted(len: isize, slice: Slice, fit: Fit) -> Bounds {
+fn meant(len: isize, slice: Slice, fit: Fit) -> Bounds {
     Bounds {
-        start: counted_bound(len, slice.start, fit),
-        end: counted_bound(len, slice.end.unwrap_or(len), fit),
+        start: counted(len, slice.start, fit),
+        end: counted(len, slice.end.unwrap_or(len), fit),
         step: slice.step,
     }
 }
@@ -81,10 +77,10 @@ fn answer(len: isize, first: Bounds, second: Bounds) -> &'static str {
 /// Whether that is answered of a slice and all others that have no fault there.
 fn is_answered(len: u8, first: Slice, fit: Fit) -> bool {
     let (dim, lens) = (new_ix1(len as usize), len as isize);
-    let one = counted(lens, first, fit);
+    let one = meant(lens, first, fit);
     for number in 0..COUNT {
         let second = numbered(number);
-        let other = counted(lens, second, fit);
+        let other = meant(lens, second, fit);
         if other.fits(lens) {
             let (first, second) = ([SliceInfoElem::from(first)], [SliceInfoElem::from(second)]);
             if meeting(&dim, &first, &second, fit) != answer(lens, one, other) {
@@ -99,7 +95,7 @@ fn is_answered(len: u8, first: Slice, fit: Fit) -> bool {
 fn first_wrong(len: u8, fit: Fit) -> Option<usize> {
     for number in 0..COUNT {
         let slice = numbered(number);
-        if counted(len as isize, slice, fit).fits(len as isize) && !is_answered(len, slice, fit) {
+        if meant(len as isize, slice, fit).fits(len as isize) && !is_answered(len, slice, fit) {
             return Some(number);
         }
     }
@@ -107,14 +103,14 @@ fn first_wrong(len: u8, fit: Fit) -> Option<usize> {
 }
 
 #[test]
-fn r10_rows_of_all_slices(rt: HostRuntime) {
+fn all_slices(rt: HostRuntime) {
     for len in 0..7u8 {
         assert!(rt; first_wrong(len, Strict) == None, "{len}");
     }
 }
 
 #[test]
-fn r14_rows_of_all_slices(rt: HostRuntime) {
+fn all_slices_with_moved_bounds(rt: HostRuntime) {
     for len in 0..3u8 {
         assert!(rt; first_wrong(len, Clamp) == None, "{len}");
     }

@@ -1,14 +1,32 @@
-//! Tests of `ndarray_layout` and `nd_owned`, by their public calls: of reshapes, of views and runs of steps, and of arrays that own
-//! their items. They stand in one crate, since a crate of tests costs the check some 20 seconds before its first test.
+//! Tests of `ndarray_layout` and `nd_owned`, by their public calls: rows of views, of reshapes, of runs and of
+//! arrays, all reshapes of small layouts, and memory that is not refused where it is there.
 #![tactic(auto)]
 
 #[cfg(test)]
-mod owned;
+mod answers;
 #[cfg(test)]
-mod reshape;
+mod array_rows;
 #[cfg(test)]
-mod tables;
+mod arrays;
 #[cfg(test)]
-mod view;
+mod calls;
 #[cfg(test)]
-mod words;
+mod items;
+#[cfg(test)]
+mod layout;
+#[cfg(test)]
+mod memory;
+#[cfg(test)]
+mod reshape_rows;
+#[cfg(test)]
+mod reshapes;
+#[cfg(test)]
+mod runs;
+#[cfg(test)]
+mod sequences;
+#[cfg(test)]
+mod twin;
+#[cfg(test)]
+mod view_rows;
+#[cfg(test)]
+mod views;

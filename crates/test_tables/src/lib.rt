@@ -1,13 +1,19 @@
-//! What the tests of several crates share: the names of errors, which values are equal, what is printed, requests for
-//! memory, tables as text with their lists and slice arguments, and questions asked at a type that a row names.
+//! What the tests of several crates share: rows of tables and their words, questions asked at a dimension type that a
+//! row names, the names of errors, which values are equal, what is printed, requests for memory.
+//!
+//! A table is lines, and each is a row: `CALL ARG ARG .. => ANSWER`. Words are parted by spaces. A word is a name, a
+//! number, a list of numbers (`2,3,-1`, or `-` for none), slice elements (`1..4;2`, `-1`, `NewAxis`, with commas
+//! between them), or the name of a dimension type (`Ix0` to `Ix6`, `IxDyn`). Negative lengths and strides are kept
+//! by their bits. A row that can't be read fails its test, and so does an empty table.
 #![tactic(auto)]
 
 mod equality;
 mod faults;
 mod lists;
 mod memory;
+mod row;
 mod slices;
-mod table;
+mod tables;
 mod texts;
 mod types;
 
@@ -15,7 +21,7 @@ pub use equality::{are_distinct, hash_of};
 pub use faults::{fault_of, layout_fault_name, name_of, or_fault};
 pub use lists::{List, Lists, made};
 pub use memory::grants;
-pub use slices::{elem, elems};
-pub use table::{Row, TableError, rows};
+pub use row::{Reading, Row, Words};
+pub use tables::{Asked, hold, meaning, row_holds};
 pub use texts::is_printed;
-pub use types::{AtType, at_type};
+pub use types::{AtType, at_each_type, at_type};

@@ -1,8 +1,8 @@
-//! The lists of a row of a table, and the values that stand for lists.
+//! The lists of a row, and the values that stand for lists.
 ghost use Rattle.std.specs.Prelude.{◌≡◌, ◌≤◌, IfSome};
 
-use crate::table::{Row, entry};
-use nd_base::Lengths;
+use crate::row::Words;
+use nd_base::{Lengths, unsigned};
 use std::alloc::Global;
 
 /// A list of a row, of at most 16 numbers. It takes no memory, so a row can be read where memory is
@@ -15,6 +15,12 @@ pub struct List {
 }
 
 impl List {
+    /// The empty list.
+    const NONE: List = List {
+        entries: [0; 16],
+        count: 0,
+    };
+
     /// Its numbers.
     pub fn as_slice(&self) -> &[usize] {
         &self.entries[..self.count]
@@ -30,20 +36,23 @@ impl List {
         })
     }
 
+    /// The list that a word tells; `None` where a part of it is no number, or there are more than 16.
+    pub fn read(word: &str) -> Option<List> {
+        let mut list = List::NONE;
+        if word == "-" {
+            return Some(list);
+        }
+        for part in word.split(',') {
+            list.push(entry(part)?)?;
+        }
+        Some(list)
+    }
+
     /// Adds a number; `None` where there is no room for it.
     fn push(&mut self, number: usize) -> Option<()> {
         *self.entries.get_mut(self.count)? = number;
         self.count += 1;
         Some(())
-    }
-
-    /// Adds the number that a part of a word spells, where the part isn't `-`; `None` where it is no
-    /// number or there is no room.
-    fn read(&mut self, part: &str) -> Option<()> {
-        if part == "-" {
-            return Some(());
-        }
-        self.push(entry(part)?)
     }
 
     /// The number at a place, or the greatest `usize`, which is no axis, past the end.
@@ -52,50 +61,41 @@ impl List {
     }
 }
 
-/// The lists of a row: numbers separated by commas, negative ones by their bits. Those that the row
-/// doesn't have are empty. The answer stands after an arrow, where a row has one.
+/// Up to four lists that a call takes. Those that the row doesn't have are empty.
 #[derive(Clone, Copy)]
-pub struct Lists<'a> {
+pub struct Lists {
     pub first: List,
     pub second: List,
     pub third: List,
     pub fourth: List,
-    pub answer: &'a str,
 }
 
-impl<'a> Lists<'a> {
-    /// The lists of a row; `None` where an entry is no number, or a list has more than 16.
-    pub fn read(line: &'a str) -> Option<Lists<'a>> {
-        let (lists, answer) = line.split_once(" => ").unwrap_or((line, ""));
-        let mut row = Row::new(lists);
-        let (first, second) = next_two(&mut row)?;
-        let (third, fourth) = next_two(&mut row)?;
-        Some(Lists {
+impl Lists {
+    /// The lists of a text; `None` where a word is no list, or there are more than four.
+    pub fn read(text: &str) -> Option<Lists> {
+        let mut lists = [List::NONE; 4];
+        let mut words = text.split_whitespace();
+        for list in &mut lists {
+            *list = List::read(words.next().unwrap_or("-"))?;
+        }
+        let [first, second, third, fourth] = lists;
+        let lists = Lists {
             first,
             second,
             third,
             fourth,
-            answer,
-        })
+        };
+        words.next().is_none().then_some(lists)
     }
 }
 
-/// The next two words of a row as lists.
-fn next_two(row: &mut Row<'_>) -> Option<(List, List)> {
-    let first = next_list(row)?;
-    Some((first, next_list(row)?))
-}
-
-/// The next word of a row as a list, or the empty one after the last word.
-fn next_list(row: &mut Row<'_>) -> Option<List> {
-    let mut list = List {
-        entries: [0; 16],
-        count: 0,
-    };
-    for part in row.word().unwrap_or("-").split(',') {
-        list.read(part)?;
+/// A length, or a negative stride by its bits; `None` where the text is no such number.
+pub(crate) fn entry(part: &str) -> Option<usize> {
+    if part.starts_with('-') {
+        let stride: isize = part.parse().ok()?;
+        return Some(unsigned(stride));
     }
-    Some(list)
+    part.parse().ok()
 }
 
 /// The value of a type that stands for a list; `None` where the type has another count of axes, or

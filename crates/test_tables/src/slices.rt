@@ -1,59 +1,53 @@
-//! Slice arguments as words of a row.
-use crate::table::{Row, TableError};
+//! Slice elements as words of a row.
+use crate::row::Words;
 use SliceInfoElem::{Index, NewAxis, Slice};
 use nd_slice::SliceInfoElem;
 use std::alloc::Global;
 
-/// The number that a word spells.
-fn number(word: &str) -> Result<isize, TableError> {
-    word.parse().ok().ok_or(TableError::NotANumber)
-}
-
 /// The bound that a word spells; none where nothing is written.
-fn bound(word: &str) -> Result<Option<isize>, TableError> {
+fn bound(word: &str) -> Option<Option<isize>> {
     if word == "" {
-        return Ok(None);
+        return Some(None);
     }
-    Ok(Some(number(word)?))
+    Some(Some(word.parse().ok()?))
 }
 
 /// A range whose end and step stand after its dots.
-fn range(start: &str, rest: &str) -> Result<SliceInfoElem, TableError> {
+fn range(start: &str, rest: &str) -> Option<SliceInfoElem> {
     let (end, step) = rest.split_once(";").unwrap_or((rest, "1"));
-    Ok(Slice {
+    Some(Slice {
         start: bound(start)?.unwrap_or(0),
         end: bound(end)?,
-        step: number(step)?,
+        step: step.parse().ok()?,
     })
 }
 
 /// The element that a word spells: `3`, `1..`, `..4`, `1..;-2` or `NewAxis`.
-fn spelled(word: &str) -> Result<SliceInfoElem, TableError> {
+fn spelled(word: &str) -> Option<SliceInfoElem> {
     if word == "NewAxis" {
-        return Ok(NewAxis);
+        return Some(NewAxis);
     }
     match word.split_once("..") {
         Some((start, rest)) => range(start, rest),
-        None => Ok(Index(number(word)?)),
+        None => Some(Index(word.parse().ok()?)),
     }
 }
 
-/// The next word of a row as one element.
-///
-/// Errors: `MissingWord`, then `NotANumber`.
-pub fn elem(row: &mut Row<'_>) -> Result<SliceInfoElem, TableError> {
-    spelled(row.word()?)
-}
+impl Words<'_> {
+    /// A slice element.
+    pub fn elem(&mut self) -> Option<SliceInfoElem> {
+        spelled(self.word()?)
+    }
 
-/// The next word of a row as elements, separated by commas; `-` for none.
-///
-/// Errors: `MissingWord`; `NotANumber` or `Memory` at the first element that is none or finds no room.
-pub fn elems(alloc: Global, row: &mut Row<'_>) -> Result<Vec<SliceInfoElem>, TableError> {
-    let mut elems = Vec::new(alloc);
-    for part in row.word()?.split(',') {
-        if part != "-" {
-            elems.push(spelled(part)?)?;
+    /// Slice elements; `None` as well where memory is refused.
+    pub fn elems(&mut self, alloc: Global) -> Option<Vec<SliceInfoElem>> {
+        let word = self.word()?;
+        let mut elems = Vec::new(alloc);
+        for part in word.split(',') {
+            if word != "-" {
+                elems.push(spelled(part)?).ok()?;
+            }
         }
+        Some(elems)
     }
-    Ok(elems)
 }

@@ -1,0 +1,71 @@
+//! A slice of one axis, and the least and the greatest entry that it picks.
+ghost use Rattle.std.specs.Prelude.{◌<◌, ◌≤◌, ◌^◌, IsTrue};
+ghost use Rattle.nd_base.specs.Size.{limit};
+ghost use Rattle.nd_base.specs.Span.{reach};
+
+use nd_base::{new_ix2, signed, unsigned};
+use nd_slice::{
+    Fit, Slice, SliceInfoElem, do_collapse_axis, do_slice, slice_min_max, to_abs_slice,
+};
+use test_tables::{Reading, Words, name_of};
+
+/// The slice that the next word spells.
+fn slice(words: &mut Words<'_>) -> Option<Slice> {
+    match words.elem()? {
+        SliceInfoElem::Slice { start, end, step } => Some(Slice { start, end, step }),
+        _ => None,
+    }
+}
+
+/// Whether a length and a stride can be those of an axis.
+fn is_axis(len: usize, stride: isize) -> bool
+    ensures { IsTrue result → (len < 2 ^ 63) × (reach len stride ≤ limit) }
+{
+    let reach = len.saturating_sub(1) as u128 * stride.unsigned_abs() as u128;
+    len <= isize::MAX as usize && reach <= isize::MAX as u128
+}
+
+/// Whether the answer is what a slice of an axis gives, and the length and the stride that the axis has afterwards.
+fn gives(row: &mut Reading<'_>, len: usize, stride: isize, slice: Slice, fit: Fit) -> Option<bool>
+    requires len_fits { len < 2 ^ 63 }
+    requires span_fits { reach len stride ≤ limit }
+{
+    let (mut len, mut stride) = (len, unsigned(stride));
+    let answers = match do_slice(&mut len, &mut stride, slice, fit) {
+        Ok(offset) => row.answer.number()? == offset,
+        Err(fault) => row.answer.is(name_of(Some(fault.kind()))),
+    };
+    Some(answers && row.answer.length()? == len && row.answer.number()? == signed(stride))
+}
+
+/// Whether a row of `do_slice` holds.
+pub fn slice_holds(row: &mut Reading<'_>, fit: Fit) -> Option<bool> {
+    let (len, stride, slice) = (
+        row.given.length()?,
+        row.given.number()?,
+        slice(&mut row.given)?,
+    );
+    if !is_axis(len, stride) {
+        return None;
+    }
+    gives(row, len, stride, slice, fit)
+}
+
+/// Whether a row of `slice_min_max` holds.
+pub fn ends_hold(row: &mut Reading<'_>, fit: Fit) -> Option<bool> {
+    let (len, slice) = (row.given.length()?, slice(&mut row.given)?);
+    if to_abs_slice(len, slice, fit).is_err() {
+        return None;
+    }
+    match slice_min_max(len, slice, fit) {
+        Some(ends) => Some((row.answer.length()?, row.answer.length()?) == ends),
+        None => Some(row.answer.is("none")),
+    }
+}
+
+#[test]
+fn one_entry_of_an_axis(rt: HostRuntime) {
+    let (strides, mut lens) = (new_ix2(unsigned(-3), 1), new_ix2(2, 3));
+    let offset = do_collapse_axis(&mut lens, &strides, 0, 1);
+    assert!(rt; lens == new_ix2(1, 3) && offset == -3);
+}

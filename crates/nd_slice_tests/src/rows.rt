@@ -1,0 +1,166 @@
+//! Rows of the calls.
+use crate::calls::Calls;
+use test_tables::{hold, row_holds};
+
+#[test]
+fn r1_rows(rt: HostRuntime) {
+    let table = "\
+do_slice 4 1 3..1 => 0 0 0
+do_slice 4 1 5..2 => OutOfBounds 4 1
+do_slice 4 1 0..0;0 => Unsupported 4 1
+do_slice 4 1 9..0;0 => OutOfBounds 4 1
+do_slice 4 1 1..;-2 => 3 2 -2";
+    hold(&rt, rt.alloc(), table, &Calls);
+}
+
+/// The first fault of an argument, and of two that of the first one.
+const FAULTS: &str = "\
+check_slice Ix2 4,5 .. => IncompatibleShape
+check_slice Ix2 4,5 9..,..;0 => OutOfBounds
+check_slice Ix2 4,5 ..;0,9.. => Unsupported
+check_slice IxDyn 2,3,1,2,4 -1,..,0,NewAxis,2..;-1,-4 => fits
+slices_intersect Ix2 4,5 9..,.. ..;0,.. => OutOfBounds
+slices_intersect Ix2 4,5 ..1,..;0 2..,9.. => Unsupported";
+
+const LEAST_AND_GREATEST: &str = "\
+slice_min_max 0 ..;3 => none
+slice_min_max 10 -1..-1;-3 => none
+slice_min_max 10 1..8;3 => 1 7
+slice_min_max 11 1..;3 => 1 10
+slice_min_max 10 1..8;-3 => 1 7
+slice_min_max 10 2..8;-3 => 4 7
+slice_min_max 9 2..;-3 => 2 8
+slice_min_max 9 3..;-3 => 5 8
+slice_min_max 10 1..1;3 => none
+slice_min_max 10 -1..-1;3 => none
+slice_min_max 10 1..1;-3 => none
+slice_min_max 10 1..9;3 => 1 7
+slice_min_max 10 -9..8;3 => 1 7
+slice_min_max 10 -9..9;3 => 1 7
+slice_min_max 10 1..-2;3 => 1 7
+slice_min_max 10 1..-1;3 => 1 7
+slice_min_max 10 -9..-2;3 => 1 7
+slice_min_max 10 -9..-1;3 => 1 7
+slice_min_max 10 1..;3 => 1 7
+slice_min_max 10 -9..;3 => 1 7
+slice_min_max 10 -9..8;-3 => 1 7
+slice_min_max 10 1..-2;-3 => 1 7
+slice_min_max 10 -9..-2;-3 => 1 7
+slice_min_max 10 -8..8;-3 => 4 7
+slice_min_max 10 2..-2;-3 => 4 7
+slice_min_max 10 -8..-2;-3 => 4 7
+slice_min_max 11 -10..;3 => 1 10
+slice_min_max 9 -7..;-3 => 2 8
+slice_min_max 9 -6..;-3 => 5 8";
+
+/// Arguments with new axes, steps and indices, without axes and without entries.
+const MEETING: &str = "\
+slices_intersect Ix2 4,5 NewAxis,..,NewAxis,.. ..,NewAxis,..,NewAxis => meet
+slices_intersect Ix2 4,5 ..;2,.. ..;3,NewAxis,.. => meet
+slices_intersect Ix2 4,5 ..,..;2 ..,1..;3,NewAxis => meet
+slices_intersect Ix2 4,5 ..;2,.. NewAxis,1..;2,.. => apart
+slices_intersect Ix2 4,5 ..;2,.. 1..;3,.. => apart
+slices_intersect Ix2 4,5 NewAxis,0,.. 0,.. => meet
+slices_intersect Ix2 4,5 ..;2,NewAxis,.. 1..;3,.. => apart
+slices_intersect Ix2 4,5 ..,..;9 ..,3..;6,NewAxis => apart
+slices_intersect Ix2 4,10 ..,..;9 ..,3..;6 => meet
+slices_intersect Ix2 4,5 ..,..;9 ..,3..;6 => apart
+slices_intersect Ix1 5 ..;-9223372036854775808 4 => meet
+slices_intersect Ix1 5 5 5 => OutOfBounds
+slices_intersect Ix0 - - - => meet
+slices_intersect Ix1 0 .. .. => apart";
+
+#[test]
+fn r4_rows(rt: HostRuntime) {
+    for table in [FAULTS, LEAST_AND_GREATEST, MEETING] {
+        hold(&rt, rt.alloc(), table, &Calls);
+    }
+}
+
+/// Numbers under slices that meet.
+const NUMBERS: &str = "\
+extended_gcd 0 0 => 0 0 0
+extended_gcd 0 5 => 5 0 1
+extended_gcd 5 0 => 5 1 0
+extended_gcd 0 -5 => 5 0 -1
+extended_gcd -5 0 => 5 -1 0
+solve_linear_diophantine_eq -6 9 3 => 1 3
+solve_linear_diophantine_eq -9 6 3 => 1 2
+solve_linear_diophantine_eq 4 6 3 => none
+solve_linear_diophantine_eq -9223372036854775808 9223372036854775807 -1 => 1 9223372036854775807
+arith_seq_intersect 0 9 9 3 9 6 => true
+arith_seq_intersect 0 0 9 3 3 6 => false
+arith_seq_intersect -9223372036854775808 9223372036854775807 1 \
+9223372036854775807 9223372036854775807 -9223372036854775808 => true";
+
+/// Steps of every size, on axes of every length: a body that looks at each entry doesn't end.
+const STEPS: &str = "\
+slices_intersect Ix1 9 ..;4 2..;6 => meet
+slices_intersect Ix1 8 ..;4 2..;6 => apart
+slices_intersect Ix1 9223372036854775807 ..;-9223372036854775808 ..;2 => meet
+slices_intersect Ix1 9223372036854775807 ..;-9223372036854775808 1..;2 => apart
+slices_intersect Ix1 9223372036854775807 ..;6 3..;4 => apart
+slices_intersect Ix1 9223372036854775807 ..;4611686018427387904 1..;4611686018427387903 => meet
+slices_intersect Ix1 9223372036854775807 ..;4611686018427387904 2..;4611686018427387903 => apart
+slices_intersect IxDyn 9223372036854775807,9223372036854775807 9223372036854775806,..;6 -1,3..;3 => meet";
+
+#[test]
+fn r10_rows(rt: HostRuntime) {
+    hold(&rt, rt.alloc(), NUMBERS, &Calls);
+    hold(&rt, rt.alloc(), STEPS, &Calls);
+}
+
+#[test]
+fn r12_rows(rt: HostRuntime) {
+    let table = "\
+do_slice 9223372036854775807 1 ..;-9223372036854775808 => 9223372036854775806 1 0
+do_slice 9223372036854775807 1 ..;9223372036854775806 => 0 2 9223372036854775806
+do_slice 9223372036854775807 1 -9223372036854775808.. => OutOfBounds 9223372036854775807 1
+do_slice 1 -9223372036854775808 ..;-1 => 0 1 0
+slice_min_max 18446744073709551615 ..;-9223372036854775808 => 9223372036854775806 18446744073709551614
+check_slice Ix1 18446744073709551615 -9223372036854775808 => fits
+check_slice_clamped Ix1 9223372036854775807 -9223372036854775808 => OutOfBounds";
+    hold(&rt, rt.alloc(), table, &Calls);
+}
+
+/// Bounds that are moved to the ends of their axis, and indices, which are not.
+const CLAMPED: &str = "\
+do_slice_clamped 4 1 3..9 => 3 1 0
+do_slice_clamped 4 1 -9..9;-2 => 3 2 -2
+do_slice_clamped 4 1 5..2 => 0 0 0
+do_slice_clamped 4 1 9..;0 => Unsupported 4 1
+slice_min_max_clamped 10 -20..8;3 => 0 6
+check_slice_clamped Ix2 4,5 9..,-9..;2 => fits
+check_slice_clamped Ix2 4,5 9..,5 => OutOfBounds
+check_slice_clamped Ix2 4,5 9..;0,9 => Unsupported
+slices_intersect_clamped Ix1 5 -9..3 2..99 => meet
+slices_intersect_clamped Ix1 5 9.. .. => apart
+slices_intersect_clamped Ix1 5 9 .. => OutOfBounds";
+
+#[test]
+fn r14_rows(rt: HostRuntime) {
+    hold(&rt, rt.alloc(), CLAMPED, &Calls);
+}
+
+// A line that is no row of a known call, or that can't be read to its end, holds nowhere.
+#[test]
+fn lines_that_are_no_rows(rt: HostRuntime) {
+    let lines = [
+        "",
+        "check_slice Ix1 4 ..",
+        "check_slise Ix1 4 .. => fits",
+        "check_slice Ix7 4 .. => fits",
+        "check_slice Ix2 4 .. => fits",
+        "check_slice Ix1 4x .. => fits",
+        "check_slice Ix1 4 1.. ..",
+        "check_slice Ix1 4 => fits",
+        "check_slice Ix1 4 1..;x => fits",
+        "do_slice 4 1 .. => 0 4",
+        "do_slice 4 1 2 => 0 4 1",
+        "slices_intersect Ix1 9223372036854775808 .. .. => meet",
+    ];
+    for line in lines {
+        assert!(rt; !row_holds(rt.alloc(), line, &Calls), "{line}");
+    }
+    assert!(rt; row_holds(rt.alloc(), "check_slice Ix1 4 .. => fits", &Calls));
+}

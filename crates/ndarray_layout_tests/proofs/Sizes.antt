@@ -1,2 +1,0 @@
--- Laws that `using(..)` of this crate's functions names.
-pub use Rattle.ndarray_layout.proofs.laws.NonzeroSize.{size_le_nonzero_size}

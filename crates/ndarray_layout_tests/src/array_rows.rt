@@ -1,0 +1,42 @@
+//! Rows of arrays that own their items, 0 and so on.
+use crate::calls::Calls;
+use test_tables::hold;
+
+/// Two rows of three items, with a spare one.
+const TWO_ROWS: &str = "\
+items Ix2 2,3 C 7 ..;-1,1.. => 4,5,1,2
+multi_set Ix2 2,3 C 7 0,.. 10,11,12 1,..;2 20,21 => Ok 10,11,12,20,4,21,6
+multi_set Ix2 2,3 C 7 0,.. 10,11,12 ..,0 20,21 => Unsupported 0,1,2,3,4,5,6
+multi_set Ix2 2,3 C 7 ..,0 10 => IncompatibleShape 0,1,2,3,4,5,6
+multi_set Ix2 2,3 C 7 ..,0 10 9,.. 20,21,22 => OutOfBounds 0,1,2,3,4,5,6
+multi_set Ix2 2,3 C 7 0..0,.. - => Ok 0,1,2,3,4,5,6
+set Ix2 2,3 C 7 1,3 9 => false 0,1,2,3,4,5,6
+from_shape_vec Ix2 2,3 C 5 => OutOfBounds 0,1,2,3,4
+items Ix2 2,3 -3,1 6 ..,.. => 3,4,5,0,1,2";
+
+#[test]
+fn r15_rows(rt: HostRuntime) {
+    hold(&rt, rt.alloc(), TWO_ROWS, &Calls);
+}
+
+/// Arrays of no axes, of six, and of more axes than a list has.
+const OTHER_COUNTS: &str = "\
+multi_set Ix2 2,3 C 7 => Ok 0,1,2,3,4,5,6
+multi_set Ix0 - C 2 - 7 NewAxis 8 => Unsupported 0,1
+multi_set Ix0 - C 2 NewAxis,NewAxis 7 => Ok 7,1
+items Ix0 - C 3 NewAxis => 0
+get Ix2 2,3 -3,-1 8 1,2 => 0
+get IxDyn 4 C 4 0,0 => none
+set Ix0 - C 2 - 9 => true 9,1
+from_shape_vec IxDyn 2,1,2,1,2,1 C 8 => Ok 0,1,2,3,4,5,6,7
+from_shape_vec IxDyn 2,1,2,1,2,1 F 7 => OutOfBounds 0,1,2,3,4,5,6
+items IxDyn 2,1,2,1,2,1 7,9,-3,9,1,9 13 ..,..,..,..,..,.. => 3,4,0,1,10,11,7,8
+multi_set IxDyn 2,1,2,1,2,1 7,9,-3,9,1,9 13 1,0,..,0,..;-1,-1 20,21,22,23 0,..,1,..,..,.. 30,31 => \
+Ok 30,31,2,3,4,5,6,23,22,9,21,20,12
+multi_set IxDyn 2,1,2,1,2,1 7,9,-3,9,1,9 13 0,0,..,0,0,0 1,2 ..,..,1,..,0,.. 3,4 => \
+Unsupported 0,1,2,3,4,5,6,7,8,9,10,11,12";
+
+#[test]
+fn arrays_at_many_types(rt: HostRuntime) {
+    hold(&rt, rt.alloc(), OTHER_COUNTS, &Calls);
+}

@@ -1,0 +1,52 @@
+//! The calls of rows, by their names.
+use crate::arrays::{OfArray, array_holds};
+use crate::reshapes::reshape_holds;
+use crate::runs::run_holds;
+use crate::views::{OfView, view_holds};
+use Call::{Array, Reshape, Run, View};
+use Order::{ColumnMajor, RowMajor};
+use ndarray_layout::Order;
+use std::alloc::Global;
+use test_tables::{Asked, Row, meaning};
+
+/// A call. A view is told by its shape, its strides, its start, and its places by rows.
+#[derive(Clone, Copy)]
+enum Call {
+    /// `TYPE ..`: of a view.
+    View(OfView),
+    /// A run of steps.
+    Run,
+    /// `SHAPE STRIDES SHAPE => STRIDES`, or the fault.
+    Reshape(Order),
+    /// `TYPE SHAPE C|F|STRIDES COUNT ..`: of an array of the items 0 and so on, with the items that it then has.
+    Array(OfArray),
+}
+
+static CALLS: [(&str, Call); 11] = [
+    ("new", View(OfView::New)),
+    ("from_shape", View(OfView::FromShape)),
+    ("slice_in_order", View(OfView::SliceInOrder)),
+    ("run", Run),
+    ("reshape_dim_C", Reshape(RowMajor)),
+    ("reshape_dim_F", Reshape(ColumnMajor)),
+    ("from_shape_vec", Array(OfArray::FromShapeVec)),
+    ("items", Array(OfArray::Items)),
+    ("get", Array(OfArray::Get)),
+    ("set", Array(OfArray::Set)),
+    ("multi_set", Array(OfArray::MultiSet)),
+];
+
+/// Rows of calls.
+pub struct Calls;
+
+impl Asked for Calls {
+    fn holds(&self, alloc: Global, row: &Row<'_>) -> Option<bool> {
+        let reading = &mut row.reading();
+        match meaning(&CALLS, row.call)? {
+            View(asked) => view_holds(alloc, reading, asked),
+            Run => run_holds(alloc, reading),
+            Reshape(order) => reshape_holds(alloc, row, order),
+            Array(asked) => array_holds(alloc, reading, asked),
+        }
+    }
+}

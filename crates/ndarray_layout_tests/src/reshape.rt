@@ -1,6 +1,0 @@
-//! Tests of `reshape_dim`.
-mod answers;
-pub mod asked;
-mod memory;
-mod rows;
-mod twin;

@@ -1,0 +1,115 @@
+//! Rows of views: how they are made, what is made of them, and runs of steps.
+use crate::calls::Calls;
+use test_tables::hold;
+
+#[test]
+fn r1_rows(rt: HostRuntime) {
+    let table = "\
+new Ix2 8 read 3,2 2,3 => 3,2 2,3 0 0,3,2,5,4,7
+new Ix2 8 owned 3,2 2,3 => Unsupported
+new Ix2 2 owned 1,2 -9223372036854775808,1 => 1,2 -9223372036854775808,1 0 0,1
+run 4 owned 4 1 slice 1..;-2 => 2 -2 3 3,1
+run 4 owned 4 1 slice 2..2 => 0 0 0 -
+run 6 owned 2,3 3,1 slice 1.. => 0 IncompatibleShape 2,3 3,1 0";
+    hold(&rt, rt.alloc(), table, &Calls);
+}
+
+#[test]
+fn r3_rows(rt: HostRuntime) {
+    let table = "\
+new Ix3 8 owned 2,2,2 4,-2,1 => 2,2,2 4,-2,1 2 2,3,0,1,6,7,4,5
+new Ix3 8 owned 2,2,2 3,2,1 => Unsupported
+new Ix2 6 owned 2,3 -3,-1 => 2,3 -3,-1 5 5,4,3,2,1,0
+new Ix0 1 owned - - => - - 0 0
+new Ix0 0 owned - - => OutOfBounds
+from_shape Ix2 6 2,3 F => 2,3 1,2 0 0,2,4,1,3,5
+from_shape Ix2 5 2,3 F => OutOfBounds";
+    hold(&rt, rt.alloc(), table, &Calls);
+}
+
+#[test]
+fn r4_rows(rt: HostRuntime) {
+    let table = "\
+run 24 owned 2,3,4 12,4,1 slice ..,1..;-1,0..4;2 => 2,2,2 12,-4,2 8 8,10,4,6,20,22,16,18
+run 6 owned 2,3 3,1 slice 1,NewAxis,.. => 1,3 0,1 3 3,4,5
+run 1 owned - - slice - => - - 0 0
+run 6 owned 2,3 3,1 slice ..;-1,.. slice 0,1.. => 2 1 4 4,5
+run 6 owned 2,3 3,1 collapse 0 1 => 1,3 3,1 3 3,4,5
+run 6 owned 2,3 3,1 collapse 0 2 => 0 OutOfBounds 2,3 3,1 0";
+    hold(&rt, rt.alloc(), table, &Calls);
+}
+
+/// Merged axes, stretched axes, and slices of five rows of five in order.
+const JOINED: &str = "\
+run 6 owned 2,3 3,1 merge 1 1 => 0 Unsupported 2,3 3,1 0
+run 6 owned 2,3 3,1 merge 0 5 => 0 OutOfBounds 2,3 3,1 0
+run 6 owned 3,2 2,1 merge 0 1 => 1,6 2,1 0 0,1,2,3,4,5
+run 0 owned 1,0 0,0 merge 0 1 => 0,0 0,0 0 -
+run 3 owned 3,1 1,7 broadcast 2,3,4 => 2,3,4 0,1,0 0 0,0,0,0,1,1,1,1,2,2,2,2,0,0,0,0,1,1,1,1,2,2,2,2
+run 6 owned 2,3 3,1 broadcast 3 => 0 IncompatibleShape 2,3 3,1 0
+run 1 owned 1 5 broadcast 4611686018427387904,4 => 0 Overflow 1 5 0
+slice_in_order Ix2 25 owned 5,5 5,1 ..,.. => by_rows 5,5 5,1
+slice_in_order Ix2 25 owned 5,5 1,5 ..,.. => by_columns 5,5 1,5
+slice_in_order Ix2 25 owned 5,5 5,1 ..1,.. => both_ways 1,5 0,1
+slice_in_order Ix2 25 owned 5,5 5,1 ..,..1 => neither_way 5,1 5,0
+slice_in_order Ix2 25 owned 5,5 5,1 1..,.. => by_rows 4,5 5,1
+slice_in_order Ix2 25 owned 5,5 5,1 ..,1.. => neither_way 5,4 5,1
+slice_in_order Ix2 25 owned 5,5 1,5 ..,1.. => by_columns 5,4 1,5
+slice_in_order Ix2 25 owned 5,5 5,1 ..;2,.. => neither_way 3,5 10,1";
+
+#[test]
+fn r5_rows(rt: HostRuntime) {
+    hold(&rt, rt.alloc(), JOINED, &Calls);
+}
+
+#[test]
+fn r6_rows(rt: HostRuntime) {
+    let table = "\
+run 6 owned 2,3 3,1 reshape_C 3,2 => 3,2 2,1 0 0,1,2,3,4,5
+run 6 owned 2,3 3,1 reshape_F 3,2 => 0 IncompatibleLayout 2,3 3,1 0
+run 24 owned 2,3,4 12,4,1 slice ..,1..;-1,0..4;2 reshape_C 4,2 => 1 IncompatibleLayout 2,2,2 12,-4,2 8
+run 0 owned 0,2 0,0 reshape_C 5,0 reshape_C 1 => 1 IncompatibleShape 5,0 0,0 0
+run 6 owned 2,3 3,1 reshape_C 9223372036854775807,2 => 0 Overflow 2,3 3,1 0
+run 6 owned 2,3 3,1 reshape_C 0,6 => 0 IncompatibleShape 2,3 3,1 0
+run 6 owned 2,3 3,1 reshape_C 4 => 0 IncompatibleShape 2,3 3,1 0";
+    hold(&rt, rt.alloc(), table, &Calls);
+}
+
+#[test]
+fn r8_rows(rt: HostRuntime) {
+    let table = "\
+run 6 owned 2,3 3,1 collapse 0 1 merge 0 1 broadcast 2,2,3 => 2,2,3 0,0,1 3 3,4,5,3,4,5,3,4,5,3,4,5
+run 6 owned 2,3 3,1 merge 0 0 => 0 Unsupported 2,3 3,1 0
+run 6 owned 2,3 3,1 merge 1 0 => 0 IncompatibleLayout 2,3 3,1 0
+run 6 owned 2,3 3,1 collapse 1 3 => 0 OutOfBounds 2,3 3,1 0
+run 24 owned 2,3,4 12,4,1 collapse 1 2 merge 0 1 reshape_C 2,2,2 => 2,2,2 12,2,1 8 8,9,10,11,20,21,22,23
+run 24 owned 2,3,4 12,4,1 collapse 1 2 merge 0 1 reshape_C 8 => 2 IncompatibleLayout 1,2,4 12,12,1 8";
+    hold(&rt, rt.alloc(), table, &Calls);
+}
+
+#[test]
+fn r14_rows(rt: HostRuntime) {
+    let table = "\
+run 4 owned 4 1 clamp -9..9;-2 => 2 -2 3 3,1
+run 4 owned 4 1 slice -9..9;-2 => 0 OutOfBounds 4 1 0
+run 4 owned 4 1 clamp 5..2 => 0 0 0 -
+run 4 owned 4 1 clamp 4 => 0 OutOfBounds 4 1 0
+run 4 owned 4 1 clamp 9..;0 => 0 Unsupported 4 1 0";
+    hold(&rt, rt.alloc(), table, &Calls);
+}
+
+/// More than four axes, which take memory of their own.
+const MORE_AXES: &str = "\
+new IxDyn 12 owned 2,1,3,1,2 -6,9,1,9,3 => 2,1,3,1,2 -6,9,1,9,3 6 6,9,7,10,8,11,0,3,1,4,2,5
+from_shape IxDyn 12 2,1,3,1,2 F => 2,1,3,1,2 1,2,2,6,6 0 0,6,2,8,4,10,1,7,3,9,5,11
+from_shape IxDyn 12 2,1,3,1,2 C => 2,1,3,1,2 6,6,2,2,1 0 0,1,2,3,4,5,6,7,8,9,10,11
+run 4 owned 4 1 slice NewAxis,NewAxis,NewAxis,NewAxis,..;-1,NewAxis,NewAxis,NewAxis => \
+1,1,1,1,4,1,1,1 0,0,0,0,-1,0,0,0 3 3,2,1,0
+run 6 owned 2,3 3,1 broadcast 1,1,1,2,2,3 slice ..,0,..,..,..,NewAxis,.. reshape_C 1,1,1,2,2,3,1 => \
+1,1,1,2,2,3,1 0,0,1,0,3,1,1 0 0,1,2,3,4,5,0,1,2,3,4,5
+run 6 owned 2,3 3,1 broadcast 1,1,1,2,2,3 merge 5 4 => 1 IncompatibleLayout 1,1,1,2,2,3 0,0,0,0,3,1 0";
+
+#[test]
+fn more_than_four_axes(rt: HostRuntime) {
+    hold(&rt, rt.alloc(), MORE_AXES, &Calls);
+}
