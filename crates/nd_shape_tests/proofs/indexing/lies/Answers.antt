@@ -1,0 +1,16 @@
+-- A list whose offset is given may be looked up unchecked.
+use Rattle.std.proofs.Common.{sym, ◌∙◌}
+use Rattle.nd_base.proofs.laws.Offset.{given_offset_can_add_up}
+use Rattle.nd_shape_tests.proofs.indexing.lies.Goals as goal
+
+pub index_unchecked-requires-clause-same_count : goal.index_unchecked-requires-clause-same_count
+index_unchecked-requires-clause-same_count g c =
+    (given_offset_can_add_up (g.E.Lengths.list c.args.dim.now) (g.E.Lengths.list c.args.strides.now) (g.I.NdIndex.index_list c.args.index.now) c.in-Some.checked (c.is_valid.ensures c.if-not-is_valid.false) (sym c.index_checked.ensures ∙ c.in-Some.is)).same_count
+
+pub index_unchecked-requires-clause-small : goal.index_unchecked-requires-clause-small
+index_unchecked-requires-clause-small g c =
+    (given_offset_can_add_up (g.E.Lengths.list c.args.dim.now) (g.E.Lengths.list c.args.strides.now) (g.I.NdIndex.index_list c.args.index.now) c.in-Some.checked (c.is_valid.ensures c.if-not-is_valid.false) (sym c.index_checked.ensures ∙ c.in-Some.is)).small
+
+pub index_unchecked-requires-clause-fits : goal.index_unchecked-requires-clause-fits
+index_unchecked-requires-clause-fits g c =
+    (given_offset_can_add_up (g.E.Lengths.list c.args.dim.now) (g.E.Lengths.list c.args.strides.now) (g.I.NdIndex.index_list c.args.index.now) c.in-Some.checked (c.is_valid.ensures c.if-not-is_valid.false) (sym c.index_checked.ensures ∙ c.in-Some.is)).fits
