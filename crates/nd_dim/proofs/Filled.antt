@@ -7,6 +7,7 @@ use Rattle.nd_base.specs.Reach.{farthest_offset}
 use Rattle.nd_base.specs.Size.{size}
 use Rattle.nd_base.proofs.laws.Entries.{farthest_offset-set, is_index-set, is_index_from_entries, size-set}
 use Rattle.nd_base.proofs.laws.IsIndex.{entry_of_index, length_of_index}
+use Rattle.nd_base.proofs.laws.Reach.{farthest_offset-zeros}
 use Rattle.nd_dim.specs.AxisOrder.{magnitude_at}
 
 -- each number below the size is how far one index lies, and no other
@@ -40,22 +41,17 @@ zeros_are_index n =
     let inside : k < n = omega (arith, length-replicate {A = ℕ} n 1) in
     rw (get_or-replicate {A = ℕ} n k 0 0 inside, get_or-replicate {A = ℕ} n k 1 0 inside) (omega arith))
 
-pub zeros_lie_here : (strides : List ℤ) (n : ℕ) → farthest_offset strides (replicate n 0) ≡ 0
-zeros_lie_here strides zero = refl
-zeros_lie_here [] (suc n) = refl
-zeros_lie_here (stride ∷ strides) (suc n) = omega (arith, zeros_lie_here strides n)
-
 -- they hold one index, which lies at 0
 pub fills_ones : (n : ℕ) (strides : List ℤ) → Fills (replicate n 1) strides
 fills_ones n strides = record {
   each = record {
     filled = λ k h.
         let none : k ≡ 0 = omega (arith, ones_size n) in
-        (replicate n 0, zeros_are_index n, zeros_lie_here strides n ∙ sym none);
+        (replicate n 0, zeros_are_index n, farthest_offset-zeros strides n ∙ sym none);
     distinct = λ index other h g e. ones_index n index h ∙ sym (ones_index n other g);
   };
   below = λ index h.
-      let here : farthest_offset strides index ≡ 0 = ap (farthest_offset strides) (ones_index n index h) ∙ zeros_lie_here strides n in
+      let here : farthest_offset strides index ≡ 0 = ap (farthest_offset strides) (ones_index n index h) ∙ farthest_offset-zeros strides n in
       omega (arith, ones_size n);
 }
 

@@ -13,6 +13,7 @@ use Rattle.std.proofs.lemmas.List.FromFn.{length-range_with_len, get_or-range_wi
 use Rattle.nd_base.specs.Indices.{below}
 use Rattle.nd_base.specs.Signed.{signed, unsigned, all_signed}
 use Rattle.nd_base.specs.Size.{size, nonzero_size, limit}
+use Rattle.nd_base.proofs.laws.Signed.{all_signed_small}
 use Rattle.nd_dim.specs.Contiguous.{has_default_strides}
 use Rattle.nd_dim.specs.Strides.{default_strides}
 use Rattle.nd_dim.proofs.laws.Strides.{default_count, default_small}
@@ -58,17 +59,14 @@ pub chosen_left : (p : ℕ → Bool) (lens : List ℕ) (n whole : ℕ) → p n �
 chosen_left p lens n whole passed e =
     e ∙ sym (mul-one (size (map (slice_index lens) (filter p (below n))))) ∙ ap (λ m. size (map (slice_index lens) (filter p (below n))) * m) (sym (cond-false (p n) (get_or lens n 0) 1 passed)) ∙ sym (chosen_more p lens n)
 
-signed_of_small : (n : ℕ) → n ≤ limit → signed n ≡ pos n
-signed_of_small n h = to_z_pos w64 n (omega arith)
-
 small_from_signed : (m n : ℕ) → m < 2 ^ 64 → signed m ≡ pos n → m ≡ n
 small_from_signed m n h e = sym (of_z-to_z w64 m h) ∙ ap unsigned e
 
-signed_defaults : (lens strides : List ℕ) → nonzero_size lens ≤ limit → strides ≡ default_strides lens → all_signed strides ≡ map pos (default_strides lens)
+signed_defaults : (lens strides : List ℕ) → nonzero_size lens ≤ limit → strides ≡ default_strides lens
+    → all_signed strides ≡ map pos (default_strides lens)
 signed_defaults lens strides top e =
-    ap all_signed e ∙ ext_get_or (pos 0) (all_signed (default_strides lens)) (map pos (default_strides lens)) (length-map (default_strides lens) signed ∙ sym (length-map (default_strides lens) pos)) (λ k h.
-    let within : k < length (default_strides lens) = omega (arith, length-map (default_strides lens) signed) in
-    get_or-map signed (default_strides lens) k 0 (pos 0) within ∙ signed_of_small (get_or (default_strides lens) k 0) (default_small lens k top (omega (arith, default_count lens))) ∙ sym (get_or-map pos (default_strides lens) k 0 (pos 0) within))
+    ap all_signed e
+    ∙ all_signed_small (default_strides lens) (λ k h. default_small lens k top (omega (arith, default_count lens)))
 
 defaults_from_signed : (lens strides : List ℕ) → ((k : ℕ) → Fits w64 (get_or strides k 0)) → all_signed strides ≡ map pos (default_strides lens) → strides ≡ default_strides lens
 defaults_from_signed lens strides fit e =

@@ -8,19 +8,15 @@ use Rattle.nd_base.specs.Reach.{farthest_offset}
 use Rattle.nd_base.specs.Size.{size, is_empty}
 use Rattle.nd_base.proofs.laws.Entries.{farthest_offset-set, farthest_offset_ge_entry, index_or_entry, is_index-set, is_index_of_larger, size-set, size_le}
 use Rattle.nd_base.proofs.laws.IsIndex.{entry_of_index, is_index-zeros, length_of_index}
+use Rattle.nd_base.proofs.laws.Reach.{farthest_offset-zeros}
+use Rattle.nd_base.proofs.laws.Size.{length_pos}
 use Rattle.nd_dim.specs.AxisOrder.{magnitude_at}
 use Rattle.nd_dim.specs.Contiguous.{lens_before}
-use Rattle.nd_dim.proofs.Filled.{ReachesEach, Fills, fills_next, fills_ones, zeros_lie_here}
+use Rattle.nd_dim.proofs.Filled.{ReachesEach, Fills, fills_next, fills_ones}
 use Rattle.nd_dim.proofs.FirstAxes.{first_axes, first_all, first_count, first_kept, first_left, first_more, first_none, first_same, size_before}
 use Rattle.nd_dim.proofs.StridePlaces.{axis_at_place, longer_at_later_place, past_all, stride_place}
 
 -- ---- lengths above 0
--- each length of a shape without a zero axis is above 0
-lens_above : (lens : List ℕ) (axis : ℕ) → is_empty lens ≡ false → axis < length lens → 0 < get_or lens axis 0
-lens_above lens axis some h =
-    let entry = entry_of_index lens (replicate (length lens) 0) axis (is_index-zeros lens some) h in
-    omega arith
-
 size_above : (lens : List ℕ) → ((axis : ℕ) → axis < length lens → 0 < get_or lens axis 0) → 0 < size lens
 size_above [] h = omega arith
 size_above (len ∷ lens) h = mul-pos (h 0 (omega arith)) (size_above lens (λ axis l. h (suc axis) (omega arith)))
@@ -30,7 +26,7 @@ first_above lens strides place some =
     size_above (first_axes lens strides place) (λ axis l.
     let inside : axis < length lens = omega (arith, first_count lens strides place) in
     elim (cases_lt (stride_place strides (length lens) axis) place) [
-      | inl less ↦ rw (first_kept lens strides place axis inside less) (lens_above lens axis some inside)
+      | inl less ↦ rw (first_kept lens strides place axis inside less) (length_pos lens axis some inside)
       | inr past ↦ rw (first_left lens strides place axis inside past) (omega arith)
     ])
 
@@ -40,7 +36,7 @@ first_no_longer lens strides place axis some l =
     let inside : axis < length lens = omega (arith, first_count lens strides place) in
     elim (cases_lt (stride_place strides (length lens) axis) place) [
       | inl less ↦ rw (first_kept lens strides place axis inside less) (omega arith)
-      | inr past ↦ rw (first_left lens strides place axis inside past) (lens_above lens axis some inside)
+      | inr past ↦ rw (first_left lens strides place axis inside past) (length_pos lens axis some inside)
     ]
 
 -- ---- from packed axes to a filled stretch
@@ -105,7 +101,7 @@ step_lies lens strides axis count h =
     let none : get_or zeros axis 0 ≡ 0 = get_or-replicate {A = ℕ} (length lens) axis 0 0 h in
     let moved : farthest_offset strides (step_along lens axis) + get_or zeros axis 0 * magnitude_at strides axis ≡ farthest_offset strides zeros + 1 * magnitude_at strides axis = farthest_offset-set strides zeros axis 1 (many ∙ count) (omega arith) in
     let from : farthest_offset strides (step_along lens axis) + 0 * magnitude_at strides axis ≡ farthest_offset strides zeros + 1 * magnitude_at strides axis = ap (λ j. farthest_offset strides (step_along lens axis) + j * magnitude_at strides axis) (sym none) ∙ moved in
-    omega (arith, from, zeros_lie_here strides (length lens))
+    omega (arith, from, farthest_offset-zeros strides (length lens))
 
 -- a layout that lies at each distance once, the first of whose axes fill a stretch; then comes an axis of several entries
 record IsAtAxis (lens : List ℕ) (strides : List ℤ) (place axis : ℕ) : Type 0 where
@@ -180,7 +176,7 @@ not_longer lens strides place axis a more =
 packed_at_place : (lens : List ℕ) (strides : List ℤ) (place axis : ℕ) → length lens ≡ length strides → is_empty lens ≡ false → ReachesEach lens strides → Fills (first_axes lens strides place) strides → axis < length lens → stride_place strides (length lens) axis ≡ place → IsPackedAt lens strides axis
 packed_at_place lens strides place axis count some reaches fills inside here = elim (cases_lt 1 (get_or lens axis 0)) [
   | inr short ↦
-      let above = lens_above lens axis some inside in
+      let above = length_pos lens axis some inside in
       inl (omega arith)
   | inl long ↦
       let a : IsAtAxis lens strides place axis = record { count = count; some = some; inside = inside; here = here; long = long; reaches = reaches; fills = fills } in

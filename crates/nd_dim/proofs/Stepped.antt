@@ -9,7 +9,8 @@ use Rattle.nd_base.specs.Indices.{is_index}
 use Rattle.nd_base.specs.Rank.{rank, rank_in, index_of_rank, index_of_rank_in}
 use Rattle.nd_base.specs.Size.{size}
 use Rattle.nd_base.proofs.laws.IsIndex.{entry_of_index, is_index-reverse, is_index-zeros, length_of_index, nonempty_from_index}
-use Rattle.nd_base.proofs.laws.Rank.{index_of_rank-rank, rank-lt-size, rank-zeros, reverse-zeros}
+use Rattle.nd_base.proofs.laws.Lists.{reverse-replicate, reverse_parts}
+use Rattle.nd_base.proofs.laws.Rank.{index_of_rank-rank, rank-lt-size, rank-zeros}
 use Rattle.nd_base.proofs.laws.Size.{size-reverse, size_take_more}
 
 -- ---- the step of one entry, where those after it are at their ends
@@ -206,12 +207,6 @@ columns_turned shape old index k h g last at =
           ∙ sym (size_take_more shape k h);
     }
 
-reverse_parts : (front back : List ℕ) (entry : ℕ) → reverse (front ++ entry ∷ back) ≡ reverse back ++ entry ∷ reverse front
-reverse_parts front back entry =
-    reverse-append front (entry ∷ back)
-    ∙ ap (λ xs. xs ++ reverse front) (reverse-append (entry ∷ []) back)
-    ∙ append_assoc (reverse back) (entry ∷ []) (reverse front)
-
 columns_stepped : (shape old index : List ℕ) (k : ℕ) → is_index shape old ≡ true → k < length shape → k < length old → get_or old k 0 + 1 < get_or shape k 0 → IsTurnedTo k shape old index → (rank_in ColumnMajor shape old + 1 < size shape) × (set index k (get_or index k 0 + 1) ≡ index_of_rank_in ColumnMajor shape (rank_in ColumnMajor shape old + 1))
 columns_stepped shape old index k is h g more at =
     let front = reverse (drop (k + 1) shape) in
@@ -219,10 +214,10 @@ columns_stepped shape old index k is h g more at =
     let count : length back ≡ k = length-reverse (take k shape) ∙ length-take-le k shape (omega arith) in
     let new = replicate k 0 ++ (get_or old k 0 + 1) ∷ drop (k + 1) old in
     let turned : reverse new ≡ reverse (drop (k + 1) old) ++ (get_or old k 0 + 1) ∷ replicate (length back) 0 =
-    reverse_parts (replicate k 0) (drop (k + 1) old) (get_or old k 0 + 1)
-    ∙ ap (λ xs. reverse (drop (k + 1) old) ++ (get_or old k 0 + 1) ∷ xs) (reverse-zeros k ∙ ap (λ n. replicate n 0) (sym count)) in
-    let axes : reverse shape ≡ front ++ get_or shape k 0 ∷ back = ap reverse (parts_of shape k h) ∙ reverse_parts (take k shape) (drop (k + 1) shape) (get_or shape k 0) in
-    let entries : reverse old ≡ reverse (drop (k + 1) old) ++ get_or old k 0 ∷ reverse (take k old) = ap reverse (parts_of old k g) ∙ reverse_parts (take k old) (drop (k + 1) old) (get_or old k 0) in
+    reverse_parts (replicate k 0) (get_or old k 0 + 1) (drop (k + 1) old)
+    ∙ ap (λ xs. reverse (drop (k + 1) old) ++ (get_or old k 0 + 1) ∷ xs) (reverse-replicate k 0 ∙ ap (λ n. replicate n 0) (sym count)) in
+    let axes : reverse shape ≡ front ++ get_or shape k 0 ∷ back = ap reverse (parts_of shape k h) ∙ reverse_parts (take k shape) (get_or shape k 0) (drop (k + 1) shape) in
+    let entries : reverse old ≡ reverse (drop (k + 1) old) ++ get_or old k 0 ∷ reverse (take k old) = ap reverse (parts_of old k g) ∙ reverse_parts (take k old) (get_or old k 0) (drop (k + 1) old) in
     let counts : length (reverse (drop (k + 1) old)) ≡ length front =
     length-reverse (drop (k + 1) old) ∙ length-drop (k + 1) old ∙ ap (λ n. n - (k + 1)) (length_of_index shape old is) ∙ sym (length-reverse (drop (k + 1) shape) ∙ length-drop (k + 1) shape) in
     let by = λ (s : List ℕ) (i : List ℕ) (j : List ℕ). (is_index s i ≡ true) → IsStepped s i j in

@@ -55,13 +55,13 @@ pub two_lengths_le : (shape : List ℕ) (axis other : ℕ) → axis < length sha
 two_lengths_le [] axis other h g ne = absurd (omega arith)
 two_lengths_le (len ∷ lens) zero zero h g ne = absurd (ne refl)
 two_lengths_le (len ∷ lens) zero (suc other) h g ne =
-    let rest = length_le_nonzero_size lens other (omega arith) in
+    let rest = length_le_nonzero_size lens other in
     elim (cases_eq len 0) [
       | inl e ↦ rw (e, zero-mul) (omega arith)
       | inr e ↦ rw (nonzero_size_of_other len lens e) (mul-le-mul_left len rest)
     ]
 two_lengths_le (len ∷ lens) (suc axis) zero h g ne =
-    let rest = length_le_nonzero_size lens axis (omega arith) in
+    let rest = length_le_nonzero_size lens axis in
     elim (cases_eq len 0) [
       | inl e ↦ omega (arith, ap (λ n. get_or lens axis 0 * n) e)
       | inr e ↦ rw (nonzero_size_of_other len lens e) (omega (arith, mul-le-mul_left len rest))

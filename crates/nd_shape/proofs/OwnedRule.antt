@@ -15,10 +15,7 @@ use Rattle.nd_shape.proofs.laws.OwnedRule.{reach_up_to}
 pub signed_at : (strides : List ℕ) (k : ℕ) → k < length strides → get_or (all_signed strides) k (pos 0) ≡ signed (get_or strides k 0)
 signed_at strides k h = get_or-map signed strides k 0 (pos 0) h
 
--- what one axis spans is at most what all span, and what all up to its own stride span
-pub own_le_span : (shape : List ℕ) (strides : List ℤ) (axis : ℕ) → axis < length shape → length shape ≡ length strides → reach (get_or shape axis 0) (get_or strides axis (pos 0)) ≤ span shape strides
-own_le_span shape strides axis h e = omega (arith, sum_and_others reach shape strides axis h e)
-
+-- what one axis spans is at most what all up to its own stride span
 pub own_le_span_up_to : (shape : List ℕ) (strides : List ℤ) (axis : ℕ) → axis < length shape → length shape ≡ length strides → reach (get_or shape axis 0) (get_or strides axis (pos 0)) ≤ span_up_to (magnitude_at strides axis) shape strides
 own_le_span_up_to shape strides axis h e =
     let m = magnitude_at strides axis in

@@ -4,7 +4,7 @@ use Rattle.std.specs.Bool.{Decides}
 use Rattle.std.specs.List.{All, AllPairs, Contains, flat_map, range_with_len}
 use Rattle.std.proofs.lemmas.List.{append-nil, length-map, nil_from_length}
 use Rattle.std.proofs.lemmas.List.Concat.{flat_map-append}
-use Rattle.std.proofs.lemmas.List.Elements.{All-contains, All-head, All-tail}
+use Rattle.std.proofs.lemmas.List.Elements.{All-contains}
 use Rattle.std.proofs.lemmas.List.FromFn.{fill_by_all}
 use Rattle.std.proofs.lemmas.Option.{get_or_from_slice_get}
 use Rattle.nd_base.specs.declared.order.Order.{Order}
@@ -13,6 +13,7 @@ use Rattle.nd_base.specs.Indices.{below, indices, indices_column_major, indices_
 use Rattle.nd_base.specs.Rank.{rank_in, index_of_rank_in}
 use Rattle.nd_base.specs.Size.{size}
 use Rattle.nd_base.proofs.Rows.{length_indices}
+use Rattle.nd_base.proofs.laws.Lists.{map_same}
 use Rattle.nd_base.proofs.laws.Rank.{slice_get-indices_in, is_index-index_of_rank_in, rank_in-index_of_rank_in, rank_in-lt-size, index_of_rank_in-rank_in}
 use Rattle.nd_base.proofs.laws.Size.{size-reverse}
 
@@ -64,15 +65,10 @@ Contains-indices_in order shape index h =
 pub Decides-is_index : (order : Order) (shape index : List ℕ) → Decides (is_index shape index) (Contains (indices_in order shape) index)
 Decides-is_index order shape index = (Contains-indices_in order shape index, is_index-from_Contains order shape index)
 
-map_agree : {A B : Type 0} (f g : A → B) (xs : List A) → All (λ x. f x ≡ g x) xs → map f xs ≡ map g xs
-map_agree f g [] h = refl
-map_agree f g (x ∷ xs) h =
-    ap (λ y. y ∷ map f xs) (All-head (λ y. f y ≡ g y) x xs h) ∙ ap (λ ys. g x ∷ ys) (map_agree f g xs (All-tail (λ y. f y ≡ g y) x xs h))
-
 -- two functions that agree at each index of the shape agree on the list
 pub map-indices_in : {B : Type 0} (order : Order) (f g : List ℕ → B) (shape : List ℕ) → ((index : List ℕ) → is_index shape index ≡ true → f index ≡ g index) → map f (indices_in order shape) ≡ map g (indices_in order shape)
 map-indices_in order f g shape h =
-    map_agree f g (indices_in order shape) (λ k d l. h (get_or (indices_in order shape) k d) (All-indices_in order shape k d l))
+    map_same f g (indices_in order shape) (λ k d l. h (get_or (indices_in order shape) k d) (All-indices_in order shape k d l))
 
 -- a shape of size 0 has no index
 pub indices_in_of_empty : (order : Order) (shape : List ℕ) → size shape ≡ 0 → indices_in order shape ≡ []

@@ -1,5 +1,5 @@
 -- Laws of how far an index lies from the first one.
-use Rattle.std.proofs.Common.{◌≡◌, ℕ, suc, ◌-◌, ◌*◌, ◌<◌, ◌≤◌, ℤ, pos, negsuc, neg_ℤ, ◌+ℤ◌, ◌*ℤ◌, ◌≤ℤ◌, Bool, true, false, cond, Some, None, List, [], ◌∷◌, ◌++◌, length, reverse, refl, ap, ◌∙◌, arith}
+use Rattle.std.proofs.Common.{◌≡◌, ℕ, zero, suc, ◌-◌, ◌*◌, ◌<◌, ◌≤◌, ℤ, pos, negsuc, neg_ℤ, ◌+ℤ◌, ◌*ℤ◌, ◌≤ℤ◌, Bool, true, false, cond, Some, None, List, [], ◌∷◌, ◌++◌, length, replicate, reverse, refl, ap, ◌∙◌, arith}
 use Rattle.std.specs.Prelude.{nat_lt}
 use Rattle.std.specs.List.{All}
 use Rattle.std.proofs.Math.Nat.{mul-le-mul_right}
@@ -40,6 +40,12 @@ offset_bounds (len ∷ shape) (stride ∷ strides) (i ∷ index) h e =
     let here = entry_bounds len stride i (ltb-true i len parts.0) in
     let rest = offset_bounds shape strides index parts.1 (omega arith) in
     (omega (arith, ints, here.0, rest.0), omega (arith, ints, here.1, rest.1))
+
+-- zeros lie where the first index does
+pub offset_of-zeros : (strides : List ℤ) (n : ℕ) → offset_of strides (replicate n 0) ≡ pos 0
+offset_of-zeros strides zero = refl
+offset_of-zeros [] (suc n) = refl
+offset_of-zeros (stride ∷ strides) (suc n) = omega (arith, ints, offset_of-zeros strides n)
 
 -- one axis more moves by its entry
 pub offset_of-push : (strides : List ℤ) (index : List ℕ) (stride : ℤ) (i : ℕ) → length strides ≡ length index → offset_of (strides ++ stride ∷ []) (index ++ i ∷ []) ≡ (pos i *ℤ stride) +ℤ offset_of strides index

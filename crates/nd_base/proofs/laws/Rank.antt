@@ -1,10 +1,10 @@
 -- Laws of ranks: the indices of a shape and the numbers below its size stand for one another.
-use Rattle.std.proofs.Common.{◌≡◌, ℕ, zero, suc, ◌+◌, ◌*◌, ◌/◌, ◌%◌, ◌<◌, Some, true, List, [], ◌∷◌, ◌++◌, length, replicate, reverse, refl, sym, ap, ◌∙◌, arith, add-one}
+use Rattle.std.proofs.Common.{◌≡◌, ℕ, zero, suc, ◌+◌, ◌*◌, ◌/◌, ◌%◌, ◌<◌, Some, true, List, [], ◌∷◌, length, replicate, reverse, refl, sym, ap, ◌∙◌, arith}
 use Rattle.std.specs.List.{slice_get}
 use Rattle.std.specs.Option.{option_map}
 use Rattle.std.specs.Prelude.{nat_lt}
 use Rattle.std.proofs.lemmas.Bool.{and_from, and_parts, lt-ltb, ltb-true}
-use Rattle.std.proofs.lemmas.List.{length-reverse, replicate-append-replicate, reverse-append, reverse-reverse}
+use Rattle.std.proofs.lemmas.List.{length-reverse, reverse-reverse}
 use Rattle.std.proofs.lemmas.Nat.{div_below, mod_below, div-add-mod', div-mul-add, mod-mul-add, mul-add-lt}
 use Rattle.std.proofs.lemmas.Option.{slice_get-map}
 use Rattle.nd_base.specs.declared.order.Order.{Order}
@@ -14,6 +14,7 @@ use Rattle.nd_base.specs.Rank.{rank, rank_in, index_of_rank, index_of_rank_in}
 use Rattle.nd_base.specs.Size.{size}
 use Rattle.nd_base.proofs.Rows.{row, length_indices, slice_get_rows}
 use Rattle.nd_base.proofs.laws.IsIndex.{is_index-reverse}
+use Rattle.nd_base.proofs.laws.Lists.{reverse-replicate}
 use Rattle.nd_base.proofs.laws.Size.{size-reverse}
 
 -- a number below a product, by its quotient and its remainder
@@ -141,17 +142,8 @@ pub rank-zeros : (shape : List ℕ) → rank shape (replicate (length shape) 0) 
 rank-zeros [] = refl
 rank-zeros (len ∷ lens) = omega (arith, rank-zeros lens)
 
--- zeros read from the back are zeros
-pub reverse-zeros : (n : ℕ) → reverse {A = ℕ} (replicate n 0) ≡ replicate n 0
-reverse-zeros zero = refl
-reverse-zeros (suc n) =
-    reverse-append (0 ∷ []) (replicate n 0)
-    ∙ ap (λ xs. xs ++ 0 ∷ []) (reverse-zeros n)
-    ∙ replicate-append-replicate n 1 0
-    ∙ ap (λ m. replicate m 0) (add-one n)
-
 -- so zeros are of rank 0 in each order
 pub rank_in-zeros : (order : Order) (shape : List ℕ) → rank_in order shape (replicate (length shape) 0) ≡ 0
 rank_in-zeros RowMajor shape = rank-zeros shape
 rank_in-zeros ColumnMajor shape =
-    ap (rank (reverse shape)) (reverse-zeros (length shape) ∙ ap (λ n. replicate n 0) (sym (length-reverse shape))) ∙ rank-zeros (reverse shape)
+    ap (rank (reverse shape)) (reverse-replicate (length shape) 0 ∙ ap (λ n. replicate n 0) (sym (length-reverse shape))) ∙ rank-zeros (reverse shape)

@@ -1,5 +1,5 @@
 -- Laws of indices that count from the far end of each axis whose stride is negative: so every step leads up.
-use Rattle.std.proofs.Common.{◌≡◌, ℕ, zero, suc, ◌+◌, ◌-◌, ◌*◌, ◌<◌, ℤ, pos, negsuc, neg_ℤ, ◌+ℤ◌, ◌*ℤ◌, true, false, eqb, List, [], ◌∷◌, length, map, replicate, refl, ap, ◌∙◌, arith, pos_of_ne-zero}
+use Rattle.std.proofs.Common.{◌≡◌, ℕ, suc, ◌+◌, ◌-◌, ◌*◌, ◌<◌, ℤ, pos, negsuc, neg_ℤ, ◌+ℤ◌, ◌*ℤ◌, true, false, eqb, List, [], ◌∷◌, length, map, replicate, refl, ap, ◌∙◌, arith, pos_of_ne-zero}
 use Rattle.std.specs.Prelude.{nat_lt}
 use Rattle.std.proofs.lemmas.Bool.{and_from, and_parts, eqb-false, lt-ltb, ltb-true, or_parts}
 use Rattle.std.proofs.lemmas.Int.{ints}
@@ -10,6 +10,7 @@ use Rattle.nd_base.specs.Signed.{magnitude}
 use Rattle.nd_base.specs.Size.{is_empty}
 use Rattle.nd_base.specs.Span.{reach_down, low_span, high_span, span}
 use Rattle.nd_base.proofs.laws.IsIndex.{is_index-zeros}
+use Rattle.nd_base.proofs.laws.Reach.{farthest_offset-zeros}
 use Rattle.nd_base.proofs.laws.Span.{low_high_span}
 
 -- ---- the entry and the index
@@ -78,11 +79,6 @@ offset_of-turned (len ∷ shape) (stride ∷ strides) (i ∷ index) e h =
     omega (arith, ints, here, rest)
 
 -- ---- the least and the greatest offset
-farthest_of_zeros : (strides : List ℤ) (n : ℕ) → farthest_offset strides (replicate n 0) ≡ 0
-farthest_of_zeros strides zero = refl
-farthest_of_zeros [] (suc n) = refl
-farthest_of_zeros (stride ∷ strides) (suc n) = omega (arith, farthest_of_zeros strides n)
-
 abbrev last_entries : List ℕ → List ℕ
 last_entries shape = map (λ len. len - 1) shape
 
@@ -110,7 +106,7 @@ has_offset_turned shape strides index k e h far =
 -- a shape with an index has one whose offset is the low span down
 pub least_offset : (shape : List ℕ) (strides : List ℤ) → length shape ≡ length strides → is_empty shape ≡ false → (index : List ℕ) × (is_index shape index ≡ true) × (offset_of strides index ≡ neg_ℤ (pos (low_span shape strides)))
 least_offset shape strides e some =
-    let found = has_offset_turned shape strides (replicate (length shape) 0) 0 e (is_index-zeros shape some) (farthest_of_zeros strides (length shape)) in
+    let found = has_offset_turned shape strides (replicate (length shape) 0) 0 e (is_index-zeros shape some) (farthest_offset-zeros strides (length shape)) in
     (found.0, found.1, omega (arith, ints, found.2))
 
 -- and one whose offset is the high span up

@@ -13,6 +13,7 @@ use Rattle.nd_base.specs.Rank.{rank_in}
 use Rattle.nd_base.specs.Size.{size, is_empty}
 use Rattle.nd_base.proofs.laws.Indices.{get_or-indices_in, indices_in_of_empty, length-indices_in}
 use Rattle.nd_base.proofs.laws.IsIndex.{is_index-zeros}
+use Rattle.nd_base.proofs.laws.Offset.{offset_of-zeros}
 use Rattle.nd_base.proofs.laws.Rank.{rank_in-lt-size, index_of_rank_in-rank_in}
 use Rattle.nd_base.proofs.laws.Size.{size_of_empty}
 use Rattle.nd_dim.proofs.laws.Strides.{offset_of-default_strides, offset_of-fortran_strides}
@@ -20,12 +21,7 @@ use Rattle.nd_shape.specs.LayoutOrder.{LiesInOrder, MeetsOrderRule}
 use Rattle.nd_base.specs.Place.{place, places}
 use Rattle.nd_shape.specs.ShapeBuilder.{standard_strides}
 use Rattle.nd_base.proofs.laws.Place.{places_at_ranks}
-use Rattle.nd_shape.proofs.laws.StandardStrides.{standard_count}
-
--- by the strides that a shape has by itself each index lies at its rank
-pub standard_at_rank : (order : Order) (shape index : List ℕ) → is_index shape index ≡ true → offset_of (map pos (standard_strides order shape)) index ≡ pos (rank_in order shape index)
-standard_at_rank RowMajor shape index h = offset_of-default_strides shape index h
-standard_at_rank ColumnMajor shape index h = offset_of-fortran_strides shape index h
+use Rattle.nd_shape.proofs.laws.StandardStrides.{offset_of-standard_strides, standard_count}
 
 -- ---- from the rule
 -- strides that agree on the axes of other lengths than 1 lead to the same offsets
@@ -58,7 +54,7 @@ in_order_from_rule order shape strides e (inr rule) =
     let count : length standard ≡ length shape = standard_count order shape in
     λ start. places_at_ranks order start shape strides (λ index h.
     same_offset shape strides (map pos standard) index e (length-map standard pos ∙ count) h (λ axis l ne. rule axis l ne ∙ sym (get_or-map pos standard axis 0 (pos 0) (omega arith)))
-    ∙ standard_at_rank order shape index h)
+    ∙ offset_of-standard_strides order shape index h)
 
 -- ---- to the rule
 -- where the indices lie in order, each lies at its rank
@@ -91,11 +87,6 @@ is_index-step_along (len ∷ lens) (suc axis) some h ne =
     let more : len ≢ 0 = eqb-false len 0 parts.0 in
     and_from (nat_lt 0 len) (is_index lens (step_along lens axis)) (lt-ltb 0 len (omega arith)) (is_index-step_along lens axis parts.1 (omega arith) ne)
 
-offset_of-zeros : (strides : List ℤ) (n : ℕ) → offset_of strides (replicate n 0) ≡ pos 0
-offset_of-zeros strides zero = refl
-offset_of-zeros [] (suc n) = refl
-offset_of-zeros (s ∷ strides) (suc n) = omega (arith, ints, offset_of-zeros strides n)
-
 offset_of-step_along : (shape : List ℕ) (strides : List ℤ) (axis : ℕ) → length strides ≡ length shape → axis < length shape → offset_of strides (step_along shape axis) ≡ get_or strides axis (pos 0)
 offset_of-step_along [] strides axis e h = absurd (omega arith)
 offset_of-step_along (len ∷ lens) [] axis e h = absurd (omega arith)
@@ -113,7 +104,7 @@ rule_from_in_order order shape strides e lies =
           let h : is_index shape index ≡ true = is_index-step_along shape axis some l ne in
           sym (offset_of-step_along shape strides axis e l)
           ∙ rank_from_in_order order shape strides lies index h
-          ∙ sym (standard_at_rank order shape index h)
+          ∙ sym (offset_of-standard_strides order shape index h)
           ∙ offset_of-step_along shape (map pos standard) axis (length-map standard pos ∙ count) l
           ∙ get_or-map pos standard axis 0 (pos 0) (omega arith))
     ]

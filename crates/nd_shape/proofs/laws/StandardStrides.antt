@@ -14,6 +14,7 @@ use Rattle.nd_base.specs.Span.{span, low_span}
 use Rattle.nd_base.specs.ValidLayout.{IsValidLayout}
 use Rattle.nd_base.proofs.laws.NonzeroSize.{size_le_nonzero_size}
 use Rattle.nd_base.proofs.laws.Rank.{rank_in-lt-size}
+use Rattle.nd_base.proofs.laws.Signed.{all_signed_small}
 use Rattle.nd_base.proofs.laws.Size.{size_take_le}
 use Rattle.nd_dim.specs.Strides.{size_after, size_until}
 use Rattle.nd_dim.proofs.laws.Strides.{default_count, default_small, fortran_at, fortran_count, offset_of-default_strides, offset_of-fortran_strides}
@@ -46,16 +47,9 @@ standard_small : (order : Order) (shape : List ℕ) (k : ℕ) → nonzero_size s
 standard_small RowMajor shape k top h = default_small shape k top h
 standard_small ColumnMajor shape k top h = fortran_small shape k top h
 
--- numbers up to the limit are read as they are
-signed_small : (xs : List ℕ) → ((k : ℕ) → k < length xs → get_or xs k 0 ≤ limit) → all_signed xs ≡ map pos xs
-signed_small [] h = refl
-signed_small (x ∷ xs) h =
-    let first : x ≤ limit = h 0 (omega arith) in
-    ap (λ z. z ∷ all_signed xs) (to_z_pos w64 x (omega arith)) ∙ ap (λ zs. pos x ∷ zs) (signed_small xs (λ k l. h (suc k) (omega arith)))
-
 pub standard_signed : (order : Order) (shape : List ℕ) → nonzero_size shape ≤ limit → all_signed (standard_strides order shape) ≡ map pos (standard_strides order shape)
 standard_signed order shape top =
-    signed_small (standard_strides order shape) (λ k h. standard_small order shape k top (omega (arith, standard_count order shape)))
+    all_signed_small (standard_strides order shape) (λ k h. standard_small order shape k top (omega (arith, standard_count order shape)))
 
 -- ---- how far they reach
 -- never below the first index
@@ -95,15 +89,15 @@ standard_valid order shape top = record {
 
 -- ---- where the indices lie
 -- each at its rank
-offset_at_rank : (order : Order) (shape index : List ℕ) → is_index shape index ≡ true → offset_of (map pos (standard_strides order shape)) index ≡ pos (rank_in order shape index)
-offset_at_rank RowMajor shape index h = offset_of-default_strides shape index h
-offset_at_rank ColumnMajor shape index h = offset_of-fortran_strides shape index h
+pub offset_of-standard_strides : (order : Order) (shape index : List ℕ) → is_index shape index ≡ true → offset_of (map pos (standard_strides order shape)) index ≡ pos (rank_in order shape index)
+offset_of-standard_strides RowMajor shape index h = offset_of-default_strides shape index h
+offset_of-standard_strides ColumnMajor shape index h = offset_of-fortran_strides shape index h
 
 -- so among as many elements as there are indices
 pub standard_inside : (order : Order) (len : ℕ) (shape : List ℕ) → nonzero_size shape ≤ limit → size shape ≤ len → LiesInside len 0 shape (all_signed (standard_strides order shape))
 standard_inside order len shape top room index h =
     let rank : rank_in order shape index < len = omega (arith, rank_in-lt-size order shape index h) in
-    rw (standard_signed order shape top, offset_at_rank order shape index h) (omega arith)
+    rw (standard_signed order shape top, offset_of-standard_strides order shape index h) (omega arith)
 
 -- and each by itself
 pub standard_distinct : (order : Order) (shape : List ℕ) → nonzero_size shape ≤ limit → HasDistinctOffsets shape (all_signed (standard_strides order shape))
