@@ -1,3 +1,4 @@
+pub mod Definitions
 pub mod Dim
 pub mod Entries
 pub mod Faults

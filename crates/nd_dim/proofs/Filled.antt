@@ -2,9 +2,7 @@
 use Rattle.std.proofs.Common.{◌≡◌, ◌⊎◌, ℕ, zero, suc, ◌+◌, ◌*◌, ◌/◌, ◌%◌, ◌<◌, ℤ, true, List, [], ◌∷◌, length, get_or, set, replicate, refl, sym, ap, ◌∙◌, arith, get_or-set_same, inl, inr, subst}
 use Rattle.std.proofs.lemmas.List.{ext_get_or, get_or-replicate, length-replicate, length-set, set-get_or, set-set}
 use Rattle.std.proofs.lemmas.Nat.{div_below, div-add-mod', div-mul-add, mod_below, mod-mul-add, mul-add-lt}
-use Rattle.nd_base.specs.Indices.{is_index}
-use Rattle.nd_base.specs.Reach.{farthest_offset}
-use Rattle.nd_base.specs.Size.{size}
+use Rattle.nd_base.proofs.laws.Definitions.{is_index, farthest_offset, size}
 use Rattle.nd_base.proofs.laws.Entries.{farthest_offset-set, is_index-set, is_index_from_entries, size-set}
 use Rattle.nd_base.proofs.laws.IsIndex.{entry_of_index, length_of_index}
 use Rattle.nd_base.proofs.laws.Reach.{farthest_offset-zeros}

@@ -5,8 +5,7 @@ use Rattle.std.specs.Prelude.{nat_lt}
 use Rattle.std.proofs.lemmas.Bool.{cases_Bool, cases_eq, cases_lt, cond-true, cond-false, le-ltb, lt-ltb}
 use Rattle.std.proofs.lemmas.List.{ext_get_or, get_or-replicate, length-replicate, length-set}
 use Rattle.std.proofs.lemmas.List.FromFn.{fill_by_all, get_or-map-range_with_len, length-map-range_with_len}
-use Rattle.nd_base.specs.Indices.{below}
-use Rattle.nd_base.specs.Size.{size}
+use Rattle.nd_base.proofs.laws.Definitions.{below, size}
 use Rattle.nd_dim.specs.AxisOrder.{comes_before}
 use Rattle.nd_dim.specs.Contiguous.{lens_before}
 use Rattle.nd_dim.proofs.StridePlaces.{stride_place, comes_before_by_place, place_differs}

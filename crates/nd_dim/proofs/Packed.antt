@@ -10,9 +10,7 @@ use Rattle.std.proofs.lemmas.List.{map-id, map-append, length-map, ext_get_or, g
 use Rattle.std.proofs.lemmas.List.Sums.{list_all-from_AllPass, AllPass-from_list_all}
 use Rattle.std.proofs.lemmas.List.Elements.{filter-append}
 use Rattle.std.proofs.lemmas.List.FromFn.{length-range_with_len, get_or-range_with_len, map-range_with_len_more}
-use Rattle.nd_base.specs.Indices.{below}
-use Rattle.nd_base.specs.Signed.{signed, unsigned, all_signed}
-use Rattle.nd_base.specs.Size.{size, nonzero_size, limit}
+use Rattle.nd_base.proofs.laws.Definitions.{below, all_signed, signed, unsigned, limit, nonzero_size, size}
 use Rattle.nd_base.proofs.laws.Signed.{all_signed_small}
 use Rattle.nd_dim.specs.Contiguous.{has_default_strides}
 use Rattle.nd_dim.specs.Strides.{default_strides}

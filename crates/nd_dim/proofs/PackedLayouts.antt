@@ -3,9 +3,7 @@ use Rattle.std.proofs.Common.{◌≡◌, ◌⊎◌, ℕ, zero, suc, ◌+◌, ◌
 use Rattle.std.proofs.Math.Nat.{mul-le-mul_left, mul-le-mul_right}
 use Rattle.std.proofs.lemmas.Bool.{cases_lt, cases_order}
 use Rattle.std.proofs.lemmas.List.{get_or-replicate, length-replicate, set-get_or}
-use Rattle.nd_base.specs.Indices.{is_index}
-use Rattle.nd_base.specs.Reach.{farthest_offset}
-use Rattle.nd_base.specs.Size.{size, is_empty}
+use Rattle.nd_base.proofs.laws.Definitions.{is_index, farthest_offset, is_empty, size}
 use Rattle.nd_base.proofs.laws.Entries.{farthest_offset-set, farthest_offset_ge_entry, index_or_entry, is_index-set, is_index_of_larger, size-set, size_le}
 use Rattle.nd_base.proofs.laws.IsIndex.{entry_of_index, is_index-zeros, length_of_index}
 use Rattle.nd_base.proofs.laws.Reach.{farthest_offset-zeros}

@@ -4,10 +4,7 @@ use Rattle.std.specs.Prelude.{nat_lt}
 use Rattle.std.proofs.Math.Seq.{get_or-append_seam, set-append_seam}
 use Rattle.std.proofs.lemmas.Bool.{and_from, and_parts, lt-ltb}
 use Rattle.std.proofs.lemmas.List.{append-nil, drop_all, length-drop, length-replicate, length-reverse, length-take-le, replicate-append-replicate, reverse-append, reverse-reverse, take-append-drop, take_all, take_more}
-use Rattle.nd_base.specs.declared.order.Order.TheVariants.{ColumnMajor}
-use Rattle.nd_base.specs.Indices.{is_index}
-use Rattle.nd_base.specs.Rank.{rank, rank_in, index_of_rank, index_of_rank_in}
-use Rattle.nd_base.specs.Size.{size}
+use Rattle.nd_base.proofs.laws.Definitions.{ColumnMajor, is_index, index_of_rank, index_of_rank_in, rank, rank_in, size}
 use Rattle.nd_base.proofs.laws.IsIndex.{entry_of_index, is_index-reverse, is_index-zeros, length_of_index, nonempty_from_index}
 use Rattle.nd_base.proofs.laws.Lists.{reverse-replicate, reverse_parts}
 use Rattle.nd_base.proofs.laws.Rank.{index_of_rank-rank, rank-lt-size, rank-zeros}

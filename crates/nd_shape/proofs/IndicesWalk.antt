@@ -3,13 +3,8 @@ use Rattle.std.proofs.Common.{◌≡◌, ℕ, ◌+◌, ◌-◌, ◌<◌, ◌≤�
 use Rattle.std.specs.List.{slice_get}
 use Rattle.std.specs.Prelude.{nat_lt, IsTrue}
 use Rattle.std.proofs.lemmas.Bool.{eqb-false, ltb-true, ltb-false}
-use Rattle.nd_base.specs.declared.order.Order.{Order}
-use Rattle.nd_base.specs.Dim.{lengths, rewritten}
+use Rattle.nd_base.proofs.laws.Definitions.{Dim, Order, lengths, rewritten, is_index, index_of_rank_in, rank_in, is_empty, size}
 use Rattle.nd_base.proofs.laws.Dim.{lengths_rewritten}
-use Rattle.nd_base.specs.declared.dim.Dim.{Dim}
-use Rattle.nd_base.specs.Indices.{is_index}
-use Rattle.nd_base.specs.Rank.{rank_in, index_of_rank_in}
-use Rattle.nd_base.specs.Size.{size, is_empty}
 use Rattle.nd_base.proofs.laws.IsIndex.{is_index-zeros, length_of_index}
 use Rattle.nd_base.proofs.laws.Rank.{index_of_rank_in-rank_in, is_index-index_of_rank_in, rank_in-index_of_rank_in, rank_in-zeros}
 use Rattle.nd_base.proofs.laws.Size.{size_of_empty}

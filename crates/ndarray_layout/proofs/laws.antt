@@ -12,6 +12,7 @@ pub mod SlicedView
 pub mod Step
 pub mod StepFits
 pub mod View
+pub use Rattle.nd_base.proofs.laws.Definitions
 pub use Rattle.nd_base.proofs.laws.Dim
 pub use Rattle.nd_base.proofs.laws.Entries
 pub use Rattle.nd_base.proofs.laws.Faults

@@ -7,11 +7,8 @@ use Rattle.std.proofs.lemmas.List.Concat.{flat_map-append}
 use Rattle.std.proofs.lemmas.List.Elements.{All-contains}
 use Rattle.std.proofs.lemmas.List.FromFn.{fill_by_all}
 use Rattle.std.proofs.lemmas.Option.{get_or_from_slice_get}
-use Rattle.nd_base.specs.declared.order.Order.{Order}
-use Rattle.nd_base.specs.declared.order.Order.TheVariants.{RowMajor, ColumnMajor}
-use Rattle.nd_base.specs.Indices.{below, indices, indices_column_major, indices_in, is_index}
-use Rattle.nd_base.specs.Rank.{rank_in, index_of_rank_in}
-use Rattle.nd_base.specs.Size.{size}
+use Rattle.nd_base.proofs.laws.Definitions.{Order, RowMajor, ColumnMajor, below, indices, indices_column_major, indices_in, is_index}
+use Rattle.nd_base.proofs.laws.Definitions.{index_of_rank_in, rank_in, size}
 use Rattle.nd_base.proofs.Rows.{length_indices}
 use Rattle.nd_base.proofs.laws.Lists.{map_same}
 use Rattle.nd_base.proofs.laws.Rank.{slice_get-indices_in, is_index-index_of_rank_in, rank_in-index_of_rank_in, rank_in-lt-size, index_of_rank_in-rank_in}

@@ -2,8 +2,7 @@
 use Rattle.std.proofs.Common.{◌≡◌, ◌≢◌, ℕ, zero, suc, ◌+◌, ◌*◌, ◌<◌, ◌≤◌, Bool, true, false, cond, eqb, List, [], ◌∷◌, ◌++◌, length, reverse, drop, get_or, inl, inr, refl, ap, ◌∙◌, arith, add-one, drop-cons, mul-pos, le-mul_of_pos_right, mul-le-mul_left, mul_comm, pos_of_ne-zero, zero-mul}
 use Rattle.std.proofs.lemmas.Bool.{cases_eq, cond-true, cond-false, eq-eqb, ne_eqb, or_parts, eqb-false}
 use Rattle.std.proofs.lemmas.List.{get_or_default, reverse-append}
-use Rattle.nd_base.specs.Indices.{is_index}
-use Rattle.nd_base.specs.Size.{is_empty, nonzero_size, size}
+use Rattle.nd_base.proofs.laws.Definitions.{is_index, is_empty, nonzero_size, size}
 use Rattle.nd_base.proofs.laws.IsIndex.{length_of_index, entry_of_index}
 
 -- a zero length is passed over

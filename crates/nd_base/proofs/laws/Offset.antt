@@ -6,13 +6,8 @@ use Rattle.std.proofs.Math.Nat.{mul-le-mul_right}
 use Rattle.std.proofs.lemmas.Bool.{and_parts, ltb-true}
 use Rattle.std.proofs.lemmas.Int.{ints}
 use Rattle.std.proofs.lemmas.List.{length-map, length-reverse, reverse-append}
-use Rattle.nd_base.specs.Indices.{is_index}
-use Rattle.nd_base.specs.Offset.{offset_of, checked_offset}
-use Rattle.nd_base.specs.Reach.{farthest_offset}
-use Rattle.nd_base.specs.Signed.{signed, all_signed}
-use Rattle.nd_base.specs.Size.{limit}
-use Rattle.nd_base.specs.Span.{reach_down, reach_up, low_span, high_span}
-use Rattle.nd_base.specs.ValidLayout.{IsValidLayout}
+use Rattle.nd_base.proofs.laws.Definitions.{is_index, checked_offset, offset_of, farthest_offset, all_signed, signed, limit, high_span}
+use Rattle.nd_base.proofs.laws.Definitions.{low_span, reach_down, reach_up, IsValidLayout}
 use Rattle.nd_base.proofs.laws.IsIndex.{length_of_index}
 use Rattle.nd_base.proofs.laws.NonzeroSize.{entry_le_nonzero_size}
 use Rattle.nd_base.proofs.laws.Reach.{farthest_offset_le}

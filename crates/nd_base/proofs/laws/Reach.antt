@@ -3,10 +3,7 @@ use Rattle.std.proofs.Common.{◌≡◌, ℕ, zero, suc, ◌-◌, ◌*◌, ◌<�
 use Rattle.std.specs.Prelude.{nat_lt}
 use Rattle.std.proofs.Math.Nat.{mul-le-mul_right}
 use Rattle.std.proofs.lemmas.Bool.{and_parts, ltb-true}
-use Rattle.nd_base.specs.Indices.{is_index}
-use Rattle.nd_base.specs.Reach.{farthest_offset}
-use Rattle.nd_base.specs.Signed.{magnitude}
-use Rattle.nd_base.specs.Span.{span}
+use Rattle.nd_base.proofs.laws.Definitions.{is_index, farthest_offset, magnitude, span}
 
 -- zeros lie where the first index does
 pub farthest_offset-zeros : (strides : List ℤ) (n : ℕ) → farthest_offset strides (replicate n 0) ≡ 0

@@ -1,15 +1,10 @@
 -- Laws of lists with an item for each axis, in the order in which the axes are read: what holds by rows is read for both.
-use Rattle.std.proofs.Common.{◌≡◌, ℕ, ℤ, List, [], length, map, refl}
+use Rattle.std.proofs.Common.{◌≡◌, ℕ, ℤ, List, [], length, map, replicate, refl}
 use Rattle.std.proofs.lemmas.List.{reverse-reverse, length-reverse}
-use Rattle.nd_base.specs.declared.order.Order.{Order}
-use Rattle.nd_base.specs.declared.order.Order.TheVariants.{RowMajor, ColumnMajor}
-use Rattle.nd_base.specs.Indices.{is_index}
-use Rattle.nd_base.specs.Offset.{offset_of}
-use Rattle.nd_base.specs.Reading.{as_read}
-use Rattle.nd_base.specs.Size.{size, nonzero_size, is_empty}
-use Rattle.nd_base.specs.Span.{sum_over_axes}
+use Rattle.nd_base.proofs.laws.Definitions.{Order, RowMajor, ColumnMajor, is_index, offset_of, as_read, is_empty, nonzero_size, size}
+use Rattle.nd_base.proofs.laws.Definitions.{sum_over_axes}
 use Rattle.nd_base.proofs.laws.IsIndex.{is_index-reverse}
-use Rattle.nd_base.proofs.laws.Lists.{map-reverse}
+use Rattle.nd_base.proofs.laws.Lists.{map-reverse, reverse-replicate}
 use Rattle.nd_base.proofs.laws.NonzeroSize.{nonzero_size-reverse}
 use Rattle.nd_base.proofs.laws.Offset.{offset_of-reverse}
 use Rattle.nd_base.proofs.laws.Size.{is_empty-reverse, size-reverse}
@@ -29,6 +24,10 @@ as_read-as_read ColumnMajor items = reverse-reverse items
 pub as_read-nil : {A : Type 0} (order : Order) → as_read {A = A} order [] ≡ []
 as_read-nil RowMajor = refl
 as_read-nil ColumnMajor = refl
+
+pub as_read-replicate : {A : Type 0} (order : Order) (n : ℕ) (x : A) → as_read order (replicate n x) ≡ replicate n x
+as_read-replicate RowMajor n x = refl
+as_read-replicate ColumnMajor n x = reverse-replicate n x
 
 -- a function of each item, before or after
 pub map-as_read : {A B : Type 0} (order : Order) (f : A → B) (items : List A)

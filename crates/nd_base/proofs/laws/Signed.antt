@@ -1,8 +1,7 @@
 -- Laws of strides read as signed numbers.
 use Rattle.std.proofs.Common.{◌≡◌, ℕ, suc, ◌<◌, ◌≤◌, ℤ, pos, negsuc, ◌≤ℤ◌, w64, List, [], ◌∷◌, length, get_or, map, refl, ap, ◌∙◌, arith}
 use Rattle.std.proofs.lemmas.Int.{ints, to_z_pos}
-use Rattle.nd_base.specs.Signed.{all_signed, magnitude}
-use Rattle.nd_base.specs.Size.{limit}
+use Rattle.nd_base.proofs.laws.Definitions.{all_signed, magnitude, limit}
 
 -- a number from 0 on is its own distance from 0
 pub magnitude_from : (z : ℤ) → pos 0 ≤ℤ z → pos (magnitude z) ≡ z

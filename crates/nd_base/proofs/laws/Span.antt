@@ -3,8 +3,7 @@ use Rattle.std.proofs.Common.{◌≡◌, ℕ, zero, suc, ◌+◌, ◌<◌, ◌�
 use Rattle.std.specs.Prelude.{remove}
 use Rattle.std.proofs.lemmas.Bool.{cases_lt}
 use Rattle.std.proofs.lemmas.List.{drop_all, length-reverse, reverse-append}
-use Rattle.nd_base.specs.Signed.{signed, all_signed}
-use Rattle.nd_base.specs.Span.{sum_over_axes, reach, reach_down, reach_up, span, low_span, high_span}
+use Rattle.nd_base.proofs.laws.Definitions.{all_signed, signed, high_span, low_span, reach, reach_down, reach_up, span, sum_over_axes}
 
 -- ---- from an axis on
 -- the sum over the axes from k on

@@ -3,12 +3,8 @@ use Rattle.std.proofs.Common.{◌≡◌, ℕ, ℤ, false, List, length, None, ar
 use Rattle.std.specs.Prelude.{nat_le, nat_lt, not, ◌&&◌}
 use Rattle.std.proofs.lemmas.Bool.{cond-false, leb-false}
 use Rattle.std.proofs.lemmas.Grind.{common_steps}
-use Rattle.nd_base.specs.Size.{is_empty}
-use Rattle.nd_base.specs.Span.{span, low_span}
-use Rattle.nd_base.specs.ValidLayout.{IsValidLayout}
+use Rattle.nd_base.proofs.laws.Definitions.{HasDistinctOffsets, LiesInside, is_empty, low_span, span, IsValidLayout}
 use Rattle.nd_shape.specs.Acceptance.{size_fault, acceptance, leaves_data}
-use Rattle.nd_base.specs.DistinctOffsets.{HasDistinctOffsets}
-use Rattle.nd_base.specs.Inside.{LiesInside}
 use Rattle.nd_shape.specs.OwnedRule.{meets_owned_rule}
 use Rattle.nd_shape.specs.declared.checks.CanIndexCheckMode.{CanIndexCheckMode}
 use Rattle.nd_shape.specs.declared.checks.CanIndexCheckMode.TheVariants.{OwnedMutable}

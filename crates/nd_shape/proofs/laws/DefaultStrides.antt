@@ -6,14 +6,11 @@ use Rattle.std.proofs.lemmas.Bool.{cond-false, eqb-false, lt-leb, or_parts}
 use Rattle.std.proofs.lemmas.List.{length-map}
 use Rattle.std.proofs.lemmas.List.FromFn.{fill_by_all}
 use Rattle.std.proofs.lemmas.Nat.{mul-le}
-use Rattle.nd_base.specs.Indices.{below}
-use Rattle.nd_base.specs.Size.{size, is_empty}
-use Rattle.nd_base.specs.Span.{reach, span}
+use Rattle.nd_base.proofs.laws.Definitions.{HasDistinctOffsets, below, is_empty, size, reach, span}
 use Rattle.nd_base.proofs.laws.IsIndex.{nonempty_from_index}
 use Rattle.nd_base.proofs.laws.Size.{size_of_nonempty}
 use Rattle.nd_base.proofs.laws.Span.{sum_le}
 use Rattle.nd_dim.specs.Strides.{size_after, size_until, default_strides, fortran_strides}
-use Rattle.nd_base.specs.DistinctOffsets.{HasDistinctOffsets}
 use Rattle.nd_dim.specs.AxisOrder.{magnitude_at}
 use Rattle.nd_shape.specs.OwnedRule.{span_up_to, span_of_others, MeetsOwnedRule}
 use Rattle.nd_shape.proofs.laws.OwnedRule.{reach_up_to, reach_up_to_le}

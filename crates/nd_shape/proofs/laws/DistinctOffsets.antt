@@ -4,12 +4,7 @@ use Rattle.std.specs.Prelude.{nat_lt, nat_le, remove, not, ◌&&◌}
 use Rattle.std.proofs.Math.Nat.{mul-le-mul_right, suc-mul}
 use Rattle.std.proofs.lemmas.Bool.{and_from, and_parts, both_ways, cases_eq, cases_lt, cases_order, cond-true, le-leb, ltb-true}
 use Rattle.std.proofs.lemmas.Int.{ints}
-use Rattle.nd_base.specs.Indices.{is_index}
-use Rattle.nd_base.specs.Offset.{offset_of}
-use Rattle.nd_base.specs.Signed.{magnitude}
-use Rattle.nd_base.specs.Size.{is_empty}
-use Rattle.nd_base.specs.Span.{reach}
-use Rattle.nd_base.specs.DistinctOffsets.{HasDistinctOffsets}
+use Rattle.nd_base.proofs.laws.Definitions.{HasDistinctOffsets, is_index, offset_of, magnitude, is_empty, reach}
 use Rattle.nd_dim.specs.AxisOrder.{magnitude_at}
 use Rattle.nd_shape.specs.OwnedRule.{span_up_to, span_of_others, meets_owned_rule, MeetsOwnedRule}
 use Rattle.nd_base.proofs.laws.IsIndex.{length_of_index, entry_of_index, nonempty_from_index}

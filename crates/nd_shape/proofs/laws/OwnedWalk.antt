@@ -10,9 +10,7 @@ use Rattle.std.proofs.lemmas.Nat.{mul-le}
 use Rattle.std.proofs.lemmas.List.FromFn.{length-range_with_len, get_or-range_with_len}
 use Rattle.std.proofs.lemmas.List.Sorted.{Contains-permutation, All-permutation, sum_by-IsPermutation}
 use Rattle.std.proofs.lemmas.List.Sums.{get_or-le-sum_by, sum_by-cons, sum_by-drop_more, sum_by-le, sum_by-le-sum_by, sum_by-take-drop, sum_by_more_le}
-use Rattle.nd_base.specs.Indices.{below}
-use Rattle.nd_base.specs.Signed.{magnitude}
-use Rattle.nd_base.specs.Span.{reach, span, sum_over_axes}
+use Rattle.nd_base.proofs.laws.Definitions.{below, magnitude, reach, span, sum_over_axes}
 use Rattle.nd_base.proofs.laws.Span.{sum_and_others}
 use Rattle.nd_dim.specs.AxisOrder.{magnitude_at, comes_before, IsStrideOrder}
 use Rattle.nd_shape.specs.OwnedRule.{span_of_others, steps_over_others, meets_owned_rule, MeetsOwnedRule}

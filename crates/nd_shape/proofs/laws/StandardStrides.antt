@@ -3,23 +3,15 @@ use Rattle.std.proofs.Common.{◌≡◌, ℕ, zero, suc, ◌+◌, ◌-◌, ◌<�
 use Rattle.std.proofs.lemmas.Bool.{cases_Bool, cond-true}
 use Rattle.std.proofs.lemmas.Int.{to_z_pos}
 use Rattle.std.proofs.lemmas.List.{get_or-replicate, length-map}
-use Rattle.nd_base.specs.declared.order.Order.{Order}
-use Rattle.nd_base.specs.declared.order.Order.TheVariants.{RowMajor, ColumnMajor}
-use Rattle.nd_base.specs.Indices.{below, is_index}
-use Rattle.nd_base.specs.Offset.{offset_of}
-use Rattle.nd_base.specs.Rank.{rank_in}
-use Rattle.nd_base.specs.Signed.{signed, all_signed}
-use Rattle.nd_base.specs.Size.{size, nonzero_size, is_empty, limit}
-use Rattle.nd_base.specs.Span.{span, low_span}
-use Rattle.nd_base.specs.ValidLayout.{IsValidLayout}
+use Rattle.nd_base.proofs.laws.Definitions.{Order, RowMajor, ColumnMajor, HasDistinctOffsets, below, is_index, LiesInside, offset_of}
+use Rattle.nd_base.proofs.laws.Definitions.{rank_in, all_signed, signed, is_empty, limit, nonzero_size, size, low_span, span}
+use Rattle.nd_base.proofs.laws.Definitions.{IsValidLayout}
 use Rattle.nd_base.proofs.laws.NonzeroSize.{size_le_nonzero_size}
 use Rattle.nd_base.proofs.laws.Rank.{rank_in-lt-size}
 use Rattle.nd_base.proofs.laws.Signed.{all_signed_small}
 use Rattle.nd_base.proofs.laws.Size.{size_take_le}
 use Rattle.nd_dim.specs.Strides.{size_after, size_until}
 use Rattle.nd_dim.proofs.laws.Strides.{default_count, default_small, fortran_at, fortran_count, offset_of-default_strides, offset_of-fortran_strides}
-use Rattle.nd_base.specs.DistinctOffsets.{HasDistinctOffsets}
-use Rattle.nd_base.specs.Inside.{LiesInside}
 use Rattle.nd_shape.specs.ShapeBuilder.{standard_strides}
 use Rattle.nd_shape.specs.OwnedRule.{MeetsOwnedRule}
 use Rattle.nd_shape.proofs.laws.DefaultStrides.{default_strides_distinct, default_strides_meet_rule, default_strides_span, fortran_strides_distinct, fortran_strides_meet_rule, fortran_strides_span}

@@ -2,11 +2,7 @@ use Rattle.std.proofs.Common.{rules, refl, sym, ◌≡◌, ◌+◌, ◌<◌, ◌
 use Rattle.std.specs.Prelude.{FitsSigned, unsigned_abs, Some}
 use Rattle.std.proofs.lemmas.Int.{ints, to_z-of_z, fits_signed_from_abs, unsigned_abs-mul}
 use Rattle.std.proofs.lemmas.List.{length-map}
-use Rattle.nd_base.specs.Indices.{is_index}
-use Rattle.nd_base.specs.Offset.{offset_of}
-use Rattle.nd_base.specs.Signed.{signed, all_signed}
-use Rattle.nd_base.specs.Size.{limit}
-use Rattle.nd_base.specs.Span.{reach}
+use Rattle.nd_base.proofs.laws.Definitions.{is_index, offset_of, all_signed, signed, limit, reach}
 use Rattle.nd_base.proofs.IndexOffsets.{is_index_of_count, is_index_of_entry, entry_offset, entry_offset_bounds, entry_offset_le, offset_from, offset_from_step, offset_from_end}
 use Rattle.nd_base.proofs.laws.Entries.{is_index_from_entries}
 use Rattle.nd_base.proofs.laws.NonzeroSize.{length_le_nonzero_size}

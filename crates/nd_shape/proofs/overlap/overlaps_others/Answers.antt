@@ -2,8 +2,7 @@ use Rattle.std.proofs.Common.{rules, ◌≡◌, ◌-◌, length, pos, get_or, to
 use Rattle.std.specs.Prelude.{unsigned_abs, FitsSigned}
 use Rattle.std.proofs.lemmas.Int.{to_z-of_z}
 use Rattle.std.proofs.lemmas.List.{length-map}
-use Rattle.nd_base.specs.Signed.{signed, all_signed}
-use Rattle.nd_base.specs.Span.{reach}
+use Rattle.nd_base.proofs.laws.Definitions.{all_signed, signed, reach}
 use Rattle.nd_dim.specs.AxisOrder.{magnitude_at}
 use Rattle.nd_shape.specs.OwnedRule.{span_up_to, span_of_others}
 use Rattle.nd_base.proofs.laws.Span.{reach_le_span}
