@@ -3,7 +3,9 @@ use Rattle.std.proofs.Common.{◌≡◌, ℕ, ◌+◌, ◌-◌, ◌<◌, ◌≤�
 use Rattle.std.specs.List.{slice_get}
 use Rattle.std.specs.Prelude.{nat_lt, IsTrue}
 use Rattle.std.proofs.lemmas.Bool.{eqb-false, ltb-true, ltb-false}
-use Rattle.nd_base.proofs.laws.Definitions.{Dim, Order, lengths, rewritten, is_index, index_of_rank_in, rank_in, is_empty, size}
+use Rattle.nd_base.specs.declared.dim.Dim.{Dim}
+use Rattle.nd_base.specs.declared.order.Order.{Order}
+use Rattle.nd_base.proofs.laws.Definitions.{lengths, rewritten, is_index, index_of_rank_in, rank_in, is_empty, size}
 use Rattle.nd_base.proofs.laws.Dim.{lengths_rewritten}
 use Rattle.nd_base.proofs.laws.IsIndex.{is_index-zeros, length_of_index}
 use Rattle.nd_base.proofs.laws.Rank.{index_of_rank_in-rank_in, is_index-index_of_rank_in, rank_in-index_of_rank_in, rank_in-zeros}

@@ -3,7 +3,8 @@ use Rattle.std.proofs.Common.{◌≡◌, ◌≢◌, ℕ, ◌<◌, ◌≤◌, pos
 use Rattle.std.proofs.lemmas.Bool.{both_ways}
 use Rattle.std.proofs.lemmas.Int.{of_z-to_z}
 use Rattle.std.proofs.lemmas.List.{get_or-map}
-use Rattle.nd_base.proofs.laws.Definitions.{Order, all_signed, signed, unsigned, is_empty, limit, nonzero_size}
+use Rattle.nd_base.specs.declared.order.Order.{Order}
+use Rattle.nd_base.proofs.laws.Definitions.{all_signed, signed, unsigned, is_empty, limit, nonzero_size}
 use Rattle.nd_shape.specs.LayoutOrder.{HasStandardStrides, MeetsOrderRule}
 use Rattle.nd_shape.specs.ShapeBuilder.{standard_strides}
 use Rattle.nd_shape.proofs.laws.StandardStrides.{standard_count, standard_signed}

@@ -1,11 +1,4 @@
 -- The definitions that most proofs cite, passed on from one place. Declares nothing.
-pub use Rattle.nd_base.specs.declared.dim.Dim.{Dim}
-pub use Rattle.nd_base.specs.declared.error.ErrorKind.{ErrorKind}
-pub use Rattle.nd_base.specs.declared.error.ErrorKind.TheVariants.{IncompatibleShape, IncompatibleLayout, RangeLimited, OutOfBounds, Unsupported, Overflow}
-pub use Rattle.nd_base.specs.declared.error.LayoutError.{LayoutError}
-pub use Rattle.nd_base.specs.declared.error.ShapeError.{ShapeError}
-pub use Rattle.nd_base.specs.declared.order.Order.{Order}
-pub use Rattle.nd_base.specs.declared.order.Order.TheVariants.{RowMajor, ColumnMajor}
 pub use Rattle.nd_base.specs.Dim.{lengths, rewritten}
 pub use Rattle.nd_base.specs.DistinctOffsets.{HasDistinctOffsets}
 pub use Rattle.nd_base.specs.Indices.{below, indices, indices_column_major, indices_in, is_index}

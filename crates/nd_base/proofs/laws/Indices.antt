@@ -7,7 +7,9 @@ use Rattle.std.proofs.lemmas.List.Concat.{flat_map-append}
 use Rattle.std.proofs.lemmas.List.Elements.{All-contains}
 use Rattle.std.proofs.lemmas.List.FromFn.{fill_by_all}
 use Rattle.std.proofs.lemmas.Option.{get_or_from_slice_get}
-use Rattle.nd_base.proofs.laws.Definitions.{Order, RowMajor, ColumnMajor, below, indices, indices_column_major, indices_in, is_index}
+use Rattle.nd_base.specs.declared.order.Order.{Order}
+use Rattle.nd_base.specs.declared.order.Order.TheVariants.{RowMajor, ColumnMajor}
+use Rattle.nd_base.proofs.laws.Definitions.{below, indices, indices_column_major, indices_in, is_index}
 use Rattle.nd_base.proofs.laws.Definitions.{index_of_rank_in, rank_in, size}
 use Rattle.nd_base.proofs.Rows.{length_indices}
 use Rattle.nd_base.proofs.laws.Lists.{map_same}

@@ -1,8 +1,8 @@
 -- Laws of lists, whatever their items.
-use Rattle.std.proofs.Common.{◌≡◌, ℕ, zero, suc, ◌<◌, List, [], ◌∷◌, ◌++◌, length, get_or, map, replicate, reverse, refl, sym, ap, subst, ◌∙◌, add-one, append_assoc}
+use Rattle.std.proofs.Common.{◌≡◌, ℕ, zero, suc, ◌-◌, ◌<◌, List, [], ◌∷◌, ◌++◌, length, get_or, set, take, drop, map, replicate, reverse, refl, sym, ap, subst, ◌∙◌, add-one, append_assoc, arith, drop-cons}
 use Rattle.std.specs.List.{All, Contains}
 use Rattle.std.proofs.Math.ListN.{get_or-map}
-use Rattle.std.proofs.lemmas.List.{length-map, map-append, replicate_more, reverse-append}
+use Rattle.std.proofs.lemmas.List.{get_or-reverse, length-drop, length-map, length-reverse, map-append, replicate_more, reverse-append, set_at, set_split, take-append-drop}
 use Rattle.std.proofs.lemmas.List.Elements.{All-head, All-tail, Contains-get_or}
 
 -- ---- a function of each item
@@ -47,3 +47,23 @@ reverse-replicate (suc n) x =
     ∙ ap (λ ys. ys ++ x ∷ []) (reverse-replicate n x)
     ∙ replicate_more n x
     ∙ ap (λ m. replicate m x) (add-one n)
+
+-- an item counted from the back
+pub get_or-from_back : {A : Type 0} (xs : List A) (k : ℕ) (d : A) → k < length xs
+    → get_or (reverse xs) (length xs - 1 - k) d ≡ get_or xs k d
+get_or-from_back xs k d below =
+    let back : length xs - 1 - (length xs - 1 - k) ≡ k = omega arith in
+    get_or-reverse xs (length xs - 1 - k) d (omega arith) ∙ ap (λ n. get_or xs n d) back
+
+-- another item there
+pub reverse-set : {A : Type 0} (xs : List A) (k : ℕ) (x : A) → k < length xs
+    → set (reverse xs) (length xs - 1 - k) x ≡ reverse (set xs k x)
+reverse-set xs k x below =
+    let back = drop (suc k) xs in
+    let first = get_or xs k x in
+    let place : length (reverse back) ≡ length xs - 1 - k = length-reverse back ∙ length-drop (suc k) xs ∙ omega arith in
+    ap (λ ys. set (reverse ys) (length xs - 1 - k) x) (sym (take-append-drop k xs) ∙ ap (λ ys. take k xs ++ ys) (drop-cons xs k x below))
+    ∙ ap (λ ys. set ys (length xs - 1 - k) x) (reverse_parts (take k xs) first back)
+    ∙ set_at (reverse back) first (reverse (take k xs)) x (length xs - 1 - k) place
+    ∙ sym (reverse_parts (take k xs) x back)
+    ∙ ap reverse (sym (set_split xs k x below))

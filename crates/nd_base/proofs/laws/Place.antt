@@ -3,8 +3,8 @@ use Rattle.std.proofs.Common.{◌≡◌, ℕ, ◌+◌, ℤ, pos, ◌+ℤ◌, tru
 use Rattle.std.proofs.lemmas.Int.{ints}
 use Rattle.std.proofs.lemmas.List.{get_or-map, length-map}
 use Rattle.std.proofs.lemmas.List.FromFn.{fill_by_all}
-use Rattle.nd_base.proofs.laws.Definitions.{Order, below, indices_in, is_index, offset_of, place, places, index_of_rank_in, rank_in}
-use Rattle.nd_base.proofs.laws.Definitions.{size}
+use Rattle.nd_base.specs.declared.order.Order.{Order}
+use Rattle.nd_base.proofs.laws.Definitions.{below, indices_in, is_index, offset_of, place, places, index_of_rank_in, rank_in, size}
 use Rattle.nd_base.proofs.laws.Indices.{get_or-indices_in, length-indices_in}
 use Rattle.nd_base.proofs.laws.Rank.{is_index-index_of_rank_in, rank_in-index_of_rank_in}
 

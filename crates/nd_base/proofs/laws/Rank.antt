@@ -7,7 +7,9 @@ use Rattle.std.proofs.lemmas.Bool.{and_from, and_parts, lt-ltb, ltb-true}
 use Rattle.std.proofs.lemmas.List.{length-reverse, reverse-reverse}
 use Rattle.std.proofs.lemmas.Nat.{div_below, mod_below, div-add-mod', div-mul-add, mod-mul-add, mul-add-lt}
 use Rattle.std.proofs.lemmas.Option.{slice_get-map}
-use Rattle.nd_base.proofs.laws.Definitions.{as_read, Order, RowMajor, ColumnMajor, indices, indices_in, is_index, index_of_rank}
+use Rattle.nd_base.specs.declared.order.Order.{Order}
+use Rattle.nd_base.specs.declared.order.Order.TheVariants.{RowMajor, ColumnMajor}
+use Rattle.nd_base.proofs.laws.Definitions.{as_read, indices, indices_in, is_index, index_of_rank}
 use Rattle.nd_base.proofs.laws.Definitions.{index_of_rank_in, rank, rank_in, size}
 use Rattle.nd_base.proofs.Rows.{row, length_indices, slice_get_rows}
 use Rattle.nd_base.proofs.laws.Reading.{as_read-as_read, as_read-replicate, is_index-as_read, length-as_read, size-as_read}

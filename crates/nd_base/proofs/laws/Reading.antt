@@ -1,8 +1,9 @@
 -- Laws of lists with an item for each axis, in the order in which the axes are read: what holds by rows is read for both.
 use Rattle.std.proofs.Common.{◌≡◌, ℕ, ℤ, List, [], length, map, replicate, refl}
 use Rattle.std.proofs.lemmas.List.{reverse-reverse, length-reverse}
-use Rattle.nd_base.proofs.laws.Definitions.{Order, RowMajor, ColumnMajor, is_index, offset_of, as_read, is_empty, nonzero_size, size}
-use Rattle.nd_base.proofs.laws.Definitions.{sum_over_axes}
+use Rattle.nd_base.specs.declared.order.Order.{Order}
+use Rattle.nd_base.specs.declared.order.Order.TheVariants.{RowMajor, ColumnMajor}
+use Rattle.nd_base.proofs.laws.Definitions.{is_index, offset_of, as_read, is_empty, nonzero_size, size, sum_over_axes}
 use Rattle.nd_base.proofs.laws.IsIndex.{is_index-reverse}
 use Rattle.nd_base.proofs.laws.Lists.{map-reverse, reverse-replicate}
 use Rattle.nd_base.proofs.laws.NonzeroSize.{nonzero_size-reverse}

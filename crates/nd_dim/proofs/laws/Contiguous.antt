@@ -9,8 +9,9 @@ use Rattle.std.proofs.lemmas.Bool.{cond-false, eq-eqb, eqb-true, le-leb, leb-tru
 use Rattle.std.proofs.lemmas.Bool.Decides.{Decides-int_eq, nat_tests}
 use Rattle.std.proofs.lemmas.Int.{ints}
 use Rattle.std.specs.Cmp.Rules.{signed_items}
-use Rattle.nd_base.proofs.laws.Definitions.{Order, RowMajor, below, offset_of, places, index_of_rank, rank, magnitude, is_empty, size}
-use Rattle.nd_base.proofs.laws.Definitions.{low_span}
+use Rattle.nd_base.specs.declared.order.Order.{Order}
+use Rattle.nd_base.specs.declared.order.Order.TheVariants.{RowMajor}
+use Rattle.nd_base.proofs.laws.Definitions.{below, offset_of, places, index_of_rank, rank, magnitude, is_empty, size, low_span}
 use Rattle.nd_base.proofs.laws.Rank.{is_index-index_of_rank, rank-index_of_rank, same_from_rank_in}
 use Rattle.nd_dim.specs.AxisOrder.{magnitude_at}
 use Rattle.nd_dim.specs.Contiguous.{has_default_strides, is_contiguous, is_lone_step_back, is_packed, is_packed_at, lens_before}

@@ -4,7 +4,8 @@ use Rattle.std.specs.List.Sorted.{IsPermutation}
 use Rattle.std.proofs.lemmas.Int.{ints}
 use Rattle.std.proofs.lemmas.List.{get_or-map, length-map}
 use Rattle.std.proofs.lemmas.List.FromFn.{get_or-map-range_with_len, length-map-range_with_len}
-use Rattle.nd_base.proofs.laws.Definitions.{Order, below, indices_in, is_index, offset_of, place, places, farthest_offset, is_empty}
+use Rattle.nd_base.specs.declared.order.Order.{Order}
+use Rattle.nd_base.proofs.laws.Definitions.{below, indices_in, is_index, offset_of, place, places, farthest_offset, is_empty}
 use Rattle.nd_base.proofs.laws.Definitions.{size, low_span}
 use Rattle.nd_base.proofs.laws.Indices.{Contains-indices_in, length-indices_in}
 use Rattle.nd_base.proofs.laws.Offset.{offset_bounds}

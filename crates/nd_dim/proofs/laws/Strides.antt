@@ -5,8 +5,8 @@ use Rattle.std.proofs.lemmas.Bool.{and_parts, cases_Bool, cond-true, cond-false,
 use Rattle.std.proofs.lemmas.Int.{ints}
 use Rattle.std.proofs.lemmas.List.{drop_at, ext_get_or, get_or-replicate, get_or-reverse, length-drop, length-map, length-replicate, length-reverse, map-append, reverse-append, reverse-reverse, take-append-drop}
 use Rattle.std.proofs.lemmas.List.FromFn.{length-map-range_with_len, get_or-map-range_with_len}
-use Rattle.nd_base.proofs.laws.Definitions.{RowMajor, ColumnMajor, below, is_index, offset_of, places, rank, rank_in, is_empty, limit}
-use Rattle.nd_base.proofs.laws.Definitions.{nonzero_size, size}
+use Rattle.nd_base.specs.declared.order.Order.TheVariants.{RowMajor, ColumnMajor}
+use Rattle.nd_base.proofs.laws.Definitions.{below, is_index, offset_of, places, rank, rank_in, is_empty, limit, nonzero_size, size}
 use Rattle.nd_base.proofs.laws.IsIndex.{is_index-reverse, length_of_index, nonempty_from_index}
 use Rattle.nd_base.proofs.laws.Lists.{map-reverse}
 use Rattle.nd_base.proofs.laws.NonzeroSize.{size_le_nonzero_size}

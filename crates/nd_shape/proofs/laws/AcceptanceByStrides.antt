@@ -1,7 +1,9 @@
 -- Laws of layouts that are accepted by their own strides or by given ones.
 use Rattle.std.proofs.Common.{◌≡◌, ℕ, ◌≤◌, false, List, None, arith}
 use Rattle.std.proofs.lemmas.Grind.{common_steps}
-use Rattle.nd_base.proofs.laws.Definitions.{Order, RowMajor, ColumnMajor, HasDistinctOffsets, LiesInside, all_signed, is_empty, limit}
+use Rattle.nd_base.specs.declared.order.Order.{Order}
+use Rattle.nd_base.specs.declared.order.Order.TheVariants.{RowMajor, ColumnMajor}
+use Rattle.nd_base.proofs.laws.Definitions.{HasDistinctOffsets, LiesInside, all_signed, is_empty, limit}
 use Rattle.nd_base.proofs.laws.Definitions.{nonzero_size, size, low_span, IsValidLayout}
 use Rattle.nd_shape.specs.AcceptanceByStrides.{acceptance_of_standard, acceptance_by_strides}
 use Rattle.nd_shape.specs.declared.checks.CanIndexCheckMode.{CanIndexCheckMode}

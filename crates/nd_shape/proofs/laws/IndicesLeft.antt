@@ -1,6 +1,7 @@
 -- Laws of what a walk over the indices of a shape has still to give.
 use Rattle.std.proofs.Common.{◌≡◌, ℕ, suc, ◌-◌, ◌<◌, ◌≤◌, List, [], ◌∷◌, length, drop, ap, ◌∙◌, arith, drop-cons, length-drop, drop_of_length-le}
-use Rattle.nd_base.proofs.laws.Definitions.{Order, indices_in, size}
+use Rattle.nd_base.specs.declared.order.Order.{Order}
+use Rattle.nd_base.proofs.laws.Definitions.{indices_in, size}
 use Rattle.nd_base.proofs.laws.Indices.{get_or-indices_in, length-indices_in}
 use Rattle.nd_shape.specs.IndicesLeft.{indices_left, first_left}
 

@@ -5,8 +5,9 @@ use Rattle.std.proofs.lemmas.Bool.{and_from, and_parts, cases_Bool, cases_eq, lt
 use Rattle.std.proofs.lemmas.Int.{ints}
 use Rattle.std.proofs.lemmas.List.{get_or-map, length-map}
 use Rattle.std.proofs.lemmas.List.FromFn.{get_or-map-range_with_len}
-use Rattle.nd_base.proofs.laws.Definitions.{Order, RowMajor, ColumnMajor, below, indices_in, is_index, offset_of, place, places}
-use Rattle.nd_base.proofs.laws.Definitions.{rank_in, is_empty, size}
+use Rattle.nd_base.specs.declared.order.Order.{Order}
+use Rattle.nd_base.specs.declared.order.Order.TheVariants.{RowMajor, ColumnMajor}
+use Rattle.nd_base.proofs.laws.Definitions.{below, indices_in, is_index, offset_of, place, places, rank_in, is_empty, size}
 use Rattle.nd_base.proofs.laws.Indices.{get_or-indices_in, indices_in_of_empty, length-indices_in}
 use Rattle.nd_base.proofs.laws.IsIndex.{is_index-zeros}
 use Rattle.nd_base.proofs.laws.Offset.{offset_of-zeros}

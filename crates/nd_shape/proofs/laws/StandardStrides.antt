@@ -3,9 +3,10 @@ use Rattle.std.proofs.Common.{◌≡◌, ℕ, zero, suc, ◌+◌, ◌-◌, ◌<�
 use Rattle.std.proofs.lemmas.Bool.{cases_Bool, cond-true}
 use Rattle.std.proofs.lemmas.Int.{to_z_pos}
 use Rattle.std.proofs.lemmas.List.{get_or-replicate, length-map}
-use Rattle.nd_base.proofs.laws.Definitions.{Order, RowMajor, ColumnMajor, HasDistinctOffsets, below, is_index, LiesInside, offset_of}
-use Rattle.nd_base.proofs.laws.Definitions.{rank_in, all_signed, signed, is_empty, limit, nonzero_size, size, low_span, span}
-use Rattle.nd_base.proofs.laws.Definitions.{IsValidLayout}
+use Rattle.nd_base.specs.declared.order.Order.{Order}
+use Rattle.nd_base.specs.declared.order.Order.TheVariants.{RowMajor, ColumnMajor}
+use Rattle.nd_base.proofs.laws.Definitions.{HasDistinctOffsets, below, is_index, LiesInside, offset_of, rank_in, all_signed, signed}
+use Rattle.nd_base.proofs.laws.Definitions.{is_empty, limit, nonzero_size, size, low_span, span, IsValidLayout}
 use Rattle.nd_base.proofs.laws.NonzeroSize.{size_le_nonzero_size}
 use Rattle.nd_base.proofs.laws.Rank.{rank_in-lt-size}
 use Rattle.nd_base.proofs.laws.Signed.{all_signed_small}
