@@ -69,7 +69,7 @@ module _ (k : ℕ) {shape old index : List ℕ} (below : k < length shape) (at :
 
   write : (entry : ℕ) → set index k entry ≡ take k old ++ entry ∷ replicate (length shape - (k + 1)) 0
   write entry =
-      let zeros = replicate (length shape - (k + 1)) 0 in
+      let zeros : List ℕ = replicate (length shape - (k + 1)) 0 in
       ap (λ xs. set xs k entry) (at.written ∙ ap (λ xs. xs ++ zeros) (take_more old k 0 in_old) ∙ append_assoc (take k old) _ zeros)
       ∙ set_at (take k old) (get_or old k 0) zeros entry k (length-take-le k old (omega (arith, in_old)))
 
