@@ -90,47 +90,45 @@ slice_get-indices_in ColumnMajor shape r h =
     slice_get-map reverse (indices (reverse shape)) r
     ∙ ap (option_map reverse) (slice_get-indices (reverse shape) r (in_size ColumnMajor shape r h))
 
--- it is an index of the shape
-pub is_index-index_of_rank_in : (order : Order) (shape : List ℕ) (r : ℕ) → r < size shape
-    → is_index shape (index_of_rank_in order shape r) ≡ true
-is_index-index_of_rank_in order shape r h =
-    let read = index_of_rank (as_read order shape) r in
-    sym (is_index-as_read order shape (as_read order read))
-    ∙ ap (is_index (as_read order shape)) (as_read-as_read order read)
-    ∙ is_index-index_of_rank (as_read order shape) r (in_size order shape r h)
+module _ (order : Order) (shape : List ℕ) where
+  -- it is an index of the shape
+  pub is_index-index_of_rank_in : (r : ℕ) → r < size shape → is_index shape (index_of_rank_in order shape r) ≡ true
+  is_index-index_of_rank_in r h =
+      let read = index_of_rank (as_read order shape) r in
+      sym (is_index-as_read order shape (as_read order read))
+      ∙ ap (is_index (as_read order shape)) (as_read-as_read order read)
+      ∙ is_index-index_of_rank (as_read order shape) r (in_size order shape r h)
 
--- and its rank is r
-pub rank_in-index_of_rank_in : (order : Order) (shape : List ℕ) (r : ℕ) → r < size shape
-    → rank_in order shape (index_of_rank_in order shape r) ≡ r
-rank_in-index_of_rank_in order shape r h =
-    ap (rank (as_read order shape)) (as_read-as_read order (index_of_rank (as_read order shape) r))
-    ∙ rank-index_of_rank (as_read order shape) r (in_size order shape r h)
+  -- and its rank is r
+  pub rank_in-index_of_rank_in : (r : ℕ) → r < size shape → rank_in order shape (index_of_rank_in order shape r) ≡ r
+  rank_in-index_of_rank_in r h =
+      ap (rank (as_read order shape)) (as_read-as_read order (index_of_rank (as_read order shape) r))
+      ∙ rank-index_of_rank (as_read order shape) r (in_size order shape r h)
 
--- an index ranks below the size
-pub rank_in-lt-size : (order : Order) (shape index : List ℕ) → is_index shape index ≡ true → rank_in order shape index < size shape
-rank_in-lt-size order shape index h =
-    let below = rank-lt-size (as_read order shape) (as_read order index) (is_index-as_read order shape index ∙ h) in
-    omega (arith, size-as_read order shape)
+  -- an index ranks below the size
+  pub rank_in-lt-size : (index : List ℕ) → is_index shape index ≡ true → rank_in order shape index < size shape
+  rank_in-lt-size index h =
+      let below = rank-lt-size (as_read order shape) (as_read order index) (is_index-as_read order shape index ∙ h) in
+      omega (arith, size-as_read order shape)
 
--- and is the one at its rank
-pub index_of_rank_in-rank_in : (order : Order) (shape index : List ℕ) → is_index shape index ≡ true
-    → index_of_rank_in order shape (rank_in order shape index) ≡ index
-index_of_rank_in-rank_in order shape index h =
-    ap (as_read order) (index_of_rank-rank (as_read order shape) (as_read order index) (is_index-as_read order shape index ∙ h))
-    ∙ as_read-as_read order index
+  -- and is the one at its rank
+  pub index_of_rank_in-rank_in : (index : List ℕ) → is_index shape index ≡ true → index_of_rank_in order shape (rank_in order shape index) ≡ index
+  index_of_rank_in-rank_in index h =
+      ap (as_read order) (index_of_rank-rank (as_read order shape) (as_read order index) (is_index-as_read order shape index ∙ h))
+      ∙ as_read-as_read order index
 
--- so an index is the item at its rank
-pub slice_get-rank_in : (order : Order) (shape index : List ℕ) → is_index shape index ≡ true → slice_get (indices_in order shape) (rank_in order shape index) ≡ Some index
-slice_get-rank_in order shape index h =
-    slice_get-indices_in order shape (rank_in order shape index) (rank_in-lt-size order shape index h)
-    ∙ ap Some (index_of_rank_in-rank_in order shape index h)
+  -- so an index is the item at its rank
+  pub slice_get-rank_in : (index : List ℕ) → is_index shape index ≡ true → slice_get (indices_in order shape) (rank_in order shape index) ≡ Some index
+  slice_get-rank_in index h =
+      slice_get-indices_in order shape (rank_in order shape index) (rank_in-lt-size index h)
+      ∙ ap Some (index_of_rank_in-rank_in index h)
 
--- and two indices of equal rank are one
-pub same_from_rank_in : (order : Order) (shape index other : List ℕ) → is_index shape index ≡ true → is_index shape other ≡ true → rank_in order shape index ≡ rank_in order shape other → index ≡ other
-same_from_rank_in order shape index other h g e =
-    sym (index_of_rank_in-rank_in order shape index h)
-    ∙ ap (index_of_rank_in order shape) e
-    ∙ index_of_rank_in-rank_in order shape other g
+  -- and two indices of equal rank are one
+  pub same_from_rank_in : (index other : List ℕ) → is_index shape index ≡ true → is_index shape other ≡ true → rank_in order shape index ≡ rank_in order shape other → index ≡ other
+  same_from_rank_in index other h g e =
+      sym (index_of_rank_in-rank_in index h)
+      ∙ ap (index_of_rank_in order shape) e
+      ∙ index_of_rank_in-rank_in other g
 
 -- ---- the first index
 -- zeros are of rank 0

@@ -90,23 +90,24 @@ is_index-last (len ∷ shape) h =
     let some : 0 < len = pos_of_ne-zero (eqb-false len 0 parts.0) in
     and_from (nat_lt (len - 1) len) (is_index shape (last_entries shape)) (lt-ltb (len - 1) len (omega arith)) (is_index-last shape parts.1)
 
--- where an index lies so far whatever the signs, the turned one lies as far above the least offset
-pub has_offset_turned : (shape : List ℕ) (strides : List ℤ) (index : List ℕ) (k : ℕ) → length shape ≡ length strides → is_index shape index ≡ true → farthest_offset strides index ≡ k → (found : List ℕ) × (is_index shape found ≡ true) × (offset_of strides found ≡ pos k +ℤ neg_ℤ (pos (low_span shape strides)))
-has_offset_turned shape strides index k e h far =
-    let back = turned shape strides index in
-    let inside : is_index shape back ≡ true = is_index-turned shape strides index h in
-    let moved = offset_of-turned shape strides back e inside in
-    let same : farthest_offset strides (turned shape strides back) ≡ k = ap (farthest_offset strides) (turned-turned shape strides index h) ∙ far in
-    (back, inside, omega (arith, ints, moved, same))
+module _ (shape : List ℕ) (strides : List ℤ) where
+  -- where an index lies so far whatever the signs, the turned one lies as far above the least offset
+  pub has_offset_turned : (index : List ℕ) (k : ℕ) → length shape ≡ length strides → is_index shape index ≡ true → farthest_offset strides index ≡ k → (found : List ℕ) × (is_index shape found ≡ true) × (offset_of strides found ≡ pos k +ℤ neg_ℤ (pos (low_span shape strides)))
+  has_offset_turned index k e h far =
+      let back = turned shape strides index in
+      let inside : is_index shape back ≡ true = is_index-turned shape strides index h in
+      let moved = offset_of-turned shape strides back e inside in
+      let same : farthest_offset strides (turned shape strides back) ≡ k = ap (farthest_offset strides) (turned-turned shape strides index h) ∙ far in
+      (back, inside, omega (arith, ints, moved, same))
 
--- a shape with an index has one whose offset is the low span down
-pub least_offset : (shape : List ℕ) (strides : List ℤ) → length shape ≡ length strides → is_empty shape ≡ false → (index : List ℕ) × (is_index shape index ≡ true) × (offset_of strides index ≡ neg_ℤ (pos (low_span shape strides)))
-least_offset shape strides e some =
-    let found = has_offset_turned shape strides (replicate (length shape) 0) 0 e (is_index-zeros shape some) (farthest_offset-zeros strides (length shape)) in
-    (found.0, found.1, omega (arith, ints, found.2))
+  -- a shape with an index has one whose offset is the low span down
+  pub least_offset : length shape ≡ length strides → is_empty shape ≡ false → (index : List ℕ) × (is_index shape index ≡ true) × (offset_of strides index ≡ neg_ℤ (pos (low_span shape strides)))
+  least_offset e some =
+      let found = has_offset_turned (replicate (length shape) 0) 0 e (is_index-zeros shape some) (farthest_offset-zeros strides (length shape)) in
+      (found.0, found.1, omega (arith, ints, found.2))
 
--- and one whose offset is the high span up
-pub greatest_offset : (shape : List ℕ) (strides : List ℤ) → length shape ≡ length strides → is_empty shape ≡ false → (index : List ℕ) × (is_index shape index ≡ true) × (offset_of strides index ≡ pos (high_span shape strides))
-greatest_offset shape strides e some =
-    let found = has_offset_turned shape strides (last_entries shape) (span shape strides) e (is_index-last shape some) (farthest_of_last shape strides) in
-    (found.0, found.1, omega (arith, ints, found.2, low_high_span shape strides))
+  -- and one whose offset is the high span up
+  pub greatest_offset : length shape ≡ length strides → is_empty shape ≡ false → (index : List ℕ) × (is_index shape index ≡ true) × (offset_of strides index ≡ pos (high_span shape strides))
+  greatest_offset e some =
+      let found = has_offset_turned (last_entries shape) (span shape strides) e (is_index-last shape some) (farthest_of_last shape strides) in
+      (found.0, found.1, omega (arith, ints, found.2, low_high_span shape strides))

@@ -46,25 +46,26 @@ stretch_of_default lens = record {
 }
 
 -- ---- packed axes
-packed_fact : (lens : List ℕ) (strides : List ℤ) (axis : ℕ) → is_packed_at lens strides axis ≡ true → IsPackedAt lens strides axis
-packed_fact lens strides axis h = elim (or_cases (eqb (get_or lens axis 0) 1) (eqb (magnitude_at strides axis) (size (lens_before lens strides axis))) h) [
-  | inl one ↦ inl (eqb-true (get_or lens axis 0) 1 one)
-  | inr fits ↦ inr (eqb-true (magnitude_at strides axis) (size (lens_before lens strides axis)) fits)
-]
+module _ (lens : List ℕ) (strides : List ℤ) where
+  packed_fact : (axis : ℕ) → is_packed_at lens strides axis ≡ true → IsPackedAt lens strides axis
+  packed_fact axis h = elim (or_cases (eqb (get_or lens axis 0) 1) (eqb (magnitude_at strides axis) (size (lens_before lens strides axis))) h) [
+    | inl one ↦ inl (eqb-true (get_or lens axis 0) 1 one)
+    | inr fits ↦ inr (eqb-true (magnitude_at strides axis) (size (lens_before lens strides axis)) fits)
+  ]
 
-packed_test : (lens : List ℕ) (strides : List ℤ) (axis : ℕ) → IsPackedAt lens strides axis → is_packed_at lens strides axis ≡ true
-packed_test lens strides axis (inl one) = or_left (eqb (get_or lens axis 0) 1) (eqb (magnitude_at strides axis) (size (lens_before lens strides axis))) (eq-eqb (get_or lens axis 0) 1 one)
-packed_test lens strides axis (inr fits) = or_right (eqb (get_or lens axis 0) 1) (eqb (magnitude_at strides axis) (size (lens_before lens strides axis))) (eq-eqb (magnitude_at strides axis) (size (lens_before lens strides axis)) fits)
+  packed_test : (axis : ℕ) → IsPackedAt lens strides axis → is_packed_at lens strides axis ≡ true
+  packed_test axis (inl one) = or_left (eqb (get_or lens axis 0) 1) (eqb (magnitude_at strides axis) (size (lens_before lens strides axis))) (eq-eqb (get_or lens axis 0) 1 one)
+  packed_test axis (inr fits) = or_right (eqb (get_or lens axis 0) 1) (eqb (magnitude_at strides axis) (size (lens_before lens strides axis))) (eq-eqb (magnitude_at strides axis) (size (lens_before lens strides axis)) fits)
 
--- where every axis is packed, the indices fill a stretch
-stretch_from_packed : (lens : List ℕ) (strides : List ℤ) → length lens ≡ length strides → is_empty lens ≡ false → ((axis : ℕ) → axis < length lens → IsPackedAt lens strides axis) → FillsStretch lens strides
-stretch_from_packed lens strides count some packed =
-    let fills = fills_from_packed lens strides count some packed in
-    stretch_from_reaches lens strides count fills.each
+  -- where every axis is packed, the indices fill a stretch
+  stretch_from_packed : length lens ≡ length strides → is_empty lens ≡ false → ((axis : ℕ) → axis < length lens → IsPackedAt lens strides axis) → FillsStretch lens strides
+  stretch_from_packed count some packed =
+      let fills = fills_from_packed lens strides count some packed in
+      stretch_from_reaches lens strides count fills.each
 
--- and where they fill one, every axis is
-packed_from_stretch : (lens : List ℕ) (strides : List ℤ) → length lens ≡ length strides → is_empty lens ≡ false → FillsStretch lens strides → (axis : ℕ) → axis < length lens → IsPackedAt lens strides axis
-packed_from_stretch lens strides count some stretch = packed_from_reaches lens strides count some (reaches_from_stretch lens strides count some stretch)
+  -- and where they fill one, every axis is
+  packed_from_stretch : length lens ≡ length strides → is_empty lens ≡ false → FillsStretch lens strides → (axis : ℕ) → axis < length lens → IsPackedAt lens strides axis
+  packed_from_stretch count some stretch = packed_from_reaches lens strides count some (reaches_from_stretch lens strides count some stretch)
 
 -- ---- a lone axis
 not_before_itself : (m : ℕ) → (nat_lt m m || (m == m && nat_lt 0 0)) ≡ false
@@ -138,22 +139,23 @@ rule_from_packed (len ∷ more ∷ lens) strides count some packed =
     let several : asked all strides ≡ is_packed all strides = cond-false (eqb (length all) 1) (is_lone_step_back all strides) (is_packed all strides) (ne_eqb (length all) 1 (λ e. omega arith)) in
     or_right (has_default_strides all strides) (asked all strides) (several ∙ all_below (is_packed_at all strides) (length all) (λ axis l. packed_test all strides axis (packed axis l)))
 
--- a layout that the rule takes fills one stretch
-pub stretch_from_rule : (lens : List ℕ) (strides : List ℤ) → length lens ≡ length strides → is_empty lens ≡ false → is_contiguous lens strides ≡ true → FillsStretch lens strides
-stretch_from_rule lens strides count some h = elim (or_cases (has_default_strides lens strides) (asked lens strides) h) [
-  | inl default ↦
-      let P : List ℤ → Type 0 = λ s. FillsStretch lens s in
-      subst P (sym ((signed_items strides (map pos (default_strides lens))).0 default)) (stretch_of_default lens)
-  | inr other ↦ stretch_from_packed lens strides count some (packed_from_asked lens strides count some other)
-]
+module _ (lens : List ℕ) (strides : List ℤ) (count : length lens ≡ length strides) (some : is_empty lens ≡ false) where
+  -- a layout that the rule takes fills one stretch
+  pub stretch_from_rule : is_contiguous lens strides ≡ true → FillsStretch lens strides
+  stretch_from_rule h = elim (or_cases (has_default_strides lens strides) (asked lens strides) h) [
+    | inl default ↦
+        let P : List ℤ → Type 0 = λ s. FillsStretch lens s in
+        subst P (sym ((signed_items strides (map pos (default_strides lens))).0 default)) (stretch_of_default lens)
+    | inr other ↦ stretch_from_packed lens strides count some (packed_from_asked lens strides count some other)
+  ]
 
--- and the rule takes each that does
-pub rule_from_stretch : (lens : List ℕ) (strides : List ℤ) → length lens ≡ length strides → is_empty lens ≡ false → FillsStretch lens strides → is_contiguous lens strides ≡ true
-rule_from_stretch lens strides count some stretch = rule_from_packed lens strides count some (packed_from_stretch lens strides count some stretch)
+  -- and the rule takes each that does
+  pub rule_from_stretch : FillsStretch lens strides → is_contiguous lens strides ≡ true
+  rule_from_stretch stretch = rule_from_packed lens strides count some (packed_from_stretch lens strides count some stretch)
 
--- of a shape without a zero axis, the rule takes exactly the layouts that fill one stretch
-pub contiguous_exactly : (lens : List ℕ) (strides : List ℤ) → length lens ≡ length strides → is_empty lens ≡ false → IsTrue (is_contiguous lens strides) ↔ FillsStretch lens strides
-contiguous_exactly lens strides count some = (stretch_from_rule lens strides count some, rule_from_stretch lens strides count some)
+  -- of a shape without a zero axis, the rule takes exactly the layouts that fill one stretch
+  pub contiguous_exactly : IsTrue (is_contiguous lens strides) ↔ FillsStretch lens strides
+  contiguous_exactly = (stretch_from_rule, rule_from_stretch)
 
 -- ---- a walk along a contiguous layout
 -- the places of a layout that the rule takes are start less the low span, one more, and so on: each index is met once

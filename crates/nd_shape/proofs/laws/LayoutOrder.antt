@@ -89,22 +89,23 @@ offset_of-step_along (len ∷ lens) [] axis e h = absurd (omega arith)
 offset_of-step_along (len ∷ lens) (s ∷ strides) zero e h = omega (arith, ints, offset_of-zeros strides (length lens))
 offset_of-step_along (len ∷ lens) (s ∷ strides) (suc axis) e h = omega (arith, ints, offset_of-step_along lens strides axis (omega arith) (omega arith))
 
-pub rule_from_in_order : (order : Order) (shape : List ℕ) (strides : List ℤ) → length strides ≡ length shape → LiesInOrder order shape strides → MeetsOrderRule order shape strides
-rule_from_in_order order shape strides e lies =
-    let standard = standard_strides order shape in
-    let count : length standard ≡ length shape = standard_count order shape in
-    elim (cases_Bool (is_empty shape)) [
-      | inl none ↦ inl none
-      | inr some ↦ inr (λ axis l ne.
-          let index = step_along shape axis in
-          let h : is_index shape index ≡ true = is_index-step_along shape axis some l ne in
-          sym (offset_of-step_along shape strides axis e l)
-          ∙ rank_from_in_order order shape strides lies index h
-          ∙ sym (offset_of-standard_strides order shape index h)
-          ∙ offset_of-step_along shape (map pos standard) axis (length-map standard pos ∙ count) l
-          ∙ get_or-map pos standard axis 0 (pos 0) (omega arith))
-    ]
+module _ (order : Order) (shape : List ℕ) (strides : List ℤ) (e : length strides ≡ length shape) where
+  pub rule_from_in_order : LiesInOrder order shape strides → MeetsOrderRule order shape strides
+  rule_from_in_order lies =
+      let standard = standard_strides order shape in
+      let count : length standard ≡ length shape = standard_count order shape in
+      elim (cases_Bool (is_empty shape)) [
+        | inl none ↦ inl none
+        | inr some ↦ inr (λ axis l ne.
+            let index = step_along shape axis in
+            let h : is_index shape index ≡ true = is_index-step_along shape axis some l ne in
+            sym (offset_of-step_along shape strides axis e l)
+            ∙ rank_from_in_order order shape strides lies index h
+            ∙ sym (offset_of-standard_strides order shape index h)
+            ∙ offset_of-step_along shape (map pos standard) axis (length-map standard pos ∙ count) l
+            ∙ get_or-map pos standard axis 0 (pos 0) (omega arith))
+      ]
 
--- the indices lie in order exactly where the rule is met
-pub in_order_exactly : (order : Order) (shape : List ℕ) (strides : List ℤ) → length strides ≡ length shape → LiesInOrder order shape strides ↔ MeetsOrderRule order shape strides
-in_order_exactly order shape strides e = (rule_from_in_order order shape strides e, in_order_from_rule order shape strides e)
+  -- the indices lie in order exactly where the rule is met
+  pub in_order_exactly : LiesInOrder order shape strides ↔ MeetsOrderRule order shape strides
+  in_order_exactly = (rule_from_in_order, in_order_from_rule order shape strides e)
