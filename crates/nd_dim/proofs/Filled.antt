@@ -78,7 +78,7 @@ module _ {shape : List ℕ} {strides : List ℤ} {axis len : ℕ} (n : IsNext sh
       let back : set longer axis 1 ≡ shape = set-set shape axis len 1 ∙ ap (set shape axis) (sym n.one) ∙ set-get_or shape axis 0 in
       let moved = rw n.packed at (farthest_offset-set strides index axis 0 (omega (arith, count, n.count)) (omega (arith, count, n.inside))) in
       record {
-        rest = ap (λ s. is_index s (set index axis 0)) (sym back) ∙ is_index-set longer index axis 1 0 within (omega arith) h;
+        rest = ap (λ s. is_index s (set index axis 0)) (sym back) ∙ is_index-set longer index h axis 1 0 within (omega arith);
         entry = rw get_or-set_same at (entry_of_index longer index axis h within);
         sum = omega (arith, moved);
       }
@@ -102,7 +102,7 @@ module _ {shape : List ℕ} {strides : List ℤ} {axis len : ℕ} (n : IsNext sh
       let none : get_or found.0 axis 0 ≡ 0 = omega (arith, n.one, entry_of_index shape found.0 axis found.1 n.inside) in
       let moved = rw (none, n.packed) at (farthest_offset-set strides found.0 axis q (same ∙ n.count) (omega (arith, same, n.inside))) in
       let entry : q < len = div_below k (size shape) len some within in
-      (set found.0 axis q, is_index-set shape found.0 axis len q n.inside entry found.1, omega (arith, moved, found.2, whole))
+      (set found.0 axis q, is_index-set shape found.0 found.1 axis len q n.inside entry, omega (arith, moved, found.2, whole))
 
   next_distinct : (index other : List ℕ) → is_index (set shape axis len) index ≡ true → is_index (set shape axis len) other ≡ true
       → farthest_offset strides index ≡ farthest_offset strides other → index ≡ other
@@ -128,14 +128,12 @@ module _ {shape : List ℕ} {strides : List ℤ} {axis len : ℕ} (n : IsNext sh
       ∙ set-get_or other axis 0
 
 -- the stride of an axis is the size of the others, or it gets one entry: so the layout fills the new size
-pub fills_next : {shape : List ℕ} {strides : List ℤ} (axis len : ℕ) → length shape ≡ length strides → axis < length shape
-    → get_or shape axis 0 ≡ 1 → 0 < size shape → (len ≡ 1) ⊎ (magnitude_at strides axis ≡ size shape)
-    → Fills shape strides → Fills (set shape axis len) strides
-fills_next {shape = shape} {strides = strides} axis len count inside one some (inl alone) fills =
+pub fills_next : {shape : List ℕ} {strides : List ℤ} (axis : ℕ) {len : ℕ} → length shape ≡ length strides → axis < length shape → get_or shape axis 0 ≡ 1 → 0 < size shape → (len ≡ 1) ⊎ (magnitude_at strides axis ≡ size shape) → Fills shape strides → Fills (set shape axis len) strides
+fills_next {shape = shape} {strides = strides} axis {len = len} count inside one some (inl alone) fills =
     let same : set shape axis len ≡ shape = ap (set shape axis) (alone ∙ sym one) ∙ set-get_or shape axis 0 in
     let P : List ℕ → Type 0 = λ s. Fills s strides in
     subst P (sym same) fills
-fills_next {shape = shape} {strides = strides} axis len count inside one some (inr packed) fills =
+fills_next {shape = shape} {strides = strides} axis {len = len} count inside one some (inr packed) fills =
     let next : IsNext shape strides axis len =
     record { count = count; inside = inside; one = one; packed = packed; fills = fills } in
     record { each = record { filled = next_filled next some; distinct = next_distinct next }; below = next_below next }

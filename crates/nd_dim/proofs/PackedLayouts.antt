@@ -57,7 +57,7 @@ module _ (lens : List ℕ) (strides : List ℤ) (count : length lens ≡ length 
         | inr fits ↦ inr (fits ∙ size_before lens strides axis h ∙ ap (λ k. size (first_axes lens strides k)) e)
       ] in
       let next : Fills (set first axis (get_or lens axis 0)) strides =
-      fills_next axis (get_or lens axis 0) (many ∙ count) (omega arith) (first_left lens strides place axis h (omega arith)) (first_above lens strides place some) at fills in
+      fills_next axis (many ∙ count) (omega arith) (first_left lens strides place axis h (omega arith)) (first_above lens strides place some) at fills in
       let P : List ℕ → Type 0 = λ s. Fills s strides in
       subst P (sym (first_more lens strides place axis h e)) next
 
@@ -91,7 +91,7 @@ step_along lens axis = set (replicate (length lens) 0) axis 1
 
 step_is_index : (lens : List ℕ) (axis : ℕ) → is_empty lens ≡ false → axis < length lens → 1 < get_or lens axis 0 → is_index lens (step_along lens axis) ≡ true
 step_is_index lens axis some h long =
-    ap (λ s. is_index s (step_along lens axis)) (sym (set-get_or lens axis 0)) ∙ is_index-set lens (replicate (length lens) 0) axis (get_or lens axis 0) 1 h long (is_index-zeros lens some)
+    ap (λ s. is_index s (step_along lens axis)) (sym (set-get_or lens axis 0)) ∙ is_index-set lens (replicate (length lens) 0) (is_index-zeros lens some) axis (get_or lens axis 0) 1 h long
 
 step_lies : (lens : List ℕ) (strides : List ℤ) (axis : ℕ) → length lens ≡ length strides → axis < length lens → farthest_offset strides (step_along lens axis) ≡ magnitude_at strides axis
 step_lies lens strides axis count h =

@@ -16,21 +16,21 @@ record IsStepped (shape index stepped : List ℕ) : Type 0 where
   within : is_index shape stepped ≡ true
   ranks : rank shape stepped ≡ rank shape index + 1
 
-stepped : (front back : List ℕ) {len : ℕ} (i : ℕ) (index rest : List ℕ) → length index ≡ length front
-    → is_index (front ++ len ∷ back) (index ++ i ∷ rest) ≡ true → rank back rest + 1 ≡ size back → i + 1 < len
-    → IsStepped (front ++ len ∷ back) (index ++ i ∷ rest) (index ++ (i + 1) ∷ replicate (length back) 0)
-stepped [] back {len = len} i [] rest count here full more =
-    let parts = and_parts (nat_lt i len) (is_index back rest) here in
-    let first = rank-zeros back in
-    let one : (i + 1) * size back ≡ i * size back + size back = omega arith in
-    let zeros = is_index-zeros back (nonempty_from_index back rest parts.1) in
-    record { within = and_from _ _ (lt-ltb (i + 1) len more) zeros; ranks = omega arith }
-stepped [] back i (j ∷ index) rest count here full more = absurd (omega arith)
-stepped (n ∷ front) back i [] rest count here full more = absurd (omega arith)
-stepped (n ∷ front) back {len = len} i (j ∷ index) rest count here full more =
-    let parts = and_parts (nat_lt j n) (is_index (front ++ len ∷ back) (index ++ i ∷ rest)) here in
-    let later = stepped front back i index rest (omega arith) parts.1 full more in
-    record { within = and_from _ _ parts.0 later.within; ranks = omega (arith, later.ranks) }
+module _ (back rest : List ℕ) (full : rank back rest + 1 ≡ size back) (len i : ℕ) (more : i + 1 < len) where
+  stepped : (front index : List ℕ) → length index ≡ length front → is_index (front ++ len ∷ back) (index ++ i ∷ rest) ≡ true
+      → IsStepped (front ++ len ∷ back) (index ++ i ∷ rest) (index ++ (i + 1) ∷ replicate (length back) 0)
+  stepped [] [] count here =
+      let parts = and_parts (nat_lt i len) (is_index back rest) here in
+      let first = rank-zeros back in
+      let one : (i + 1) * size back ≡ i * size back + size back = omega arith in
+      let zeros = is_index-zeros back (nonempty_from_index back rest parts.1) in
+      record { within = and_from _ _ (lt-ltb (i + 1) len more) zeros; ranks = omega (arith, full, first, one) }
+  stepped [] (j ∷ index) count here = absurd (omega arith)
+  stepped (n ∷ front) [] count here = absurd (omega arith)
+  stepped (n ∷ front) (j ∷ index) count here =
+      let parts = and_parts (nat_lt j n) (is_index (front ++ len ∷ back) (index ++ i ∷ rest)) here in
+      let later = stepped front index (omega arith) parts.1 in
+      record { within = and_from _ _ parts.0 later.within; ranks = omega (arith, later.ranks) }
 
 -- the index that the step makes is the one of the next rank
 next_is : {shape old new : List ℕ} → IsStepped shape old new
@@ -106,7 +106,7 @@ module _ (k : ℕ) {shape old index : List ℕ} (below : k < length shape) (at :
       let By : List ℕ → List ℕ → Type 0 = λ s i. is_index s i ≡ true
           → IsStepped s i (take k old ++ (get_or old k 0 + 1) ∷ replicate (length (drop (k + 1) shape)) 0) in
       let split : By (take k shape ++ get_or shape k 0 ∷ drop (k + 1) shape) (take k old ++ get_or old k 0 ∷ drop (k + 1) old) =
-      λ e. stepped (take k shape) (drop (k + 1) shape) _ (take k old) (drop (k + 1) old) counts e at.ended (omega (arith, same, more)) in
+      stepped (drop (k + 1) shape) (drop (k + 1) old) at.ended _ _ (omega (arith, same, more)) (take k shape) (take k old) counts in
       subst (λ s. By s old) (sym (parts_of shape k below)) (subst (By _) (sym (parts_of old k in_old)) split) at.here
 
   step : get_or index k 0 + 1 < get_or shape k 0

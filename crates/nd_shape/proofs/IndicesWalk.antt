@@ -45,8 +45,8 @@ module _ (order : Order) (shape : List ℕ) where
       ap (rank_in order shape) (s.first h) ∙ rank_in-index_of_rank_in order shape (size shape - n) (omega (arith, s.within))
 
   -- what it gives is the first of those left
-  pub gives : (index item : List ℕ) (n : ℕ) (left : List (List ℕ)) → 0 < n → StandsAt order shape n index → item ≡ index → indices_left order shape n ≡ left → left ≡ item ∷ indices_left order shape (n - 1)
-  gives index item n left h s e is =
+  pub gives : {index item : List ℕ} {n : ℕ} {left : List (List ℕ)} → 0 < n → StandsAt order shape n index → item ≡ index → indices_left order shape n ≡ left → left ≡ item ∷ indices_left order shape (n - 1)
+  gives {n = n} h s e is =
       sym is ∙ indices_left-more order shape n h s.within ∙ ap (λ first. first ∷ indices_left order shape (n - 1)) (sym (e ∙ s.first h))
 
   -- and nothing where none is left
@@ -89,11 +89,11 @@ module _ (order : Order) (shape : List ℕ) where
   stands_at index n first s e = subst (StandsAtFirst order shape n) e s
 
   -- after an index it stands at the one of the next rank, if a step says that there is one
-  pub goes_on_to : (index next : List ℕ) (n : ℕ) (more : Bool) → 0 < n → StandsAt order shape n index → (IsTrue more ↔ (rank_in order shape index + 1 < size shape)) → next ≡ cond more (index_of_rank_in order shape (rank_in order shape index + 1)) (replicate (length shape) 0) → StandsAtFirst order shape (n - 1) (cond more (Some next) None)
-  goes_on_to index next n true h s is e =
+  pub goes_on_to : {index : List ℕ} (next : List ℕ) {n : ℕ} (more : Bool) → 0 < n → StandsAt order shape n index → (IsTrue more ↔ (rank_in order shape index + 1 < size shape)) → next ≡ cond more (index_of_rank_in order shape (rank_in order shape index + 1)) (replicate (length shape) 0) → StandsAtFirst order shape (n - 1) (cond more (Some next) None)
+  goes_on_to {index = index} {n = n} next true h s is e =
       let more : rank_in order shape index + 1 < size shape = is.0 refl in
       (omega (arith, rank_here order shape index n h s), goes_on order shape index next n h s (λ _. e))
-  goes_on_to index next n false h s is e = ended n refl
+  goes_on_to {index = index} {n = n} next false h s is e = ended n refl
     where
       ended : (k : ℕ) → k ≡ n → n - 1 ≡ 0
       ended k z = by (nat_lt (rank_in order shape index + 1) (size shape)) refl
@@ -120,7 +120,7 @@ module _ (order : Order) (shape : List ℕ) where
   -- what it lends is the first of those left
   pub lends : (index : List ℕ) (n : ℕ) (left : List (List ℕ)) → 0 < n → StandsAt order shape n index → indices_left order shape n ≡ left → (indices_left order shape (n - 1) ≡ drop 1 left) × (Some index ≡ slice_get left 0)
   lends index n left h s is =
-      let all = gives order shape index index n left h s refl is in
+      let all = gives n left h s refl is in
       (sym (ap (drop 1) all), sym (ap (λ xs. slice_get xs 0) all))
 
   pub lends_none : (n : ℕ) (left : List (List ℕ)) → n ≡ 0 → indices_left order shape n ≡ left → (indices_left order shape n ≡ drop 1 left) × (◌≡◌ {A = Option (List ℕ)} None (slice_get left 0))
@@ -129,13 +129,15 @@ module _ (order : Order) (shape : List ℕ) where
       (is ∙ none ∙ sym (ap (drop 1) none), sym (ap (λ xs. slice_get xs 0) none))
 
   -- where the step writes to a dimension, it keeps the count of its entries
-  pub moved_kept : (index : List ℕ) (kept : Dim (List ℕ)) (next : List ℕ) (n : ℕ) (more : Bool) → 0 < n → index ≡ lengths kept → StandsAt order shape (n + 1) index → (IsTrue more ↔ (rank_in order shape index + 1 < size shape)) → next ≡ cond more (index_of_rank_in order shape (rank_in order shape index + 1)) (replicate (length shape) 0) → StandsAt order shape n (lengths (rewritten kept next))
-  moved_kept index kept next n more h e s is g =
-      let at = moves_on index next n more s is g in
+  pub moved_kept : {next : List ℕ} (kept : Dim (List ℕ)) (n : ℕ) (more : Bool) → StandsAt order shape (n + 1) (lengths kept)
+      → (IsTrue more ↔ (rank_in order shape (lengths kept) + 1 < size shape))
+      → next ≡ cond more (index_of_rank_in order shape (rank_in order shape (lengths kept) + 1)) (replicate (length shape) 0)
+      → 0 < n → StandsAt order shape n (lengths (rewritten kept next))
+  moved_kept {next = next} kept n more s is g h =
+      let at = moves_on (lengths kept) next n more s is g in
       let count : length next ≡ length (lengths kept) =
       length_of_index shape next (stands_at_index order shape next n h at)
-      ∙ sym (length_of_index shape index (stands_at_index order shape index (n + 1) (omega arith) s))
-      ∙ ap length e in
+      ∙ sym (length_of_index shape (lengths kept) (stands_at_index order shape (lengths kept) (n + 1) (omega arith) s)) in
       subst (λ xs. StandsAt order shape n xs) (sym (lengths_rewritten kept next count)) at
 
   -- no more are left than there are

@@ -38,18 +38,19 @@ is_index_of_larger shape larger index e h g =
     let less = h axis inside in
     omega arith)
 
--- an index with another entry is one of the shape with another length there
-pub is_index-set : (shape index : List ℕ) (axis len i : ℕ) → axis < length shape → i < len → is_index shape index ≡ true → is_index (set shape axis len) (set index axis i) ≡ true
-is_index-set shape index axis len i l below h =
-    let count = length_of_index shape index h in
-    is_index_from_entries (set shape axis len) (set index axis i) (length-set index axis i ∙ count ∙ sym (length-set shape axis len)) (λ k g.
-    let inside : k < length shape = omega (arith, length-set shape axis len) in
-    elim (cases_eq k axis) [
-      | inl same ↦
-          let there : axis < length index = omega arith in
-          rw (same, get_or-set_same shape axis len 0 l, get_or-set_same index axis i 0 there) below
-      | inr other ↦ rw (get_or-set_other shape axis k len 0 other, get_or-set_other index axis k i 0 other) (entry_of_index shape index k h inside)
-    ])
+module _ (shape index : List ℕ) (h : is_index shape index ≡ true) where
+  -- an index with another entry is one of the shape with another length there
+  pub is_index-set : (axis len i : ℕ) → axis < length shape → i < len → is_index (set shape axis len) (set index axis i) ≡ true
+  is_index-set axis len i l below =
+      let count = length_of_index shape index h in
+      is_index_from_entries (set shape axis len) (set index axis i) (length-set index axis i ∙ count ∙ sym (length-set shape axis len)) (λ k g.
+      let inside : k < length shape = omega (arith, length-set shape axis len) in
+      elim (cases_eq k axis) [
+        | inl same ↦
+            let there : axis < length index = omega arith in
+            rw (same, get_or-set_same shape axis len 0 l, get_or-set_same index axis i 0 there) below
+        | inr other ↦ rw (get_or-set_other shape axis k len 0 other, get_or-set_other index axis k i 0 other) (entry_of_index shape index k h inside)
+      ])
 
 -- ---- sizes
 -- another length in place of 1 multiplies the size

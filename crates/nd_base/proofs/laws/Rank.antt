@@ -39,7 +39,7 @@ slice_get-indices (len ∷ lens) r h =
     let k = r / size lens in
     let j = r % size lens in
     let entry : 0 + k ≡ k = omega arith in
-    slice_get_rows (indices lens) 0 len k j r parts.first (omega (arith, parts.later)) (sym (ap (λ m. k * m + j) counts ∙ parts.whole))
+    slice_get_rows (indices lens) j (omega (arith, parts.later)) 0 len k r parts.first (sym (ap (λ m. k * m + j) counts ∙ parts.whole))
     ∙ ap (λ i. slice_get (row (indices lens) i) j) entry
     ∙ slice_get-map (λ index. k ∷ index) (indices lens) j
     ∙ ap (option_map (λ index. k ∷ index)) (slice_get-indices lens j parts.later)

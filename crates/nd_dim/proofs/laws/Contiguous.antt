@@ -157,10 +157,11 @@ module _ (lens : List ℕ) (strides : List ℤ) (count : length lens ≡ length 
   pub contiguous_exactly : IsTrue (is_contiguous lens strides) ↔ FillsStretch lens strides
   contiguous_exactly = (stretch_from_rule, rule_from_stretch)
 
--- ---- a walk along a contiguous layout
--- the places of a layout that the rule takes are start less the low span, one more, and so on: each index is met once
-pub places_of_contiguous : (order : Order) (start : ℕ) (lens : List ℕ) (strides : List ℤ) → length lens ≡ length strides → is_empty lens ≡ false → low_span lens strides ≤ start → is_contiguous lens strides ≡ true → IsPermutation (map (λ k. pos (start - low_span lens strides + k)) (below (size lens))) (places order start lens strides)
-places_of_contiguous order start lens strides count some fits h = places_in_stretch lens strides count some (stretch_from_rule lens strides count some h) order start fits
+  -- ---- a walk along a contiguous layout
+  -- the places of a layout that the rule takes are start less the low span, one more, and so on: each index is met once
+  pub places_of_contiguous : (order : Order) (start : ℕ) → low_span lens strides ≤ start → is_contiguous lens strides ≡ true
+      → IsPermutation (map (λ k. pos (start - low_span lens strides + k)) (below (size lens))) (places order start lens strides)
+  places_of_contiguous order start fits h = places_in_stretch lens strides count some (stretch_from_rule h) order start fits
 
 -- ---- examples
 both_reversed : FillsStretch (2 ∷ 3 ∷ []) (negsuc 2 ∷ negsuc 0 ∷ [])

@@ -21,16 +21,16 @@ use Rattle.nd_shape.proofs.laws.StandardStrides.{offset_of-standard_strides, sta
 
 -- ---- from the rule
 -- strides that agree on the axes of other lengths than 1 lead to the same offsets
-same_offset : (shape : List ℕ) (strides others : List ℤ) (index : List ℕ) → length strides ≡ length shape → length others ≡ length shape → is_index shape index ≡ true → ((axis : ℕ) → axis < length shape → get_or shape axis 0 ≢ 1 → get_or strides axis (pos 0) ≡ get_or others axis (pos 0)) → offset_of strides index ≡ offset_of others index
-same_offset [] strides others [] e f h same = refl
-same_offset [] strides others (i ∷ index) e f h same = absurd (cc)
-same_offset (len ∷ lens) strides others [] e f h same = absurd (cc)
-same_offset (len ∷ lens) [] others (i ∷ index) e f h same = absurd (omega arith)
-same_offset (len ∷ lens) (s ∷ strides) [] (i ∷ index) e f h same = absurd (omega arith)
-same_offset (len ∷ lens) (s ∷ strides) (t ∷ others) (i ∷ index) e f h same =
+same_offset : (shape : List ℕ) (strides others : List ℤ) (index : List ℕ) → (length strides ≡ length shape) × (length others ≡ length shape) → is_index shape index ≡ true → ((axis : ℕ) → axis < length shape → get_or shape axis 0 ≢ 1 → get_or strides axis (pos 0) ≡ get_or others axis (pos 0)) → offset_of strides index ≡ offset_of others index
+same_offset [] strides others [] e h same = refl
+same_offset [] strides others (i ∷ index) e h same = absurd (cc)
+same_offset (len ∷ lens) strides others [] e h same = absurd (cc)
+same_offset (len ∷ lens) [] others (i ∷ index) e h same = absurd (omega (arith, e.0))
+same_offset (len ∷ lens) (s ∷ strides) [] (i ∷ index) e h same = absurd (omega (arith, e.1))
+same_offset (len ∷ lens) (s ∷ strides) (t ∷ others) (i ∷ index) e h same =
     let parts = and_parts (nat_lt i len) (is_index lens index) h in
     let within : i < len = ltb-true i len parts.0 in
-    let rest = same_offset lens strides others index (omega arith) (omega arith) parts.1 (λ axis l ne. same (suc axis) (omega arith) ne) in
+    let rest = same_offset lens strides others index (omega (arith, e.0), omega (arith, e.1)) parts.1 (λ axis l ne. same (suc axis) (omega arith) ne) in
     elim (cases_eq len 1) [
       | inl one ↦
           let none : i ≡ 0 = omega arith in
@@ -49,7 +49,7 @@ in_order_from_rule order shape strides e (inr rule) =
     let standard = standard_strides order shape in
     let count : length standard ≡ length shape = standard_count order shape in
     λ start. places_at_ranks order start shape strides (λ index h.
-    same_offset shape strides (map pos standard) index e (length-map standard pos ∙ count) h (λ axis l ne. rule axis l ne ∙ sym (get_or-map pos standard axis 0 (pos 0) (omega arith)))
+    same_offset shape strides (map pos standard) index (e, length-map standard pos ∙ count) h (λ axis l ne. rule axis l ne ∙ sym (get_or-map pos standard axis 0 (pos 0) (omega arith)))
     ∙ offset_of-standard_strides order shape index h)
 
 -- ---- to the rule

@@ -165,6 +165,10 @@ reaches len stride h =
     let once : 1 * magnitude stride ≤ (len - 1) * magnitude stride = mul-le 1 (magnitude stride) (len - 1) (magnitude stride) (omega arith) (omega arith) in
     omega (arith, one-mul (magnitude stride))
 
+-- the test of an axis that steps over no more than the others span
+stopped_test : (shape : List ℕ) (strides : List ℤ) (axis : ℕ) → 1 < get_or shape axis 0 → magnitude_at strides axis ≤ span_of_others shape strides axis → steps_over_others shape strides axis ≡ false
+stopped_test shape strides axis long upto = grind (arith, nat_tests)
+
 module _ (shape : List ℕ) (strides : List ℤ) (order : List ℕ) where
   -- after an axis of more than one entry, only axes of at most one entry have a stride no longer
   later_short : (place later : ℕ) → WalkHolds 0 shape strides order → place < later → later < length order → 1 < get_or shape (get_or order place 0) 0 → magnitude_at strides (get_or order later 0) ≤ magnitude_at strides (get_or order place 0) → get_or shape (get_or order later 0) 0 ≤ 1
@@ -212,19 +216,15 @@ module _ (shape : List ℕ) (strides : List ℤ) (order : List ℕ) where
       let all : span shape strides ≡ sum_by (reach_at shape strides) order = sum_in_order reach shape strides order count p in
       omega (arith, all, sum_by_more_le (reach_at shape strides) order place 0 l)
 
--- the test of an axis that steps over no more than the others span
-stopped_test : (shape : List ℕ) (strides : List ℤ) (axis : ℕ) → 1 < get_or shape axis 0 → magnitude_at strides axis ≤ span_of_others shape strides axis → steps_over_others shape strides axis ≡ false
-stopped_test shape strides axis long upto = grind (arith, nat_tests)
-
--- an axis at which a walk stops, and whose stride is no shorter than those before it, breaks the rule
-pub walk_stops : (shape : List ℕ) (strides : List ℤ) (order : List ℕ) (place : ℕ) → length shape ≡ length strides → IsPermutation (below (length strides)) order → place < length order → 1 < get_or shape (get_or order place 0) 0 → magnitude_at strides (get_or order place 0) ≤ sum_by (reach_at shape strides) (take place order) → ((k : ℕ) → k < place → 1 < get_or shape (get_or order k 0) 0 → magnitude_at strides (get_or order k 0) ≤ magnitude_at strides (get_or order place 0)) → meets_owned_rule shape strides ≡ false
-walk_stops shape strides order place count p l long upto rising =
-    let axis = get_or order place 0 in
-    let m = magnitude_at strides axis in
-    let inside : axis < length shape = omega (arith, axis_at (length strides) order place p l) in
-    let earlier : sum_by (reach_at shape strides) (take place order) ≤ sum_by (term_at (reach_up_to m) shape strides) (take place order) =
-    sum_le_within (reach_at shape strides) (term_at (reach_up_to m) shape strides) (take place order) (λ k g.
-    let before : k < place = omega (arith, length-take place order) in
-    rw (get_or-take place order k 0 before) (counts_before m (get_or shape (get_or order k 0) 0) (get_or strides (get_or order k 0) (pos 0)) (rising k before))) in
-    let others : m ≤ span_of_others shape strides axis = omega (arith, upto, earlier, others_by_place shape strides order place count p l) in
-    rule_broken shape strides axis inside (stopped_test shape strides axis long others)
+  -- an axis at which a walk stops, and whose stride is no shorter than those before it, breaks the rule
+  pub walk_stops : (place : ℕ) → length shape ≡ length strides → IsPermutation (below (length strides)) order → place < length order → 1 < get_or shape (get_or order place 0) 0 → magnitude_at strides (get_or order place 0) ≤ sum_by (reach_at shape strides) (take place order) → ((k : ℕ) → k < place → 1 < get_or shape (get_or order k 0) 0 → magnitude_at strides (get_or order k 0) ≤ magnitude_at strides (get_or order place 0)) → meets_owned_rule shape strides ≡ false
+  walk_stops place count p l long upto rising =
+      let axis = get_or order place 0 in
+      let m = magnitude_at strides axis in
+      let inside : axis < length shape = omega (arith, axis_at (length strides) order place p l) in
+      let earlier : sum_by (reach_at shape strides) (take place order) ≤ sum_by (term_at (reach_up_to m) shape strides) (take place order) =
+      sum_le_within (reach_at shape strides) (term_at (reach_up_to m) shape strides) (take place order) (λ k g.
+      let before : k < place = omega (arith, length-take place order) in
+      rw (get_or-take place order k 0 before) (counts_before m (get_or shape (get_or order k 0) 0) (get_or strides (get_or order k 0) (pos 0)) (rising k before))) in
+      let others : m ≤ span_of_others shape strides axis = omega (arith, upto, earlier, others_by_place shape strides order place count p l) in
+      rule_broken shape strides axis inside (stopped_test shape strides axis long others)

@@ -17,5 +17,5 @@ returns c =
     let sorted = c.sort_unstable_by_key.ensures.sorted (λ axis. (magnitude_at strides axis, axis)) (always_returns_same _ _ _ (λ a r f h. search rules)) in
     record {
       each_once = moved;
-      in_order = λ place h. before_from_not_after strides (get_or order place 0) (get_or order (place + 1) 0) (sorted place 0 (omega arith) h) (places_differ (length strides) order place (place + 1) moved (omega arith) h);
+      in_order = λ place h. before_from_not_after strides (get_or order place 0) (get_or order (place + 1) 0) (sorted place 0 (omega arith) h) (places_differ (length strides) moved place (place + 1) (omega arith) h);
     }

@@ -43,7 +43,7 @@ returns-then-strides-axis c =
     let k = c.loop-axis.axis in
     let some : is_empty lens ≡ false = sym c.contains.ensures.value ∙ c.if-contains.false in
     let default : MeetsOrderRule ColumnMajor lens (all_signed strides) → get_or strides k 0 ≡ c.loop-axis.size =
-    λ rule. axis_by_rule ColumnMajor lens strides k (c.type_inv.strides k) some c.requires.same_count rule (omega arith) c.if-lens-axis-ne1.true
+    λ rule. axis_by_rule ColumnMajor lens strides c.requires.same_count k (c.type_inv.strides k) some rule (omega arith) c.if-lens-axis-ne1.true
     ∙ fortran_at lens k some (omega arith)
     ∙ sym c.loop-axis.invariant.product in
     (λ t. absurd (cc), λ rule. absurd (c.if-strides-axis.true (default rule)))
@@ -52,5 +52,5 @@ pub returns : goal.returns
 returns c =
     let lens = c.args.lens.now in
     let some : is_empty lens ≡ false = sym c.contains.ensures.value ∙ c.if-contains.false in
-    let rule = rule_by_axes ColumnMajor lens c.args.strides.now c.requires.size_fits c.requires.same_count (λ k h ne. c.loop-axis.invariant.same k (omega arith) ne ∙ sym (fortran_at lens k some h)) in
+    let rule = rule_by_axes ColumnMajor lens c.args.strides.now c.requires.same_count c.requires.size_fits (λ k h ne. c.loop-axis.invariant.same k (omega arith) ne ∙ sym (fortran_at lens k some h)) in
     (λ t. inr rule, λ e. refl)

@@ -26,7 +26,7 @@ returns-then-strides-axis c =
     let some : is_empty lens ≡ false = sym c.contains.ensures.value ∙ c.if-contains.false in
     let here : c.loop-axis.axis ≡ k + 1 = omega arith in
     let default : MeetsOrderRule RowMajor lens (all_signed strides) → get_or strides k 0 ≡ c.loop-axis.size =
-    λ rule. axis_by_rule RowMajor lens strides k (c.type_inv.strides k) some c.requires.same_count rule (omega arith) c.if-lens-axis-ne1.true
+    λ rule. axis_by_rule RowMajor lens strides c.requires.same_count k (c.type_inv.strides k) some rule (omega arith) c.if-lens-axis-ne1.true
     ∙ default_at lens k some (omega arith)
     ∙ ap (λ a. size (drop a lens)) (sym here)
     ∙ sym c.loop-axis.invariant.product in
@@ -36,5 +36,5 @@ pub returns : goal.returns
 returns c =
     let lens = c.args.lens.now in
     let some : is_empty lens ≡ false = sym c.contains.ensures.value ∙ c.if-contains.false in
-    let rule = rule_by_axes RowMajor lens c.args.strides.now c.requires.size_fits c.requires.same_count (λ k h ne. c.loop-axis.invariant.same k (omega arith) h ne ∙ sym (default_at lens k some h)) in
+    let rule = rule_by_axes RowMajor lens c.args.strides.now c.requires.same_count c.requires.size_fits (λ k h ne. c.loop-axis.invariant.same k (omega arith) h ne ∙ sym (default_at lens k some h)) in
     (λ t. inr rule, λ e. refl)
