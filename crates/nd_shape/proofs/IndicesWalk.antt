@@ -84,16 +84,17 @@ module _ (order : Order) (shape : List ℕ) where
   none_left n None s e = s
   none_left n (Some index) s e = absurd (cc)
 
-  -- where it stands at an index, one is left at least
-  pub stands_at : (index : List ℕ) (n : ℕ) (first : Option (List ℕ)) → StandsAtFirst order shape n first → first ≡ Some index → (0 < n) × StandsAt order shape n index
-  stands_at index n first s e = subst (StandsAtFirst order shape n) e s
+  -- where a flag says that it stands at an index, one is left at least
+  pub stands_at : (index : List ℕ) (n : ℕ) (flag : Bool) → StandsAtFirst order shape n (cond flag (Some index) None) → flag ≡ true
+      → (0 < n) × StandsAt order shape n index
+  stands_at index n flag s e = subst (λ b. StandsAtFirst order shape n (cond b (Some index) None)) e s
 
   -- after an index it stands at the one of the next rank, if a step says that there is one
   pub goes_on_to : {index : List ℕ} (next : List ℕ) {n : ℕ} (more : Bool) → 0 < n → StandsAt order shape n index → (IsTrue more ↔ (rank_in order shape index + 1 < size shape)) → next ≡ cond more (index_of_rank_in order shape (rank_in order shape index + 1)) (replicate (length shape) 0) → StandsAtFirst order shape (n - 1) (cond more (Some next) None)
-  goes_on_to {index = index} {n = n} next true h s is e =
+  goes_on_to {index = index} next {n = n} true h s is e =
       let more : rank_in order shape index + 1 < size shape = is.0 refl in
       (omega (arith, rank_here order shape index n h s), goes_on order shape index next n h s (λ _. e))
-  goes_on_to {index = index} {n = n} next false h s is e = ended n refl
+  goes_on_to {index = index} next {n = n} false h s is e = ended n refl
     where
       ended : (k : ℕ) → k ≡ n → n - 1 ≡ 0
       ended k z = by (nat_lt (rank_in order shape index + 1) (size shape)) refl
@@ -120,7 +121,7 @@ module _ (order : Order) (shape : List ℕ) where
   -- what it lends is the first of those left
   pub lends : (index : List ℕ) (n : ℕ) (left : List (List ℕ)) → 0 < n → StandsAt order shape n index → indices_left order shape n ≡ left → (indices_left order shape (n - 1) ≡ drop 1 left) × (Some index ≡ slice_get left 0)
   lends index n left h s is =
-      let all = gives n left h s refl is in
+      let all = gives order shape h s refl is in
       (sym (ap (drop 1) all), sym (ap (λ xs. slice_get xs 0) all))
 
   pub lends_none : (n : ℕ) (left : List (List ℕ)) → n ≡ 0 → indices_left order shape n ≡ left → (indices_left order shape n ≡ drop 1 left) × (◌≡◌ {A = Option (List ℕ)} None (slice_get left 0))

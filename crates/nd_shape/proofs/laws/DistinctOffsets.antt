@@ -139,10 +139,10 @@ is_index-remove (len ∷ shape) (i ∷ index) (suc axis) h g =
 
 -- a step along an axis whose stride is longer than what the others make up
 steps_past : (stride : ℤ) {here there : ℤ} {i j n : ℕ} → i < j → n < magnitude stride → here ≤ℤ (there +ℤ pos n) → there ≤ℤ (here +ℤ pos n) → (pos i *ℤ stride) +ℤ here ≡ (pos j *ℤ stride) +ℤ there → ⊥
-steps_past {i = i} {j = j} (pos s) less far a b e =
+steps_past (pos s) {i = i} {j = j} less far a b e =
     let step : suc i * s ≤ j * s = mul-le-mul_right s (omega arith) in
     omega (arith, ints, suc-mul i s)
-steps_past {i = i} {j = j} (negsuc s) less far a b e =
+steps_past (negsuc s) {i = i} {j = j} less far a b e =
     let step : suc i * suc s ≤ j * suc s = mul-le-mul_right (suc s) (omega arith) in
     omega (arith, ints, suc-mul i (suc s))
 
