@@ -1,8 +1,10 @@
 -- Laws of lists, whatever their items.
-use Rattle.std.proofs.Common.{◌≡◌, ℕ, zero, suc, ◌-◌, ◌<◌, List, [], ◌∷◌, ◌++◌, length, get_or, set, take, drop, map, replicate, reverse, refl, sym, ap, subst, ◌∙◌, add-one, append_assoc, arith, drop-cons}
+use Rattle.std.proofs.Common.{◌≡◌, ℕ, zero, suc, ◌-◌, ◌<◌, List, [], ◌∷◌, ◌++◌, length, get_or, set, take, drop, map, replicate}
+use Rattle.std.proofs.Common.{reverse, refl, sym, ap, subst, ◌∙◌, add-one, append_assoc, arith, drop-cons}
 use Rattle.std.specs.List.{All, Contains}
 use Rattle.std.proofs.Math.ListN.{get_or-map}
-use Rattle.std.proofs.lemmas.List.{get_or-reverse, length-drop, length-map, length-reverse, map-append, replicate_more, reverse-append, set_at, set_split, take-append-drop}
+use Rattle.std.proofs.lemmas.List.{get_or-reverse, length-drop, length-map, length-reverse, map-append, replicate_more, reverse-append}
+use Rattle.std.proofs.lemmas.List.{set_at, set_split, take-append-drop}
 use Rattle.std.proofs.lemmas.List.Elements.{All-head, All-tail, Contains-get_or}
 
 -- ---- a function of each item

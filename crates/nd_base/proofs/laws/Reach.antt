@@ -12,7 +12,8 @@ farthest_offset-zeros [] (suc n) = refl
 farthest_offset-zeros (stride ∷ strides) (suc n) = omega (arith, farthest_offset-zeros strides n)
 
 -- an index lies no farther than the span, whatever the signs of the strides
-pub farthest_offset_le : (shape : List ℕ) (strides : List ℤ) (index : List ℕ) → is_index shape index ≡ true → farthest_offset strides index ≤ span shape strides
+pub farthest_offset_le : (shape : List ℕ) (strides : List ℤ) (index : List ℕ) → is_index shape index ≡ true
+    → farthest_offset strides index ≤ span shape strides
 farthest_offset_le [] strides [] h = omega arith
 farthest_offset_le [] strides (i ∷ index) h = absurd (cc)
 farthest_offset_le (len ∷ shape) strides [] h = absurd (cc)

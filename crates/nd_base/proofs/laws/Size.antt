@@ -1,5 +1,7 @@
 -- Laws of sizes, the products of lengths.
-use Rattle.std.proofs.Common.{◌≡◌, ℕ, zero, suc, ◌+◌, ◌-◌, ◌*◌, ◌<◌, ◌≤◌, Bool, true, false, ◌||◌, eqb, List, [], ◌∷◌, ◌++◌, length, get_or, take, drop, reverse, refl, sym, ap, ◌∙◌, inl, inr, arith, add-one, drop-cons, eqb-true, mul-le-mul_left, mul-one, mul-pos, mul-zero, mul_assoc, mul_comm, one-mul, pos_of_ne-zero, zero-mul}
+use Rattle.std.proofs.Common.{◌≡◌, ℕ, zero, suc, ◌+◌, ◌-◌, ◌*◌, ◌<◌, ◌≤◌, Bool, true, false, ◌||◌, eqb, List, [], ◌∷◌, ◌++◌, length}
+use Rattle.std.proofs.Common.{get_or, take, drop, reverse, refl, sym, ap, ◌∙◌, inl, inr, arith, add-one, drop-cons, eqb-true}
+use Rattle.std.proofs.Common.{mul-le-mul_left, mul-one, mul-pos, mul-zero, mul_assoc, mul_comm, one-mul, pos_of_ne-zero, zero-mul}
 use Rattle.std.proofs.lemmas.Bool.{or_cases, or_parts, eqb-false}
 use Rattle.std.proofs.lemmas.List.{reverse-append, take_more}
 use Rattle.std.proofs.lemmas.Nat.{mul-le}
@@ -74,10 +76,12 @@ size_from shape k h = rw add-one (ap size (drop-cons shape k 0 h))
 
 -- the size up to an axis and with it is the size before it times its length
 pub size_take_more : (lens : List ℕ) (k : ℕ) → k < length lens → size (take (k + 1) lens) ≡ size (take k lens) * get_or lens k 0
-size_take_more lens k h = ap size (take_more lens k 0 h) ∙ size-append (take k lens) (get_or lens k 0 ∷ []) ∙ ap (λ m. size (take k lens) * m) (mul-one (get_or lens k 0))
+size_take_more lens k h = ap size (take_more lens k 0 h) ∙ size-append (take k lens) (get_or lens k 0 ∷ [])
+    ∙ ap (λ m. size (take k lens) * m) (mul-one (get_or lens k 0))
 
 -- one length before those whose product is known
-pub size_drop_more : (lens : List ℕ) (axis whole : ℕ) → 0 < axis → axis ≤ length lens → whole ≡ size (drop axis lens) → whole * get_or lens (axis - 1) 0 ≡ size (drop (axis - 1) lens)
+pub size_drop_more : (lens : List ℕ) (axis whole : ℕ) → 0 < axis → axis ≤ length lens → whole ≡ size (drop axis lens)
+    → whole * get_or lens (axis - 1) 0 ≡ size (drop (axis - 1) lens)
 size_drop_more lens axis whole h g e =
     let k = axis - 1 in
     let here : axis ≡ k + 1 = omega arith in

@@ -13,7 +13,7 @@ pub returns-in_err-shape-clause-fault : goal.returns-in_err-shape-clause-fault
 returns-in_err-shape-clause-fault g c few =
     let one = c.args.one.now.shape in
     let other = c.args.other.now.shape in
-    let is = rw (c.dim.ensures.list, c.dim-2.ensures.list) at c.in_err-shape.ensures.refusal in
+    let is = rw (c.dim.ensures.list, c.dim-2.ensures.list) at c.in_err-shape.ensures.fault in
     let memory = rw (c.dim.ensures.list, c.dim-2.ensures.list) at c.in_err-shape.ensures.memory in
     handed_on View c.from_residual.result c.in_err-shape.field-0.0 _ c.from_residual.ensures.1 (fault_of_none one other _ is (λ none. false≢true (memory none few)))
 
@@ -42,13 +42,13 @@ pub returns-in_err-shape-clause-refused : goal.returns-in_err-shape-clause-refus
 returns-in_err-shape-clause-refused g c kind fault =
     let one = c.args.one.now.shape in
     let other = c.args.other.now.shape in
-    let is = rw (c.dim.ensures.list, c.dim-2.ensures.list) at c.in_err-shape.ensures.refusal in
+    let is = rw (c.dim.ensures.list, c.dim-2.ensures.list) at c.in_err-shape.ensures.fault in
     let same = handed_on View c.from_residual.result c.in_err-shape.field-0.0 (common_shape_fault one other) c.from_residual.ensures.1 is in
     fault_if_none one other kind (sym same ∙ fault)
 
 pub returns-in_err-shape-clause-none : goal.returns-in_err-shape-clause-none
 returns-in_err-shape-clause-none g c none =
-    let is = rw (c.dim.ensures.list, c.dim-2.ensures.list) at c.in_err-shape.ensures.refusal in
+    let is = rw (c.dim.ensures.list, c.dim-2.ensures.list) at c.in_err-shape.ensures.fault in
     let no = fault_with_none c.args.one.now.shape c.args.other.now.shape none in
     handed_on View c.from_residual.result c.in_err-shape.field-0.0 (Some IncompatibleShape) c.from_residual.ensures.1 (is ∙ no)
 

@@ -8,7 +8,8 @@ use Rattle.nd_dim.proofs.dimension.Dimension.is_contiguous.Goals as goal
 pub returns-clause-rule : goal.returns-clause-rule
 returns-clause-rule g c =
     let lens = g.Self.Lengths.list c.args.dim.now in
-    c.is_contiguous.ensures ∙ ap (λ xs. is_contiguous xs (all_signed c.slice-2.result.now)) c.slice.ensures.list ∙ ap (λ xs. is_contiguous lens (all_signed xs)) c.slice-2.ensures.list
+    c.is_contiguous.ensures ∙ ap (λ xs. is_contiguous xs (all_signed c.slice-2.result.now)) c.slice.ensures.list
+    ∙ ap (λ xs. is_contiguous lens (all_signed xs)) c.slice-2.ensures.list
 
 pub returns-clause-exact : goal.returns-clause-exact
 returns-clause-exact g c some =
