@@ -23,14 +23,14 @@ pub all_below : (p : ℕ → Bool) (n : ℕ) → ((k : ℕ) → k < n → p k �
 all_below p n h =
     list_all-from_AllPass p (below n) (λ k d g.
     let last : k < n = omega (arith, length-range_with_len 0 n) in
-    let same : get_or (below n) k d ≡ k = get_or-range_with_len 0 n k d last ∙ omega arith in
+    let same = get_or-range_with_len 0 n k d last ∙ omega arith in
     rw same (h k last))
 
 pub not_all_below : (p : ℕ → Bool) (n k : ℕ) → k < n → p k ≡ false → list_all p (below n) ≡ false
 not_all_below p n k h fails =
     false_from_ne_true (list_all p (below n)) (λ all.
     let within : k < length (below n) = omega (arith, length-range_with_len 0 n) in
-    let same : get_or (below n) k 0 ≡ k = get_or-range_with_len 0 n k 0 h ∙ omega arith in
+    let same = get_or-range_with_len 0 n k 0 h ∙ omega arith in
     let passes : p k ≡ true = rw same at (AllPass-from_list_all p (below n) all k 0 within) in
     both_ways (p k) fails passes)
 
@@ -79,11 +79,9 @@ module _ (lens strides : List ℕ) where
   defaults_from_signed : ((k : ℕ) → Fits w64 (get_or strides k 0)) → all_signed strides ≡ map pos (default_strides lens)
       → strides ≡ default_strides lens
   defaults_from_signed fit e =
-      let count : length strides ≡ length (default_strides lens) = sym (length-map strides signed) ∙ ap length e
-      ∙ length-map (default_strides lens) pos in
+      let count = sym (length-map strides signed) ∙ ap length e ∙ length-map (default_strides lens) pos in
       ext_get_or 0 strides (default_strides lens) count (λ k h.
-      let same : signed (get_or strides k 0) ≡ pos (get_or (default_strides lens) k 0) = sym (get_or-map signed strides k 0 (pos 0) h)
-      ∙ ap (λ xs. get_or xs k (pos 0)) e ∙ get_or-map pos (default_strides lens) k 0 (pos 0) (omega arith) in
+      let same = sym (get_or-map signed strides k 0 (pos 0) h) ∙ ap (λ xs. get_or xs k (pos 0)) e ∙ get_or-map pos (default_strides lens) k 0 (pos 0) (omega arith) in
       small_from_signed (get_or strides k 0) (get_or (default_strides lens) k 0) (fit k).fits same)
 
   -- the test of the definition answers what the code's does

@@ -17,9 +17,8 @@ left zero whole top lens room = room
 left (suc n) whole top lens room =
     let factor = nonzero_size_of_other (suc n) lens (λ e. omega arith) in
     let all : whole * (suc n * nonzero_size lens) ≤ top = rw factor at room in
-    let least : 1 * nonzero_size lens ≤ suc n * nonzero_size lens =
-    mul-le 1 (nonzero_size lens) (suc n) (nonzero_size lens) (omega arith) (omega arith) in
-    let less : whole * nonzero_size lens ≤ whole * (suc n * nonzero_size lens) = mul-le-mul_left whole (rw one-mul at least) in
+    let least = mul-le 1 (nonzero_size lens) (suc n) (nonzero_size lens) (omega arith) (omega arith) in
+    let less = mul-le-mul_left whole (rw one-mul at least) in
     le_trans less all
 
 module _ (lens : List ℕ) (k whole top : ℕ) (h : k < length lens) (room : whole * nonzero_size (drop k lens) ≤ top) where

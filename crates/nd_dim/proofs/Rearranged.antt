@@ -33,8 +33,8 @@ permutation_from_members {X = X} [] ys apart count h =
 permutation_from_members (x ∷ xs) ys apart count h =
     let found = h x (0, omega arith, refl) in
     let others = remove ys found.0 in
-    let moved : IsPermutation ys (x ∷ others) = IsPermutation-remove ys found.0 x found.1 (sym found.2) in
-    let many : length (x ∷ others) ≡ length ys = length_permutation ys (x ∷ others) moved in
+    let moved = IsPermutation-remove ys found.0 x found.1 (sym found.2) in
+    let many = length_permutation ys (x ∷ others) moved in
     let rest : IsPermutation xs others =
     permutation_from_members xs others (λ i j d l g. apart (suc i) (suc j) d (omega arith) (omega arith)) (omega arith) (λ z c.
     still_there x xs others z apart c (Contains-permutation ys (x ∷ others) z moved (h z (suc c.0, (let l = c.1 in omega arith), c.2)))) in

@@ -44,7 +44,7 @@ module _ (take_len : ℕ) (take_stride : ℤ) (into_len : ℕ) (into_stride : �
       → take_stride ≡ pos into_len *ℤ into_stride
   steps_on_from_fit h g fits =
       let s = fits.0 in
-      let few = mul-le-mul_left into_len (omega arith) in
+      let few : into_len * 2 ≤ into_len * take_len = mul-le-mul_left into_len (omega arith) in
       let first = fits.1 1 (omega arith) in
       let q1 : 1 / into_len ≡ 0 = div-eq_of_lt g in
       let r1 : 1 % into_len ≡ 1 = mod-eq_of_lt g in

@@ -63,7 +63,7 @@ pub reverse-set : {A : Type 0} (xs : List A) (k : ℕ) (x : A) → k < length xs
 reverse-set xs k x below =
     let back = drop (suc k) xs in
     let first = get_or xs k x in
-    let place : length (reverse back) ≡ length xs - 1 - k = length-reverse back ∙ length-drop (suc k) xs ∙ omega arith in
+    let place = length-reverse back ∙ length-drop (suc k) xs ∙ omega arith in
     ap (λ ys. set (reverse ys) (length xs - 1 - k) x) (sym (take-append-drop k xs) ∙ ap (λ ys. take k xs ++ ys) (drop-cons xs k x below))
     ∙ ap (λ ys. set ys (length xs - 1 - k) x) (reverse_parts (take k xs) first back)
     ∙ set_at (reverse back) first (reverse (take k xs)) x (length xs - 1 - k) place

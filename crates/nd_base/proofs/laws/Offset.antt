@@ -22,7 +22,7 @@ entry_bounds len (pos s) i h =
     (omega (arith, ints), omega (arith, ints))
 entry_bounds len (negsuc s) i h =
     let steps : i ≤ len - 1 = omega arith in
-    let most : i * suc s ≤ (len - 1) * suc s = mul-le-mul_right (suc s) steps in
+    let most = mul-le-mul_right (suc s) steps in
     (omega (arith, ints), omega (arith, ints))
 
 -- every index lies within the span, on both sides

@@ -18,8 +18,7 @@ places_at_ranks order start shape strides h =
     fill_by_all (λ r. pos (start + r)) (places order start shape strides) (size shape) (pos 0)
     (length-map xs (place start strides) ∙ long) (λ k l.
     let index = index_of_rank_in order shape k in
-    let here : offset_of strides index ≡ pos k = h index (is_index-index_of_rank_in order shape k l)
-    ∙ ap pos (rank_in-index_of_rank_in order shape k l) in
+    let here = h index (is_index-index_of_rank_in order shape k l) ∙ ap pos (rank_in-index_of_rank_in order shape k l) in
     get_or-map (place start strides) xs k [] (pos 0) (omega (arith, long))
     ∙ ap (place start strides) (get_or-indices_in order shape k [] l)
     ∙ ap (λ z. pos start +ℤ z) here

@@ -22,5 +22,5 @@ farthest_offset_le (len ∷ shape) (stride ∷ strides) (i ∷ index) h =
     let parts = and_parts (nat_lt i len) (is_index shape index) h in
     let below : i < len = ltb-true i len parts.0 in
     let steps : i ≤ len - 1 = omega arith in
-    let most : i * magnitude stride ≤ (len - 1) * magnitude stride = mul-le-mul_right (magnitude stride) steps in
+    let most = mul-le-mul_right (magnitude stride) steps in
     omega (arith, farthest_offset_le shape strides index parts.1)

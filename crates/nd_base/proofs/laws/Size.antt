@@ -85,7 +85,7 @@ pub size_drop_more : (lens : List ℕ) (axis whole : ℕ) → 0 < axis → axis 
 size_drop_more lens axis whole h g e =
     let k = axis - 1 in
     let here : axis ≡ k + 1 = omega arith in
-    let after : whole ≡ size (drop (k + 1) lens) = e ∙ ap (λ a. size (drop a lens)) here in
+    let after = e ∙ ap (λ a. size (drop a lens)) here in
     mul_comm whole (get_or lens k 0) ∙ ap (λ s. get_or lens k 0 * s) after ∙ sym (size_from lens k (omega arith))
 
 -- no front of a shape without a zero length is of greater size
@@ -100,5 +100,5 @@ size_drop_le lens zero h = omega arith
 size_drop_le [] (suc k) h = omega arith
 size_drop_le (n ∷ lens) (suc k) h =
     let rest = size_drop_le lens k (or_parts (eqb n 0) (is_empty lens) h).1 in
-    let more : 1 * size lens ≤ n * size lens = mul-le 1 (size lens) n (size lens) (length_pos (n ∷ lens) 0 h (omega arith)) (omega arith) in
+    let more = mul-le 1 (size lens) n (size lens) (length_pos (n ∷ lens) 0 h (omega arith)) (omega arith) in
     omega (arith, one-mul (size lens))

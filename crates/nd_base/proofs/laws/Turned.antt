@@ -103,10 +103,9 @@ module _ (shape : List ℕ) (strides : List ℤ) where
       → (found : List ℕ) × (is_index shape found ≡ true) × (offset_of strides found ≡ pos k +ℤ neg_ℤ (pos (low_span shape strides)))
   has_offset_turned index k e h far =
       let back = turned shape strides index in
-      let inside : is_index shape back ≡ true = is_index-turned shape strides index h in
+      let inside = is_index-turned shape strides index h in
       let moved = offset_of-turned shape strides back e inside in
-      let same : farthest_offset strides (turned shape strides back) ≡ k =
-      ap (farthest_offset strides) (turned-turned shape strides index h) ∙ far in
+      let same = ap (farthest_offset strides) (turned-turned shape strides index h) ∙ far in
       (back, inside, omega (arith, ints, moved, same))
 
   -- a shape with an index has one whose offset is the low span down

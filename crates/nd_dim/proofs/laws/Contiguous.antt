@@ -118,7 +118,7 @@ lone_contiguous len stride some (inl one) =
     lone_rule len stride (or_left (nat_le len 1) (int_eq stride (negsuc 0)) (le-leb len 1 (omega arith)))
 lone_contiguous len stride some (inr fits) = elim (one_step stride (fits ∙ none_before len stride)) [
   | inl up ↦
-      let default : (stride ∷ []) ≡ map pos (default_strides (len ∷ [])) = ap (λ s. s ∷ []) up ∙ sym (lone_default len some) in
+      let default = ap (λ s. s ∷ []) up ∙ sym (lone_default len some) in
       or_left (has_default_strides (len ∷ []) (stride ∷ [])) (is_lone_step_back (len ∷ []) (stride ∷ []))
       ((signed_items (stride ∷ []) (map pos (default_strides (len ∷ [])))).1 default)
   | inr back ↦ lone_rule len stride (or_right (nat_le len 1) (int_eq stride (negsuc 0)) ((Decides-int_eq stride (negsuc 0)).1 back))

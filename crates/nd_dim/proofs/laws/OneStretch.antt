@@ -46,9 +46,8 @@ stretch_from_reaches shape strides count each = record {
   distinct = λ index other h g e.
       let one = turned shape strides index in
       let two = turned shape strides other in
-      let far : farthest_offset strides one ≡ farthest_offset strides two =
-      same_far (low_span shape strides) (offset_of-turned shape strides index count h) (offset_of-turned shape strides other count g) e in
-      let same : one ≡ two = each.distinct one two (is_index-turned shape strides index h) (is_index-turned shape strides other g) far in
+      let far = same_far (low_span shape strides) (offset_of-turned shape strides index count h) (offset_of-turned shape strides other count g) e in
+      let same = each.distinct one two (is_index-turned shape strides index h) (is_index-turned shape strides other g) far in
       sym (turned-turned shape strides index h) ∙ ap (turned shape strides) same ∙ turned-turned shape strides other g;
 }
 
@@ -59,7 +58,7 @@ pub values_in_order : (order : Order) (f : ℕ → ℤ) (g : List ℕ → ℤ) (
 values_in_order order f g shape differ given =
     let n = size shape in
     let all = indices_in order shape in
-    let many : length (map f (below n)) ≡ n = length-map-range_with_len f 0 n in
+    let many = length-map-range_with_len f 0 n in
     let at : (k : ℕ) (d : ℤ) → k < n
     → get_or (map f (below n)) k d ≡ f k = λ k d h. get_or-map-range_with_len f 0 n k k d h (omega arith) in
     permutation_from_members (map f (below n)) (map g all)
@@ -113,9 +112,7 @@ module _ (shape : List ℕ) (strides : List ℤ) (count : length shape ≡ lengt
       let two = turned shape strides other in
       let in_one = is_index-turned shape strides index h in
       let in_two = is_index-turned shape strides other g in
-      let far : farthest_offset strides (turned shape strides one) ≡ farthest_offset strides (turned shape strides two) =
-      ap (farthest_offset strides) (turned-turned shape strides index h) ∙ e
-      ∙ ap (farthest_offset strides) (sym (turned-turned shape strides other g)) in
+      let far = ap (farthest_offset strides) (turned-turned shape strides index h) ∙ e ∙ ap (farthest_offset strides) (sym (turned-turned shape strides other g)) in
       let offsets : offset_of strides one ≡ offset_of strides two =
       same_offset (low_span shape strides) (offset_of-turned shape strides one count in_one)
       (offset_of-turned shape strides two count in_two) far in

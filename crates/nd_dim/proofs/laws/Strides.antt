@@ -41,8 +41,8 @@ default_small lens k top h =
           (map (size_after lens) (below (length lens))) none) ∙ get_or-replicate (length lens) k 0 0 h in
           omega arith
       | inr some ↦
-          let is : get_or (default_strides lens) k 0 ≡ size_after lens k = default_at lens k some h in
-          let less : size_after lens k ≤ size lens = size_drop_le lens (k + 1) some in
+          let is = default_at lens k some h in
+          let less = size_drop_le lens (k + 1) some in
           omega (arith, size_le_nonzero_size lens)
     ]
 
@@ -105,7 +105,7 @@ zero_at lens k none h =
 pub fortran_by_default : (shape : List ℕ) → fortran_strides shape ≡ reverse (default_strides (reverse shape))
 fortran_by_default shape =
     let back = default_strides (reverse shape) in
-    let count : length back ≡ length shape = default_count (reverse shape) ∙ length-reverse shape in
+    let count = default_count (reverse shape) ∙ length-reverse shape in
     ext_get_or 0 (fortran_strides shape) (reverse back) (fortran_count shape ∙ sym count ∙ sym (length-reverse back)) (λ k h.
     let within : k < length shape = omega (arith, fortran_count shape) in
     let other = length back - 1 - k in
@@ -128,8 +128,7 @@ pub offset_of-fortran_strides : (shape index : List ℕ) → is_index shape inde
     → offset_of (map pos (fortran_strides shape)) index ≡ pos (rank_in ColumnMajor shape index)
 offset_of-fortran_strides shape index h =
     let back = map pos (default_strides (reverse shape)) in
-    let long : length back ≡ length (reverse index) = length-map (default_strides (reverse shape)) pos ∙ default_count (reverse shape)
-    ∙ length-reverse shape ∙ sym (length_of_index shape index h) ∙ sym (length-reverse index) in
+    let long = length-map (default_strides (reverse shape)) pos ∙ default_count (reverse shape) ∙ length-reverse shape ∙ sym (length_of_index shape index h) ∙ sym (length-reverse index) in
     ap (λ strides. offset_of (map pos strides) index) (fortran_by_default shape)
     ∙ ap (λ strides. offset_of strides index) (map-reverse pos (default_strides (reverse shape)))
     ∙ ap (offset_of (reverse back)) (sym (reverse-reverse index))

@@ -103,7 +103,7 @@ entry_apart len (pos s) i j h g =
     omega (arith, ints)
 entry_apart len (negsuc s) i j h g =
     let steps : j ≤ len - 1 = omega arith in
-    let most = mul-le-mul_right (suc s) steps in
+    let most : j * suc s ≤ (len - 1) * suc s = mul-le-mul_right (suc s) steps in
     omega (arith, ints)
 
 module _ (m : ℕ) where
@@ -162,7 +162,7 @@ steps_past (pos s) {i = i} {j = j} less far a b e =
     let step : suc i * s ≤ j * s = mul-le-mul_right s (omega arith) in
     omega (arith, ints, suc-mul i s)
 steps_past (negsuc s) {i = i} {j = j} less far a b e =
-    let step = mul-le-mul_right (suc s) (omega arith) in
+    let step : suc i * suc s ≤ j * suc s = mul-le-mul_right (suc s) (omega arith) in
     omega (arith, ints, suc-mul i (suc s))
 
 module _ (shape : List ℕ) (strides : List ℤ) where
@@ -177,8 +177,8 @@ module _ (shape : List ℕ) (strides : List ℤ) where
       let others : length other ≡ length strides = omega (arith, length_of_index shape other g) in
       let i = get_or index axis 0 in
       let j = get_or other axis 0 in
-      let in_index = entry_of_index shape index axis h below in
-      let in_other = entry_of_index shape other axis g below in
+      let in_index : i < get_or shape axis 0 = entry_of_index shape index axis h below in
+      let in_other : j < get_or shape axis 0 = entry_of_index shape other axis g below in
       let stride = get_or strides axis (pos 0) in
       let m = magnitude_at strides axis in
       let n = span_of_others shape strides axis in
@@ -191,9 +191,10 @@ module _ (shape : List ℕ) (strides : List ℤ) where
       let first = is_index-remove shape index axis below h in
       let second = is_index-remove shape other axis below g in
       let short = rest_differs m strides index other axis entries others found.longest in
-      let up = offsets_apart m rest moves one two first second short in
-      let down = offsets_apart m rest moves two one second first (turned m moves one two short) in
-      let sums = sym (offset_and_others strides index axis exists entries) ∙ same ∙ offset_and_others strides other axis exists others in
+      let up : here ≤ℤ (there +ℤ pos n) = offsets_apart m rest moves one two first second short in
+      let down : there ≤ℤ (here +ℤ pos n) = offsets_apart m rest moves two one second first (turned m moves one two short) in
+      let sums : (pos i *ℤ stride) +ℤ here ≡ (pos j *ℤ stride) +ℤ there = sym (offset_and_others strides index axis exists entries) ∙ same
+      ∙ offset_and_others strides other axis exists others in
       elim (cases_order i j) [
         | inl equal ↦ found.differs equal
         | inr unequal ↦ elim unequal [
@@ -216,7 +217,7 @@ module _ (shape : List ℕ) (strides : List ℤ) where
   pub distinct_without_overlap : length shape ≡ length strides → (not (is_empty shape) && not (meets_owned_rule shape strides)) ≡ false
       → HasDistinctOffsets shape strides
   distinct_without_overlap count apart index other h g same =
-      let some = nonempty_from_index shape index h in
+      let some : is_empty shape ≡ false = nonempty_from_index shape index h in
       elim ((no_overlap shape strides).0 apart) [
         | inl none ↦ absurd (both_ways (is_empty shape) some none)
         | inr rule ↦ distinct_from_rule count rule index other h g same

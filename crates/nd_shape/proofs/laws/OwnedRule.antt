@@ -29,7 +29,7 @@ module _ (shape : List ℕ) (strides : List ℤ) where
   -- an axis that does not step over the others breaks the rule
   pub rule_broken : (axis : ℕ) → axis < length shape → steps_over_others shape strides axis ≡ false → meets_owned_rule shape strides ≡ false
   rule_broken axis h b =
-      let at = get_or-range_with_len 0 (length shape) axis 0 h ∙ (omega arith) in
+      let at : get_or (range_with_len 0 (length shape)) axis 0 ≡ axis = get_or-range_with_len 0 (length shape) axis 0 h ∙ (omega arith) in
       list_all_at (steps_over_others shape strides) (range_with_len 0 (length shape)) axis 0
       (omega (arith, length-range_with_len 0 (length shape))) (rw at b)
 
@@ -48,7 +48,8 @@ all_in_range : (p : ℕ → Bool) (a n : ℕ) → ((k : ℕ) → k < n → p (a 
 all_in_range p a zero h = refl
 all_in_range p a (suc n) h =
     let here : p a ≡ true = rw (add-zero a) at (h 0 (omega arith)) in
-    let rest = all_in_range p (a + 1) n (λ k l. let next : a + (k + 1) ≡ (a + 1) + k = omega arith in rw next at (h (k + 1) (omega arith))) in
+    let rest : list_all p (range_with_len (a + 1) n) ≡ true =
+    all_in_range p (a + 1) n (λ k l. let next : a + (k + 1) ≡ (a + 1) + k = omega arith in rw next at (h (k + 1) (omega arith))) in
     rw here rest
 
 module _ (shape : List ℕ) (strides : List ℤ) where

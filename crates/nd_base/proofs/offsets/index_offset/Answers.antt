@@ -53,9 +53,7 @@ pub stride_offset-offset-requires : goal.stride_offset-offset-requires
 stride_offset-offset-requires c =
     let at = (goal.at.stride_offset-offset-requires c).In-Some in
     let small = entry_fits at in
-    let far : unsigned_abs (pos c.in-Some.entry.now *ℤ signed c.in-Some.stride.now)
-    ≡ entry_offset c.in-Some.entry.now (signed c.in-Some.stride.now) =
-    unsigned_abs-mul (pos c.in-Some.entry.now) (signed c.in-Some.stride.now) in
+    let far = unsigned_abs-mul (pos c.in-Some.entry.now) (signed c.in-Some.stride.now) in
     let fits = offset_fits at in
     record {
       small = omega arith;
@@ -89,7 +87,7 @@ loop-entry-preserved c =
     let same : to_z w64 (of_z w64 x) ≡ x = to_z-of_z w64 x fits in
     let total = to_z w64 c.loop-entry.offset-bits +ℤ x in
     let total_fits : FitsSigned w64 total = omega (arith, ints, bounds.0, bounds.1) in
-    let same_total : to_z w64 (of_z w64 total) ≡ total = to_z-of_z w64 total total_fits in
+    let same_total = to_z-of_z w64 total total_fits in
     rw (length_push, same, same_total) (record {
       sum = omega (arith, ints, next);
       low = omega (arith, ints, bounds.0, all);

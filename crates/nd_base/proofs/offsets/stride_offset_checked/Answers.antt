@@ -14,13 +14,12 @@ use Rattle.nd_base.proofs.offsets.stride_offset_checked.Goals.{Else-index-axis}
 
 pub returns-then-dim-index : goal.returns-then-dim-index
 returns-then-dim-index c =
-    let none : is_index c.args.dim.now c.args.index.now ≡ false = is_index_of_count c.args.dim.now c.args.index.now c.if-dim-index.true in
+    let none = is_index_of_count c.args.dim.now c.args.index.now c.if-dim-index.true in
     rw none refl
 
 pub returns-then-index-axis : goal.returns-then-index-axis
 returns-then-index-axis c =
-    let none : is_index c.args.dim.now c.args.index.now ≡ false =
-    is_index_of_entry c.args.dim.now c.args.index.now c.loop-axis.axis c.loop-axis-test.true c.if-index-axis.true in
+    let none = is_index_of_entry c.args.dim.now c.args.index.now c.loop-axis.axis c.loop-axis-test.true c.if-index-axis.true in
     rw none refl
 
 -- there is a stride for this axis
@@ -53,7 +52,7 @@ stride_offset-offset-requires c =
     let entry = get_or c.args.index.now c.loop-axis.axis 0 in
     let stride = signed (get_or c.args.strides.now c.loop-axis.axis 0) in
     let small = length_le_nonzero_size c.args.dim.now c.loop-axis.axis in
-    let distance : unsigned_abs (pos entry *ℤ stride) ≡ entry_offset entry stride = unsigned_abs-mul (pos entry) stride in
+    let distance = unsigned_abs-mul (pos entry) stride in
     let bound : entry_offset entry stride ≤ limit =
     omega (
       arith,
@@ -94,7 +93,7 @@ loop-axis-preserved c =
     let total = to_z w64 c.loop-axis.offset-bits +ℤ x in
     let total_fits : FitsSigned w64 total =
     omega (arith, ints, bounds.0, bounds.1, far at, c.loop-axis.invariant.low, c.loop-axis.invariant.high) in
-    let same_total : to_z w64 (of_z w64 total) ≡ total = to_z-of_z w64 total total_fits in
+    let same_total = to_z-of_z w64 total total_fits in
     rw (same, same_total) (record {
       inside = below_more _ _ c.loop-axis.invariant.inside c.if-index-axis.false;
       sum = omega (arith, ints, next, c.loop-axis.invariant.sum);

@@ -10,8 +10,7 @@ pub overflow_mul-size : goal.overflow_mul-size
 overflow_mul-size c =
     let lens = c.args.lens.now in
     let i = c.loop-other.other in
-    let room : (c.loop-other.size * get_or lens i 0) * nonzero_size (drop (i + 1) lens) ≤ limit =
-    room_taken lens i c.loop-other.size limit (omega arith) c.loop-other.invariant.room in
+    let room = room_taken lens i c.loop-other.size limit (omega arith) c.loop-other.invariant.room in
     let within = within_room (drop (i + 1) lens) (c.loop-other.size * get_or lens i 0) limit room in
     omega arith
 

@@ -6,14 +6,13 @@ use Rattle.nd_dim.proofs.sizes.checked_size.Goals as goal
 
 pub returns-then-contains : goal.returns-then-contains
 returns-then-contains c =
-    let none : size c.args.lens.now ≡ 0 = size_of_empty c.args.lens.now (sym c.contains.ensures.value ∙ c.if-contains.true) in
+    let none = size_of_empty c.args.lens.now (sym c.contains.ensures.value ∙ c.if-contains.true) in
     (omega arith, sym none)
 
 pub loop-len-preserved : goal.loop-len-preserved
 loop-len-preserved c =
     let i = c.loop-len.len-index in
-    let from : size (drop i c.args.lens.now) ≡ get_or c.args.lens.now i 0 * size (drop (i + 1) c.args.lens.now) =
-    size_from c.args.lens.now i (omega arith) in
+    let from = size_from c.args.lens.now i (omega arith) in
     let known = c.in_ok-size.ensures in
     record {
       fits = omega (arith, known);
@@ -24,7 +23,7 @@ pub returns-in_err-size : goal.returns-in_err-size
 returns-in_err-size c =
     let i = c.loop-len.len-index in
     let lens = c.args.lens.now in
-    let from : size (drop i lens) ≡ get_or lens i 0 * size (drop (i + 1) lens) = size_from lens i (omega arith) in
+    let from = size_from lens i (omega arith) in
     let rest : 0 < size (drop (i + 1) lens) =
     size_of_nonempty _ (drop_nonempty lens (i + 1) (sym c.contains.ensures.value ∙ c.if-contains.false)) in
     let whole : (c.loop-len.size * get_or lens i 0) * size (drop (i + 1) lens) ≡ size lens =
@@ -36,6 +35,6 @@ returns-in_err-size c =
 pub returns : goal.returns
 returns c =
     let lens = c.args.lens.now in
-    let end : drop c.loop-len.len-index lens ≡ [] = drop_of_length-le lens c.loop-len-test.false in
-    let whole : c.loop-len.size ≡ size lens = sym (mul-one c.loop-len.size) ∙ (rw end at c.loop-len.invariant.product) in
+    let end = drop_of_length-le lens c.loop-len-test.false in
+    let whole = sym (mul-one c.loop-len.size) ∙ (rw end at c.loop-len.invariant.product) in
     (subst (λ n. n < 2 ^ 64) whole c.loop-len.invariant.fits, whole)
