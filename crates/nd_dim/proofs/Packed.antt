@@ -81,7 +81,8 @@ module _ (lens strides : List ℕ) where
   defaults_from_signed fit e =
       let count = sym (length-map strides signed) ∙ ap length e ∙ length-map (default_strides lens) pos in
       ext_get_or 0 strides (default_strides lens) count (λ k h.
-      let same = sym (get_or-map signed strides k 0 (pos 0) h) ∙ ap (λ xs. get_or xs k (pos 0)) e ∙ get_or-map pos (default_strides lens) k 0 (pos 0) (omega arith) in
+      let same = sym (get_or-map signed strides k 0 (pos 0) h) ∙ ap (λ xs. get_or xs k (pos 0)) e
+      ∙ get_or-map pos (default_strides lens) k 0 (pos 0) (omega arith) in
       small_from_signed (get_or strides k 0) (get_or (default_strides lens) k 0) (fit k).fits same)
 
   -- the test of the definition answers what the code's does

@@ -153,7 +153,8 @@ module _ (order : Order) (shape : List ℕ) where
       → 0 < n → StandsAt order shape n (lengths (rewritten kept next))
   moved_kept {next = next} kept n more s is g h =
       let at = moves_on (lengths kept) next n more s is g in
-      let count = length_of_index shape next (stands_at_index order shape next n h at) ∙ sym (length_of_index shape (lengths kept) (stands_at_index order shape (lengths kept) (n + 1) (omega arith) s)) in
+      let count = length_of_index shape next (stands_at_index order shape next n h at)
+      ∙ sym (length_of_index shape (lengths kept) (stands_at_index order shape (lengths kept) (n + 1) (omega arith) s)) in
       subst (λ xs. StandsAt order shape n xs) (sym (lengths_rewritten kept next count)) at
 
   -- no more are left than there are

@@ -88,7 +88,9 @@ pub AllPairs-indices_in : (order : Order) (shape : List ℕ) → AllPairs (λ in
 AllPairs-indices_in order shape i j d h g e =
     let late : j < size shape = omega (arith, length-indices_in order shape) in
     let early : i < size shape = omega arith in
-    let ranks = sym (rank_in-index_of_rank_in order shape i early) ∙ ap (rank_in order shape) (sym (get_or-indices_in order shape i d early) ∙ e ∙ get_or-indices_in order shape j d late) ∙ rank_in-index_of_rank_in order shape j late in
+    let ranks = sym (rank_in-index_of_rank_in order shape i early)
+    ∙ ap (rank_in order shape) (sym (get_or-indices_in order shape i d early) ∙ e ∙ get_or-indices_in order shape j d late)
+    ∙ rank_in-index_of_rank_in order shape j late in
     omega arith
 
 -- ---- one entry more of the first axis

@@ -46,7 +46,8 @@ stretch_from_reaches shape strides count each = record {
   distinct = λ index other h g e.
       let one = turned shape strides index in
       let two = turned shape strides other in
-      let far = same_far (low_span shape strides) (offset_of-turned shape strides index count h) (offset_of-turned shape strides other count g) e in
+      let far = same_far (low_span shape strides) (offset_of-turned shape strides index count h)
+      (offset_of-turned shape strides other count g) e in
       let same = each.distinct one two (is_index-turned shape strides index h) (is_index-turned shape strides other g) far in
       sym (turned-turned shape strides index h) ∙ ap (turned shape strides) same ∙ turned-turned shape strides other g;
 }
@@ -112,7 +113,8 @@ module _ (shape : List ℕ) (strides : List ℤ) (count : length shape ≡ lengt
       let two = turned shape strides other in
       let in_one = is_index-turned shape strides index h in
       let in_two = is_index-turned shape strides other g in
-      let far = ap (farthest_offset strides) (turned-turned shape strides index h) ∙ e ∙ ap (farthest_offset strides) (sym (turned-turned shape strides other g)) in
+      let far = ap (farthest_offset strides) (turned-turned shape strides index h) ∙ e
+      ∙ ap (farthest_offset strides) (sym (turned-turned shape strides other g)) in
       let offsets : offset_of strides one ≡ offset_of strides two =
       same_offset (low_span shape strides) (offset_of-turned shape strides one count in_one)
       (offset_of-turned shape strides two count in_two) far in

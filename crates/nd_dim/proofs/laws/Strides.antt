@@ -128,7 +128,8 @@ pub offset_of-fortran_strides : (shape index : List ℕ) → is_index shape inde
     → offset_of (map pos (fortran_strides shape)) index ≡ pos (rank_in ColumnMajor shape index)
 offset_of-fortran_strides shape index h =
     let back = map pos (default_strides (reverse shape)) in
-    let long = length-map (default_strides (reverse shape)) pos ∙ default_count (reverse shape) ∙ length-reverse shape ∙ sym (length_of_index shape index h) ∙ sym (length-reverse index) in
+    let long = length-map (default_strides (reverse shape)) pos ∙ default_count (reverse shape) ∙ length-reverse shape
+    ∙ sym (length_of_index shape index h) ∙ sym (length-reverse index) in
     ap (λ strides. offset_of (map pos strides) index) (fortran_by_default shape)
     ∙ ap (λ strides. offset_of strides index) (map-reverse pos (default_strides (reverse shape)))
     ∙ ap (offset_of (reverse back)) (sym (reverse-reverse index))

@@ -67,7 +67,8 @@ rank_from_in_order order shape strides lies index h =
     let r = rank_in order shape index in
     let within : r < size shape = rank_in-lt-size order shape index h in
     let xs = indices_in order shape in
-    let there = get_or-map (place 0 strides) xs r [] (pos 0) (omega (arith, length-indices_in order shape)) ∙ ap (place 0 strides) (get_or-indices_in order shape r [] within ∙ index_of_rank_in-rank_in order shape index h) in
+    let there = get_or-map (place 0 strides) xs r [] (pos 0) (omega (arith, length-indices_in order shape))
+    ∙ ap (place 0 strides) (get_or-indices_in order shape r [] within ∙ index_of_rank_in-rank_in order shape index h) in
     let here = get_or-map-range_with_len (λ n. pos (0 + n)) 0 (size shape) r r (pos 0) within (omega arith) in
     let same = sym there ∙ ap (λ zs. get_or zs r (pos 0)) (lies 0) ∙ here in
     omega (arith, ints, same)

@@ -40,7 +40,8 @@ reach_up_to-total-requires c = omega (arith, reached (goal.at.reach_up_to-total-
 pub overflow_add-total : goal.overflow_add-total
 overflow_add-total c =
     let step = step (goal.at.overflow_add-total c).In-Some in
-    let less = sum_le (reach_up_to c.args.magnitude) reach (reach_up_to_le c.args.magnitude) c.args.shape.now (all_signed c.args.strides.now) in
+    let less = sum_le (reach_up_to c.args.magnitude) reach (reach_up_to_le c.args.magnitude) c.args.shape.now
+    (all_signed c.args.strides.now) in
     omega arith
 
 pub loop-len-preserved : goal.loop-len-preserved
