@@ -28,11 +28,10 @@ passes : (elem_size len : ℕ) (shape : List ℕ) (strides : List ℤ) → accep
 passes elem_size len shape strides h some = grind (arith, common_steps)
 
 -- and a shape by its own strides or by given ones
-pub by_strides_meet : {D : Type 0} (list : D → List ℕ) (elem_size len : ℕ) (mode : CanIndexCheckMode) (shape : List ℕ) (strides : Strides D) → acceptance_by_strides list elem_size len mode shape strides ≡ None
-    → (custom_strides strides ≡ None) ⊎ (mode ≡ OwnedMutable) → is_empty shape ≡ false → MeetsOwnedRule shape (all_signed (strides_list list shape strides))
-by_strides_meet list elem_size len mode shape C h why some = standard_meets RowMajor shape (standard_size len shape h) some
-by_strides_meet list elem_size len mode shape F h why some = standard_meets ColumnMajor shape (standard_size len shape h) some
-by_strides_meet list elem_size len mode shape (Custom strides) h why some =
+pub by_strides_meet : {D : Type 0} (list : D → List ℕ) (elem_size len : ℕ) {mode : CanIndexCheckMode} (shape : List ℕ) (strides : Strides D) → acceptance_by_strides list elem_size len mode shape strides ≡ None → (custom_strides strides ≡ None) ⊎ (mode ≡ OwnedMutable) → is_empty shape ≡ false → MeetsOwnedRule shape (all_signed (strides_list list shape strides))
+by_strides_meet list elem_size len shape C h why some = standard_meets RowMajor shape (standard_size len shape h) some
+by_strides_meet list elem_size len shape F h why some = standard_meets ColumnMajor shape (standard_size len shape h) some
+by_strides_meet list elem_size len shape (Custom strides) h why some =
     elim why [
       | inl none ↦ absurd (cc)
       | inr owned ↦ rule_holds shape (all_signed (list strides)) (passes elem_size len shape (all_signed (list strides)) (subst (λ m. acceptance elem_size len m shape (all_signed (list strides)) ≡ None) owned h) some)

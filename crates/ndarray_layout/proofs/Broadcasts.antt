@@ -34,21 +34,21 @@ down = record { at_zero = λ len. refl }
 up : StaysAtZero reach_up
 up = record { at_zero = λ len. mul-zero (len - 1) }
 
-one_stretched : (f : ℕ → ℤ → ℕ) → StaysAtZero f → (len other : ℕ) (stride : ℤ) → f len (cond (eqb len other) stride (pos 0)) ≤ f other stride
-one_stretched f stays len other stride =
+one_stretched : {f : ℕ → ℤ → ℕ} → StaysAtZero f → (len other : ℕ) (stride : ℤ) → f len (cond (eqb len other) stride (pos 0)) ≤ f other stride
+one_stretched stays len other stride =
     elim (cases_eq len other) [
       | inl e ↦ rw (cond-true {A = ℤ} (eqb len other) stride (pos 0) (eq-eqb len other e), e) (omega arith)
       | inr e ↦ rw (cond-false {A = ℤ} (eqb len other) stride (pos 0) (ne_eqb len other e)) (omega (arith, stays.at_zero len))
     ]
 
-sum_stretched : (f : ℕ → ℤ → ℕ) → StaysAtZero f → (lens others : List ℕ) (strides : List ℤ) → length lens ≡ length others → length others ≡ length strides → sum_over_axes f lens (stretched_strides lens others strides) ≤ sum_over_axes f others strides
-sum_stretched f stays [] [] [] e g = omega arith
-sum_stretched f stays [] [] (stride ∷ strides) e g = absurd (omega arith)
-sum_stretched f stays [] (other ∷ others) strides e g = absurd (omega arith)
-sum_stretched f stays (len ∷ lens) [] strides e g = absurd (omega arith)
-sum_stretched f stays (len ∷ lens) (other ∷ others) [] e g = absurd (omega arith)
-sum_stretched f stays (len ∷ lens) (other ∷ others) (stride ∷ strides) e g =
-    omega (arith, one_stretched f stays len other stride, sum_stretched f stays lens others strides (omega arith) (omega arith))
+sum_stretched : {f : ℕ → ℤ → ℕ} → StaysAtZero f → (lens others : List ℕ) (strides : List ℤ) → length lens ≡ length others → length others ≡ length strides → sum_over_axes f lens (stretched_strides lens others strides) ≤ sum_over_axes f others strides
+sum_stretched stays [] [] [] e g = omega arith
+sum_stretched stays [] [] (stride ∷ strides) e g = absurd (omega arith)
+sum_stretched stays [] (other ∷ others) strides e g = absurd (omega arith)
+sum_stretched stays (len ∷ lens) [] strides e g = absurd (omega arith)
+sum_stretched stays (len ∷ lens) (other ∷ others) [] e g = absurd (omega arith)
+sum_stretched stays (len ∷ lens) (other ∷ others) (stride ∷ strides) e g =
+    omega (arith, one_stretched stays len other stride, sum_stretched stays lens others strides (omega arith) (omega arith))
 
 -- an index has its source, at the same offset
 record WithinKept (lens others : List ℕ) (strides : List ℤ) (entries : List ℕ) : Type 0 where
@@ -59,8 +59,8 @@ record OneKept (len other : ℕ) (stride : ℤ) (i : ℕ) : Type 0 where
   pub below : cond (eqb other 1) 0 i < other
   pub offset : pos i *ℤ cond (eqb len other) stride (pos 0) ≡ pos (cond (eqb other 1) 0 i) *ℤ stride
 
-one_kept : (len other : ℕ) (stride : ℤ) (i : ℕ) → i < len → (other ≡ len) ⊎ (other ≡ 1) → OneKept len other stride i
-one_kept len other stride i below stays =
+one_kept : {len other : ℕ} (stride : ℤ) (i : ℕ) → i < len → (other ≡ len) ⊎ (other ≡ 1) → OneKept len other stride i
+one_kept {len} {other} stride i below stays =
     elim (cases_eq other 1) [
       | inl one ↦
           let first : cond (eqb other 1) 0 i ≡ 0 = cond-true {A = ℕ} (eqb other 1) 0 i (eq-eqb other 1 one) in
@@ -95,7 +95,7 @@ within_kept (len ∷ lens) (other ∷ others) [] entries e f h here = absurd (om
 within_kept (len ∷ lens) (other ∷ others) (stride ∷ strides) [] e f h here = absurd (cc)
 within_kept (len ∷ lens) (other ∷ others) (stride ∷ strides) (i ∷ entries) e f h here =
     let parts = and_parts (nat_lt i len) (is_index lens entries) here in
-    let first = one_kept len other stride i (ltb-true i len parts.0) (h 0 (omega arith)) in
+    let first = one_kept stride i (ltb-true i len parts.0) (h 0 (omega arith)) in
     let rest = within_kept lens others strides entries (omega arith) (omega arith) (λ k l. h (suc k) (omega arith)) parts.1 in
     record {
       within = and_from (nat_lt (cond (eqb other 1) 0 i) other) (is_index others (entries_within others entries)) (lt-ltb (cond (eqb other 1) 0 i) other first.below) rest.within;
@@ -103,10 +103,10 @@ within_kept (len ∷ lens) (other ∷ others) (stride ∷ strides) (i ∷ entrie
     }
 
 -- ---- new axes
-sum_after_new : (f : ℕ → ℤ → ℕ) → StaysAtZero f → (n : ℕ) (shape : List ℕ) (strides : List ℤ) → n ≤ length shape → sum_over_axes f shape (replicate n (pos 0) ++ strides) ≡ sum_over_axes f (drop n shape) strides
-sum_after_new f stays zero shape strides h = refl
-sum_after_new f stays (suc n) [] strides h = absurd (omega arith)
-sum_after_new f stays (suc n) (len ∷ shape) strides h = omega (arith, stays.at_zero len, sum_after_new f stays n shape strides (omega arith))
+sum_after_new : {f : ℕ → ℤ → ℕ} → StaysAtZero f → (n : ℕ) (shape : List ℕ) (strides : List ℤ) → n ≤ length shape → sum_over_axes f shape (replicate n (pos 0) ++ strides) ≡ sum_over_axes f (drop n shape) strides
+sum_after_new stays zero shape strides h = refl
+sum_after_new stays (suc n) [] strides h = absurd (omega arith)
+sum_after_new stays (suc n) (len ∷ shape) strides h = omega (arith, stays.at_zero len, sum_after_new stays n shape strides (omega arith))
 
 index_after_new : (n : ℕ) (shape entries : List ℕ) → is_index shape entries ≡ true → is_index (drop n shape) (drop n entries) ≡ true
 index_after_new zero shape entries here = here
@@ -135,30 +135,30 @@ pub record BroadcastKept (shape view_shape : List ℕ) (strides : List ℤ) : Ty
   pub low : low_span shape (broadcast_strides shape view_shape strides) ≤ low_span view_shape strides
   pub high : high_span shape (broadcast_strides shape view_shape strides) ≤ high_span view_shape strides
 
-sum_broadcast : (f : ℕ → ℤ → ℕ) → StaysAtZero f → (shape view_shape : List ℕ) (strides : List ℤ) → Stretches shape view_shape strides → sum_over_axes f shape (broadcast_strides shape view_shape strides) ≤ sum_over_axes f view_shape strides
-sum_broadcast f stays shape view_shape strides s =
+sum_broadcast : {f : ℕ → ℤ → ℕ} → StaysAtZero f → {shape view_shape : List ℕ} {strides : List ℤ} → Stretches shape view_shape strides → sum_over_axes f shape (broadcast_strides shape view_shape strides) ≤ sum_over_axes f view_shape strides
+sum_broadcast stays {shape} {view_shape} {strides} s =
     let n = new_axes shape view_shape in
     let lens = drop n shape in
-    omega (arith, sum_after_new f stays n shape (stretched_strides lens view_shape strides) (omega arith), sum_stretched f stays lens view_shape strides (count_after shape view_shape s.fewer) s.counts)
+    omega (arith, sum_after_new stays n shape (stretched_strides lens view_shape strides) (omega arith), sum_stretched stays lens view_shape strides (count_after shape view_shape s.fewer) s.counts)
 
-pub broadcast_kept : (shape view_shape : List ℕ) (strides : List ℤ) → Stretches shape view_shape strides → BroadcastKept shape view_shape strides
-broadcast_kept shape view_shape strides s =
+pub broadcast_kept : {shape view_shape : List ℕ} {strides : List ℤ} → Stretches shape view_shape strides → BroadcastKept shape view_shape strides
+broadcast_kept {shape} {view_shape} {strides} s =
     let n = new_axes shape view_shape in
     let new : List ℤ = replicate n (pos 0) in
     let after = stretched_strides (drop n shape) view_shape strides in
     let count : length after ≡ length strides = length-stretched_strides (drop n shape) view_shape strides (count_after shape view_shape s.fewer) s.counts in
     record {
       counts = omega (arith, length-append new after, length-replicate {A = ℤ} n (pos 0), count, s.counts, s.fewer);
-      low = sum_broadcast reach_down down shape view_shape strides s;
-      high = sum_broadcast reach_up up shape view_shape strides s;
+      low = sum_broadcast down s;
+      high = sum_broadcast up s;
     }
 
 pub record BroadcastSourceKept (shape view_shape : List ℕ) (strides : List ℤ) (entries : List ℕ) : Type 0 where
   pub within : is_index view_shape (broadcast_source view_shape entries) ≡ true
   pub offset : offset_of (broadcast_strides shape view_shape strides) entries ≡ offset_of strides (broadcast_source view_shape entries)
 
-pub broadcast_source_kept : (shape view_shape : List ℕ) (strides : List ℤ) (entries : List ℕ) → Stretches shape view_shape strides → is_index shape entries ≡ true → BroadcastSourceKept shape view_shape strides entries
-broadcast_source_kept shape view_shape strides entries s here =
+pub broadcast_source_kept : {shape view_shape : List ℕ} {strides : List ℤ} (entries : List ℕ) → Stretches shape view_shape strides → is_index shape entries ≡ true → BroadcastSourceKept shape view_shape strides entries
+broadcast_source_kept {shape} {view_shape} {strides} entries s here =
     let n = new_axes shape view_shape in
     let lens = drop n shape in
     let count = length_of_index shape entries here in

@@ -36,9 +36,9 @@ moved place i stride strides (x ∷ xs) =
     let here : place +ℤ offset_of (stride ∷ strides) (i ∷ x) ≡ (place +ℤ (pos i *ℤ stride)) +ℤ offset_of strides x = omega (arith, ints) in
     rw (here, moved place i stride strides xs) refl
 
-no_step : (place stride : ℤ) → place +ℤ ((pos 0 *ℤ stride) +ℤ pos 0) ≡ place
-no_step place (pos n) = omega (arith, ints)
-no_step place (negsuc n) = omega (arith, ints)
+no_step : {place : ℤ} (stride : ℤ) → place +ℤ ((pos 0 *ℤ stride) +ℤ pos 0) ≡ place
+no_step (pos n) = omega (arith, ints)
+no_step (negsuc n) = omega (arith, ints)
 
 -- an axis by itself is one row
 one_row : (place stride : ℤ) (entries : List ℕ) → places_from place (stride ∷ []) (flat_map (λ i. (i ∷ []) ∷ []) entries) ≡ map (λ entry. place +ℤ (pos entry *ℤ stride)) entries
@@ -55,7 +55,7 @@ by_rows place [] strides last long also = absurd (omega arith)
 by_rows place (len ∷ shape) [] last long also = absurd (omega arith)
 by_rows place (len ∷ []) (stride ∷ []) zero long also =
     one_row place stride (below len)
-    ∙ ap (λ start. row_from start stride len) (sym (no_step place stride))
+    ∙ ap (λ start. row_from start stride len) (sym (no_step stride))
     ∙ sym (append-nil (row_from (place +ℤ ((pos 0 *ℤ stride) +ℤ pos 0)) stride len))
 by_rows place (len ∷ (l ∷ shape)) (stride ∷ strides) zero long also = absurd (omega arith)
 by_rows place (len ∷ []) (stride ∷ (s ∷ strides)) zero long also = absurd (omega arith)

@@ -17,8 +17,8 @@ use Rattle.ndarray_layout.specs.View.{View, IsView, view_places}
 use Rattle.ndarray_layout.proofs.ReadView.{places-as_read}
 
 -- an axis of length 1 is left out, any other is kept
-of_longer_one : {A : Type 0} (len : ℕ) (lens : List ℕ) (item : A) (items : List A) → len ≡ 1 → of_longer (len ∷ lens) (item ∷ items) ≡ of_longer lens items
-of_longer_one len lens item items one = cond-true (eqb len 1) (of_longer lens items) (item ∷ of_longer lens items) (eq-eqb len 1 one)
+of_longer_one : {A : Type 0} {len : ℕ} (lens : List ℕ) (item : A) (items : List A) → len ≡ 1 → of_longer (len ∷ lens) (item ∷ items) ≡ of_longer lens items
+of_longer_one {len} lens item items one = cond-true (eqb len 1) (of_longer lens items) (item ∷ of_longer lens items) (eq-eqb len 1 one)
 
 of_longer_other : {A : Type 0} (len : ℕ) (lens : List ℕ) (item : A) (items : List A) → (len ≡ 1 → ⊥) → of_longer (len ∷ lens) (item ∷ items) ≡ item ∷ of_longer lens items
 of_longer_other len lens item items other = cond-false (eqb len 1) (of_longer lens items) (item ∷ of_longer lens items) (ne_eqb len 1 other)
@@ -30,7 +30,7 @@ length-of_longer (len ∷ lens) [] others e f = absurd (omega arith)
 length-of_longer (len ∷ lens) (item ∷ items) [] e f = absurd (omega arith)
 length-of_longer (len ∷ lens) (item ∷ items) (other ∷ others) e f =
     elim (cases_eq len 1) [
-      | inl one ↦ rw (of_longer_one len lens item items one, of_longer_one len lens other others one) (length-of_longer lens items others (omega arith) (omega arith))
+      | inl one ↦ rw (of_longer_one lens item items one, of_longer_one lens other others one) (length-of_longer lens items others (omega arith) (omega arith))
       | inr more ↦ rw (of_longer_other len lens item items more, of_longer_other len lens other others more) (ap suc (length-of_longer lens items others (omega arith) (omega arith)))
     ]
 
@@ -49,7 +49,7 @@ pub size-of_longer : (shape : List ℕ) → size (of_longer shape shape) ≡ siz
 size-of_longer [] = refl
 size-of_longer (len ∷ lens) =
     elim (cases_eq len 1) [
-      | inl one ↦ rw (of_longer_one len lens len lens one, one) (size-of_longer lens ∙ omega arith)
+      | inl one ↦ rw (of_longer_one lens len lens one, one) (size-of_longer lens ∙ omega arith)
       | inr more ↦ rw (of_longer_other len lens len lens more) (ap (λ n. len * n) (size-of_longer lens))
     ]
 
@@ -58,7 +58,7 @@ pub nonzero_size-of_longer : (shape : List ℕ) → nonzero_size (of_longer shap
 nonzero_size-of_longer [] = refl
 nonzero_size-of_longer (len ∷ lens) =
     elim (cases_eq len 1) [
-      | inl one ↦ rw (of_longer_one len lens len lens one, one) (nonzero_size-of_longer lens ∙ omega arith)
+      | inl one ↦ rw (of_longer_one lens len lens one, one) (nonzero_size-of_longer lens ∙ omega arith)
       | inr more ↦ rw (of_longer_other len lens len lens more) (ap (λ n. cond (eqb len 0) n (len * n)) (nonzero_size-of_longer lens))
     ]
 
@@ -69,7 +69,7 @@ sum_over_axes-of_longer f none (len ∷ lens) [] e = absurd (omega arith)
 sum_over_axes-of_longer f none (len ∷ lens) (stride ∷ strides) e =
     let rest = sum_over_axes-of_longer f none lens strides (omega arith) in
     elim (cases_eq len 1) [
-      | inl one ↦ rw (of_longer_one len lens len lens one, of_longer_one len lens stride strides one, one) (omega (arith, rest, none stride))
+      | inl one ↦ rw (of_longer_one lens len lens one, of_longer_one lens stride strides one, one) (omega (arith, rest, none stride))
       | inr more ↦ rw (of_longer_other len lens len lens more, of_longer_other len lens stride strides more) (ap (λ n. f len stride + n) rest)
     ]
 
@@ -86,8 +86,8 @@ reach_up_of_one (negsuc stride) = refl
 
 -- ---- views
 -- what is left is a view
-pub IsView-longer_view : (view : View) → IsView view → IsView (longer_view view)
-IsView-longer_view view v =
+pub IsView-longer_view : {view : View} → IsView view → IsView (longer_view view)
+IsView-longer_view {view} v =
     let counts = v.valid.same_count in
     record {
       valid = record {
@@ -144,7 +144,7 @@ offsets_longer (len ∷ lens) [] e = absurd (omega arith)
 offsets_longer (len ∷ lens) (stride ∷ strides) e =
     let rest = offsets_longer lens strides (omega arith) in
     elim (cases_eq len 1) [
-      | inl one ↦ rw (of_longer_one len lens len lens one, of_longer_one len lens stride strides one, one) (rest ∙ sym (offsets_of_one lens stride strides))
+      | inl one ↦ rw (of_longer_one lens len lens one, of_longer_one lens stride strides one, one) (rest ∙ sym (offsets_of_one lens stride strides))
       | inr more ↦
           rw (of_longer_other len lens len lens more, of_longer_other len lens stride strides more) (
           offsets_by_entry stride (of_longer lens strides) (of_longer lens lens) (below len)

@@ -86,8 +86,8 @@ up : Reaches reach_up
 up = record { few = few_up; more = more_up; steps = steps_up }
 
 -- the merged axis, and what is left of the one taken, reach no further than both did
-reach_merged : (f : ℕ → ℤ → ℕ) → Reaches f → (take_len : ℕ) (take_stride : ℤ) (into_len : ℕ) (into_stride : ℤ) (left : ℕ) → left ≤ 1 → merge_fits take_len take_stride into_len into_stride ≡ true → f (into_len * take_len) (merged_stride take_len take_stride into_len into_stride) + f left take_stride ≤ f take_len take_stride + f into_len into_stride
-reach_merged f reaches t ts n is left one h =
+reach_merged : {f : ℕ → ℤ → ℕ} → Reaches f → (take_len : ℕ) (take_stride : ℤ) (into_len : ℕ) (into_stride : ℤ) (left : ℕ) → left ≤ 1 → merge_fits take_len take_stride into_len into_stride ≡ true → f (into_len * take_len) (merged_stride take_len take_stride into_len into_stride) + f left take_stride ≤ f take_len take_stride + f into_len into_stride
+reach_merged {f} reaches t ts n is left one h =
     elim (how_it_fits t ts n is h) [
       | inl k ↦
           let less : n * t ≤ n * 1 = mul-le-mul_left n k.few in
@@ -133,8 +133,8 @@ pub record TwoAxes (shape : List ℕ) (strides : List ℤ) (taken into : ℕ) : 
 abbrev whole : List ℕ → ℕ → ℕ → ℕ
 whole shape taken into = get_or shape into 0 * get_or shape taken 0
 
-sum_merged : (f : ℕ → ℤ → ℕ) → Reaches f → (shape : List ℕ) (strides : List ℤ) (taken into : ℕ) (stride : ℤ) → TwoAxes shape strides taken into → merge_fits (get_or shape taken 0) (get_or strides taken (pos 0)) (get_or shape into 0) (get_or strides into (pos 0)) ≡ true → stride ≡ merged_stride (get_or shape taken 0) (get_or strides taken (pos 0)) (get_or shape into 0) (get_or strides into (pos 0)) → sum_over_axes f (merged_shape taken into shape) (set strides into stride) ≤ sum_over_axes f shape strides
-sum_merged f reaches shape strides taken into stride two on is =
+sum_merged : {f : ℕ → ℤ → ℕ} → Reaches f → {shape : List ℕ} {strides : List ℤ} {taken into : ℕ} {stride : ℤ} → TwoAxes shape strides taken into → merge_fits (get_or shape taken 0) (get_or strides taken (pos 0)) (get_or shape into 0) (get_or strides into (pos 0)) ≡ true → stride ≡ merged_stride (get_or shape taken 0) (get_or strides taken (pos 0)) (get_or shape into 0) (get_or strides into (pos 0)) → sum_over_axes f (merged_shape taken into shape) (set strides into stride) ≤ sum_over_axes f shape strides
+sum_merged {f} reaches {shape} {strides} {taken} {into} {stride} two on is =
     let m = whole shape taken into in
     let u = left_on m in
     let ts = get_or strides taken (pos 0) in
@@ -147,7 +147,7 @@ sum_merged f reaches shape strides taken into stride two on is =
     let stride1 : get_or strides1 taken (pos 0) ≡ ts = get_or-set_other strides into taken stride (pos 0) two.apart in
     let same1 : set strides1 taken ts ≡ strides1 = ap (set strides1 taken) (sym stride1) ∙ set-get_or strides1 taken (pos 0) in
     let second : sum_over_axes f (set shape1 taken u) strides1 + f (get_or shape taken 0) ts ≡ sum_over_axes f shape1 strides1 + f u ts = rw (same1, len1, stride1) at (sum_replaced f shape1 strides1 taken u ts there1 counts1) in
-    let less : f m stride + f u ts ≤ f (get_or shape taken 0) ts + f (get_or shape into 0) (get_or strides into (pos 0)) = rw is (reach_merged f reaches (get_or shape taken 0) ts (get_or shape into 0) (get_or strides into (pos 0)) u (left_le m) on) in
+    let less : f m stride + f u ts ≤ f (get_or shape taken 0) ts + f (get_or shape into 0) (get_or strides into (pos 0)) = rw is (reach_merged reaches (get_or shape taken 0) ts (get_or shape into 0) (get_or strides into (pos 0)) u (left_le m) on) in
     omega (arith, first, second, less)
 
 -- what is left reaches no further than the layout, and is no larger
@@ -173,7 +173,7 @@ size_merged shape taken into there to apart =
     by t n a b c first second =
         elim (cases_eq (n * t) 0) [
           | inl e ↦
-              let last : b * factor n ≡ a * 1 = rw (factor_of_zero (n * t) e) at first in
+              let last : b * factor n ≡ a * 1 = rw (factor_of_zero e) at first in
               let one : b * 1 ≤ b * factor n = mul-le-mul_left b (factor_pos n) in
               let two : c * 1 ≤ c * factor t = mul-le-mul_left c (factor_pos t) in
               omega arith
@@ -186,14 +186,14 @@ size_merged shape taken into there to apart =
               le_of_mul-le-mul_left both (pos_of_ne-zero e)
         ]
 
-pub merge_kept : (shape : List ℕ) (strides : List ℤ) (taken into : ℕ) (stride : ℤ) → TwoAxes shape strides taken into → merge_fits (get_or shape taken 0) (get_or strides taken (pos 0)) (get_or shape into 0) (get_or strides into (pos 0)) ≡ true → stride ≡ merged_stride (get_or shape taken 0) (get_or strides taken (pos 0)) (get_or shape into 0) (get_or strides into (pos 0)) → MergeKept shape strides taken into stride
-merge_kept shape strides taken into stride two on is =
+pub merge_kept : {shape : List ℕ} {strides : List ℤ} {taken into : ℕ} {stride : ℤ} → TwoAxes shape strides taken into → merge_fits (get_or shape taken 0) (get_or strides taken (pos 0)) (get_or shape into 0) (get_or strides into (pos 0)) ≡ true → stride ≡ merged_stride (get_or shape taken 0) (get_or strides taken (pos 0)) (get_or shape into 0) (get_or strides into (pos 0)) → MergeKept shape strides taken into stride
+merge_kept {shape} {strides} {taken} {into} {stride} two on is =
     let m = whole shape taken into in
     record {
       counts = length-set (set shape into m) taken (left_on m) ∙ length-set shape into m ∙ two.counts ∙ sym (length-set strides into stride);
       size = size_merged shape taken into two.taken_there two.into_there two.apart;
-      low = sum_merged reach_down down shape strides taken into stride two on is;
-      high = sum_merged reach_up up shape strides taken into stride two on is;
+      low = sum_merged down two on is;
+      high = sum_merged up two on is;
     }
 
 -- ---- its indices
@@ -232,8 +232,8 @@ pub record MergeSourceKept (shape : List ℕ) (strides : List ℤ) (taken into :
   pub within : is_index shape (merge_source taken into shape entries) ≡ true
   pub offset : offset_of (set strides into stride) entries ≡ offset_of strides (merge_source taken into shape entries)
 
-pub merge_source_kept : (shape : List ℕ) (strides : List ℤ) (taken into : ℕ) (stride : ℤ) (entries : List ℕ) → TwoAxes shape strides taken into → IsMergedStride (get_or shape taken 0) (get_or strides taken (pos 0)) (get_or shape into 0) (get_or strides into (pos 0)) stride → is_index (merged_shape taken into shape) entries ≡ true → MergeSourceKept shape strides taken into stride entries
-merge_source_kept shape strides taken into stride entries two serves here =
+pub merge_source_kept : {shape : List ℕ} {strides : List ℤ} {taken into : ℕ} {stride : ℤ} (entries : List ℕ) → TwoAxes shape strides taken into → IsMergedStride (get_or shape taken 0) (get_or strides taken (pos 0)) (get_or shape into 0) (get_or strides into (pos 0)) stride → is_index (merged_shape taken into shape) entries ≡ true → MergeSourceKept shape strides taken into stride entries
+merge_source_kept {shape} {strides} {taken} {into} {stride} entries two serves here =
     let t = get_or shape taken 0 in
     let n = get_or shape into 0 in
     let ts = get_or strides taken (pos 0) in
@@ -277,5 +277,5 @@ merge_source_injective shape taken into entries others there to apart here other
     let rests : j % n ≡ k % n = sym (on_into entries (j / n) (j % n) (omega (arith, first.count))) ∙ ap (λ l. get_or l into 0) same ∙ on_into others (k / n) (k % n) (omega (arith, second.count)) in
     let entry : j ≡ k = sym (div-add-mod j n) ∙ ap (λ q. n * q + j % n) quotients ∙ ap (λ r. n * (k / n) + r) rests ∙ div-add-mod k n in
     let turned = λ (e : into ≡ taken). apart (sym e) in
-    let middles : middle ≡ other_middle = same_with_entry middle other_middle into (j % n) (k % n) same (get_or-set_other entries taken into (j / n) 0 turned ∙ entry ∙ sym (get_or-set_other others taken into (k / n) 0 turned)) in
-    same_with_entry entries others taken (j / n) (k / n) middles (first.none ∙ sym second.none)
+    let middles : middle ≡ other_middle = same_with_entry into (j % n) (k % n) same (get_or-set_other entries taken into (j / n) 0 turned ∙ entry ∙ sym (get_or-set_other others taken into (k / n) 0 turned)) in
+    same_with_entry taken (j / n) (k / n) middles (first.none ∙ sym second.none)

@@ -20,8 +20,8 @@ sum_replaced f (n ∷ shape) (s ∷ strides) (suc axis) len stride h e = omega (
 abbrev pub factor : ℕ → ℕ
 factor len = cond (eqb len 0) 1 len
 
-pub factor_of_zero : (len : ℕ) → len ≡ 0 → factor len ≡ 1
-factor_of_zero len e = cond-true (eqb len 0) 1 len (eq-eqb len 0 e)
+pub factor_of_zero : {len : ℕ} → len ≡ 0 → factor len ≡ 1
+factor_of_zero {len} e = cond-true (eqb len 0) 1 len (eq-eqb len 0 e)
 
 pub factor_of_other : (len : ℕ) → len ≢ 0 → factor len ≡ len
 factor_of_other len e = cond-false (eqb len 0) 1 len (ne_eqb len 0 e)
@@ -29,14 +29,14 @@ factor_of_other len e = cond-false (eqb len 0) 1 len (ne_eqb len 0 e)
 pub factor_pos : (len : ℕ) → 0 < factor len
 factor_pos len =
     elim (cases_eq len 0) [
-      | inl e ↦ omega (arith, factor_of_zero len e)
+      | inl e ↦ omega (arith, factor_of_zero e)
       | inr e ↦ omega (arith, factor_of_other len e)
     ]
 
 by_factor : (len : ℕ) (lens : List ℕ) → nonzero_size (len ∷ lens) ≡ factor len * nonzero_size lens
 by_factor len lens =
     elim (cases_eq len 0) [
-      | inl e ↦ rw (nonzero_size_of_zero len lens e, factor_of_zero len e) (omega arith)
+      | inl e ↦ rw (nonzero_size_of_zero len lens e, factor_of_zero e) (omega arith)
       | inr e ↦ rw (nonzero_size_of_other len lens e, factor_of_other len e) refl
     ]
 
@@ -80,8 +80,8 @@ index_restored (n ∷ shape) (j ∷ index) (suc axis) len i here below =
     and_from (nat_lt j n) (is_index shape (set index axis i)) parts.0 (index_restored shape index axis len i parts.1 below)
 
 -- lists that are one with an entry replaced, and have one entry there, are one
-pub same_with_entry : (index other : List ℕ) (axis i j : ℕ) → set index axis i ≡ set other axis j → get_or index axis 0 ≡ get_or other axis 0 → index ≡ other
-same_with_entry index other axis i j same at =
+pub same_with_entry : {index other : List ℕ} (axis i j : ℕ) → set index axis i ≡ set other axis j → get_or index axis 0 ≡ get_or other axis 0 → index ≡ other
+same_with_entry {index} {other} axis i j same at =
     sym (set-get_or index axis 0)
     ∙ sym (set-set index axis i (get_or index axis 0))
     ∙ ap (λ l. set l axis (get_or index axis 0)) same

@@ -71,7 +71,7 @@ slices_kept fit (elem.Slice start end step ∷ elems) (len ∷ shape) (stride �
     let slice : Slice = record { start = start; end = end; step = step } in
     let none = or_none (slice_fault fit len slice) (first_fault fit shape elems) f in
     let rest = slices_kept fit elems shape strides (omega arith) (omega arith) none.1 in
-    let axis = slice_kept len stride step (picks fit len slice) (picks_fit fit len slice none.0) in
+    let axis = slice_kept stride (picks fit len slice) (picks_fit fit slice none.0) in
     record {
       counts = omega (arith, rest.counts);
       size = nonzero_more (length (picks fit len slice)) len (nonzero_size (sliced_shape fit elems shape)) (nonzero_size shape) axis.few rest.size;
@@ -111,14 +111,14 @@ places_kept fit (elem.Slice start end step ∷ elems) (len ∷ shape) (stride �
 places_kept fit (elem.Slice start end step ∷ elems) (len ∷ shape) (stride ∷ strides) (j ∷ index) e i f h =
     let slice : Slice = record { start = start; end = end; step = step } in
     let none = or_none (slice_fault fit len slice) (first_fault fit shape elems) f in
-    let inside = picks_fit fit len slice none.0 in
+    let inside = picks_fit fit {len = len} slice none.0 in
     let parts = and_parts (nat_lt j (length (picks fit len slice))) (is_index (sliced_shape fit elems shape) index) h in
     let below = ltb-true j (length (picks fit len slice)) parts.0 in
     let rest = places_kept fit elems shape strides index (omega arith) (omega arith) none.1 parts.1 in
     let pick = get_or (picks fit len slice) j 0 in
     record {
       within = and_from (nat_lt pick len) (is_index shape (selected fit elems shape index)) (lt-ltb pick len (inside.within j below)) rest.within;
-      offset = omega (arith, ints, rest.offset, pick_offset len stride step (picks fit len slice) j inside below);
+      offset = omega (arith, ints, rest.offset, pick_offset stride j inside below);
     }
 places_kept fit (elem.Index n ∷ elems) [] strides index e i f h = absurd (omega arith)
 places_kept fit (elem.Index n ∷ elems) (len ∷ shape) [] index e i f h = absurd (omega arith)

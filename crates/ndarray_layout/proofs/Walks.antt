@@ -18,23 +18,23 @@ use Rattle.nd_base.proofs.laws.NonzeroSize.{nonzero_size_pos}
 use Rattle.ndarray_layout.proofs.OneAxis.{axis_within}
 
 -- an entry of the first axis moves the start
-row_at : (start i inner : ℕ) (stride : ℤ) (strides : List ℤ) (xs : List (List ℕ)) → pos inner ≡ pos start +ℤ (pos i *ℤ stride) → map (place start (stride ∷ strides)) (map (λ index. i ∷ index) xs) ≡ map (place inner strides) xs
-row_at start i inner stride strides [] e = refl
-row_at start i inner stride strides (x ∷ xs) e =
+row_at : (start i : ℕ) {inner : ℕ} (stride : ℤ) (strides : List ℤ) (xs : List (List ℕ)) → pos inner ≡ pos start +ℤ (pos i *ℤ stride) → map (place start (stride ∷ strides)) (map (λ index. i ∷ index) xs) ≡ map (place inner strides) xs
+row_at start i stride strides [] e = refl
+row_at start i {inner} stride strides (x ∷ xs) e =
     let here : place start (stride ∷ strides) (i ∷ x) ≡ place inner strides x = omega (arith, ints) in
-    rw (here, row_at start i inner stride strides xs e) refl
+    rw (here, row_at start i stride strides xs e) refl
 
 -- the places with one entry more of the first axis
-pub places_more : (start i inner : ℕ) (lens : List ℕ) (stride : ℤ) (strides : List ℤ) → pos inner ≡ pos start +ℤ (pos i *ℤ stride) → view_places RowMajor (record { start = start; shape = (i + 1) ∷ lens; strides = stride ∷ strides }) ≡ view_places RowMajor (record { start = start; shape = i ∷ lens; strides = stride ∷ strides }) ++ view_places RowMajor (record { start = inner; shape = lens; strides = strides })
-places_more start i inner lens stride strides e =
+pub places_more : (start i : ℕ) {inner : ℕ} (lens : List ℕ) (stride : ℤ) (strides : List ℤ) → pos inner ≡ pos start +ℤ (pos i *ℤ stride) → view_places RowMajor (record { start = start; shape = (i + 1) ∷ lens; strides = stride ∷ strides }) ≡ view_places RowMajor (record { start = start; shape = i ∷ lens; strides = stride ∷ strides }) ++ view_places RowMajor (record { start = inner; shape = lens; strides = strides })
+places_more start i lens stride strides e =
     let row = map (λ index. i ∷ index) (indices lens) in
-    rw (add-one i) (ap (map (place start (stride ∷ strides))) (indices_more i lens) ∙ map-append (place start (stride ∷ strides)) (indices (i ∷ lens)) row ∙ ap (λ xs. map (place start (stride ∷ strides)) (indices (i ∷ lens)) ++ xs) (row_at start i inner stride strides (indices lens) e))
+    rw (add-one i) (ap (map (place start (stride ∷ strides))) (indices_more i lens) ∙ map-append (place start (stride ∷ strides)) (indices (i ∷ lens)) row ∙ ap (λ xs. map (place start (stride ∷ strides)) (indices (i ∷ lens)) ++ xs) (row_at start i stride strides (indices lens) e))
 
 -- a row with one entry more
-pub row_more : (start i inner : ℕ) (stride : ℤ) → pos inner ≡ pos start +ℤ (pos i *ℤ stride) → view_places RowMajor (row_view start (i + 1) stride) ≡ view_places RowMajor (row_view start i stride) ++ pos inner ∷ []
-row_more start i inner stride e =
+pub row_more : (start i : ℕ) {inner : ℕ} (stride : ℤ) → pos inner ≡ pos start +ℤ (pos i *ℤ stride) → view_places RowMajor (row_view start (i + 1) stride) ≡ view_places RowMajor (row_view start i stride) ++ pos inner ∷ []
+row_more start i {inner} stride e =
     let alone : inner + 0 ≡ inner = omega arith in
-    places_more start i inner [] stride [] e ∙ ap (λ n. view_places RowMajor (row_view start i stride) ++ pos n ∷ []) alone
+    places_more start i [] stride [] e ∙ ap (λ n. view_places RowMajor (row_view start i stride) ++ pos n ∷ []) alone
 
 -- what is known of one entry of the first axis
 pub record IsEntry (start len : ℕ) (lens : List ℕ) (stride : ℤ) (strides : List ℤ) (i : ℕ) : Type 0 where
@@ -80,40 +80,40 @@ as_read_none RowMajor = refl
 as_read_none ColumnMajor = refl
 
 -- the strides of a view by its slowest axis
-strides_split : (order : Order) (stride : ℕ) (strides rest : List ℕ) → as_read order strides ≡ stride ∷ as_read order rest → as_read order (all_signed strides) ≡ signed stride ∷ all_signed (as_read order rest)
-strides_split order stride strides rest e = as_read_signed order strides ∙ ap all_signed e
+strides_split : (order : Order) {stride : ℕ} (strides rest : List ℕ) → as_read order strides ≡ stride ∷ as_read order rest → as_read order (all_signed strides) ≡ signed stride ∷ all_signed (as_read order rest)
+strides_split order strides rest e = as_read_signed order strides ∙ ap all_signed e
 
 -- the same of the view
-pub view_split : (order : Order) (start len stride : ℕ) (shape lens strides rest : List ℕ) → as_read order shape ≡ len ∷ as_read order lens → as_read order strides ≡ stride ∷ as_read order rest → view_as_read order start shape (all_signed strides) ≡ record { start = start; shape = len ∷ as_read order lens; strides = signed stride ∷ all_signed (as_read order rest) }
-view_split order start len stride shape lens strides rest e f = rw (e, strides_split order stride strides rest f) refl
+pub view_split : (order : Order) (start : ℕ) {len stride : ℕ} (shape lens strides rest : List ℕ) → as_read order shape ≡ len ∷ as_read order lens → as_read order strides ≡ stride ∷ as_read order rest → view_as_read order start shape (all_signed strides) ≡ record { start = start; shape = len ∷ as_read order lens; strides = signed stride ∷ all_signed (as_read order rest) }
+view_split order start shape lens strides rest e f = rw (e, strides_split order strides rest f) refl
 
-pub entry_of : (order : Order) (start len stride i : ℕ) (shape lens strides rest : List ℕ) → as_read order shape ≡ len ∷ as_read order lens → as_read order strides ≡ stride ∷ as_read order rest → IsView (view_as_read order start shape (all_signed strides)) → i < len → IsEntry start len (as_read order lens) (signed stride) (all_signed (as_read order rest)) i
-entry_of order start len stride i shape lens strides rest e f view h =
-    entry_within start len (as_read order lens) (signed stride) (all_signed (as_read order rest)) i (subst IsView (view_split order start len stride shape lens strides rest e f) view) h
+pub entry_of : (order : Order) (start : ℕ) {len stride : ℕ} (i : ℕ) (shape lens strides rest : List ℕ) → as_read order shape ≡ len ∷ as_read order lens → as_read order strides ≡ stride ∷ as_read order rest → IsView (view_as_read order start shape (all_signed strides)) → i < len → IsEntry start len (as_read order lens) (signed stride) (all_signed (as_read order rest)) i
+entry_of order start {len} {stride} i shape lens strides rest e f view h =
+    entry_within start len (as_read order lens) (signed stride) (all_signed (as_read order rest)) i (subst IsView (view_split order start shape lens strides rest e f) view) h
 
 -- where one axis is left it is a row
-rest_of_row : (order : Order) (len : ℕ) (shape lens : List ℕ) → as_read order shape ≡ len ∷ as_read order lens → length lens ≡ 0 → as_read order shape ≡ len ∷ []
-rest_of_row order len shape lens e none = e ∙ ap (λ xs. len ∷ as_read order xs) (nil_from_length lens none) ∙ ap (λ xs. len ∷ xs) (as_read_none order)
+rest_of_row : (order : Order) {len : ℕ} (shape lens : List ℕ) → as_read order shape ≡ len ∷ as_read order lens → length lens ≡ 0 → as_read order shape ≡ len ∷ []
+rest_of_row order {len} shape lens e none = e ∙ ap (λ xs. len ∷ as_read order xs) (nil_from_length lens none) ∙ ap (λ xs. len ∷ xs) (as_read_none order)
 
-pub size_of_row : (order : Order) (len : ℕ) (shape lens : List ℕ) → as_read order shape ≡ len ∷ as_read order lens → length lens ≡ 0 → size (as_read order shape) ≡ len
-size_of_row order len shape lens e none =
+pub size_of_row : (order : Order) {len : ℕ} (shape lens : List ℕ) → as_read order shape ≡ len ∷ as_read order lens → length lens ≡ 0 → size (as_read order shape) ≡ len
+size_of_row order {len} shape lens e none =
     let one : size (len ∷ []) ≡ len = omega arith in
-    ap size (rest_of_row order len shape lens e none) ∙ one
+    ap size (rest_of_row order shape lens e none) ∙ one
 
-pub view_of_row : (order : Order) (start len stride : ℕ) (shape lens strides rest : List ℕ) → as_read order shape ≡ len ∷ as_read order lens → as_read order strides ≡ stride ∷ as_read order rest → length lens ≡ 0 → IsView (view_as_read order start shape (all_signed strides)) → view_as_read order start shape (all_signed strides) ≡ row_view start len (signed stride)
-view_of_row order start len stride shape lens strides rest e f none view =
-    let row = rest_of_row order len shape lens e none in
-    let split = strides_split order stride strides rest f in
+pub view_of_row : (order : Order) (start : ℕ) {len stride : ℕ} (shape lens strides rest : List ℕ) → as_read order shape ≡ len ∷ as_read order lens → as_read order strides ≡ stride ∷ as_read order rest → length lens ≡ 0 → IsView (view_as_read order start shape (all_signed strides)) → view_as_read order start shape (all_signed strides) ≡ row_view start len (signed stride)
+view_of_row order start shape lens strides rest e f none view =
+    let row = rest_of_row order shape lens e none in
+    let split = strides_split order strides rest f in
     let lengths : length (as_read order shape) ≡ 1 = ap length row in
     let alone : all_signed (as_read order rest) ≡ [] = nil_from_length (all_signed (as_read order rest)) (omega (arith, view.valid.same_count, lengths, ap length split)) in
     rw (row, split, alone) refl
 
 -- the walk is whole at the last entry
-pub walk_whole : (order : Order) (start len stride i : ℕ) (shape lens strides rest : List ℕ) → as_read order shape ≡ len ∷ as_read order lens → as_read order strides ≡ stride ∷ as_read order rest → i ≡ len → view_places RowMajor (record { start = start; shape = i ∷ as_read order lens; strides = signed stride ∷ all_signed (as_read order rest) }) ≡ view_places RowMajor (view_as_read order start shape (all_signed strides))
-walk_whole order start len stride i shape lens strides rest e f all =
+pub walk_whole : (order : Order) (start : ℕ) {len stride i : ℕ} (shape lens strides rest : List ℕ) → as_read order shape ≡ len ∷ as_read order lens → as_read order strides ≡ stride ∷ as_read order rest → i ≡ len → view_places RowMajor (record { start = start; shape = i ∷ as_read order lens; strides = signed stride ∷ all_signed (as_read order rest) }) ≡ view_places RowMajor (view_as_read order start shape (all_signed strides))
+walk_whole order start {stride} shape lens strides rest e f all =
     ap (λ n. view_places RowMajor (record { start = start; shape = n ∷ as_read order lens; strides = signed stride ∷ all_signed (as_read order rest) })) all
-    ∙ ap (view_places RowMajor) (sym (view_split order start len stride shape lens strides rest e f))
+    ∙ ap (view_places RowMajor) (sym (view_split order start shape lens strides rest e f))
 
 -- one row more after the rows so far
-pub row_after : (old now new rows inner all : List ℤ) → new ≡ now ++ inner → now ≡ old ++ rows → all ≡ rows ++ inner → new ≡ old ++ all
-row_after old now new rows inner all e f g = e ∙ ap (λ xs. xs ++ inner) f ∙ append_assoc old rows inner ∙ ap (λ xs. old ++ xs) (sym g)
+pub row_after : (old : List ℤ) {now new : List ℤ} (rows inner : List ℤ) {all : List ℤ} → new ≡ now ++ inner → now ≡ old ++ rows → all ≡ rows ++ inner → new ≡ old ++ all
+row_after old rows inner e f g = e ∙ ap (λ xs. xs ++ inner) f ∙ append_assoc old rows inner ∙ ap (λ xs. old ++ xs) (sym g)

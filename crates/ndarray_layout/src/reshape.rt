@@ -50,7 +50,7 @@ pub fn reshape_dim<D: Lengths, E: Lengths>(
     requires to_fits { nonzero_size (E.list to.now) ≤ limit }
     ensures fits { OnOk result
         (reshape_fault order (D.list from.now) (all_signed (D.list strides.now)) (E.list to.now) ≡ None) }
-    ensures refused { IfErr result (λ e. IsRefusedFor
+    ensures fault { IfErr result (λ e. IsRefusedFor
         (reshape_fault order (D.list from.now) (all_signed (D.list strides.now)) (E.list to.now)) e) }
     ensures memory { NeedsNoMemory E.NDIM (length (E.list to.now)) → IfErr result IsOfShape }
     ensures strides { IfOk result (λ others. all_signed (E.list others)

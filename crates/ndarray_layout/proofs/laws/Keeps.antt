@@ -50,12 +50,12 @@ count-places : (order : Order) (shape : List ℕ) (strides : List ℤ) → lengt
 count-places order shape strides = length-map (indices_in order shape) (place 0 strides) ∙ length-indices_in order shape
 
 -- strides that keep the places leave the size
-pub size-of-keeps : (order : Order) (from : List ℕ) (strides : List ℤ) (to : List ℕ) (others : List ℤ) → Keeps order from strides to others → size from ≡ size to
-size-of-keeps order from strides to others k = sym (count-places order from strides) ∙ sym (ap length k.same_places) ∙ count-places order to others
+pub size-of-keeps : {order : Order} {from : List ℕ} {strides : List ℤ} {to : List ℕ} {others : List ℤ} → Keeps order from strides to others → size from ≡ size to
+size-of-keeps {order} {from} {strides} {to} {others} k = sym (count-places order from strides) ∙ sym (ap length k.same_places) ∙ count-places order to others
 
-pub alike-of-keeps : (order : Order) (from : List ℕ) (strides : List ℤ) (to : List ℕ) (others : List ℤ) → length from ≡ length strides → Keeps order from strides to others → PlacesAlike (as_read order from) (as_read order strides) (as_read order to) (as_read order others)
-alike-of-keeps order from strides to others e k r l =
-    let sizes = size-of-keeps order from strides to others k in
+pub alike-of-keeps : {order : Order} {from : List ℕ} {strides : List ℤ} {to : List ℕ} {others : List ℤ} → length from ≡ length strides → Keeps order from strides to others → PlacesAlike (as_read order from) (as_read order strides) (as_read order to) (as_read order others)
+alike-of-keeps {order} {from} {strides} {to} {others} e k r l =
+    let sizes = size-of-keeps k in
     let whole = size-as_read order from in
     sym (offset-as_read order to others r k.same_count)
     ∙ sym (place-at-rank order to others r (omega arith))
@@ -92,9 +92,9 @@ keeps-exactly order from strides to some more e = (λ fits. make fits, λ k. fit
 
     fit : (others : List ℤ) × Keeps order from strides to others → Fits order from strides to
     fit k =
-        let sizes = size-of-keeps order from strides to k.0 k.1 in
+        let sizes = size-of-keeps k.1 in
         let equal : length (as_read order to) ≡ length (as_read order k.0) = length-as_read order to ∙ k.1.same_count ∙ sym (length-as_read order k.0) in
-        (sizes, good-of-alike (as_read order from) (as_read order strides) (as_read order to) (as_read order k.0) from_read to_read counts equal (size-as_read order from ∙ sizes ∙ sym (size-as_read order to)) (alike-of-keeps order from strides to k.0 e k.1))
+        (sizes, good-of-alike (as_read order from) (as_read order strides) (as_read order to) (as_read order k.0) from_read to_read counts equal (size-as_read order from ∙ sizes ∙ sym (size-as_read order to)) (alike-of-keeps e k.1))
 
     make : Fits order from strides to → (others : List ℤ) × Keeps order from strides to others
     make fits =
@@ -105,13 +105,12 @@ keeps-exactly order from strides to some more e = (λ fits. make fits, λ k. fit
 
 -- ---- and then the strides of the definition do
 -- on each axis of more than one entry all strides that keep the places are those of the definition
-pub keeps-forced : (order : Order) (from : List ℕ) (strides : List ℤ) (to : List ℕ) (others : List ℤ) (axis : ℕ) → is_empty to ≡ false → length from ≡ length strides → Keeps order from strides to others →
-    axis < length to → 1 < get_or (as_read order to) axis 0 → get_or (as_read order others) axis (pos 0) ≡ offset_at_rank (as_read order from) (as_read order strides) (size_after (as_read order to) axis)
-keeps-forced order from strides to others axis more e k l long =
-    let sizes = size-of-keeps order from strides to others k in
+pub keeps-forced : {order : Order} {from : List ℕ} {strides : List ℤ} {to : List ℕ} {others : List ℤ} (axis : ℕ) → is_empty to ≡ false → length from ≡ length strides → Keeps order from strides to others → axis < length to → 1 < get_or (as_read order to) axis 0 → get_or (as_read order others) axis (pos 0) ≡ offset_at_rank (as_read order from) (as_read order strides) (size_after (as_read order to) axis)
+keeps-forced {order} {from} {strides} {to} {others} axis more e k l long =
+    let sizes = size-of-keeps k in
     let equal : length (as_read order to) ≡ length (as_read order others) = length-as_read order to ∙ k.same_count ∙ sym (length-as_read order others) in
     let count = length-as_read order to in
-    forced-of-alike (as_read order from) (as_read order strides) (as_read order to) (as_read order others) axis (is_empty-as_read order to ∙ more) (size-as_read order from ∙ sizes ∙ sym (size-as_read order to)) equal (alike-of-keeps order from strides to others e k) (omega arith) long
+    forced-of-alike (as_read order from) (as_read order strides) (as_read order to) (as_read order others) axis (is_empty-as_read order to ∙ more) (size-as_read order from ∙ sizes ∙ sym (size-as_read order to)) equal (alike-of-keeps e k) (omega arith) long
 
 pub forced-keeps : (order : Order) (from : List ℕ) (strides : List ℤ) (to : List ℕ) → is_empty from ≡ false → is_empty to ≡ false → length from ≡ length strides → Fits order from strides to → Keeps order from strides to (forced_strides order from strides to)
 forced-keeps order from strides to some more e fits =
@@ -120,7 +119,7 @@ forced-keeps order from strides to some more e fits =
     let sizes : size (as_read order from) ≡ size (as_read order to) = size-as_read order from ∙ fits.0 ∙ sym (size-as_read order to) in
     let equal : length (as_read order to) ≡ length (as_read order others) = length-as_read order to ∙ kept.1.same_count ∙ sym (length-as_read order others) in
     let at = stride_at (as_read order from) (as_read order strides) (as_read order to) in
-    let made : PlacesAlike (as_read order from) (as_read order strides) (as_read order to) (map at (below (length (as_read order to)))) = alike-forced (as_read order from) (as_read order strides) (as_read order to) (as_read order others) (is_empty-as_read order to ∙ more) sizes equal (alike-of-keeps order from strides to others e kept.1) in
+    let made : PlacesAlike (as_read order from) (as_read order strides) (as_read order to) (map at (below (length (as_read order to)))) = alike-forced (as_read order from) (as_read order strides) (as_read order to) (as_read order others) (is_empty-as_read order to ∙ more) sizes equal (alike-of-keeps e kept.1) in
     let read : map at (below (length (as_read order to))) ≡ as_read order (forced_strides order from strides to) = ap (λ n. map at (below n)) (length-as_read order to) ∙ sym (as_read-as_read order (map at (below (length to)))) in
     let counts : length to ≡ length (forced_strides order from strides to) = sym (length-map-range_with_len at 0 (length to)) ∙ sym (length-as_read order (map at (below (length to)))) in
     keeps-of-alike order from strides to (forced_strides order from strides to) e counts fits.0 (subst (PlacesAlike (as_read order from) (as_read order strides) (as_read order to)) read made)
@@ -188,9 +187,9 @@ agree-as_read ColumnMajor to others strides e g agree axis long =
     sym one ∙ agree back (omega arith) (subst (λ n. 1 < n) (sym (from-back to axis 0 l)) long) ∙ other
 
 -- all strides that do agree with those of the definition on each axis of more than one entry
-pub keeps-agree : (order : Order) (from : List ℕ) (strides : List ℤ) (to : List ℕ) (others : List ℤ) → is_empty from ≡ false → is_empty to ≡ false → length from ≡ length strides → Keeps order from strides to others → AgreeOnLonger to others (forced_strides order from strides to)
-keeps-agree order from strides to others some more e k =
+pub keeps-agree : {order : Order} {from : List ℕ} {strides : List ℤ} {to : List ℕ} {others : List ℤ} → is_empty from ≡ false → is_empty to ≡ false → length from ≡ length strides → Keeps order from strides to others → AgreeOnLonger to others (forced_strides order from strides to)
+keeps-agree {order} {from} {strides} {to} {others} some more e k =
     let forced = forced-keeps order from strides to some more e ((keeps-exactly order from strides to some more e).1 (others, k)) in
     agree-as_read order to others (forced_strides order from strides to) k.same_count forced.same_count (λ axis l long.
-    keeps-forced order from strides to others axis more e k l long
-    ∙ sym (keeps-forced order from strides to (forced_strides order from strides to) axis more e forced l long))
+    keeps-forced axis more e k l long
+    ∙ sym (keeps-forced axis more e forced l long))

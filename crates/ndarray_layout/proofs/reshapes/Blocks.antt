@@ -45,8 +45,8 @@ first-block from strides k e l = record {
 }
 
 -- a longer axis, on whose whole the axes before it step
-pub block-longer : (from : List ℕ) (strides : List ℤ) (start end : ℕ) (step : ℤ) → length from ≡ length strides → end < length from → step ≡ pos (get_or from end 0) *ℤ get_or strides end (pos 0) → IsBlock from strides start end step → IsBlock from strides start (end + 1) (get_or strides end (pos 0))
-block-longer from strides start end step e l whole b =
+pub block-longer : {from : List ℕ} {strides : List ℤ} {start end : ℕ} {step : ℤ} → length from ≡ length strides → end < length from → step ≡ pos (get_or from end 0) *ℤ get_or strides end (pos 0) → IsBlock from strides start end step → IsBlock from strides start (end + 1) (get_or strides end (pos 0))
+block-longer {from} {strides} {start} {end} e l whole b =
     let ahead = b.ahead in
     let len = length-seg start end from (omega arith) (omega arith) in
     let count = length-seg start end strides (omega arith) (omega arith) in
@@ -54,11 +54,11 @@ block-longer from strides start end step e l whole b =
       ahead = omega arith;
       dense = subst (λ xs. IsDense xs (segment start (end + 1) strides) (get_or strides end (pos 0))) (sym (segment-more start end from 0 (omega arith) l))
           (subst (λ ss. IsDense (segment start end from ++ get_or from end 0 ∷ []) ss (get_or strides end (pos 0))) (sym (segment-more start end strides (pos 0) (omega arith) (omega arith)))
-          (dense-push (segment start end from) (segment start end strides) (get_or from end 0) (get_or strides end (pos 0)) step (omega arith) whole b.dense));
+          (dense-push (segment start end from) (segment start end strides) (get_or from end 0) (get_or strides end (pos 0)) (omega arith) whole b.dense));
     }
 
-pub block-one : (from : List ℕ) (strides : List ℤ) (start end : ℕ) (step : ℤ) → length from ≡ length strides → end < length from → get_or from end 0 ≡ 1 → IsBlock from strides start end step → IsBlock from strides start (end + 1) step
-block-one from strides start end step e l one b =
+pub block-one : {from : List ℕ} {strides : List ℤ} {start end : ℕ} {step : ℤ} → length from ≡ length strides → end < length from → get_or from end 0 ≡ 1 → IsBlock from strides start end step → IsBlock from strides start (end + 1) step
+block-one {from} {strides} {start} {end} {step} e l one b =
     let ahead = b.ahead in
     let len = length-seg start end from (omega arith) (omega arith) in
     let count = length-seg start end strides (omega arith) (omega arith) in
@@ -66,15 +66,15 @@ block-one from strides start end step e l one b =
       ahead = omega arith;
       dense = subst (λ xs. IsDense xs (segment start (end + 1) strides) step) (sym (segment-more start end from 0 (omega arith) l))
           (subst (λ ss. IsDense (segment start end from ++ get_or from end 0 ∷ []) ss step) (sym (segment-more start end strides (pos 0) (omega arith) (omega arith)))
-          (dense-push-one (segment start end from) (segment start end strides) (get_or from end 0) (get_or strides end (pos 0)) step (omega arith) one b.dense));
+          (dense-push-one (segment start end from) (segment start end strides) (get_or strides end (pos 0)) step (omega arith) one b.dense));
     }
 
 -- ---- between products
-pub longer-first : (from : List ℕ) (strides : List ℤ) (k : ℕ) → 1 < get_or from k 0 → LastLonger from strides (k + 1) (get_or strides k (pos 0))
-longer-first from strides k long = record { axis = k; before = omega arith; long = long; stride_is = refl; ones = λ i h f. absurd (omega arith) }
+pub longer-first : {from : List ℕ} {strides : List ℤ} (k : ℕ) → 1 < get_or from k 0 → LastLonger from strides (k + 1) (get_or strides k (pos 0))
+longer-first k long = record { axis = k; before = omega arith; long = long; stride_is = refl; ones = λ i h f. absurd (omega arith) }
 
-pub longer-one : (from : List ℕ) (strides : List ℤ) (end : ℕ) (step : ℤ) → get_or from end 0 ≡ 1 → LastLonger from strides end step → LastLonger from strides (end + 1) step
-longer-one from strides end step one last =
+pub longer-one : {from : List ℕ} {strides : List ℤ} {end : ℕ} {step : ℤ} → get_or from end 0 ≡ 1 → LastLonger from strides end step → LastLonger from strides (end + 1) step
+longer-one {from} {end} one last =
     let before = last.before in
     record {
       axis = last.axis;
@@ -97,19 +97,19 @@ grows lens k h l long =
     let more : size (take k lens) * 2 ≤ size (take k lens) * get_or lens k 0 = mul-le-mul_left (size (take k lens)) long in
     omega arith
 
-pub between-first : (from : List ℕ) (strides : List ℤ) (to : List ℕ) (i k : ℕ) → is_empty from ≡ false → is_empty to ≡ false → i < length from → k < length to → size (take i from) ≡ size (take k to) → 1 < get_or from i 0 → 1 < get_or to k 0 → IsBetween from strides to (i + 1) (k + 1) (get_or strides i (pos 0))
-between-first from strides to i k h g l f e long more =
+pub between-first : {from : List ℕ} {strides : List ℤ} {to : List ℕ} (i k : ℕ) → is_empty from ≡ false → is_empty to ≡ false → i < length from → k < length to → size (take i from) ≡ size (take k to) → 1 < get_or from i 0 → 1 < get_or to k 0 → IsBetween from strides to (i + 1) (k + 1) (get_or strides i (pos 0))
+between-first {from} {to} i k h g l f e long more =
     let from_grows = grows from i h l long in
     let to_grows = grows to k g f more in
     record {
-      last = longer-first from strides i long;
+      last = longer-first i long;
       from_products = λ n b. inl (let less = take-mono from n i h (omega arith) in omega arith);
       to_products = λ n b. inl (let less = take-mono to n k g (omega arith) in omega arith);
     }
 
 -- the new shape takes its next axis
-pub between-to : (from : List ℕ) (strides : List ℤ) (to : List ℕ) (i k : ℕ) (step : ℤ) → is_empty to ≡ false → k < length to → size (take k to) < size (take i from) → IsBetween from strides to i k step → IsBetween from strides to i (k + 1) step
-between-to from strides to i k step g f less b =
+pub between-to : {from : List ℕ} {strides : List ℤ} {to : List ℕ} {i k : ℕ} {step : ℤ} → is_empty to ≡ false → k < length to → size (take k to) < size (take i from) → IsBetween from strides to i k step → IsBetween from strides to i (k + 1) step
+between-to {to} {k} g f less b =
     let more = product-next to k g f in
     record {
       last = b.last;
@@ -121,8 +121,8 @@ between-to from strides to i k step g f less b =
     }
 
 -- the old shape takes its next axis
-pub between-from : (from : List ℕ) (strides : List ℤ) (to : List ℕ) (i k : ℕ) (step next : ℤ) → is_empty from ≡ false → i < length from → size (take i from) < size (take k to) → LastLonger from strides (i + 1) next → IsBetween from strides to i k step → IsBetween from strides to (i + 1) k next
-between-from from strides to i k step next g f less last b =
+pub between-from : {from : List ℕ} {strides : List ℤ} {to : List ℕ} {i k : ℕ} {step next : ℤ} → is_empty from ≡ false → i < length from → size (take i from) < size (take k to) → LastLonger from strides (i + 1) next → IsBetween from strides to i k step → IsBetween from strides to (i + 1) k next
+between-from {from} {i} g f less last b =
     let more = product-next from i g f in
     record {
       last = last;
@@ -134,6 +134,6 @@ between-from from strides to i k step next g f less last b =
     }
 
 -- the product of the old axes is none of the new shape where the new one has more
-pub between-none : (from : List ℕ) (strides : List ℤ) (to : List ℕ) (i k : ℕ) (step : ℤ) → is_empty to ≡ false → size (take i from) < size (take k to) → IsBetween from strides to i k step → Member (cumulative_products to) (size (take i from)) → ⊥
-between-none from strides to i k step g less b m =
+pub between-none : {from : List ℕ} {strides : List ℤ} {to : List ℕ} {i k : ℕ} {step : ℤ} → is_empty to ≡ false → size (take i from) < size (take k to) → IsBetween from strides to i k step → Member (cumulative_products to) (size (take i from)) → ⊥
+between-none {from} {to} {i} {k} g less b m =
     no-product to k (size (take i from)) g (λ n h e. elim (b.to_products n h) [ inl below ↦ omega arith | inr same ↦ omega arith ]) less m

@@ -32,9 +32,9 @@ loose-more (axis ∷ axes) p h (inr l) =
     omega arith
 
 -- so the joint at it lies within the shape
-joint-below : (j p n : ℕ) → 1 < p → 0 < n → j * p ≡ n → j < n
-joint-below zero p n h g e = g
-joint-below (suc j) p n h g e =
+joint-below : (j p : ℕ) {n : ℕ} → 1 < p → 0 < n → j * p ≡ n → j < n
+joint-below zero p h g e = g
+joint-below (suc j) p h g e =
     let more : suc j * 2 ≤ suc j * p = mul-le-mul_left (suc j) h in
     omega arith
 
@@ -95,7 +95,7 @@ tails-of-good from strides to some more same sizes good p l =
     let found = joint-of-tail rows p l in
     let j = found.0 in
     let whole : j * p ≡ size to = found.1 ∙ count-long_axes from strides some same ∙ sizes in
-    let inside = joint-below j p (size to) (loose-more (reverse rows) p (long-reverse rows (long-long_axes from strides)) l) (size_of_nonempty to more) whole in
+    let inside = joint-below j p (loose-more (reverse rows) p (long-reverse rows (long-long_axes from strides)) l) (size_of_nonempty to more) whole in
     let member : Member (loose_joints from strides) j = subst (λ js. Member js j) (sym (joints-of-long from strides some)) found.2 in
     tail-of-product to j p more (product-of-good to j inside (bad-of from strides to j member good)) whole
 
@@ -139,14 +139,14 @@ pub record StridesOf (lens : List ℕ) (axes : Axes) : Type 0 where
   pub same_count : length lens ≡ length strides
   pub longer : long_axes lens strides ≡ axes
 
-strides-left : (len : ℕ) (lens : List ℕ) (axes : Axes) → nat_lt 1 len ≡ false → StridesOf lens axes → StridesOf (len ∷ lens) axes
-strides-left len lens axes short rest =
+strides-left : {len : ℕ} {lens : List ℕ} {axes : Axes} → nat_lt 1 len ≡ false → StridesOf lens axes → StridesOf (len ∷ lens) axes
+strides-left {len} {lens} short rest =
     let count = rest.same_count in
     record { strides = pos 0 ∷ rest.strides; same_count = omega arith; longer = long-left len lens (pos 0) rest.strides short ∙ rest.longer }
 
-strides-kept : (len : ℕ) (lens : List ℕ) → ((axes : Axes) → lens_of axes ≡ long_lens lens → StridesOf lens axes) → nat_lt 1 len ≡ true → (axes : Axes) → lens_of axes ≡ len ∷ long_lens lens → StridesOf (len ∷ lens) axes
-strides-kept len lens rest long [] e = absurd (cc)
-strides-kept len lens rest long (axis ∷ axes) e =
+strides-kept : {len : ℕ} {lens : List ℕ} → ((axes : Axes) → lens_of axes ≡ long_lens lens → StridesOf lens axes) → nat_lt 1 len ≡ true → (axes : Axes) → lens_of axes ≡ len ∷ long_lens lens → StridesOf (len ∷ lens) axes
+strides-kept rest long [] e = absurd (cc)
+strides-kept {len} {lens} rest long (axis ∷ axes) e =
     let head : axis.0 ≡ len = cc in
     let tail : lens_of axes ≡ long_lens lens = cc in
     let others = rest axes tail in
@@ -158,8 +158,8 @@ strides-of [] [] e = record { strides = []; same_count = refl; longer = refl }
 strides-of [] (axis ∷ axes) e = absurd (cc)
 strides-of (len ∷ lens) axes e =
     elim (cases_Bool (nat_lt 1 len)) [
-      | inl long ↦ strides-kept len lens (λ xs h. strides-of lens xs h) long axes (e ∙ cond-true (nat_lt 1 len) (len ∷ long_lens lens) (long_lens lens) long)
-      | inr short ↦ strides-left len lens axes short (strides-of lens axes (e ∙ cond-false (nat_lt 1 len) (len ∷ long_lens lens) (long_lens lens) short))
+      | inl long ↦ strides-kept (λ xs h. strides-of lens xs h) long axes (e ∙ cond-true (nat_lt 1 len) (len ∷ long_lens lens) (long_lens lens) long)
+      | inr short ↦ strides-left short (strides-of lens axes (e ∙ cond-false (nat_lt 1 len) (len ∷ long_lens lens) (long_lens lens) short))
     ]
 
 -- axes of the longer lengths that are alike give strides that are

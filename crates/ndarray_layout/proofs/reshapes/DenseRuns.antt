@@ -38,22 +38,22 @@ run-of-dense (len ∷ lens) (stride ∷ strides) step r h d l =
     ]
 
 -- one more axis at the end
-pub dense-push : (lens : List ℕ) (strides : List ℤ) (len : ℕ) (stride step : ℤ) → length lens ≡ length strides → step ≡ pos len *ℤ stride → IsDense lens strides step → IsDense (lens ++ len ∷ []) (strides ++ stride ∷ []) stride
-dense-push [] [] len stride step e s d = (λ long. omega (arith, ints), tt)
-dense-push [] (other ∷ strides) len stride step e s d = absurd (omega arith)
-dense-push (first ∷ lens) [] len stride step e s d = absurd (omega arith)
-dense-push (first ∷ lens) (other ∷ strides) len stride step e s d = (
+pub dense-push : (lens : List ℕ) (strides : List ℤ) (len : ℕ) (stride : ℤ) {step : ℤ} → length lens ≡ length strides → step ≡ pos len *ℤ stride → IsDense lens strides step → IsDense (lens ++ len ∷ []) (strides ++ stride ∷ []) stride
+dense-push [] [] len stride e s d = (λ long. omega (arith, ints), tt)
+dense-push [] (other ∷ strides) len stride e s d = absurd (omega arith)
+dense-push (first ∷ lens) [] len stride e s d = absurd (omega arith)
+dense-push (first ∷ lens) (other ∷ strides) len stride e s d = (
   λ long. d.0 long ∙ ap (λ z. pos (size lens) *ℤ z) s ∙ times_times (size lens) len stride ∙ ap (λ n. pos n *ℤ stride) (mul_comm (size lens) len ∙ sym (size-push lens len)),
-  dense-push lens strides len stride step (omega arith) s d.1,
+  dense-push lens strides len stride (omega arith) s d.1,
 )
 
-pub dense-push-one : (lens : List ℕ) (strides : List ℤ) (len : ℕ) (stride step : ℤ) → length lens ≡ length strides → len ≡ 1 → IsDense lens strides step → IsDense (lens ++ len ∷ []) (strides ++ stride ∷ []) step
-dense-push-one [] [] len stride step e s d = (λ long. absurd (omega arith), tt)
-dense-push-one [] (other ∷ strides) len stride step e s d = absurd (omega arith)
-dense-push-one (first ∷ lens) [] len stride step e s d = absurd (omega arith)
-dense-push-one (first ∷ lens) (other ∷ strides) len stride step e s d =
+pub dense-push-one : (lens : List ℕ) (strides : List ℤ) {len : ℕ} (stride step : ℤ) → length lens ≡ length strides → len ≡ 1 → IsDense lens strides step → IsDense (lens ++ len ∷ []) (strides ++ stride ∷ []) step
+dense-push-one [] [] stride step e s d = (λ long. absurd (omega arith), tt)
+dense-push-one [] (other ∷ strides) stride step e s d = absurd (omega arith)
+dense-push-one (first ∷ lens) [] stride step e s d = absurd (omega arith)
+dense-push-one (first ∷ lens) (other ∷ strides) {len} stride step e s d =
     let same : size (lens ++ len ∷ []) ≡ size lens = size-push lens len ∙ ap (λ n. n * size lens) s ∙ one-mul (size lens) in
-    (λ long. d.0 long ∙ ap (λ n. pos n *ℤ step) (sym same), dense-push-one lens strides len stride step (omega arith) s d.1)
+    (λ long. d.0 long ∙ ap (λ n. pos n *ℤ step) (sym same), dense-push-one lens strides stride step (omega arith) s d.1)
 
 -- strides that are the products of the later lengths times a step
 pub dense-of-products : (lens : List ℕ) (strides : List ℤ) (step : ℤ) → length lens ≡ length strides → ((k : ℕ) → k < length lens → get_or strides k (pos 0) ≡ pos (size (drop (k + 1) lens)) *ℤ step) → IsDense lens strides step

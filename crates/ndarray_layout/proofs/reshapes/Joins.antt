@@ -83,8 +83,8 @@ joints (axis ∷ axes) = (if is_loose axis.1 (head_of axes) then axis.0 ∷ [] e
 pub is_empty-rest : (len : ℕ) (lens : List ℕ) → is_empty (len ∷ lens) ≡ false → is_empty lens ≡ false
 is_empty-rest len lens h = (or_parts (len == 0) (is_empty lens) h).1
 
-pub one-of-short : (len : ℕ) (lens : List ℕ) → is_empty (len ∷ lens) ≡ false → nat_lt 1 len ≡ false → len ≡ 1
-one-of-short len lens h short =
+pub one-of-short : {len : ℕ} (lens : List ℕ) → is_empty (len ∷ lens) ≡ false → nat_lt 1 len ≡ false → len ≡ 1
+one-of-short {len} lens h short =
     let some : len ≢ 0 = eqb-false len 0 (or_parts (len == 0) (is_empty lens) h).0 in
     let few = ltb-false 1 len short in
     omega arith
@@ -94,8 +94,8 @@ times-one [] = refl
 times-one (x ∷ xs) = ap₂ (λ y ys. y ∷ ys) (one-mul x) (times-one xs)
 
 -- an axis of one entry in front makes no joint
-joints-short : (len : ℕ) (stride : ℤ) (lens : List ℕ) (strides : List ℤ) → len ≡ 1 → loose_joints (len ∷ lens) (stride ∷ strides) ≡ loose_joints lens strides
-joints-short len stride lens strides one =
+joints-short : {len : ℕ} (stride : ℤ) (lens : List ℕ) (strides : List ℤ) → len ≡ 1 → loose_joints (len ∷ lens) (stride ∷ strides) ≡ loose_joints lens strides
+joints-short {len} stride lens strides one =
     let few : nat_lt 1 len ≡ false = ap (nat_lt 1) one in
     let test : (nat_lt 1 len && is_loose stride (first_longer lens strides)) ≡ false = ap (λ b. b && is_loose stride (first_longer lens strides)) few in
     let none : List ℕ = [] in
@@ -116,7 +116,7 @@ joints-of-long (len ∷ lens) (stride ∷ strides) h =
     let rest = joints-of-long lens strides (is_empty-rest len lens h) in
     elim (cases_Bool (nat_lt 1 len)) [
       | inl long ↦ joints-long len stride lens strides long rest ∙ sym (ap joints (cond-true (nat_lt 1 len) ((len, stride) ∷ long_axes lens strides) (long_axes lens strides) long))
-      | inr short ↦ joints-short len stride lens strides (one-of-short len lens h short) ∙ rest ∙ sym (ap joints (cond-false (nat_lt 1 len) ((len, stride) ∷ long_axes lens strides) (long_axes lens strides) short))
+      | inr short ↦ joints-short stride lens strides (one-of-short lens h short) ∙ rest ∙ sym (ap joints (cond-false (nat_lt 1 len) ((len, stride) ∷ long_axes lens strides) (long_axes lens strides) short))
     ]
 
 -- ---- a break is a loose joint

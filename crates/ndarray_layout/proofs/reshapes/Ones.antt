@@ -22,20 +22,20 @@ use Rattle.ndarray_layout.proofs.reshapes.Reached.{member-product, product-membe
 abbrev hits : (ℕ → Bool) → ℕ → ℕ → ℕ
 hits p s n = length (filter p (range_with_len s n))
 
-filter-yes : (p : ℕ → Bool) (x : ℕ) (xs : List ℕ) → p x ≡ true → filter p (x ∷ xs) ≡ x ∷ filter p xs
-filter-yes p x xs e = cond-true (p x) (x ∷ filter p xs) (filter p xs) e
+filter-yes : (p : ℕ → Bool) {x : ℕ} (xs : List ℕ) → p x ≡ true → filter p (x ∷ xs) ≡ x ∷ filter p xs
+filter-yes p {x} xs e = cond-true (p x) (x ∷ filter p xs) (filter p xs) e
 
 filter-no : (p : ℕ → Bool) (x : ℕ) (xs : List ℕ) → p x ≡ false → filter p (x ∷ xs) ≡ filter p xs
 filter-no p x xs e = cond-false (p x) (x ∷ filter p xs) (filter p xs) e
 
 hits-more : (p : ℕ → Bool) (s n i : ℕ) → s + n ≡ i → p i ≡ true → hits p s (suc n) ≡ suc (hits p s n)
-hits-more p s zero i e h = let same : s ≡ i = omega arith in ap length (filter-yes p s [] (ap p same ∙ h))
+hits-more p s zero i e h = let same : s ≡ i = omega arith in ap length (filter-yes p [] (ap p same ∙ h))
 hits-more p s (suc n) i e h =
     elim (cases_Bool (p s)) [
       | inl hit ↦
-          ap length (filter-yes p s (range_with_len (s + 1) (suc n)) hit)
+          ap length (filter-yes p (range_with_len (s + 1) (suc n)) hit)
           ∙ ap suc (hits-more p (s + 1) n i (omega arith) h)
-          ∙ sym (ap (λ xs. suc (length xs)) (filter-yes p s (range_with_len (s + 1) n) hit))
+          ∙ sym (ap (λ xs. suc (length xs)) (filter-yes p (range_with_len (s + 1) n) hit))
       | inr miss ↦
           ap length (filter-no p s (range_with_len (s + 1) (suc n)) miss)
           ∙ hits-more p (s + 1) n i (omega arith) h
@@ -47,9 +47,9 @@ hits-same p s zero i e h = let same : s ≡ i = omega arith in ap length (filter
 hits-same p s (suc n) i e h =
     elim (cases_Bool (p s)) [
       | inl hit ↦
-          ap length (filter-yes p s (range_with_len (s + 1) (suc n)) hit)
+          ap length (filter-yes p (range_with_len (s + 1) (suc n)) hit)
           ∙ ap suc (hits-same p (s + 1) n i (omega arith) h)
-          ∙ sym (ap length (filter-yes p s (range_with_len (s + 1) n) hit))
+          ∙ sym (ap length (filter-yes p (range_with_len (s + 1) n) hit))
       | inr miss ↦
           ap length (filter-no p s (range_with_len (s + 1) (suc n)) miss)
           ∙ hits-same p (s + 1) n i (omega arith) h
@@ -68,11 +68,11 @@ hit-read : (p : ℕ → Bool) (f : ℕ → ℤ) (s m n i : ℕ) (d : ℤ) → s 
 hit-read p f s m zero i d e l h = absurd (omega arith)
 hit-read p f s zero (suc n) i d e l h =
     let same : s ≡ i = omega arith in
-    ap (λ xs. get_or (map f xs) 0 d) (filter-yes p s (range_with_len (s + 1) n) (ap p same ∙ h)) ∙ ap f same
+    ap (λ xs. get_or (map f xs) 0 d) (filter-yes p (range_with_len (s + 1) n) (ap p same ∙ h)) ∙ ap f same
 hit-read p f s (suc m) (suc n) i d e l h =
     elim (cases_Bool (p s)) [
       | inl hit ↦
-          ap₂ (λ xs k. get_or (map f xs) k d) (filter-yes p s (range_with_len (s + 1) n) hit) (ap length (filter-yes p s (range_with_len (s + 1) m) hit))
+          ap₂ (λ xs k. get_or (map f xs) k d) (filter-yes p (range_with_len (s + 1) n) hit) (ap length (filter-yes p (range_with_len (s + 1) m) hit))
           ∙ hit-read p f (s + 1) m n i d (omega arith) (omega arith) h
       | inr miss ↦
           ap₂ (λ xs k. get_or (map f xs) k d) (filter-no p s (range_with_len (s + 1) n) miss) (ap length (filter-no p s (range_with_len (s + 1) m) miss))
@@ -80,8 +80,8 @@ hit-read p f s (suc m) (suc n) i d e l h =
     ]
 
 -- ---- axes of one entry at a product
-one-at : (lens : List ℕ) (product axis : ℕ) → get_or lens axis 0 ≡ 1 → size (take axis lens) ≡ product → is_one_at lens product axis ≡ true
-one-at lens product axis e f = and_from (get_or lens axis 0 == 1) (size (take axis lens) == product) (eq-eqb (get_or lens axis 0) 1 e) (eq-eqb (size (take axis lens)) product f)
+one-at : (lens : List ℕ) {product : ℕ} (axis : ℕ) → get_or lens axis 0 ≡ 1 → size (take axis lens) ≡ product → is_one_at lens product axis ≡ true
+one-at lens {product} axis e f = and_from (get_or lens axis 0 == 1) (size (take axis lens) == product) (eq-eqb (get_or lens axis 0) 1 e) (eq-eqb (size (take axis lens)) product f)
 
 none-at : (lens : List ℕ) (product axis : ℕ) → (get_or lens axis 0 ≡ 1 → size (take axis lens) ≡ product → ⊥) → is_one_at lens product axis ≡ false
 none-at lens product axis h =
@@ -95,7 +95,7 @@ none-at lens product axis h =
 ones-next : (lens : List ℕ) (product axis : ℕ) → get_or lens axis 0 ≡ 1 → size (take axis lens) ≡ product → ones_before lens product (axis + 1) ≡ ones_before lens product axis + 1
 ones-next lens product axis e f =
     ap (ones_before lens product) (add-one axis)
-    ∙ hits-more (is_one_at lens product) 0 axis axis (omega arith) (one-at lens product axis e f)
+    ∙ hits-more (is_one_at lens product) 0 axis axis (omega arith) (one-at lens axis e f)
     ∙ sym (add-one (ones_before lens product axis))
 
 ones-none : (lens : List ℕ) (n last product : ℕ) → is_empty lens ≡ false → n ≤ last + 1 → size (take last lens) < product → ones_before lens product n ≡ 0
@@ -114,7 +114,7 @@ grows lens k h l other =
 
 -- the stride at a number among those of a product
 nth-one : (lens : List ℕ) (strides : List ℤ) (product axis : ℕ) → axis < length lens → get_or lens axis 0 ≡ 1 → size (take axis lens) ≡ product → get_or (strides_of_ones lens strides product) (ones_before lens product axis) (pos 1) ≡ get_or strides axis (pos 0)
-nth-one lens strides product axis l e f = hit-read (is_one_at lens product) (λ a. slice_index_or strides a (pos 0)) 0 axis (length lens) axis (pos 1) (omega arith) l (one-at lens product axis e f)
+nth-one lens strides product axis l e f = hit-read (is_one_at lens product) (λ a. slice_index_or strides a (pos 0)) 0 axis (length lens) axis (pos 1) (omega arith) l (one-at lens axis e f)
 
 -- and where there are no more
 past-ones : (lens : List ℕ) (strides : List ℤ) (axis n : ℕ) → is_empty lens ≡ false → axis ≤ length lens → get_or lens axis 0 ≢ 1 → ones_before lens (size (take axis lens)) axis ≤ n → get_or (strides_of_ones lens strides (size (take axis lens))) n (pos 1) ≡ pos 1
@@ -138,8 +138,8 @@ at-product from strides to i k before l e =
     let holds : test ≡ true = any-of-member (λ product. product == size (take k to)) (cumulative_products from) (size (take i from)) (member-product from i l) (eq-eqb (size (take i from)) (size (take k to)) e) in
     cond-true test (get_or (strides_of_ones from strides (size (take k to))) (ones_before to (size (take k to)) k) (pos 1)) before holds
 
-off-product : (from : List ℕ) (strides : List ℤ) (to : List ℕ) (k : ℕ) (before : ℤ) → ((m : ℕ) → m ≤ length from → size (take m from) ≡ size (take k to) → ⊥) → stride_of_one from strides to k before ≡ before
-off-product from strides to k before none =
+off-product : (from : List ℕ) (strides : List ℤ) (to : List ℕ) (k : ℕ) {before : ℤ} → ((m : ℕ) → m ≤ length from → size (take m from) ≡ size (take k to) → ⊥) → stride_of_one from strides to k before ≡ before
+off-product from strides to k {before} none =
     let test = list_any (λ product. product == size (take k to)) (cumulative_products from) in
     elim (cases_Bool test) [
       | inl found ↦
@@ -157,19 +157,19 @@ previous-kept : (out news : List ℤ) (k j : ℕ) → j ≤ k → Kept out news 
 previous-kept out news k zero l kept = refl
 previous-kept out news k (suc j) l kept = kept j (omega arith)
 
-pub written-kept : (from : List ℕ) (strides : List ℤ) (to : List ℕ) (out news : List ℤ) (i k : ℕ) → Kept out news k → OnesAlike from strides to out i k → (j : ℕ) → j < k → get_or to j 0 ≡ 1 → get_or news j (pos 0) ≡ stride_of_one from strides to j (previous news j)
-written-kept from strides to out news i k kept ones j l one = kept j l ∙ ones.written j l one ∙ ap (stride_of_one from strides to j) (sym (previous-kept out news k j (omega arith) kept))
+pub written-kept : {from : List ℕ} {strides : List ℤ} {to : List ℕ} {out : List ℤ} (news : List ℤ) {i k : ℕ} → Kept out news k → OnesAlike from strides to out i k → (j : ℕ) → j < k → get_or to j 0 ≡ 1 → get_or news j (pos 0) ≡ stride_of_one from strides to j (previous news j)
+written-kept {from} {strides} {to} {out} news {k} kept ones j l one = kept j l ∙ ones.written j l one ∙ ap (stride_of_one from strides to j) (sym (previous-kept out news k j (omega arith) kept))
 
 -- ---- the walk's steps
-pub ones-first : (from : List ℕ) (strides : List ℤ) (to : List ℕ) (news : List ℤ) → OnesAlike from strides to news 0 0
-ones-first from strides to news = record {
+pub ones-first : {from : List ℕ} {strides : List ℤ} {to : List ℕ} {news : List ℤ} → OnesAlike from strides to news 0 0
+ones-first = record {
   written = λ j l one. absurd (omega arith);
   from_first = λ e. omega arith;
   to_first = λ e. omega arith;
 }
 
-pub ones-from : (from : List ℕ) (strides : List ℤ) (to : List ℕ) (news : List ℤ) (i k : ℕ) → i < length from → get_or from i 0 ≡ 1 → get_or to k 0 ≢ 1 → OnesAlike from strides to news i k → OnesAlike from strides to news (i + 1) k
-ones-from from strides to news i k l one other ones =
+pub ones-from : {from : List ℕ} {strides : List ℤ} {to : List ℕ} {news : List ℤ} {i k : ℕ} → i < length from → get_or from i 0 ≡ 1 → get_or to k 0 ≢ 1 → OnesAlike from strides to news i k → OnesAlike from strides to news (i + 1) k
+ones-from {from} {i} l one other ones =
     let few = ones.from_first one in
     let same = stays from i l one in
     let more : ones_before from (size (take (i + 1) from)) (i + 1) ≡ ones_before from (size (take i from)) i + 1 = ap (λ n. ones_before from n (i + 1)) same ∙ ones-next from (size (take i from)) i one refl in
@@ -179,9 +179,8 @@ ones-from from strides to news i k l one other ones =
       to_first = λ e. absurd (other e);
     }
 
-pub ones-to : (from : List ℕ) (strides : List ℤ) (to : List ℕ) (out news : List ℤ) (i k : ℕ) → is_empty from ≡ false → i ≤ length from → k < length to → size (take i from) ≡ size (take k to) → get_or from i 0 ≢ 1 → get_or to k 0 ≡ 1 → Kept out news k → get_or news k (pos 0) ≡ pos 1 →
-    OnesAlike from strides to out i k → OnesAlike from strides to news i (k + 1)
-ones-to from strides to out news i k h l g e other one kept here ones =
+pub ones-to : {from : List ℕ} {strides : List ℤ} {to : List ℕ} {out news : List ℤ} {i k : ℕ} → is_empty from ≡ false → i ≤ length from → k < length to → size (take i from) ≡ size (take k to) → get_or from i 0 ≢ 1 → get_or to k 0 ≡ 1 → Kept out news k → get_or news k (pos 0) ≡ pos 1 → OnesAlike from strides to out i k → OnesAlike from strides to news i (k + 1)
+ones-to {from} {strides} {to} {news} {i} {k} h l g e other one kept here ones =
     let few = ones.to_first one in
     let same = stays to k g one in
     let more : ones_before to (size (take (k + 1) to)) (k + 1) ≡ ones_before to (size (take k to)) k + 1 = ap (λ n. ones_before to n (k + 1)) same ∙ ones-next to (size (take k to)) k one refl in
@@ -191,15 +190,14 @@ ones-to from strides to out news i k h l g e other one kept here ones =
     record {
       written = λ j under entry. elim (cases_eq j k) [
         | inl last ↦ ap (λ n. get_or news n (pos 0)) last ∙ here ∙ sym read ∙ sym (ap (λ n. stride_of_one from strides to n (previous news n)) last)
-        | inr before ↦ written-kept from strides to out news i k kept ones j (omega arith) entry
+        | inr before ↦ written-kept news kept ones j (omega arith) entry
       ];
       from_first = λ entry. absurd (other entry);
       to_first = λ entry. omega arith;
     }
 
-pub ones-both : (from : List ℕ) (strides : List ℤ) (to : List ℕ) (out news : List ℤ) (i k : ℕ) → is_empty from ≡ false → is_empty to ≡ false → i < length from → k < length to → size (take i from) ≡ size (take k to) → get_or from i 0 ≡ get_or to k 0 → Kept out news k →
-    get_or news k (pos 0) ≡ get_or strides i (pos 0) → OnesAlike from strides to out i k → OnesAlike from strides to news (i + 1) (k + 1)
-ones-both from strides to out news i k h f l g e lens kept here ones =
+pub ones-both : {from : List ℕ} {strides : List ℤ} {to : List ℕ} {out news : List ℤ} {i k : ℕ} → is_empty from ≡ false → is_empty to ≡ false → i < length from → k < length to → size (take i from) ≡ size (take k to) → get_or from i 0 ≡ get_or to k 0 → Kept out news k → get_or news k (pos 0) ≡ get_or strides i (pos 0) → OnesAlike from strides to out i k → OnesAlike from strides to news (i + 1) (k + 1)
+ones-both {from} {strides} {to} {news} {i} {k} h f l g e lens kept here ones =
     let product = size (take k to) in
     let from_next = size_take_more from i l in
     let to_next = size_take_more to k g in
@@ -217,7 +215,7 @@ ones-both from strides to out news i k h f l g e lens kept here ones =
           record {
             written = λ j under entry. elim (cases_eq j k) [
               | inl last ↦ ap (λ n. get_or news n (pos 0)) last ∙ here ∙ sym read ∙ sym (ap (λ n. stride_of_one from strides to n (previous news n)) last)
-              | inr before ↦ written-kept from strides to out news i k kept ones j (omega arith) entry
+              | inr before ↦ written-kept news kept ones j (omega arith) entry
             ];
             from_first = λ entry. omega arith;
             to_first = λ entry. omega arith;
@@ -229,7 +227,7 @@ ones-both from strides to out news i k h f l g e lens kept here ones =
           record {
             written = λ j under entry. elim (cases_eq j k) [
               | inl last ↦ absurd (other (sym (ap (λ n. get_or to n 0) last) ∙ entry))
-              | inr before ↦ written-kept from strides to out news i k kept ones j (omega arith) entry
+              | inr before ↦ written-kept news kept ones j (omega arith) entry
             ];
             from_first = λ entry. omega arith;
             to_first = λ entry. omega arith;
@@ -248,16 +246,15 @@ block-before to news k k_end j step l above under one written =
     ∙ ap (λ n. pos n *ℤ step) (sym same ∙ ap (λ n. size (drop n part)) (sym (add-one j)))
     ∙ sym (written j above (omega arith))
 
-pub ones-block : (from : List ℕ) (strides : List ℤ) (to : List ℕ) (out news : List ℤ) (i i_end k k_end : ℕ) (step : ℤ) → is_empty from ≡ false → is_empty to ≡ false → k < k_end → k_end ≤ length to → size (take i_end from) ≡ size (take k_end to) → 1 < get_or to k 0 → IsInside from to k i_end k_end → Kept out news k →
-    ((a : ℕ) → k ≤ a → a < k_end → get_or news a (pos 0) ≡ pos (size (drop (a + 1) (take k_end to))) *ℤ step) → OnesAlike from strides to out i k → OnesAlike from strides to news i_end k_end
-ones-block from strides to out news i i_end k k_end step h f ahead within e longer inside kept written ones =
+pub ones-block : {from : List ℕ} {strides : List ℤ} {to : List ℕ} {out news : List ℤ} {i i_end k k_end : ℕ} (step : ℤ) → is_empty from ≡ false → is_empty to ≡ false → k < k_end → k_end ≤ length to → size (take i_end from) ≡ size (take k_end to) → 1 < get_or to k 0 → IsInside from to k i_end k_end → Kept out news k → ((a : ℕ) → k ≤ a → a < k_end → get_or news a (pos 0) ≡ pos (size (drop (a + 1) (take k_end to))) *ℤ step) → OnesAlike from strides to out i k → OnesAlike from strides to news i_end k_end
+ones-block {from} {strides} {to} {news} {i_end} {k} {k_end} step h f ahead within e longer inside kept written ones =
     let from_below = inside.from_below in
     let to_below = inside.to_below in
     let from_none = ones-none from i_end (i_end - 1) (size (take i_end from)) h (omega arith) (omega arith) in
     let to_none = ones-none to k_end (k_end - 1) (size (take k_end to)) f (omega arith) (omega arith) in
     record {
       written = λ j under entry. elim (cases_lt j k) [
-        | inl before ↦ written-kept from strides to out news i k kept ones j before entry
+        | inl before ↦ written-kept news kept ones j before entry
         | inr above ↦ at_one j above under entry
       ];
       from_first = λ entry. omega arith;
@@ -274,12 +271,12 @@ ones-block from strides to out news i i_end k k_end step h f ahead within e long
           | inl first ↦ let same = ap (λ n. get_or to n 0) first in absurd (omega arith)
           | inr later ↦
               block-before to news k k_end j step within (omega arith) under entry written
-              ∙ sym (off-product from strides to (suc j) (get_or news j (pos 0)) (inside.apart (suc j) (omega arith) under))
+              ∙ sym (off-product from strides to (suc j) (inside.apart (suc j) (omega arith) under))
         ]
 
 -- ---- the whole walk
-pub strides-forced : (from : List ℕ) (strides : List ℤ) (to : List ℕ) (news : List ℤ) (i k : ℕ) → is_empty to ≡ false → size from ≡ size to → length to ≡ length news → k ≡ length to → PlacesAlike from strides to news → OnesAlike from strides to news i k → news ≡ map (stride_at from strides to) (below (length to))
-strides-forced from strides to news i k more sizes e end alike ones = fill_by_all (stride_at from strides to) news (length to) (pos 0) (sym e) at_axis
+pub strides-forced : {from : List ℕ} {strides : List ℤ} {to : List ℕ} {news : List ℤ} {i k : ℕ} → is_empty to ≡ false → size from ≡ size to → length to ≡ length news → k ≡ length to → PlacesAlike from strides to news → OnesAlike from strides to news i k → news ≡ map (stride_at from strides to) (below (length to))
+strides-forced {from} {strides} {to} {news} more sizes e end alike ones = fill_by_all (stride_at from strides to) news (length to) (pos 0) (sym e) at_axis
   where
     at_one : (j : ℕ) → j < length to → nat_lt 1 (get_or to j 0) ≡ false → get_or to j 0 ≡ 1
     at_one j l short =
@@ -305,9 +302,8 @@ strides-forced from strides to news i k more sizes e end alike ones = fill_by_al
         ]
 
 -- both shapes are read whole
-pub strides-whole : (from : List ℕ) (strides : List ℤ) (to : List ℕ) (news : List ℤ) (i k : ℕ) → CanWalk from strides to → IsReached from strides to i k → length from ≤ i → length to ≤ k → length to ≡ length news →
-    PlacesAlike (take i from) (take i strides) (take k to) (take k news) → OnesAlike from strides to news i k → news ≡ map (stride_at from strides to) (below (length to))
-strides-whole from strides to news i k w at from_end to_end e alike ones =
+pub strides-whole : {from : List ℕ} {strides : List ℤ} {to : List ℕ} {news : List ℤ} {i k : ℕ} → CanWalk from strides to → IsReached from strides to i k → length from ≤ i → length to ≤ k → length to ≡ length news → PlacesAlike (take i from) (take i strides) (take k to) (take k news) → OnesAlike from strides to news i k → news ≡ map (stride_at from strides to) (below (length to))
+strides-whole {from} {strides} {to} {news} {i} {k} w at from_end to_end e alike ones =
     let counts = w.same_count in
     let to_in = at.to_in in
     let from_all = take_all i from from_end in
@@ -319,4 +315,4 @@ strides-whole from strides to news i k w at from_end to_end e alike ones =
     let second : PlacesAlike from strides (take k to) (take k news) = subst (λ xs. PlacesAlike from xs (take k to) (take k news)) strides_all first in
     let third : PlacesAlike from strides to (take k news) = subst (λ xs. PlacesAlike from strides xs (take k news)) to_all second in
     let whole : PlacesAlike from strides to news = subst (PlacesAlike from strides to) news_all third in
-    strides-forced from strides to news i k w.more sizes e (omega arith) whole ones
+    strides-forced w.more sizes e (omega arith) whole ones

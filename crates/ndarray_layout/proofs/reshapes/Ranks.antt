@@ -70,7 +70,7 @@ count-long_axes (len ∷ lens) (stride ∷ strides) h e =
     let rest = count-long_axes lens strides (is_empty-rest len lens h) (omega arith) in
     elim (cases_Bool (nat_lt 1 len)) [
       | inl long ↦ ap count (long-kept len lens stride strides long) ∙ ap (λ n. len * n) rest
-      | inr short ↦ ap count (long-left len lens stride strides short) ∙ rest ∙ sym (ap (λ n. n * size lens) (one-of-short len lens h short) ∙ one-mul (size lens))
+      | inr short ↦ ap count (long-left len lens stride strides short) ∙ rest ∙ sym (ap (λ n. n * size lens) (one-of-short lens h short) ∙ one-mul (size lens))
     ]
 
 pub lens-long_axes : (lens : List ℕ) (strides : List ℤ) → length lens ≡ length strides → lens_of (long_axes lens strides) ≡ long_lens lens
@@ -103,7 +103,7 @@ offset-at-rank (len ∷ lens) (stride ∷ strides) r h e l =
           let split : value (fast ++ (len, stride) ∷ []) r ≡ value fast r +ℤ value ((len, stride) ∷ []) (r / size lens) = value-append fast ((len, stride) ∷ []) r ∙ ap (λ n. value fast r +ℤ value ((len, stride) ∷ []) (r / n)) whole in
           ap (λ z. (pos (r / size lens) *ℤ stride) +ℤ z) (rest ∙ again) ∙ omega (arith, ints, last, split) ∙ sym (ap (λ xs. value xs r) turned)
       | inr short ↦
-          let one = one-of-short len lens h short in
+          let one = one-of-short {len = len} lens h short in
           let below : r < size lens = omega (arith, ap (λ n. n * size lens) one, one-mul (size lens)) in
           let first : r / size lens ≡ 0 = div-eq_of_lt below in
           let same : r % size lens ≡ r = mod-eq_of_lt below in

@@ -164,7 +164,7 @@ none-at (len ∷ lens) (s ∷ strides) zero (suc n) w e l g long ones next m =
           loose-apart s (get_or lens n 0, get_or strides n (pos 0)) (sym (ap (is_loose s) first) ∙ parts.1)
       | inr c ↦
           let t = times-member len (loose_joints lens strides) (len * size (take n lens)) c in
-          let same : size (take n lens) ≡ t.0 = cancel len (size (take n lens)) t.0 here t.1 in
+          let same : size (take n lens) ≡ t.0 = cancel len here t.1 in
           let more = joint-product lens strides t.0 none t.2 in
           let low = more.3 in
           absurd (omega arith)
@@ -182,20 +182,20 @@ none-at (len ∷ lens) (s ∷ strides) (suc k) (suc n) w e l g long ones next m 
           absurd (omega arith)
       | inr c ↦
           let t = times-member len (loose_joints lens strides) (len * size (take n lens)) c in
-          let same : t.0 ≡ size (take n lens) = sym (cancel len (size (take n lens)) t.0 here t.1) in
+          let same : t.0 ≡ size (take n lens) = sym (cancel len here t.1) in
           none-at lens strides k n none (omega arith) (omega arith) (omega arith) long (λ i h f. ones (suc i) (omega arith) (omega arith)) next (subst (Member (loose_joints lens strides)) same t.2)
     ]
 
 -- where the strides of two longer axes, with none between, go together there is no joint, and else there is one
-pub joint-of-apart : (lens : List ℕ) (strides : List ℤ) (n : ℕ) (step : ℤ) → length lens ≡ length strides → n < length lens → LastLonger lens strides n step → 1 < get_or lens n 0 → step ≢ pos (get_or lens n 0) *ℤ get_or strides n (pos 0) → Member (loose_joints lens strides) (size (take n lens))
-joint-of-apart lens strides n step e l last next apart = member-at lens strides last.axis n e last.before l last.long last.ones next (λ same. apart (sym last.stride_is ∙ same))
+pub joint-of-apart : {lens : List ℕ} {strides : List ℤ} {n : ℕ} {step : ℤ} → length lens ≡ length strides → n < length lens → LastLonger lens strides n step → 1 < get_or lens n 0 → step ≢ pos (get_or lens n 0) *ℤ get_or strides n (pos 0) → Member (loose_joints lens strides) (size (take n lens))
+joint-of-apart {lens} {strides} {n} e l last next apart = member-at lens strides last.axis n e last.before l last.long last.ones next (λ same. apart (sym last.stride_is ∙ same))
 
-pub no-joint : (lens : List ℕ) (strides : List ℤ) (n : ℕ) (step : ℤ) → is_empty lens ≡ false → length lens ≡ length strides → n < length lens → LastLonger lens strides n step → 1 < get_or lens n 0 → step ≡ pos (get_or lens n 0) *ℤ get_or strides n (pos 0) → Member (loose_joints lens strides) (size (take n lens)) → ⊥
-no-joint lens strides n step w e l last next same m = none-at lens strides last.axis n w e last.before l last.long last.ones next m (last.stride_is ∙ same)
+pub no-joint : {lens : List ℕ} {strides : List ℤ} {n : ℕ} {step : ℤ} → is_empty lens ≡ false → length lens ≡ length strides → n < length lens → LastLonger lens strides n step → 1 < get_or lens n 0 → step ≡ pos (get_or lens n 0) *ℤ get_or strides n (pos 0) → Member (loose_joints lens strides) (size (take n lens)) → ⊥
+no-joint {lens} {strides} {n} w e l last next same m = none-at lens strides last.axis n w e last.before l last.long last.ones next m (last.stride_is ∙ same)
 
 -- ---- one more axis read
-below-next : (lens : List ℕ) (strides : List ℤ) (k j : ℕ) → is_empty lens ≡ false → Member (loose_joints lens strides) j → j < size (take (k + 1) lens) → (j < size (take k lens)) ⊎ (j ≡ size (take k lens))
-below-next lens strides k j h m l =
+below-next : (lens : List ℕ) (strides : List ℤ) (k : ℕ) {j : ℕ} → is_empty lens ≡ false → Member (loose_joints lens strides) j → j < size (take (k + 1) lens) → (j < size (take k lens)) ⊎ (j ≡ size (take k lens))
+below-next lens strides k {j} h m l =
     let at = joint-product lens strides j h m in
     let i = at.0 in
     let e = at.2 in
@@ -213,7 +213,7 @@ below-next lens strides k j h m l =
 
 pub good-more : (from : List ℕ) (strides : List ℤ) (to : List ℕ) (k : ℕ) → is_empty from ≡ false → (Member (loose_joints from strides) (size (take k from)) → Member (cumulative_products to) (size (take k from))) → GoodBelow from strides to (size (take k from)) → GoodBelow from strides to (size (take (k + 1) from))
 good-more from strides to k h at good j m l =
-    elim (below-next from strides k j h m l) [
+    elim (below-next from strides k h m l) [
       | inl below ↦ good j m below
       | inr same ↦ subst (Member (cumulative_products to)) (sym same) (at (subst (Member (loose_joints from strides)) same m))
     ]

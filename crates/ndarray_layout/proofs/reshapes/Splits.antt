@@ -9,8 +9,8 @@ use Rattle.nd_base.specs.Size.{size}
 use Rattle.ndarray_layout.proofs.reshapes.Values.{Axes, count, AreLong}
 use Rattle.ndarray_layout.proofs.reshapes.Tails.{IsApart, IsLooseTail, IsTail, lens_of, merge, AreAlike, cancel, none-left}
 
-pub int_cases : (x y : ℤ) → (x ≡ y) ⊎ (x ≢ y)
-int_cases x y =
+pub int_cases : {x y : ℤ} → (x ≡ y) ⊎ (x ≢ y)
+int_cases {x} {y} =
     elim (cases_Bool (int_eq x y)) [
       | inl same ↦ inl ((Decides-int_eq x y).0 same)
       | inr differ ↦ inr (λ e. both_ways (int_eq x y) differ ((Decides-int_eq x y).1 e))
@@ -37,7 +37,7 @@ tail-rest : (len q : ℕ) (lens : List ℕ) → 1 < len → 0 < q → IsTail (le
 tail-rest len q lens h g (inl e) =
     let more : len * 1 ≤ len * q = mul-le-mul_left len g in
     absurd (omega arith)
-tail-rest len q lens h g (inr t) = subst (λ k. IsTail lens k) (sym (cancel len q t.0 (omega arith) t.1)) t.2
+tail-rest len q lens h g (inr t) = subst (λ k. IsTail lens k) (sym (cancel len (omega arith) t.1)) t.2
 
 loose-pos : (axes : Axes) (p : ℕ) → AreLong axes → IsLooseTail axes p → 0 < p
 loose-pos [] p h l = absurd l
@@ -98,21 +98,21 @@ first-part axis axes len lens h (inr apart) e fit =
 rest-fits : (len : ℕ) (stride : ℤ) (axes : Axes) (lens : List ℕ) → 1 < len → AreLong axes → TailsFit ((len, stride) ∷ axes) (len ∷ lens) → TailsFit axes lens
 rest-fits len stride axes lens h g fit p l = tail-rest len p lens h (loose-pos axes p g l) (fit (len * p) (inr (p, refl, l)))
 
-by-whole : (n : ℕ) → Reaches n → (len : ℕ) (stride : ℤ) (axes : Axes) (lens : List ℕ) → length axes + length lens ≤ n → AreLong ((len, stride) ∷ axes) → AllLong lens → count ((len, stride) ∷ axes) ≡ size (len ∷ lens) → TailsFit ((len, stride) ∷ axes) (len ∷ lens) → HasAlike ((len, stride) ∷ axes) (len ∷ lens)
-by-whole n reach len stride axes lens small h g e fit =
+by-whole : {n : ℕ} → Reaches n → (len : ℕ) (stride : ℤ) (axes : Axes) (lens : List ℕ) → length axes + length lens ≤ n → AreLong ((len, stride) ∷ axes) → AllLong lens → count ((len, stride) ∷ axes) ≡ size (len ∷ lens) → TailsFit ((len, stride) ∷ axes) (len ∷ lens) → HasAlike ((len, stride) ∷ axes) (len ∷ lens)
+by-whole reach len stride axes lens small h g e fit =
     let one = h.0 in
-    taken-whole len stride axes lens (omega arith) (reach axes lens small h.1 g (cancel len (count axes) (size lens) (omega arith) e) (rest-fits len stride axes lens h.0 h.1 fit))
+    taken-whole len stride axes lens (omega arith) (reach axes lens small h.1 g (cancel len (omega arith) e) (rest-fits len stride axes lens h.0 h.1 fit))
 
-by-part : (n : ℕ) → Reaches n → (len q : ℕ) (stride : ℤ) (axes : Axes) (lens : List ℕ) → suc (length axes) + length lens ≤ n → 1 < len → 1 < q → AreLong axes → AllLong lens → count ((len * q, stride) ∷ axes) ≡ size (len ∷ lens) → TailsFit ((len * q, stride) ∷ axes) (len ∷ lens) → HasAlike ((len * q, stride) ∷ axes) (len ∷ lens)
-by-part n reach len q stride axes lens small h k g a e fit =
+by-part : {n : ℕ} → Reaches n → (len q : ℕ) (stride : ℤ) (axes : Axes) (lens : List ℕ) → suc (length axes) + length lens ≤ n → 1 < len → 1 < q → AreLong axes → AllLong lens → count ((len * q, stride) ∷ axes) ≡ size (len ∷ lens) → TailsFit ((len * q, stride) ∷ axes) (len ∷ lens) → HasAlike ((len * q, stride) ∷ axes) (len ∷ lens)
+by-part reach len q stride axes lens small h k g a e fit =
     let long : AreLong ((len, stride) ∷ (q, pos len *ℤ stride) ∷ axes) = (h, (k, g)) in
     let m = merge len q stride (pos len *ℤ stride) axes long refl in
     let apart : TailsFit ((len, stride) ∷ (q, pos len *ℤ stride) ∷ axes) (len ∷ lens) = λ p l. fit p (m.loose p l) in
-    let counts : q * count axes ≡ size lens = cancel len (q * count axes) (size lens) (omega arith) (sym (mul_assoc len q (count axes)) ∙ e) in
+    let counts : q * count axes ≡ size lens = cancel len (omega arith) (sym (mul_assoc len q (count axes)) ∙ e) in
     taken-part len q stride axes lens long (reach ((q, pos len *ℤ stride) ∷ axes) lens small (k, g) a counts (rest-fits len stride ((q, pos len *ℤ stride) ∷ axes) lens h (k, g) apart))
 
-by-first : (n : ℕ) → Reaches n → (axis : ℕ × ℤ) (axes : Axes) (len : ℕ) (lens : List ℕ) → length axes + length lens < n + 1 → suc (length axes) + length lens ≤ n → AreLong (axis ∷ axes) → AllLong (len ∷ lens) → StandsAlone axis axes → count (axis ∷ axes) ≡ size (len ∷ lens) → TailsFit (axis ∷ axes) (len ∷ lens) → HasAlike (axis ∷ axes) (len ∷ lens)
-by-first n reach axis axes len lens few small h g alone e fit =
+by-first : {n : ℕ} → Reaches n → (axis : ℕ × ℤ) (axes : Axes) (len : ℕ) (lens : List ℕ) → length axes + length lens < n + 1 → suc (length axes) + length lens ≤ n → AreLong (axis ∷ axes) → AllLong (len ∷ lens) → StandsAlone axis axes → count (axis ∷ axes) ≡ size (len ∷ lens) → TailsFit (axis ∷ axes) (len ∷ lens) → HasAlike (axis ∷ axes) (len ∷ lens)
+by-first reach axis axes len lens few small h g alone e fit =
     let part = first-part axis axes len lens h.0 alone e fit in
     let q = part.0 in
     let one = h.0 in
@@ -122,13 +122,13 @@ by-first n reach axis axes len lens few small h g alone e fit =
       | inl lone ↦
           let whole : len * q ≡ len = ap (λ m. len * m) lone ∙ mul-one len in
           subst (λ m. HasAlike ((m, axis.1) ∷ axes) (len ∷ lens)) (sym whole)
-          (by-whole n reach len axis.1 axes lens (omega arith) (g.0, h.1) g.1 (ap (λ m. m * count axes) (sym whole) ∙ given) (subst (λ m. TailsFit ((m, axis.1) ∷ axes) (len ∷ lens)) whole fits))
+          (by-whole reach len axis.1 axes lens (omega arith) (g.0, h.1) g.1 (ap (λ m. m * count axes) (sym whole) ∙ given) (subst (λ m. TailsFit ((m, axis.1) ∷ axes) (len ∷ lens)) whole fits))
       | inr several ↦
           elim (cases_eq q 0) [
             | inl none ↦
                 let nothing : len * q ≡ 0 = ap (λ m. len * m) none ∙ mul-zero len in
                 absurd (omega (arith, part.1))
-            | inr some ↦ by-part n reach len q axis.1 axes lens small g.0 (omega arith) h.1 g.1 given fits
+            | inr some ↦ by-part reach len q axis.1 axes lens small g.0 (omega arith) h.1 g.1 given fits
           ]
     ] in
     subst (λ m. HasAlike ((m, axis.1) ∷ axes) (len ∷ lens)) (sym part.1) made
@@ -143,14 +143,14 @@ reaches n [] (len ∷ lens) small h g e fit =
     absurd (omega arith)
 reaches n (axis ∷ axes) [] small h g e fit = absurd (none-left axis.0 axis.1 axes h e)
 reaches zero (axis ∷ axes) (len ∷ lens) small h g e fit = absurd (omega arith)
-reaches (suc n) (axis ∷ []) (len ∷ lens) small h g e fit = by-first n (reaches n) axis [] len lens (omega arith) (omega arith) h g (inl refl) e fit
+reaches (suc n) (axis ∷ []) (len ∷ lens) small h g e fit = by-first (reaches n) axis [] len lens (omega arith) (omega arith) h g (inl refl) e fit
 reaches (suc n) (axis ∷ next ∷ axes) (len ∷ lens) small h g e fit =
-    elim (int_cases next.1 (pos axis.0 *ℤ axis.1)) [
+    elim (int_cases) [
       | inl same ↦
           let m = merge axis.0 next.0 axis.1 next.1 axes h same in
           let merged : Axes = (axis.0 * next.0, axis.1) ∷ axes in
           let a : HasAlike merged (len ∷ lens) = reaches n merged (len ∷ lens) (omega arith) m.long g (m.entries ∙ e) (λ p l. fit p (m.loose_back p l)) in
           let entries = m.entries in
           (a.0, a.1, λ r l. sym (m.places r) ∙ a.2 r (omega arith))
-      | inr differ ↦ by-first n (reaches n) axis (next ∷ axes) len lens (omega arith) (omega arith) h g (inr differ) e fit
+      | inr differ ↦ by-first (reaches n) axis (next ∷ axes) len lens (omega arith) (omega arith) h g (inr differ) e fit
     ]

@@ -104,8 +104,8 @@ none-left len stride axes h e =
     omega arith
 
 -- the strides of the axes that move fastest are the same
-pub first-stride : (len : ℕ) (stride : ℤ) (axes : Axes) (other : ℕ) (step : ℤ) (others : Axes) → 1 < len → 1 < other → 1 < count ((len, stride) ∷ axes) → AreAlike ((len, stride) ∷ axes) ((other, step) ∷ others) → stride ≡ step
-first-stride len stride axes other step others h g some alike =
+pub first-stride : (len : ℕ) {stride : ℤ} (axes : Axes) (other : ℕ) {step : ℤ} (others : Axes) → 1 < len → 1 < other → 1 < count ((len, stride) ∷ axes) → AreAlike ((len, stride) ∷ axes) ((other, step) ∷ others) → stride ≡ step
+first-stride len {stride} axes other {step} others h g some alike =
     let here = value-below len stride axes 1 h in
     let there = value-below other step others 1 g in
     let same = alike 1 some in
@@ -133,8 +133,8 @@ alike-rest len stride axes step others h alike q l =
     let there = value-whole len step others q h in
     sym here ∙ alike (len * q) (omega arith) ∙ there
 
-pub cancel : (len a b : ℕ) → 0 < len → len * a ≡ len * b → a ≡ b
-cancel len a b h e = sym (mul-div_cancel_left a h) ∙ ap (λ n. n / len) e ∙ mul-div_cancel_left b h
+pub cancel : (len : ℕ) {a b : ℕ} → 0 < len → len * a ≡ len * b → a ≡ b
+cancel len {a} {b} h e = sym (mul-div_cancel_left a h) ∙ ap (λ n. n / len) e ∙ mul-div_cancel_left b h
 
 -- a tail after an axis that both begin with
 tail-further : (len : ℕ) (stride : ℤ) (axes : Axes) (lens : List ℕ) (p : ℕ) → ((q : ℕ) → IsLooseTail axes q → IsTail lens q) → IsLooseTail ((len, stride) ∷ axes) p → IsTail (len ∷ lens) p
@@ -152,15 +152,15 @@ merged-alike (next ∷ rest) others axis other h g less e alike =
     let long = h.0 in
     let some = count-pos (next ∷ rest) h.1 in
     let more : axis.0 * 1 ≤ axis.0 * (next.0 * count rest) = mul-le-mul_left axis.0 some in
-    let same : axis.1 ≡ other.1 = first-stride axis.0 axis.1 (next ∷ rest) other.0 other.1 others h.0 g.0 (omega arith) alike in
+    let same : axis.1 ≡ other.1 = first-stride axis.0 (next ∷ rest) other.0 others h.0 g.0 (omega arith) alike in
     let whole = next-stride axis.0 next.0 axis.1 next.1 rest other.0 other.1 others h.0 h.1.0 less (count-pos rest h.1.1) alike in
     ((axis.0 * next.0, axis.1) ∷ rest, merge axis.0 next.0 axis.1 next.1 rest h (whole ∙ ap (λ z. pos axis.0 *ℤ z) (sym same)))
 
 alike-turned : (axes others : Axes) → count axes ≡ count others → AreAlike axes others → AreAlike others axes
 alike-turned axes others e alike r h = sym (alike r (omega arith))
 
-alike-merged : (axes merged others : Axes) → IsMerge axes merged → AreAlike axes others → AreAlike merged others
-alike-merged axes merged others m alike r h =
+alike-merged : {axes merged : Axes} (others : Axes) → IsMerge axes merged → AreAlike axes others → AreAlike merged others
+alike-merged others m alike r h =
     let same = m.entries in
     m.places r ∙ alike r (omega arith)
 
@@ -174,17 +174,17 @@ tails_of_alike (suc n) (axis ∷ axes) (other ∷ others) fits h g e alike p loo
     elim (cases_order axis.0 other.0) [
       | inl same ↦
           let even : AreAlike (axis ∷ axes) ((axis.0, other.1) ∷ others) = subst (λ m. AreAlike (axis ∷ axes) ((m, other.1) ∷ others)) (sym same) alike in
-          let counts : count axes ≡ count others = cancel axis.0 (count axes) (count others) (let one = h.0 in omega arith) (e ∙ ap (λ m. m * count others) (sym same)) in
+          let counts : count axes ≡ count others = cancel axis.0 (let one = h.0 in omega arith) (e ∙ ap (λ m. m * count others) (sym same)) in
           let rest = λ (q : ℕ) (l : IsLooseTail axes q). tails_of_alike n axes others (omega arith) h.1 g.1 counts (alike-rest axis.0 axis.1 axes other.1 others (let one = h.0 in omega arith) even) q l in
           subst (λ m. IsTail (m ∷ lens_of others) p) same (tail-further axis.0 axis.1 axes (lens_of others) p rest loose)
       | inr (inl less) ↦
           let m = merged-alike axes others axis other h g less e alike in
           let fewer = m.1.shorter in
-          tails_of_alike n m.0 (other ∷ others) (omega arith) m.1.long g (m.1.entries ∙ e) (alike-merged (axis ∷ axes) m.0 (other ∷ others) m.1 alike) p (m.1.loose p loose)
+          tails_of_alike n m.0 (other ∷ others) (omega arith) m.1.long g (m.1.entries ∙ e) (alike-merged (other ∷ others) m.1 alike) p (m.1.loose p loose)
       | inr (inr more) ↦
           let turned = alike-turned (axis ∷ axes) (other ∷ others) e alike in
           let m = merged-alike others axes other axis g h more (sym e) turned in
           let fewer = m.1.shorter in
-          let back = alike-turned m.0 (axis ∷ axes) (m.1.entries ∙ sym e) (alike-merged (other ∷ others) m.0 (axis ∷ axes) m.1 turned) in
+          let back = alike-turned m.0 (axis ∷ axes) (m.1.entries ∙ sym e) (alike-merged (axis ∷ axes) m.1 turned) in
           m.1.tails p (tails_of_alike n (axis ∷ axes) m.0 (omega arith) h m.1.long (e ∙ sym m.1.entries) back p loose)
     ]

@@ -39,8 +39,8 @@ span-as_read RowMajor shape strides e = refl
 span-as_read ColumnMajor shape strides e = sum_over_axes-reverse reach shape strides e
 
 -- a layout that is valid can be walked
-pub can-walk : (order : Order) (from strides to : List ℕ) → IsValidLayout from (all_signed strides) → is_empty from ≡ false → is_empty to ≡ false → nonzero_size to ≤ limit → CanWalk (as_read order from) (all_signed (as_read order strides)) (as_read order to)
-can-walk order from strides to valid some more fits =
+pub can-walk : (order : Order) {from : List ℕ} (strides to : List ℕ) → IsValidLayout from (all_signed strides) → is_empty from ≡ false → is_empty to ≡ false → nonzero_size to ≤ limit → CanWalk (as_read order from) (all_signed (as_read order strides)) (as_read order to)
+can-walk order {from} strides to valid some more fits =
     let count = valid.same_count in
     let size_fits = valid.size_fits in
     let span_fits = valid.span_fits in
@@ -83,27 +83,23 @@ forced-read order from strides to out room e =
     ∙ ap (as_read order) (e ∙ ap₂ (λ ss n. map (stride_at (as_read order from) ss (as_read order to)) (below n)) (signed-as_read order strides) (length-as_read order to))
 
 -- ---- what is answered of a walk in an order
-pub filled-fault : {X : Type 0} (order read : Order) (from strides to : List ℕ) (result : Result X ShapeError) → order ≡ read → IfErr result (λ kind. fault_as_read (as_read read from) (all_signed (as_read read strides)) (as_read read to) ≡ Some kind) →
-    IfErr result (λ kind. reshape_fault order from (all_signed strides) to ≡ Some kind)
-filled-fault order read from strides to (Ok done) is fault = tt
-filled-fault order read from strides to (Err kind) is fault = ap (λ o. reshape_fault o from (all_signed strides) to) is ∙ sym (fault-read read from strides to) ∙ fault
+pub filled-fault : {X : Type 0} {order read : Order} (from strides to : List ℕ) (result : Result X ShapeError) → order ≡ read → IfErr result (λ kind. fault_as_read (as_read read from) (all_signed (as_read read strides)) (as_read read to) ≡ Some kind) → IfErr result (λ kind. reshape_fault order from (all_signed strides) to ≡ Some kind)
+filled-fault from strides to (Ok done) is fault = tt
+filled-fault {read} from strides to (Err kind) is fault = ap (λ o. reshape_fault o from (all_signed strides) to) is ∙ sym (fault-read read from strides to) ∙ fault
 
-pub filled-fits : {X : Type 0} (order read : Order) (from strides to out : List ℕ) (result : Result X ShapeError) → order ≡ read → CanWalk (as_read read from) (all_signed (as_read read strides)) (as_read read to) → IfOk result (λ done. length (as_read read out) ≡ length (as_read read to)) →
-    IfOk result (λ done. size (as_read read from) ≡ size (as_read read to)) → IfOk result (λ done. PlacesAlike (as_read read from) (all_signed (as_read read strides)) (as_read read to) (all_signed (as_read read out))) → OnOk result (reshape_fault order from (all_signed strides) to ≡ None)
-filled-fits order read from strides to out (Ok done) is w room sizes alike =
+pub filled-fits : {X : Type 0} {order read : Order} (from strides to out : List ℕ) (result : Result X ShapeError) → order ≡ read → CanWalk (as_read read from) (all_signed (as_read read strides)) (as_read read to) → IfOk result (λ done. length (as_read read out) ≡ length (as_read read to)) → IfOk result (λ done. size (as_read read from) ≡ size (as_read read to)) → IfOk result (λ done. PlacesAlike (as_read read from) (all_signed (as_read read strides)) (as_read read to) (all_signed (as_read read out))) → OnOk result (reshape_fault order from (all_signed strides) to ≡ None)
+filled-fits {read} from strides to out (Ok done) is w room sizes alike =
     ap (λ o. reshape_fault o from (all_signed strides) to) is ∙ none-read read from strides to (as_read read out) w (room ∙ length-as_read read to) sizes alike
-filled-fits order read from strides to out (Err kind) is w room sizes alike = tt
+filled-fits from strides to out (Err kind) is w room sizes alike = tt
 
-pub filled-strides : {X : Type 0} (order read : Order) (from strides to out : List ℕ) (result : Result X ShapeError) → order ≡ read → IfOk result (λ done. length (as_read read out) ≡ length (as_read read to)) →
-    IfOk result (λ done. all_signed (as_read read out) ≡ map (stride_at (as_read read from) (all_signed (as_read read strides)) (as_read read to)) (below (length (as_read read to)))) → OnOk result (all_signed out ≡ forced_strides order from (all_signed strides) to)
-filled-strides order read from strides to out (Ok done) is room made =
+pub filled-strides : {X : Type 0} {order read : Order} (from strides to out : List ℕ) (result : Result X ShapeError) → order ≡ read → IfOk result (λ done. length (as_read read out) ≡ length (as_read read to)) → IfOk result (λ done. all_signed (as_read read out) ≡ map (stride_at (as_read read from) (all_signed (as_read read strides)) (as_read read to)) (below (length (as_read read to)))) → OnOk result (all_signed out ≡ forced_strides order from (all_signed strides) to)
+filled-strides {read} from strides to out (Ok done) is room made =
     sym (ap all_signed (as_read-as_read read out)) ∙ forced-read read from strides to (as_read read out) (room ∙ length-as_read read to) made ∙ sym (ap (λ o. forced_strides o from (all_signed strides) to) is)
-filled-strides order read from strides to out (Err kind) is room made = tt
+filled-strides from strides to out (Err kind) is room made = tt
 
 -- strides that are those of the definition keep the places
-pub keeps-filled : (order : Order) (from strides to lens steps news given : List ℕ) → lens ≡ from → steps ≡ strides → news ≡ to → is_empty from ≡ false → is_empty to ≡ false → length from ≡ length (all_signed strides) → reshape_fault order lens (all_signed steps) news ≡ None →
-    all_signed given ≡ forced_strides order lens (all_signed steps) news → Keeps order from (all_signed strides) to (all_signed given)
-keeps-filled order from strides to lens steps news given e f g some more count none made =
+pub keeps-filled : {order : Order} {from strides to lens steps news : List ℕ} (given : List ℕ) → lens ≡ from → steps ≡ strides → news ≡ to → is_empty from ≡ false → is_empty to ≡ false → length from ≡ length (all_signed strides) → reshape_fault order lens (all_signed steps) news ≡ None → all_signed given ≡ forced_strides order lens (all_signed steps) news → Keeps order from (all_signed strides) to (all_signed given)
+keeps-filled {order} {from} {strides} {to} {lens} {steps} given e f g some more count none made =
     let fault : reshape_fault order from (all_signed strides) to ≡ None = sym (ap (λ x. reshape_fault order x (all_signed strides) to) e)
     ∙ sym (ap (λ x. reshape_fault order lens (all_signed x) to) f) ∙ sym (ap (λ x. reshape_fault order lens (all_signed steps) x) g) ∙ none in
     let forced : all_signed given ≡ forced_strides order from (all_signed strides) to = made ∙ ap (λ x. forced_strides order lens (all_signed steps) x) g

@@ -26,7 +26,7 @@ segments-size from to i i_end k k_end h l g e f =
     let some = size_of_nonempty (take i from) (take-nonempty from i h) in
     let from_parts = ap size (take-split i i_end from l) ∙ size-append (take i from) (segment i i_end from) in
     let to_parts = ap size (take-split k k_end to g) ∙ size-append (take k to) (segment k k_end to) in
-    cancel (size (take i from)) (size (segment i i_end from)) (size (segment k k_end to)) some
+    cancel (size (take i from)) some
     (sym from_parts ∙ f ∙ to_parts ∙ ap (λ n. n * size (segment k k_end to)) (sym e))
 
 pub alike-step : (from : List ℕ) (strides : List ℤ) (to : List ℕ) (others news : List ℤ) (i i_end k k_end : ℕ) (step : ℤ) → is_empty from ≡ false → is_empty to ≡ false → length from ≡ length strides → length to ≡ length news →

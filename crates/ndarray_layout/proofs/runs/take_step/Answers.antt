@@ -17,32 +17,32 @@ handed_on : {X E : Type 0} (P : E → Type 0) (result : Result X E) (error : E) 
 handed_on P (Ok x) error is known = tt
 handed_on P (Err e) error is known = subst P (sym is) known
 
-pub returns-in_err-sliced-in-Slice-clause-refused : goal.returns-in_err-sliced-in-Slice-clause-refused
-returns-in_err-sliced-in-Slice-clause-refused c =
+pub returns-in_err-sliced-in-Slice-clause-fault : goal.returns-in_err-sliced-in-Slice-clause-fault
+returns-in_err-sliced-in-Slice-clause-fault c =
     let view = c.args.view.now in
     let elems = c.in-Slice.elems.items in
     let known = c.in_err-sliced-in-Slice.ensures in
-    let refused = refused_of View view (SliceBy elems c.in-Slice.fit) c.in_err-sliced-in-Slice.field-0.0 c.requires tt known.refusal (λ none few. known.memory none (ltb-false 4 (out_count elems) few)) in
+    let refused = refused_of View (SliceBy elems c.in-Slice.fit) c.in_err-sliced-in-Slice.field-0.0 c.requires tt known.fault (λ none few. known.memory none (ltb-false 4 (out_count elems) few)) in
     rw (c.in-Slice.is) (handed_on (λ e. IsRefusedBy view e (SliceBy elems c.in-Slice.fit)) c.from_residual.result c.in_err-sliced-in-Slice.field-0.0 c.from_residual.ensures.1 refused)
 
-pub returns-in_err-merge_axes_of-in-Merge-clause-refused : goal.returns-in_err-merge_axes_of-in-Merge-clause-refused
-returns-in_err-merge_axes_of-in-Merge-clause-refused c =
+pub returns-in_err-merge_axes_of-in-Merge-clause-fault : goal.returns-in_err-merge_axes_of-in-Merge-clause-fault
+returns-in_err-merge_axes_of-in-Merge-clause-fault c =
     let view = c.args.view.now in
     let step = MergeInto c.in-Merge.take.0 c.in-Merge.into.0 in
     let kind = c.in_err-merge_axes_of-in-Merge.field-0.0 in
     let known = c.in_err-merge_axes_of-in-Merge.ensures in
-    let refused = refused_of (Unit {0}) view step (Shape kind) c.requires tt known.fault (λ none few.
+    let refused = refused_of (Unit {0}) step (Shape kind) c.requires tt known.fault (λ none few.
     let e = known.fault ∙ none in
     cc) in
     rw (c.in-Merge.is) (handed_on (λ e. IsRefusedBy view e step) c.from_residual-in_err-merge_axes_of-in-Merge.result (Shape kind) c.from_residual-in_err-merge_axes_of-in-Merge.ensures.1 refused)
 
-pub returns-in_err-reshaped-in-Reshape-clause-refused : goal.returns-in_err-reshaped-in-Reshape-clause-refused
-returns-in_err-reshaped-in-Reshape-clause-refused c =
+pub returns-in_err-reshaped-in-Reshape-clause-fault : goal.returns-in_err-reshaped-in-Reshape-clause-fault
+returns-in_err-reshaped-in-Reshape-clause-fault c =
     let view = c.args.view.now in
     let shape = lengths c.in-Reshape.dim in
     let order = c.in-Reshape.order in
     let fault = c.in_err-reshaped-in-Reshape.field-0.0 in
-    let refused = reshape_refused_of view shape order fault c.requires c.in_err-reshaped-in-Reshape.ensures.refused in
+    let refused = reshape_refused_of shape order fault c.requires c.in_err-reshaped-in-Reshape.ensures.fault in
     rw (c.in-Reshape.is) (handed_on (λ e. IsRefusedBy view e (ReshapeTo shape order)) c.from_residual-in_err-reshaped-in-Reshape.result fault c.from_residual-in_err-reshaped-in-Reshape.ensures.1 refused)
 
 pub returns-clause-taken : goal.returns-clause-taken

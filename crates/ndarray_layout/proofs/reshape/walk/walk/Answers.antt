@@ -9,7 +9,7 @@ use Rattle.ndarray_layout.proofs.reshape.walk.walk.Goals.{then-loop-at-test+else
 pub loop-at-init : goal.loop-at-init
 loop-at-init g c = record {
   room = c.requires.room;
-  written = written-first (g.S.Sequence.items c.args.from.now) (all_signed (g.S.Sequence.items c.args.strides.now)) (g.T.Sequence.items c.args.to.now) (g.O.Sequence.items c.args.out.now) c.requires.can_walk;
+  written = written-first (g.O.Sequence.items c.args.out.now) c.requires.can_walk;
   target = g.met.O.SequenceMut.same_target_now c.args.out.now;
 }
 
@@ -26,12 +26,12 @@ returns-then-not-only_ones-clause-fault g c =
           let left = c.only_ones.ensures.longer w.if-not-only_ones.true in
           let above = left.1 in
           let under = left.2 in
-          from-left-fault (g.S.Sequence.items c.args.from.now) (all_signed (g.S.Sequence.items c.args.strides.now)) (g.T.Sequence.items c.args.to.now) l.at.from_axes l.at.to_axes left.0 c.requires.can_walk at (over (omega arith)) above under left.3
+          from-left-fault left.0 c.requires.can_walk at (over (omega arith)) above under left.3
       | then-not-only_ones-via-else-not-only_ones+then-not-only_ones-2 w ↦
           let left = w.only_ones-else-not-only_ones.ensures.longer w.if-not-only_ones-2.true in
           let above = left.1 in
           let under = left.2 in
-          to-left-fault (g.S.Sequence.items c.args.from.now) (all_signed (g.S.Sequence.items c.args.strides.now)) (g.T.Sequence.items c.args.to.now) l.at.from_axes l.at.to_axes left.0 c.requires.can_walk at (elim (cases_lt l.at.from_axes (length (g.S.Sequence.items c.args.from.now))) [ inl some ↦ absurd (let end = over some in omega arith) | inr past ↦ past ]) above under left.3
+          to-left-fault left.0 c.requires.can_walk at (elim (cases_lt l.at.from_axes (length (g.S.Sequence.items c.args.from.now))) [ inl some ↦ absurd (let end = over some in omega arith) | inr past ↦ past ]) above under left.3
     ]
     ∙ ap Some (sym c.from_kind.ensures)
 
@@ -43,9 +43,9 @@ returns-clause-sizes g c =
       | else-loop-at-test w ↦ λ some. let end = w.loop-at-test.false in let count = c.len.ensures in absurd (omega arith)
     ] in
     let room = l.invariant.room in
-    let whole = written-whole (g.S.Sequence.items c.args.from.now) (all_signed (g.S.Sequence.items c.args.strides.now)) (g.T.Sequence.items c.args.to.now) (g.O.Sequence.items l.out) (g.O.Sequence.items c.write_ones.new.out) l.at.from_axes l.at.to_axes c.requires.can_walk over (c.only_ones.ensures.ones c.if-not-only_ones.false) (c.only_ones-else-not-only_ones.ensures.ones c.if-not-only_ones-2.false)
+    let whole = written-whole (g.O.Sequence.items l.out) (g.O.Sequence.items c.write_ones.new.out) l.at.from_axes l.at.to_axes c.requires.can_walk over (c.only_ones.ensures.ones c.if-not-only_ones.false) (c.only_ones-else-not-only_ones.ensures.ones c.if-not-only_ones-2.false)
     room (c.write_ones.ensures.room ∙ room) c.write_ones.ensures.kept (λ j above below. c.write_ones.ensures.written j above (let count = c.write_ones.ensures.room in omega arith)) l.invariant.written in
-    whole-sizes (g.S.Sequence.items c.args.from.now) (all_signed (g.S.Sequence.items c.args.strides.now)) (g.T.Sequence.items c.args.to.now) (all_signed (g.O.Sequence.items c.write_ones.new.out)) whole
+    whole-sizes whole
 
 pub returns-clause-alike : goal.returns-clause-alike
 returns-clause-alike g c =
@@ -55,9 +55,9 @@ returns-clause-alike g c =
       | else-loop-at-test w ↦ λ some. let end = w.loop-at-test.false in let count = c.len.ensures in absurd (omega arith)
     ] in
     let room = l.invariant.room in
-    let whole = written-whole (g.S.Sequence.items c.args.from.now) (all_signed (g.S.Sequence.items c.args.strides.now)) (g.T.Sequence.items c.args.to.now) (g.O.Sequence.items l.out) (g.O.Sequence.items c.write_ones.new.out) l.at.from_axes l.at.to_axes c.requires.can_walk over (c.only_ones.ensures.ones c.if-not-only_ones.false) (c.only_ones-else-not-only_ones.ensures.ones c.if-not-only_ones-2.false)
+    let whole = written-whole (g.O.Sequence.items l.out) (g.O.Sequence.items c.write_ones.new.out) l.at.from_axes l.at.to_axes c.requires.can_walk over (c.only_ones.ensures.ones c.if-not-only_ones.false) (c.only_ones-else-not-only_ones.ensures.ones c.if-not-only_ones-2.false)
     room (c.write_ones.ensures.room ∙ room) c.write_ones.ensures.kept (λ j above below. c.write_ones.ensures.written j above (let count = c.write_ones.ensures.room in omega arith)) l.invariant.written in
-    whole-alike (g.S.Sequence.items c.args.from.now) (all_signed (g.S.Sequence.items c.args.strides.now)) (g.T.Sequence.items c.args.to.now) (g.O.Sequence.items c.write_ones.new.out) c.requires.can_walk (c.write_ones.ensures.room ∙ room) whole
+    whole-alike (g.O.Sequence.items c.write_ones.new.out) c.requires.can_walk (c.write_ones.ensures.room ∙ room) whole
 
 pub returns-clause-strides : goal.returns-clause-strides
 returns-clause-strides g c =
@@ -67,6 +67,6 @@ returns-clause-strides g c =
       | else-loop-at-test w ↦ λ some. let end = w.loop-at-test.false in let count = c.len.ensures in absurd (omega arith)
     ] in
     let room = l.invariant.room in
-    let whole = written-whole (g.S.Sequence.items c.args.from.now) (all_signed (g.S.Sequence.items c.args.strides.now)) (g.T.Sequence.items c.args.to.now) (g.O.Sequence.items l.out) (g.O.Sequence.items c.write_ones.new.out) l.at.from_axes l.at.to_axes c.requires.can_walk over (c.only_ones.ensures.ones c.if-not-only_ones.false) (c.only_ones-else-not-only_ones.ensures.ones c.if-not-only_ones-2.false)
+    let whole = written-whole (g.O.Sequence.items l.out) (g.O.Sequence.items c.write_ones.new.out) l.at.from_axes l.at.to_axes c.requires.can_walk over (c.only_ones.ensures.ones c.if-not-only_ones.false) (c.only_ones-else-not-only_ones.ensures.ones c.if-not-only_ones-2.false)
     room (c.write_ones.ensures.room ∙ room) c.write_ones.ensures.kept (λ j above below. c.write_ones.ensures.written j above (let count = c.write_ones.ensures.room in omega arith)) l.invariant.written in
-    whole-strides (g.S.Sequence.items c.args.from.now) (all_signed (g.S.Sequence.items c.args.strides.now)) (g.T.Sequence.items c.args.to.now) (g.O.Sequence.items c.write_ones.new.out) c.requires.can_walk (c.write_ones.ensures.room ∙ room) whole
+    whole-strides (g.O.Sequence.items c.write_ones.new.out) c.requires.can_walk (c.write_ones.ensures.room ∙ room) whole

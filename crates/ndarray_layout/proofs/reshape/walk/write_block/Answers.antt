@@ -24,8 +24,8 @@ more lens end k rest l g h e =
     ∙ sym whole
 
 -- the next stride, as the code has it
-next-stride : (lens : List ℕ) (end k bits len step : ℕ) → end ≤ length lens → 0 < k → k ≤ end → len ≤ limit → to_z w64 bits ≡ pos (size (drop k (take end lens))) *ℤ signed step → len ≡ get_or lens (k - 1) 0 → to_z w64 bits *ℤ to_z w64 len ≡ pos (size (drop (k - 1) (take end lens))) *ℤ signed step
-next-stride lens end k bits len step l g h small e f =
+next-stride : (lens : List ℕ) (end k bits : ℕ) {len : ℕ} (step : ℕ) → end ≤ length lens → 0 < k → k ≤ end → len ≤ limit → to_z w64 bits ≡ pos (size (drop k (take end lens))) *ℤ signed step → len ≡ get_or lens (k - 1) 0 → to_z w64 bits *ℤ to_z w64 len ≡ pos (size (drop (k - 1) (take end lens))) *ℤ signed step
+next-stride lens end k bits {len} step l g h small e f =
     let rest = size (drop k (take end lens)) in
     ap₂ (λ x y. x *ℤ y) e (to_z_pos w64 len (omega arith))
     ∙ *ℤ_comm (pos rest *ℤ signed step) (pos len)
@@ -33,8 +33,8 @@ next-stride lens end k bits len step l g h small e f =
     ∙ ap (λ n. pos n *ℤ signed step) (mul_comm len rest ∙ ap (λ n. rest * n) f ∙ more lens end k rest l g h refl)
 
 -- and it is among those that fit
-next-fits : (lens : List ℕ) (end k : ℕ) (step : ℕ) (z : ℤ) → 1 < k → FitsSigned w64 (pos (size (drop (k - 1 - 1 + 1) (take end lens))) *ℤ signed step) → z ≡ pos (size (drop (k - 1) (take end lens))) *ℤ signed step → FitsSigned w64 z
-next-fits lens end k step z l h e =
+next-fits : (lens : List ℕ) (end k step : ℕ) {z : ℤ} → 1 < k → FitsSigned w64 (pos (size (drop (k - 1 - 1 + 1) (take end lens))) *ℤ signed step) → z ≡ pos (size (drop (k - 1) (take end lens))) *ℤ signed step → FitsSigned w64 z
+next-fits lens end k step l h e =
     let next : k - 1 - 1 + 1 ≡ k - 1 = omega arith in
     subst (λ x. FitsSigned w64 x) (ap (λ n. pos (size (drop n (take end lens))) *ℤ signed step) next ∙ sym e) h
 
@@ -47,8 +47,8 @@ overflow_mul-stride g c =
     let within = c.requires.within in
     let low = c.loop-k-test.true in
     let high = v.high in
-    let z = next-stride lens c.args.end k l.stride-bits c.item.result c.args.step within (omega arith) high (let small = c.requires.len_fits (k - 1) (omega arith) in let same = c.item.ensures in omega (arith, small, same)) v.stride_is c.item.ensures in
-    next-fits lens c.args.end k c.args.step (to_z w64 l.stride-bits *ℤ to_z w64 c.item.result) (omega arith) (c.requires.steps_fit (k - 1 - 1) (omega arith) (omega arith)) z
+    let z = next-stride lens c.args.end k l.stride-bits c.args.step within (omega arith) high (let small = c.requires.len_fits (k - 1) (omega arith) in let same = c.item.ensures in omega (arith, small, same)) v.stride_is c.item.ensures in
+    next-fits lens c.args.end k c.args.step (omega arith) (c.requires.steps_fit (k - 1 - 1) (omega arith) (omega arith)) z
 
 pub loop-k-preserved : goal.loop-k-preserved
 loop-k-preserved g c =
@@ -61,8 +61,8 @@ loop-k-preserved g c =
     let high = v.high in
     let room = v.room in
     let product = to_z w64 l.stride-bits *ℤ to_z w64 c.item.result in
-    let z = next-stride lens c.args.end k l.stride-bits c.item.result c.args.step within (omega arith) high (let small = c.requires.len_fits (k - 1) (omega arith) in let same = c.item.ensures in omega (arith, small, same)) v.stride_is c.item.ensures in
-    let fits = next-fits lens c.args.end k c.args.step product (omega arith) (c.requires.steps_fit (k - 1 - 1) (omega arith) (omega arith)) z in
+    let z = next-stride lens c.args.end k l.stride-bits c.args.step within (omega arith) high (let small = c.requires.len_fits (k - 1) (omega arith) in let same = c.item.ensures in omega (arith, small, same)) v.stride_is c.item.ensures in
+    let fits = next-fits lens c.args.end k c.args.step (omega arith) (c.requires.steps_fit (k - 1 - 1) (omega arith) (omega arith)) z in
     let kept = to_z-of_z w64 product fits in
     let value : signed c.unsigned.result ≡ pos (size (drop (k - 1) (take c.args.end lens))) *ℤ signed c.args.step = c.unsigned.ensures.back ∙ kept ∙ z in
     let out = g.O.Sequence.items l.out in

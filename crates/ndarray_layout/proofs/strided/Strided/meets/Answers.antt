@@ -20,21 +20,18 @@ both_none : (first second : Option ErrorKind) → option_or first second ≡ Non
 both_none None second none = (refl, none)
 both_none (Some fault) second none = absurd (cc)
 
-by_places : (fit : Fit) (one other : List SliceInfoElem) (view : View) (answer : Result Bool ErrorKind) → IsView view
-    → result_err answer ≡ option_or (argument_fault fit view.shape one) (argument_fault fit view.shape other)
-    → IfOk answer (λ meet. IsTrue meet ↔ Meet fit view.shape one other)
-    → IfOk answer (λ meet. HasDistinctPlaces view → IsTrue meet ↔ SharePlace (slice_of fit one view) (slice_of fit other view))
-by_places fit one other view (Ok meet) v fault is = λ distinct.
+by_places : (fit : Fit) (one other : List SliceInfoElem) {view : View} (answer : Result Bool ErrorKind) → IsView view → result_err answer ≡ option_or (argument_fault fit view.shape one) (argument_fault fit view.shape other) → IfOk answer (λ meet. IsTrue meet ↔ Meet fit view.shape one other) → IfOk answer (λ meet. HasDistinctPlaces view → IsTrue meet ↔ SharePlace (slice_of fit one view) (slice_of fit other view))
+by_places fit one other {view} (Ok meet) v fault is = λ distinct.
     let fits = both_none (argument_fault fit view.shape one) (argument_fault fit view.shape other) (sym fault) in
-    let places = meet_is_shared_place fit one other view v fits.0 fits.1 distinct in
+    let places = meet_is_shared_place fit one other v fits.0 fits.1 distinct in
     (λ true. places.0 (is.0 true), λ share. is.1 (places.1 share))
-by_places fit one other view (Err fault) v same is = tt
+by_places fit one other (Err fault) v same is = tt
 
 pub slices_intersect-requires : goal.slices_intersect-requires
-slices_intersect-requires g c = lens_fit (view_of c.self.inside.start (g.D.Lengths.list c.self.inside.dim) (g.D.Lengths.list c.self.inside.strides)) c.self.invariant
+slices_intersect-requires g c = lens_fit c.self.invariant
 
 pub returns-clause-places : goal.returns-clause-places
 returns-clause-places g c =
     let v = subst IsView c.self.view_is c.self.invariant in
-    by_places c.args.fit (g.A.SliceElems.list c.args.first.now) (g.B.SliceElems.list c.args.second.now) c.args.self.now c.slices_intersect.result v
+    by_places c.args.fit (g.A.SliceElems.list c.args.first.now) (g.B.SliceElems.list c.args.second.now) c.slices_intersect.result v
     (rw (← c.self.view_is) c.slices_intersect.ensures.fault) (rw (← c.self.view_is) c.slices_intersect.ensures.meet)

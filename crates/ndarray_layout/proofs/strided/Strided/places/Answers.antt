@@ -7,7 +7,7 @@ use Rattle.ndarray_layout.proofs.strided.Strided.places.Goals as goal
 
 pub product-size-requires : goal.product-size-requires
 product-size-requires g c =
-    rw (c.slice.ensures.list) (size_fits (record { start = c.self.inside.start; shape = g.D.Lengths.list c.self.inside.dim; strides = all_signed (g.D.Lengths.list c.self.inside.strides) }) c.self.invariant)
+    rw (c.slice.ensures.list) (size_fits c.self.invariant)
 
 pub returns : goal.returns
 returns g c =

@@ -16,8 +16,8 @@ handed_on : {X E : Type 0} (P : E → Type 0) (result : Result X E) (error : E) 
 handed_on P (Ok x) error is known = tt
 handed_on P (Err e) error is known = subst P (sym is) known
 
-pub returns-in_err-zeros-clause-refused : goal.returns-in_err-zeros-clause-refused
-returns-in_err-zeros-clause-refused g c =
+pub returns-in_err-zeros-clause-fault : goal.returns-in_err-zeros-clause-fault
+returns-in_err-zeros-clause-fault g c =
     let to = g.E.Lengths.list c.args.shape.now in
     let dim = g.D.Lengths.list c.self.inside.dim in
     let fits : nonzero_size to ≤ limit = within_limit (nonzero_size to) c.in_ok-size_of_shape_checked.ensures.fault in
@@ -43,8 +43,8 @@ returns-clause-fits g c =
     subst (λ (v : View). OnOk c.reshape_dim.result (reshape_refusal c.args.order to v ≡ None)) c.self.view_is
     (subst (λ fault. OnOk c.reshape_dim.result (fault ≡ None)) (sym (refusal_between c.args.order to view fits from_some to_some)) c.reshape_dim.ensures.fits)
 
-pub returns-clause-refused : goal.returns-clause-refused
-returns-clause-refused g c =
+pub returns-clause-fault : goal.returns-clause-fault
+returns-clause-fault g c =
     let to = g.E.Lengths.list c.args.shape.now in
     let dim = g.D.Lengths.list c.self.inside.dim in
     let view = view_of c.self.inside.start dim (g.D.Lengths.list c.self.inside.strides) in
@@ -52,7 +52,7 @@ returns-clause-refused g c =
     let from_some : is_empty dim ≡ false = rw c.slice-lens.ensures.list at (sym c.contains-is_empty.ensures.value ∙ c.if-is_empty.false) in
     let to_some : is_empty to ≡ false = rw c.slice-new_lens.ensures.list at (sym c.contains.ensures.value ∙ sym (same_bits c.contains-is_empty.result c.contains.result c.if-is_empty-contains.false) ∙ c.if-is_empty.false) in
     subst (λ (v : View). IfErr c.reshape_dim.result (λ e. IsReshapeRefusal g.E.FixedCount.NDIM c.args.order to v e)) c.self.view_is
-    (refused_between _ c.reshape_dim.result g.E.FixedCount.NDIM c.args.order to view fits from_some to_some c.reshape_dim.ensures.refused c.reshape_dim.ensures.memory)
+    (refused_between _ c.reshape_dim.result g.E.FixedCount.NDIM c.args.order to view fits from_some to_some c.reshape_dim.ensures.fault c.reshape_dim.ensures.memory)
 
 pub returns-clause-strides : goal.returns-clause-strides
 returns-clause-strides g c =

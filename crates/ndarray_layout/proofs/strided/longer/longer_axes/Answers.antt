@@ -45,9 +45,9 @@ loop-axis-preserved c =
           let room : count < 62 = room_at shape axis count below c.if-len-eq0.false long c.loop-axis.invariant.room c.requires.fits in
           rw (w.count-is, w.lens-is, w.kept-is) (record {
             sizes = (length-set c.loop-axis.lens count (get_or shape axis 0) ∙ c.loop-axis.invariant.sizes.0, length-set c.loop-axis.kept count (get_or strides axis 0) ∙ c.loop-axis.invariant.sizes.1);
-            lens = written_more c.loop-axis.lens count (get_or shape axis 0) (of_longer (drop (axis + 1) shape) (drop (axis + 1) shape)) (of_longer (drop axis shape) (drop axis shape)) (of_longer shape shape) (omega (arith, c.loop-axis.invariant.sizes.0)) (of_longer_at_other shape shape axis below refl other) c.loop-axis.invariant.lens;
-            strides = written_more c.loop-axis.kept count (get_or strides axis 0) (of_longer (drop (axis + 1) shape) (drop (axis + 1) strides)) (of_longer (drop axis shape) (drop axis strides)) (of_longer shape strides) (omega (arith, c.loop-axis.invariant.sizes.1)) (of_longer_at_other shape strides axis below c.requires.counts other) c.loop-axis.invariant.strides;
-            room = room_more count (get_or shape axis 0) (nonzero_size (drop (axis + 1) shape)) (nonzero_size (drop axis shape)) (nonzero_size shape) long next c.loop-axis.invariant.room;
+            lens = written_more c.loop-axis.lens count (omega (arith, c.loop-axis.invariant.sizes.0)) (of_longer_at_other shape shape axis below refl other) c.loop-axis.invariant.lens;
+            strides = written_more c.loop-axis.kept count (omega (arith, c.loop-axis.invariant.sizes.1)) (of_longer_at_other shape strides axis below c.requires.counts other) c.loop-axis.invariant.strides;
+            room = room_more count (get_or shape axis 0) (nonzero_size (drop (axis + 1) shape)) (nonzero_size shape) long next c.loop-axis.invariant.room;
           })
       | else-len-gt1 w ↦
           let one : get_or shape axis 0 ≡ 1 = omega (arith, w.if-len-gt1.false, c.if-len-eq0.false) in
@@ -66,8 +66,8 @@ invariant_of-result c =
 
 pub returns-clause-lens : goal.returns-clause-lens
 returns-clause-lens c =
-    whole_at_end (take c.loop-axis.count c.loop-axis.lens) c.args.shape.now c.args.shape.now c.loop-axis.axis (omega (arith, c.loop-axis-test.false, c.loop-axis.auto.axis-end)) ∙ c.loop-axis.invariant.lens
+    whole_at_end c.args.shape.now c.args.shape.now c.loop-axis.axis (omega (arith, c.loop-axis-test.false, c.loop-axis.auto.axis-end)) ∙ c.loop-axis.invariant.lens
 
 pub returns-clause-strides : goal.returns-clause-strides
 returns-clause-strides c =
-    whole_at_end (take c.loop-axis.count c.loop-axis.kept) c.args.shape.now c.args.strides.now c.loop-axis.axis (omega (arith, c.loop-axis-test.false, c.loop-axis.auto.axis-end)) ∙ c.loop-axis.invariant.strides
+    whole_at_end c.args.shape.now c.args.strides.now c.loop-axis.axis (omega (arith, c.loop-axis-test.false, c.loop-axis.auto.axis-end)) ∙ c.loop-axis.invariant.strides
