@@ -12,7 +12,8 @@ pub sum_within : {l h m k : ℕ} {y z : ℤ} → Within l h y → Within m k z �
 sum_within p q = record { above = omega (arith, ints); below = omega (arith, ints) }
 
 -- an index of a shape lies between the lowest and the highest place
-pub offset_within : (shape : List ℕ) (strides : List ℤ) (index : List ℕ) → length shape ≡ length strides → is_index shape index ≡ true → Within (low_span shape strides) (high_span shape strides) (offset_of strides index)
+pub offset_within : (shape : List ℕ) (strides : List ℤ) (index : List ℕ) → length shape ≡ length strides → is_index shape index ≡ true
+    → Within (low_span shape strides) (high_span shape strides) (offset_of strides index)
 offset_within [] [] [] e h = record { above = omega (arith, ints); below = omega (arith, ints) }
 offset_within [] [] (i ∷ index) e h = absurd (cc)
 offset_within [] (stride ∷ strides) index e h = absurd (omega arith)

@@ -20,16 +20,19 @@ map_after f g [] = refl
 map_after f g (x ∷ xs) = ap (λ ys. f (g x) ∷ ys) (map_after f g xs)
 
 -- the places in an order, with the axes turned where the first moves fastest
-pub places-as_read : (order : Order) (start : ℕ) (shape : List ℕ) (strides : List ℤ) → length shape ≡ length strides → view_places RowMajor (view_as_read order start shape strides) ≡ places order start shape strides
+pub places-as_read : (order : Order) (start : ℕ) (shape : List ℕ) (strides : List ℤ) → length shape ≡ length strides
+    → view_places RowMajor (view_as_read order start shape strides) ≡ places order start shape strides
 places-as_read RowMajor start shape strides e = refl
 places-as_read ColumnMajor start shape strides e =
     let turned = reverse strides in
     map-indices_in RowMajor (place start turned) (λ x. place start strides (reverse x)) (reverse shape) (λ x h.
-    let counts : length turned ≡ length x = omega (arith, length_of_index (reverse shape) x h, length-reverse shape, length-reverse strides) in
+    let counts : length turned ≡ length x = omega (arith, length_of_index (reverse shape) x h, length-reverse shape, length-reverse
+        strides) in
     ap (λ z. pos start +ℤ z) (sym (offset_of-reverse turned x counts) ∙ ap (λ s. offset_of s (reverse x)) (reverse-reverse strides)))
     ∙ sym (map_after (place start strides) reverse (indices (reverse shape)))
 
-pub IsView-as_read : (order : Order) (start : ℕ) (shape : List ℕ) (strides : List ℤ) → IsView (record { start = start; shape = shape; strides = strides }) → IsView (view_as_read order start shape strides)
+pub IsView-as_read : (order : Order) (start : ℕ) (shape : List ℕ) (strides : List ℤ)
+    → IsView (record { start = start; shape = shape; strides = strides }) → IsView (view_as_read order start shape strides)
 IsView-as_read RowMajor start shape strides view = view
 IsView-as_read ColumnMajor start shape strides view =
     let counts = view.valid.same_count in

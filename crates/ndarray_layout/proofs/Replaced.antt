@@ -1,5 +1,6 @@
 -- A layout or an index in which one axis is replaced.
-use Rattle.std.proofs.Common.{◌≡◌, ◌≢◌, ℕ, zero, suc, ◌+◌, ◌*◌, ◌<◌, ℤ, pos, ◌+ℤ◌, ◌*ℤ◌, cond, eqb, List, [], ◌∷◌, length, get_or, set, nat_lt, true, inl, inr, refl, sym, ap, ◌∙◌, arith}
+use Rattle.std.proofs.Common.{◌≡◌, ◌≢◌, ℕ, zero, suc, ◌+◌, ◌*◌, ◌<◌, ℤ, pos, ◌+ℤ◌, ◌*ℤ◌, cond, eqb, List, [], ◌∷◌, length, get_or, set}
+use Rattle.std.proofs.Common.{nat_lt, true, inl, inr, refl, sym, ap, ◌∙◌, arith}
 use Rattle.std.proofs.lemmas.Bool.{and_parts, and_from, cases_eq, cond-true, cond-false, eq-eqb, ne_eqb, lt-ltb}
 use Rattle.std.proofs.lemmas.Int.{ints}
 use Rattle.std.proofs.lemmas.List.{set-set, set-get_or}
@@ -10,11 +11,15 @@ use Rattle.nd_base.specs.Span.{sum_over_axes}
 use Rattle.nd_base.proofs.laws.NonzeroSize.{nonzero_size_of_other, nonzero_size_of_zero}
 
 -- a sum over the axes changes by the terms of that axis
-pub sum_replaced : (f : ℕ → ℤ → ℕ) (shape : List ℕ) (strides : List ℤ) (axis len : ℕ) (stride : ℤ) → axis < length shape → length shape ≡ length strides → sum_over_axes f (set shape axis len) (set strides axis stride) + f (get_or shape axis 0) (get_or strides axis (pos 0)) ≡ sum_over_axes f shape strides + f len stride
+pub sum_replaced : (f : ℕ → ℤ → ℕ) (shape : List ℕ) (strides : List ℤ) (axis len : ℕ) (stride : ℤ) → axis < length shape
+    → length shape ≡ length strides
+    → sum_over_axes f (set shape axis len) (set strides axis stride) + f (get_or shape axis 0) (get_or strides axis (pos 0))
+    ≡ sum_over_axes f shape strides + f len stride
 sum_replaced f [] strides axis len stride h e = absurd (omega arith)
 sum_replaced f (n ∷ shape) [] axis len stride h e = absurd (omega arith)
 sum_replaced f (n ∷ shape) (s ∷ strides) zero len stride h e = omega arith
-sum_replaced f (n ∷ shape) (s ∷ strides) (suc axis) len stride h e = omega (arith, sum_replaced f shape strides axis len stride (omega arith) (omega arith))
+sum_replaced f (n ∷ shape) (s ∷ strides) (suc axis) len stride h e = omega (arith, sum_replaced f shape strides axis len stride
+    (omega arith) (omega arith))
 
 -- the factor that a length adds to the product of the lengths that are not 0
 abbrev pub factor : ℕ → ℕ
@@ -41,34 +46,43 @@ by_factor len lens =
     ]
 
 -- that product changes by the factors of that axis
-pub size_replaced : (shape : List ℕ) (axis len : ℕ) → axis < length shape → nonzero_size (set shape axis len) * factor (get_or shape axis 0) ≡ nonzero_size shape * factor len
+pub size_replaced : (shape : List ℕ) (axis len : ℕ) → axis < length shape
+    → nonzero_size (set shape axis len) * factor (get_or shape axis 0) ≡ nonzero_size shape * factor len
 size_replaced [] axis len h = absurd (omega arith)
 size_replaced (n ∷ shape) zero len h = rw (by_factor len shape, by_factor n shape) (turned (factor len) (nonzero_size shape) (factor n))
   where
     turned : (a b c : ℕ) → a * b * c ≡ c * b * a
     turned a b c = omega arith
 size_replaced (n ∷ shape) (suc axis) len h =
-    rw (by_factor n (set shape axis len), by_factor n shape) (after (factor n) (nonzero_size (set shape axis len)) (factor (get_or shape axis 0)) (nonzero_size shape) (factor len) (size_replaced shape axis len (omega arith)))
+    rw (by_factor n (set shape axis len), by_factor n shape) (after (factor n) (nonzero_size (set shape axis len))
+        (factor (get_or shape axis 0)) (nonzero_size shape) (factor len) (size_replaced shape axis len (omega arith)))
   where
     after : (a x y z w : ℕ) → x * y ≡ z * w → a * x * y ≡ a * z * w
     after a x y z w e = omega (arith, ap (λ m. a * m) e)
 
 -- an offset changes with the stride of that axis
-pub offset_by_stride : (strides : List ℤ) (index : List ℕ) (axis : ℕ) (stride : ℤ) → axis < length strides → length strides ≡ length index → offset_of (set strides axis stride) index +ℤ (pos (get_or index axis 0) *ℤ get_or strides axis (pos 0)) ≡ offset_of strides index +ℤ (pos (get_or index axis 0) *ℤ stride)
+pub offset_by_stride : (strides : List ℤ) (index : List ℕ) (axis : ℕ) (stride : ℤ) → axis < length strides → length strides ≡ length index
+    → offset_of (set strides axis stride) index +ℤ (pos (get_or index axis 0) *ℤ get_or strides axis (pos 0)) ≡ offset_of strides index +ℤ
+    (pos (get_or index axis 0) *ℤ stride)
 offset_by_stride [] index axis stride h e = absurd (omega arith)
 offset_by_stride (s ∷ strides) [] axis stride h e = absurd (omega arith)
 offset_by_stride (s ∷ strides) (i ∷ index) zero stride h e = omega (arith, ints)
-offset_by_stride (s ∷ strides) (i ∷ index) (suc axis) stride h e = omega (arith, ints, offset_by_stride strides index axis stride (omega arith) (omega arith))
+offset_by_stride (s ∷ strides) (i ∷ index) (suc axis) stride h e = omega (arith, ints, offset_by_stride strides index axis stride
+    (omega arith) (omega arith))
 
 -- and with the entry on that axis
-pub offset_by_entry : (strides : List ℤ) (index : List ℕ) (axis i : ℕ) → axis < length strides → length strides ≡ length index → offset_of strides (set index axis i) +ℤ (pos (get_or index axis 0) *ℤ get_or strides axis (pos 0)) ≡ offset_of strides index +ℤ (pos i *ℤ get_or strides axis (pos 0))
+pub offset_by_entry : (strides : List ℤ) (index : List ℕ) (axis i : ℕ) → axis < length strides → length strides ≡ length index
+    → offset_of strides (set index axis i) +ℤ (pos (get_or index axis 0) *ℤ get_or strides axis (pos 0)) ≡ offset_of strides index +ℤ
+    (pos i *ℤ get_or strides axis (pos 0))
 offset_by_entry [] index axis i h e = absurd (omega arith)
 offset_by_entry (s ∷ strides) [] axis i h e = absurd (omega arith)
 offset_by_entry (s ∷ strides) (j ∷ index) zero i h e = omega (arith, ints)
-offset_by_entry (s ∷ strides) (j ∷ index) (suc axis) i h e = omega (arith, ints, offset_by_entry strides index axis i (omega arith) (omega arith))
+offset_by_entry (s ∷ strides) (j ∷ index) (suc axis) i h e = omega (arith, ints, offset_by_entry strides index axis i (omega arith)
+    (omega arith))
 
 -- an index of a shape with another length there is one of the shape, with an entry of the axis there
-pub index_restored : (shape index : List ℕ) (axis len i : ℕ) → is_index (set shape axis len) index ≡ true → i < get_or shape axis 0 → is_index shape (set index axis i) ≡ true
+pub index_restored : (shape index : List ℕ) (axis len i : ℕ) → is_index (set shape axis len) index ≡ true → i < get_or shape axis 0
+    → is_index shape (set index axis i) ≡ true
 index_restored [] index axis len i here below = absurd (omega arith)
 index_restored (n ∷ shape) [] zero len i here below = absurd (cc)
 index_restored (n ∷ shape) [] (suc axis) len i here below = absurd (cc)
@@ -80,7 +94,8 @@ index_restored (n ∷ shape) (j ∷ index) (suc axis) len i here below =
     and_from (nat_lt j n) (is_index shape (set index axis i)) parts.0 (index_restored shape index axis len i parts.1 below)
 
 -- lists that are one with an entry replaced, and have one entry there, are one
-pub same_with_entry : {index other : List ℕ} (axis i j : ℕ) → set index axis i ≡ set other axis j → get_or index axis 0 ≡ get_or other axis 0 → index ≡ other
+pub same_with_entry : {index other : List ℕ} (axis i j : ℕ) → set index axis i ≡ set other axis j
+    → get_or index axis 0 ≡ get_or other axis 0 → index ≡ other
 same_with_entry {index} {other} axis i j same at =
     sym (set-get_or index axis 0)
     ∙ sym (set-set index axis i (get_or index axis 0))

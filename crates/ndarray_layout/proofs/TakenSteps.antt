@@ -1,5 +1,6 @@
 -- Runs of lists of steps from runs of their parts.
-use Rattle.std.proofs.Common.{◌≡◌, ℕ, ◌+◌, ◌<◌, suc, Option, Some, None, Err, List, [], ◌∷◌, ◌++◌, length, get_or, take, drop, refl, sym, ap, subst, ◌∙◌, arith, false, nat_lt, IsOk}
+use Rattle.std.proofs.Common.{◌≡◌, ℕ, ◌+◌, ◌<◌, suc, Option, Some, None, Err, List, [], ◌∷◌, ◌++◌, length, get_or, take, drop, refl, sym}
+use Rattle.std.proofs.Common.{ap, subst, ◌∙◌, arith, false, nat_lt, IsOk}
 use Rattle.std.specs.List.{slice_get}
 use Rattle.std.proofs.Math.Seq.{take-suc, drop-cons}
 use Rattle.std.proofs.lemmas.List.{length-take-le, take-append-drop}
@@ -10,7 +11,8 @@ use Rattle.std.proofs.lemmas.Bool.{both_ways, lt-ltb, ltb-true, true_from_ne_fal
 use Rattle.nd_slice.specs.ArgumentFault.{out_count}
 use Rattle.ndarray_layout.specs.Descends.{IsViewOf}
 use Rattle.ndarray_layout.specs.DistinctPlaces.{HasDistinctPlaces}
-use Rattle.ndarray_layout.specs.Step.{StepValue, SliceBy, CollapseTo, MergeInto, ReshapeTo, BroadcastTo, may_want_memory, step_fault, view_after}
+use Rattle.ndarray_layout.specs.Step.{StepValue, SliceBy, CollapseTo, MergeInto, ReshapeTo, BroadcastTo, may_want_memory, step_fault}
+use Rattle.ndarray_layout.specs.Step.{view_after}
 use Rattle.ndarray_layout.specs.StepFits.{MayRefuseMemory}
 use Rattle.ndarray_layout.proofs.laws.Step.{IsViewOf-view_after}
 use Rattle.ndarray_layout.proofs.laws.StepFits.{fits_of_no_fault_of_step, no_fault_of_fitting_step}
@@ -29,12 +31,15 @@ pub all_fit : (steps : List StepValue) (view : View) → IsView view → (run_of
 all_fit [] view v none = tt
 all_fit (step ∷ steps) view v none = by (step_fault view step) refl (all_fit steps (view_after view step)) none
   where
-    by : (fault : Option ErrorKind) → step_fault view step ≡ fault → (IsView (view_after view step) → (run_of steps (view_after view step)).fault ≡ None → AllFit steps (view_after view step)) → (first_then fault view step (run_of steps (view_after view step))).fault ≡ None → AllFit (step ∷ steps) view
+    by : (fault : Option ErrorKind) → step_fault view step ≡ fault
+        → (IsView (view_after view step) → (run_of steps (view_after view step)).fault ≡ None → AllFit steps (view_after view step))
+        → (first_then fault view step (run_of steps (view_after view step))).fault ≡ None → AllFit (step ∷ steps) view
     by None e rest none = (fits_of_no_fault_of_step step v e, rest (IsViewOf-view_after step v e).is_view none)
     by (Some kind) e rest none = absurd (cc)
 
 -- and the view that it leaves is one of the first one's data
-pub left_by : {steps : List StepValue} {start view : View} → IsView start → (run_of steps start).fault ≡ None → (run_of steps start).view ≡ view → Leave steps start view
+pub left_by : {steps : List StepValue} {start view : View} → IsView start → (run_of steps start).fault ≡ None
+    → (run_of steps start).view ≡ view → Leave steps start view
 left_by {steps} {start} v none same =
     let sound = run_sound steps start v in
     record {
@@ -50,7 +55,8 @@ taken_of_no_fault : (steps : List StepValue) (view : View) → (run_of steps vie
 taken_of_no_fault [] view none = refl
 taken_of_no_fault (step ∷ steps) view none = by (step_fault view step) (taken_of_no_fault steps (view_after view step)) none
   where
-    by : (fault : Option ErrorKind) → ((run_of steps (view_after view step)).fault ≡ None → (run_of steps (view_after view step)).taken ≡ length steps)
+    by : (fault : Option ErrorKind)
+        → ((run_of steps (view_after view step)).fault ≡ None → (run_of steps (view_after view step)).taken ≡ length steps)
         → (first_then fault view step (run_of steps (view_after view step))).fault ≡ None
         → (first_then fault view step (run_of steps (view_after view step))).taken ≡ suc (length steps)
     by None rest none = omega (arith, rest none)
@@ -65,7 +71,10 @@ WantsMemoryLast (ReshapeTo shape order) = ⊥
 WantsMemoryLast (BroadcastTo shape) = Unit {0}
 
 -- what is known of a step that is not taken, where memory comes after the fault of a shape
-pub refused_of : (X : Type 0) {view : View} (step : StepValue) (fault : LayoutError) → IsView view → WantsMemoryLast step → shape_fault {X = X} (Err fault) ≡ step_fault view step → (step_fault view step ≡ None → may_want_memory step ≡ false → IsOk {T = X} {E = LayoutError} (Err fault)) → IsRefusedBy view fault step
+pub refused_of : (X : Type 0) {view : View} (step : StepValue) (fault : LayoutError) → IsView view → WantsMemoryLast step
+    → shape_fault {X = X} (Err fault) ≡ step_fault view step
+    → (step_fault view step ≡ None → may_want_memory step ≡ false → IsOk {T = X} {E = LayoutError} (Err fault))
+    → IsRefusedBy view fault step
 refused_of X step (Shape kind) v last refused memory = (
   sym refused,
   λ fits.
@@ -77,19 +86,23 @@ refused_of X {view} step (Memory e) v last refused memory = wanted view step v l
     let ok = memory (sym refused) few in
     cc)
   where
-    wanted : (view : View) (step : StepValue) → IsView view → WantsMemoryLast step → step_fault view step ≡ None → (may_want_memory step ≡ false → ⊥) → MayRefuseMemory view step
-    wanted view (SliceBy elems fit) v last none wants = (fits_of_no_fault_of_step (SliceBy elems fit) v none, ltb-true INLINE_AXES (out_count elems) (true_from_ne_false (nat_lt INLINE_AXES (out_count elems)) wants))
+    wanted : (view : View) (step : StepValue) → IsView view → WantsMemoryLast step → step_fault view step ≡ None
+        → (may_want_memory step ≡ false → ⊥) → MayRefuseMemory view step
+    wanted view (SliceBy elems fit) v last none wants = (fits_of_no_fault_of_step (SliceBy elems fit) v none, ltb-true INLINE_AXES
+        (out_count elems) (true_from_ne_false (nat_lt INLINE_AXES (out_count elems)) wants))
     wanted view (CollapseTo axis index) v last none wants = wants refl
     wanted view (MergeInto take into) v last none wants = wants refl
     wanted view (ReshapeTo shape order) v last none wants = absurd last
-    wanted view (BroadcastTo shape) v last none wants = (fits_of_no_fault_of_step (BroadcastTo shape) v none, ltb-true INLINE_AXES (length shape) (true_from_ne_false (nat_lt INLINE_AXES (length shape)) wants))
+    wanted view (BroadcastTo shape) v last none wants = (fits_of_no_fault_of_step (BroadcastTo shape) v none, ltb-true INLINE_AXES
+        (length shape) (true_from_ne_false (nat_lt INLINE_AXES (length shape)) wants))
 
 -- a count that wants memory is above four
 past_inline : (n : ℕ) → ¬ NeedsNoMemory None n → INLINE_AXES < n
 past_inline n many = omega arith
 
 -- and of a reshape, where it may come before it
-pub reshape_refused_of : {view : View} (shape : List ℕ) (order : Order) (fault : LayoutError) → IsView view → IsReshapeRefusal None order shape view fault → IsRefusedBy view fault (ReshapeTo shape order)
+pub reshape_refused_of : {view : View} (shape : List ℕ) (order : Order) (fault : LayoutError) → IsView view
+    → IsReshapeRefusal None order shape view fault → IsRefusedBy view fault (ReshapeTo shape order)
 reshape_refused_of shape order (Shape kind) v refused = (
   refused,
   λ fits.
@@ -112,7 +125,8 @@ not_refused view (ReshapeTo shape order) refused few = above_inline (length shap
 not_refused view (BroadcastTo shape) refused few = above_inline (length shape) refused.1 few
 
 -- ---- a run that has come to one of its steps
-module _ (steps : List StepValue) (at : ℕ) (step : StepValue) (start left : View) (there : slice_get steps at ≡ Some step) (before : Leave (take at steps) start left) where
+module _ (steps : List StepValue) (at : ℕ) (step : StepValue) (start left : View) (there : slice_get steps at ≡ Some step)
+    (before : Leave (take at steps) start left) where
   within : at < length steps
   within = slice_get_within steps at step there
 

@@ -1,5 +1,6 @@
 -- Laws of views that are read as views of a shape with more or longer axes.
-use Rattle.std.proofs.Common.{◌≡◌, ◌≢◌, ℕ, ◌+◌, ◌-◌, ◌<◌, ◌≤◌, Bool, true, false, not, cond, ltb, Option, Some, None, List, length, get_or, inl, inr, refl, ap, arith}
+use Rattle.std.proofs.Common.{◌≡◌, ◌≢◌, ℕ, ◌+◌, ◌-◌, ◌<◌, ◌≤◌, Bool, true, false, not, cond, ltb, Option, Some, None, List, length, get_or}
+use Rattle.std.proofs.Common.{inl, inr, refl, ap, arith}
 use Rattle.std.proofs.lemmas.Bool.{false_from_ne_true, ltb-false, le-ltb}
 use Rattle.std.proofs.lemmas.Int.{ints}
 use Rattle.std.specs.Bool.{Decides}
@@ -38,7 +39,8 @@ takes_in_no_fewer shape other h = false_from_ne_true (takes_in shape other) (λ 
     omega (arith, parts.0))
 
 -- and where an axis has neither the length beside it nor a length of 1
-pub takes_in_no_other : (shape other : List ℕ) (k : ℕ) → k < length other → get_or other k 0 ≢ get_or shape (length shape - length other + k) 0 → get_or other k 0 ≢ 1 → takes_in shape other ≡ false
+pub takes_in_no_other : (shape other : List ℕ) (k : ℕ) → k < length other
+    → get_or other k 0 ≢ get_or shape (length shape - length other + k) 0 → get_or other k 0 ≢ 1 → takes_in shape other ≡ false
 takes_in_no_other shape other k there differs long = false_from_ne_true (takes_in shape other) (λ takes.
     let parts = stretches_to_common shape other ((takes_in-Decides shape other).0 takes) in
     elim (parts.1 k there) [
@@ -63,7 +65,8 @@ can_broadcast {shape} {view_shape} none =
       size_fits = ltb-false limit (nonzero_size shape) parts.1;
     }
   where
-    by : (takes large : Bool) → cond (not takes) (Some IncompatibleShape) (cond large (Some Overflow) None) ≡ None → (takes ≡ true) × (large ≡ false)
+    by : (takes large : Bool) → cond (not takes) (Some IncompatibleShape) (cond large (Some Overflow) None) ≡ None
+        → (takes ≡ true) × (large ≡ false)
     by true true none = absurd (cc)
     by true false none = (refl, refl)
     by false large none = absurd (cc)
@@ -82,7 +85,8 @@ pub no_fewer_axes : (shape view_shape : List ℕ) → broadcast_fault shape view
 no_fewer_axes shape view_shape none = (stretches_to_common shape view_shape (can_broadcast none).common).0
 
 -- the view is one of the same data, whose indices lie where their sources do
-pub IsViewOf-broadcast_of : (shape : List ℕ) {view : View} → IsView view → broadcast_fault shape view.shape ≡ None → IsViewOf (broadcast_source view.shape) view (broadcast_of shape view)
+pub IsViewOf-broadcast_of : (shape : List ℕ) {view : View} → IsView view → broadcast_fault shape view.shape ≡ None
+    → IsViewOf (broadcast_source view.shape) view (broadcast_of shape view)
 IsViewOf-broadcast_of shape {view} v none = IsViewOf-kept whole (λ entries here.
     let stays = broadcast_source_kept entries stretches here in
     (stays.within, omega (arith, ints, stays.offset)))

@@ -1,5 +1,6 @@
 -- Laws of views of which one entry of an axis was taken.
-use Rattle.std.proofs.Common.{◌≡◌, ℕ, ◌+◌, ◌<◌, ℤ, pos, negsuc, ◌+ℤ◌, ◌*ℤ◌, ◌≤ℤ◌, Bool, true, false, cond, None, Some, List, length, get_or, set, map, nat_lt, refl, sym, ap, ◌∙◌, arith}
+use Rattle.std.proofs.Common.{◌≡◌, ℕ, ◌+◌, ◌<◌, ℤ, pos, negsuc, ◌+ℤ◌, ◌*ℤ◌, ◌≤ℤ◌, Bool, true, false, cond, None, Some, List, length, get_or}
+use Rattle.std.proofs.Common.{set, map, nat_lt, refl, sym, ap, ◌∙◌, arith}
 use Rattle.std.proofs.lemmas.Bool.{and_parts, ltb-true}
 use Rattle.std.proofs.lemmas.Int.{ints}
 use Rattle.std.proofs.lemmas.List.Folds.{flat_map-map}
@@ -23,9 +24,11 @@ fits true none = refl
 fits false none = absurd (cc)
 
 -- an entry that can be taken is one of an axis that there is
-pub entry_of_no_fault : (shape : List ℕ) (axis index : ℕ) → collapse_fault shape axis index ≡ None → (axis < length shape) × (index < get_or shape axis 0)
+pub entry_of_no_fault : (shape : List ℕ) (axis index : ℕ) → collapse_fault shape axis index ≡ None
+    → (axis < length shape) × (index < get_or shape axis 0)
 entry_of_no_fault shape axis index none =
-    let parts = and_parts (nat_lt axis (length shape)) (nat_lt index (get_or shape axis 0)) (fits (nat_lt axis (length shape) && nat_lt index (get_or shape axis 0)) none) in
+    let parts = and_parts (nat_lt axis (length shape)) (nat_lt index (get_or shape axis 0))
+        (fits (nat_lt axis (length shape) && nat_lt index (get_or shape axis 0)) none) in
     (ltb-true axis (length shape) parts.0, ltb-true index (get_or shape axis 0) parts.1)
 
 -- an entry of a view that can be taken
@@ -67,7 +70,8 @@ first_entry (negsuc s) = omega (arith, ints)
 pub places-collapse_of_last : (view : View) (last : ℕ) (starts : List ℕ) → length view.shape ≡ last + 1 → length view.strides ≡ last + 1
     → map pos starts ≡ view_places RowMajor (collapse_of last 0 view)
     → view_places RowMajor view
-    ≡ flat_map (λ start. map (λ entry. pos start +ℤ (pos entry *ℤ get_or view.strides last (pos 0))) (below (get_or view.shape last 0))) starts
+    ≡ flat_map (λ start. map (λ entry. pos start +ℤ (pos entry *ℤ get_or view.strides last (pos 0))) (below (get_or view.shape last 0)))
+        starts
 places-collapse_of_last view last starts long also same =
     let stride = get_or view.strides last (pos 0) in
     let row = λ (start : ℤ). row_from start stride (get_or view.shape last 0) in

@@ -13,7 +13,8 @@ use Rattle.ndarray_layout.specs.KeepsPlaces.{KeepsPlaces}
 use Rattle.ndarray_layout.specs.View.{View, IsView, LiesWithin, place_at, view_places}
 
 -- such a view lies within the data that the other lies within
-pub LiesWithin-kept : (len : ℕ) (source : List ℕ → List ℕ) (view result : View) → KeepsPlaces source view result → LiesWithin len view → LiesWithin len result
+pub LiesWithin-kept : (len : ℕ) (source : List ℕ → List ℕ) (view result : View) → KeepsPlaces source view result → LiesWithin len view
+    → LiesWithin len result
 LiesWithin-kept len source view result keeps within = λ index here.
     let stays = keeps index here in
     subst (IsInside len) (sym stays.1) (within (source index) stays.0)
@@ -25,10 +26,12 @@ IsViewOf-kept {source} {old} {new} v keeps =
 
 -- different indices of the result stand for different ones
 abbrev pub AreApart : (List ℕ → List ℕ) → View → Type 0
-AreApart source new = (index other : List ℕ) → is_index new.shape index ≡ true → is_index new.shape other ≡ true → source index ≡ source other → index ≡ other
+AreApart source new = (index other : List ℕ) → is_index new.shape index ≡ true → is_index new.shape other ≡ true → source index
+    ≡ source other → index ≡ other
 
 -- and then no two of them share a place where no two of the view do
-pub Descends-kept : {source : List ℕ → List ℕ} {old new : View} → IsView new → KeepsPlaces source old new → AreApart source new → Descends source old new
+pub Descends-kept : {source : List ℕ → List ℕ} {old new : View} → IsView new → KeepsPlaces source old new → AreApart source new
+    → Descends source old new
 Descends-kept {source} {old} {new} v keeps apart = record {
   is_view = v;
   places = keeps;
@@ -47,7 +50,8 @@ pub IsViewOf-stayed : {view : View} → IsView view → IsViewOf (λ index. inde
 IsViewOf-stayed v = record { is_view = v; places = λ index here. (here, refl); inside = λ len within. within }
 
 -- and a view's view is one of the first one's, by the sources of the sources
-pub IsViewOf-in_turn : {source more : List ℕ → List ℕ} {view between result : View} → IsViewOf source view between → IsViewOf more between result
+pub IsViewOf-in_turn : {source more : List ℕ → List ℕ} {view between result : View} → IsViewOf source view between
+    → IsViewOf more between result
     → IsViewOf (λ index. source (more index)) view result
 IsViewOf-in_turn {source} {more} {view} {between} {result} first second = IsViewOf-kept second.is_view (λ index here.
     let near = second.places index here in
@@ -58,11 +62,14 @@ contained : (f : List ℕ → ℤ) (xs : List (List ℕ)) (x : List ℕ) → Con
 contained f xs x here = (here.0, omega (arith, length-map xs f, here.1), get_or-map f xs here.0 x ∙ ap f here.2)
 
 -- each of its places is one of the other's
-pub places_are_kept : (order : Order) (source : List ℕ → List ℕ) (view result : View) → KeepsPlaces source view result → All (Contains (view_places order view)) (view_places order result)
+pub places_are_kept : (order : Order) (source : List ℕ → List ℕ) (view result : View) → KeepsPlaces source view result
+    → All (Contains (view_places order view)) (view_places order result)
 places_are_kept order source view result keeps =
     let places = view_places order view in
     let stays : (index : List ℕ) → is_index result.shape index ≡ true → Contains places (place_at result index) = λ index here.
     let kept = keeps index here in
-    subst (Contains places) (sym kept.1) (contained (place_at view) (indices_in order view.shape) (source index) (Contains-indices_in order view.shape (source index) kept.0)) in
+    subst (Contains places) (sym kept.1) (contained (place_at view) (indices_in order view.shape) (source index)
+        (Contains-indices_in order view.shape (source index) kept.0)) in
     let indices = indices_in order result.shape in
-    All-map (Contains places) (place_at result) indices (All-weaker (λ index. is_index result.shape index ≡ true) (λ index. Contains places (place_at result index)) stays indices (All-indices_in order result.shape))
+    All-map (Contains places) (place_at result) indices (All-weaker (λ index. is_index result.shape index ≡ true)
+        (λ index. Contains places (place_at result index)) stays indices (All-indices_in order result.shape))

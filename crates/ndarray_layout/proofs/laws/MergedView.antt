@@ -1,5 +1,6 @@
 -- Laws of views in which an axis was merged into another.
-use Rattle.std.proofs.Common.{◌≡◌, ◌↔◌, ◌≢◌, ℕ, ◌<◌, ℤ, pos, Bool, true, false, not, cond, eqb, ltb, leb, Option, Some, None, List, length, get_or, nat_lt, refl, arith}
+use Rattle.std.proofs.Common.{◌≡◌, ◌↔◌, ◌≢◌, ℕ, ◌<◌, ℤ, pos, Bool, true, false, not, cond, eqb, ltb, leb, Option, Some, None, List, length}
+use Rattle.std.proofs.Common.{get_or, nat_lt, refl, arith}
 use Rattle.std.proofs.lemmas.Bool.{and_parts, ltb-true, eqb-false}
 use Rattle.std.proofs.lemmas.Bool.Decides.{same_from_decides}
 use Rattle.std.proofs.lemmas.Int.{ints}
@@ -11,7 +12,8 @@ use Rattle.nd_base.specs.declared.error.ErrorKind.TheVariants.{IncompatibleLayou
 use Rattle.nd_shape.specs.Merge.{IsMergedStride, merged_stride}
 use Rattle.nd_shape.proofs.laws.Merge.{merge_fits-Decides, merged_stride_serves}
 use Rattle.ndarray_layout.specs.Descends.{Descends}
-use Rattle.ndarray_layout.specs.MergedView.{axes_fault, HasMergedStride, has_merged_stride, merge_fault, lasting_axis, merge_of, merge_source}
+use Rattle.ndarray_layout.specs.MergedView.{axes_fault, HasMergedStride, has_merged_stride, merge_fault, lasting_axis, merge_of}
+use Rattle.ndarray_layout.specs.MergedView.{merge_source}
 use Rattle.ndarray_layout.specs.View.{View, IsView}
 use Rattle.ndarray_layout.proofs.laws.KeepsPlaces.{Descends-kept}
 use Rattle.ndarray_layout.proofs.laws.View.{IsView-within}
@@ -19,7 +21,8 @@ use Rattle.ndarray_layout.proofs.Merged.{TwoAxes, merge_kept, merge_source_kept,
 
 -- the test says where some stride has the entries of both axes
 pub has_merged_stride-Decides : (take into : ℕ) (view : View) → Decides (has_merged_stride take into view) (HasMergedStride take into view)
-has_merged_stride-Decides take into view = merge_fits-Decides (get_or view.shape take 0) (get_or view.strides take (pos 0)) (get_or view.shape into 0) (get_or view.strides into (pos 0))
+has_merged_stride-Decides take into view = merge_fits-Decides (get_or view.shape take 0) (get_or view.strides take (pos 0))
+    (get_or view.shape into 0) (get_or view.strides into (pos 0))
 
 -- axes without fault are two that there are
 pub record AreTwoAxes (shape : List ℕ) (take into : ℕ) : Type 0 where
@@ -52,7 +55,8 @@ can_merge take into view none =
     let parts = by (axes_fault view.shape take into) (has_merged_stride take into view) none in
     record { axes = parts.0; stride = parts.1 }
   where
-    by : (axes : Option ErrorKind) (fits : Bool) → option_or axes (cond fits None (Some IncompatibleLayout)) ≡ None → (axes ≡ None) × (fits ≡ true)
+    by : (axes : Option ErrorKind) (fits : Bool) → option_or axes (cond fits None (Some IncompatibleLayout)) ≡ None
+        → (axes ≡ None) × (fits ≡ true)
     by None true none = (refl, refl)
     by None false none = absurd (cc)
     by (Some kind) fits none = absurd (cc)
@@ -61,9 +65,11 @@ pub no_fault_where_it_can : (take into : ℕ) (view : View) → CanMerge take in
 no_fault_where_it_can take into view can = rw (can.axes, can.stride) refl
 
 -- so a merge's answer says what its fault is, where the axes have to be merged
-pub merge_fault_of_answer : (take into : ℕ) (view : View) {merged : Bool} → axes_fault view.shape take into ≡ None → (merged ≡ true) ↔ HasMergedStride take into view → merge_fault take into view ≡ cond merged None (Some IncompatibleLayout)
+pub merge_fault_of_answer : (take into : ℕ) (view : View) {merged : Bool} → axes_fault view.shape take into ≡ None
+    → (merged ≡ true) ↔ HasMergedStride take into view → merge_fault take into view ≡ cond merged None (Some IncompatibleLayout)
 merge_fault_of_answer take into view {merged} none fits =
-    let same : has_merged_stride take into view ≡ merged = same_from_decides (has_merged_stride take into view) merged (has_merged_stride-Decides take into view) fits in
+    let same : has_merged_stride take into view ≡ merged = same_from_decides (has_merged_stride take into view) merged
+        (has_merged_stride-Decides take into view) fits in
     rw (none, same) refl
 
 two_axes : {take into : ℕ} {view : View} → IsView view → axes_fault view.shape take into ≡ None → TwoAxes view.shape view.strides take into
@@ -72,11 +78,14 @@ two_axes {take} {into} {view} v none =
     record { counts = v.valid.same_count; taken_there = axes.take_there; into_there = axes.into_there; apart = axes.apart }
 
 -- the stride of the axis that lasts is the one that has them
-stride_of : (strides : List ℤ) (take into : ℕ) (taken : Bool) → get_or strides (cond taken take into) (pos 0) ≡ cond taken (get_or strides take (pos 0)) (get_or strides into (pos 0))
+stride_of : (strides : List ℤ) (take into : ℕ) (taken : Bool)
+    → get_or strides (cond taken take into) (pos 0) ≡ cond taken (get_or strides take (pos 0)) (get_or strides into (pos 0))
 stride_of strides take into true = refl
 stride_of strides take into false = refl
 
-lasting : (take into : ℕ) (view : View) → get_or view.strides (lasting_axis take into view.shape) (pos 0) ≡ merged_stride (get_or view.shape take 0) (get_or view.strides take (pos 0)) (get_or view.shape into 0) (get_or view.strides into (pos 0))
+lasting : (take into : ℕ) (view : View)
+    → get_or view.strides (lasting_axis take into view.shape) (pos 0) ≡ merged_stride (get_or view.shape take 0)
+    (get_or view.strides take (pos 0)) (get_or view.shape into 0) (get_or view.strides into (pos 0))
 lasting take into view = stride_of view.strides take into (ltb 1 (get_or view.shape take 0) && leb (get_or view.shape into 0) 1)
 
 -- axes of a view that can be merged
@@ -90,7 +99,8 @@ module _ (take into : ℕ) (view : View) (v : IsView view) (none : merge_fault t
   two : TwoAxes view.shape view.strides take into
   two = two_axes v can.axes
 
-  serves : IsMergedStride (get_or view.shape take 0) (get_or view.strides take (pos 0)) (get_or view.shape into 0) (get_or view.strides into (pos 0)) (get_or view.strides (lasting_axis take into view.shape) (pos 0))
+  serves : IsMergedStride (get_or view.shape take 0) (get_or view.strides take (pos 0)) (get_or view.shape into 0)
+      (get_or view.strides into (pos 0)) (get_or view.strides (lasting_axis take into view.shape) (pos 0))
   serves = rw (lasting take into view) (merged_stride_serves _ _ _ _ can.stride)
 
   is_view : IsView (merge_of take into view)

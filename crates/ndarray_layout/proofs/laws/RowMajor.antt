@@ -19,12 +19,14 @@ use Rattle.ndarray_layout.specs.View.{View, IsView, place_at, view_of}
 abbrev pub standard_view : Order → List ℕ → View
 standard_view order shape = view_of (low_span shape (all_signed (standard_strides order shape))) shape (standard_strides order shape)
 
-offset_at_rank : (order : Order) (shape index : List ℕ) → is_index shape index ≡ true → offset_of (map pos (standard_strides order shape)) index ≡ pos (rank_in order shape index)
+offset_at_rank : (order : Order) (shape index : List ℕ) → is_index shape index ≡ true
+    → offset_of (map pos (standard_strides order shape)) index ≡ pos (rank_in order shape index)
 offset_at_rank RowMajor shape index here = offset_of-default_strides shape index here
 offset_at_rank ColumnMajor shape index here = offset_of-fortran_strides shape index here
 
 -- in it each index lies at its rank
-pub place_at_rank : (order : Order) (shape index : List ℕ) {view : View} → IsView view → view ≡ standard_view order shape → is_index shape index ≡ true → place_at view index ≡ pos (rank_in order shape index)
+pub place_at_rank : (order : Order) (shape index : List ℕ) {view : View} → IsView view → view ≡ standard_view order shape
+    → is_index shape index ≡ true → place_at view index ≡ pos (rank_in order shape index)
 place_at_rank order shape index v is here =
     let top : nonzero_size shape ≤ limit = subst (λ lens. nonzero_size lens ≤ limit) (ap (λ made. made.shape) is) v.valid.size_fits in
     rw (is, standard_low_span order shape top, standard_signed order shape top, offset_at_rank order shape index here) (omega (arith, ints))
@@ -34,11 +36,13 @@ pub rank_of_row : (n m i j : ℕ) → rank_in RowMajor (n ∷ m ∷ []) (i ∷ j
 rank_of_row n m i j = omega arith
 
 -- so in a list that is read as n rows of m their item is item i * m + j
-pub place_in_row : (n m i j : ℕ) {view : View} → IsView view → view ≡ standard_view RowMajor (n ∷ m ∷ []) → is_index (n ∷ m ∷ []) (i ∷ j ∷ []) ≡ true → place_at view (i ∷ j ∷ []) ≡ pos (i * m + j)
+pub place_in_row : (n m i j : ℕ) {view : View} → IsView view → view ≡ standard_view RowMajor (n ∷ m ∷ [])
+    → is_index (n ∷ m ∷ []) (i ∷ j ∷ []) ≡ true → place_at view (i ∷ j ∷ []) ≡ pos (i * m + j)
 place_in_row n m i j v is here = place_at_rank RowMajor (n ∷ m ∷ []) (i ∷ j ∷ []) v is here ∙ ap pos (rank_of_row n m i j)
 
 -- and where a view is read so, they stand for the index of it with that flat index
-pub source_in_row : (shape : List ℕ) (n m i j : ℕ) → reshape_source RowMajor shape (n ∷ m ∷ []) (i ∷ j ∷ []) ≡ index_of_rank_in RowMajor shape (i * m + j)
+pub source_in_row : (shape : List ℕ) (n m i j : ℕ)
+    → reshape_source RowMajor shape (n ∷ m ∷ []) (i ∷ j ∷ []) ≡ index_of_rank_in RowMajor shape (i * m + j)
 source_in_row shape n m i j = ap (index_of_rank_in RowMajor shape) (rank_of_row n m i j)
 
 -- which along one axis is the flat index itself

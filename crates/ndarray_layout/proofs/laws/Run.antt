@@ -23,7 +23,8 @@ stepped view step = record { taken = 1; view = view_after view step; source = so
 -- two outcomes, of which the second began with the view that the first left; a fault ends both
 abbrev pub joined : Option ErrorKind → Outcome → Outcome → Outcome
 joined None first second =
-    record { taken = first.taken + second.taken; view = second.view; source = λ index. first.source (second.source index); fault = second.fault }
+    record { taken = first.taken + second.taken; view = second.view; source = λ index. first.source (second.source index); fault =
+        second.fault }
 joined (Some kind) first second = first
 
 -- what two parts of a run make of a view, one after the other
@@ -35,19 +36,25 @@ abbrev pub first_then : Option ErrorKind → View → StepValue → Outcome → 
 first_then fault view step rest = elim fault [ Some kind ↦ stayed (Some kind) view | None ↦ joined None (stepped view step) rest ]
 
 -- a first step that fits goes before the others, and one that doesn't ends the run
-pub run_of_fitting : (step : StepValue) (steps : List StepValue) (view : View) → step_fault view step ≡ None → run_of (step ∷ steps) view ≡ joined None (stepped view step) (run_of steps (view_after view step))
+pub run_of_fitting : (step : StepValue) (steps : List StepValue) (view : View) → step_fault view step ≡ None
+    → run_of (step ∷ steps) view ≡ joined None (stepped view step) (run_of steps (view_after view step))
 run_of_fitting step steps view none = ap (λ fault. first_then fault view step (run_of steps (view_after view step))) none
 
-pub run_of_refused : (step : StepValue) (steps : List StepValue) (view : View) {kind : ErrorKind} → step_fault view step ≡ Some kind → run_of (step ∷ steps) view ≡ stayed (Some kind) view
+pub run_of_refused : (step : StepValue) (steps : List StepValue) (view : View) {kind : ErrorKind} → step_fault view step ≡ Some kind
+    → run_of (step ∷ steps) view ≡ stayed (Some kind) view
 run_of_refused step steps view fault = ap (λ fault. first_then fault view step (run_of steps (view_after view step))) fault
 
 -- a run after no steps
 after_none : {second : Outcome} (view : View) → second ≡ joined None (stayed None view) second
-after_none {second} view = ap (λ n. record { taken = n; view = second.view; source = second.source; fault = second.fault }) (let e : second.taken ≡ 0 + second.taken = omega arith in e)
+after_none {second} view = ap (λ n. record { taken = n; view = second.view; source = second.source; fault = second.fault })
+    (let e : second.taken ≡ 0 + second.taken = omega arith in e)
 
 -- three runs in turn are the first before the other two, or the first two before the third
-joined_in_turn : (a b c : Outcome) (f g : Option ErrorKind) → a.fault ≡ f → b.fault ≡ g → joined f a (joined g b c) ≡ joined (joined f a b).fault (joined f a b) c
-joined_in_turn a b c None None fine also = rw (also) (ap (λ n. record { taken = n; view = c.view; source = λ index. a.source (b.source (c.source index)); fault = c.fault }) (let e : a.taken + (b.taken + c.taken) ≡ (a.taken + b.taken) + c.taken = omega arith in e))
+joined_in_turn : (a b c : Outcome) (f g : Option ErrorKind) → a.fault ≡ f → b.fault ≡ g
+    → joined f a (joined g b c) ≡ joined (joined f a b).fault (joined f a b) c
+joined_in_turn a b c None None fine also =
+    rw (also) (ap (λ n. record { taken = n; view = c.view; source = λ index. a.source (b.source (c.source index)); fault = c.fault })
+    (let e : a.taken + (b.taken + c.taken) ≡ (a.taken + b.taken) + c.taken = omega arith in e))
 joined_in_turn a b c None (Some kind) fine fault = rw (fault) refl
 joined_in_turn a b c (Some kind) g fault also = rw (fault) refl
 
@@ -56,12 +63,16 @@ pub run_of_append : (steps more : List StepValue) (view : View) → run_of (step
 run_of_append [] more view = after_none view
 run_of_append (step ∷ steps) more view = by (step_fault view step) (run_of_append steps more (view_after view step))
   where
-    by : (fault : Option ErrorKind) → run_of (steps ++ more) (view_after view step) ≡ in_turn (run_of steps) (run_of more) (view_after view step)
+    by : (fault : Option ErrorKind)
+        → run_of (steps ++ more) (view_after view step) ≡ in_turn (run_of steps) (run_of more) (view_after view step)
         → first_then fault view step (run_of (steps ++ more) (view_after view step))
-        ≡ joined (first_then fault view step (run_of steps (view_after view step))).fault (first_then fault view step (run_of steps (view_after view step))) (run_of more (first_then fault view step (run_of steps (view_after view step))).view)
+        ≡ joined (first_then fault view step (run_of steps (view_after view step))).fault
+            (first_then fault view step (run_of steps (view_after view step)))
+            (run_of more (first_then fault view step (run_of steps (view_after view step))).view)
     by None rest =
         let after = view_after view step in
-        ap (joined None (stepped view step)) rest ∙ joined_in_turn (stepped view step) (run_of steps after) (run_of more (run_of steps after).view) None (run_of steps after).fault refl refl
+        ap (joined None (stepped view step)) rest ∙ joined_in_turn (stepped view step) (run_of steps after)
+            (run_of more (run_of steps after).view) None (run_of steps after).fault refl refl
     by (Some kind) rest = refl
 
 -- ---- what is left

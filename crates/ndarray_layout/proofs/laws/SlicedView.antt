@@ -21,7 +21,8 @@ use Rattle.ndarray_layout.proofs.laws.View.{IsView-within, pos-magnitude}
 use Rattle.ndarray_layout.proofs.Slices.{SliceKept, slices_kept, places_kept}
 
 -- an argument that is not refused fits the shape
-pub fits_of_no_refusal : (fit : Fit) (fixed : Option ℕ) (shape : List ℕ) (elems : List SliceInfoElem) → slice_refusal fit fixed shape elems ≡ None → argument_fault fit shape elems ≡ None
+pub fits_of_no_refusal : (fit : Fit) (fixed : Option ℕ) (shape : List ℕ) (elems : List SliceInfoElem)
+    → slice_refusal fit fixed shape elems ≡ None → argument_fault fit shape elems ≡ None
 fits_of_no_refusal fit None shape elems none = none
 fits_of_no_refusal fit (Some count) shape elems none = by (eqb (out_count elems) count) none
   where
@@ -37,7 +38,8 @@ of_one_kind true first same = same refl
 of_one_kind false first same = refl
 
 -- an argument whose counts of axes fit is refused as its first element at fault is
-pub refusal_of_counts : (fit : Fit) {fixed : Option ℕ} (shape : List ℕ) {elems : List SliceInfoElem} → HasCounts (Some (length shape)) fixed elems → slice_refusal fit fixed shape elems ≡ first_fault fit shape elems
+pub refusal_of_counts : (fit : Fit) {fixed : Option ℕ} (shape : List ℕ) {elems : List SliceInfoElem}
+    → HasCounts (Some (length shape)) fixed elems → slice_refusal fit fixed shape elems ≡ first_fault fit shape elems
 refusal_of_counts fit {fixed} shape {elems} counts = by fixed counts.out_fits
   where
     whole : argument_fault fit shape elems ≡ first_fault fit shape elems
@@ -48,9 +50,11 @@ refusal_of_counts fit {fixed} shape {elems} counts = by fixed counts.out_fits
     by (Some count) out = chosen (Some IncompatibleShape) (eq-eqb (out_count elems) count out) ∙ whole
 
 -- and any other for its counts
-pub refusal_of_other_counts : (fit : Fit) (fixed : Option ℕ) (shape : List ℕ) (elems : List SliceInfoElem) → (HasCounts (Some (length shape)) fixed elems → ⊥) → slice_refusal fit fixed shape elems ≡ Some IncompatibleShape
+pub refusal_of_other_counts : (fit : Fit) (fixed : Option ℕ) (shape : List ℕ) (elems : List SliceInfoElem)
+    → (HasCounts (Some (length shape)) fixed elems → ⊥) → slice_refusal fit fixed shape elems ≡ Some IncompatibleShape
 refusal_of_other_counts fit None shape elems other =
-    of_one_kind (eqb (in_count elems) (length shape)) (first_fault fit shape elems) (λ e. absurd (other (record { in_fits = eqb-true (in_count elems) (length shape) e; out_fits = tt })))
+    of_one_kind (eqb (in_count elems) (length shape)) (first_fault fit shape elems)
+        (λ e. absurd (other (record { in_fits = eqb-true (in_count elems) (length shape) e; out_fits = tt })))
 refusal_of_other_counts fit (Some count) shape elems other =
     of_one_kind (eqb (out_count elems) count) (argument_fault fit shape elems) (λ out.
     of_one_kind (eqb (in_count elems) (length shape)) (first_fault fit shape elems) (λ e.

@@ -26,7 +26,8 @@ both_none None second none = (refl, none)
 both_none (Some fault) second none = absurd (cc)
 
 -- no element is at fault where each fits
-elements_of_no_first : (fit : Fit) (shape : List ℕ) (elems : List SliceInfoElem) → first_fault fit shape elems ≡ None → ElementsFit fit shape elems
+elements_of_no_first : (fit : Fit) (shape : List ℕ) (elems : List SliceInfoElem) → first_fault fit shape elems ≡ None
+    → ElementsFit fit shape elems
 elements_of_no_first fit shape [] none = tt
 elements_of_no_first fit shape (elem.NewAxis ∷ elems) none = elements_of_no_first fit shape elems none
 elements_of_no_first fit [] (elem.Slice start end step ∷ elems) none = tt
@@ -38,7 +39,8 @@ elements_of_no_first fit (len ∷ shape) (elem.Index index ∷ elems) none =
     let parts = both_none (index_fault len index) (first_fault fit shape elems) none in
     (index_fits_of_no_fault len index parts.0, elements_of_no_first fit shape elems parts.1)
 
-no_first_of_elements : (fit : Fit) (shape : List ℕ) (elems : List SliceInfoElem) → ElementsFit fit shape elems → first_fault fit shape elems ≡ None
+no_first_of_elements : (fit : Fit) (shape : List ℕ) (elems : List SliceInfoElem) → ElementsFit fit shape elems
+    → first_fault fit shape elems ≡ None
 no_first_of_elements fit shape [] fits = refl
 no_first_of_elements fit shape (elem.NewAxis ∷ elems) fits = no_first_of_elements fit shape elems fits
 no_first_of_elements fit [] (elem.Slice start end step ∷ elems) fits = refl
@@ -47,7 +49,8 @@ no_first_of_elements fit (len ∷ shape) (elem.Slice start end step ∷ elems) f
     rw (no_fault_of_fits fit len (slice_with start end step) fits.0) (no_first_of_elements fit shape elems fits.1)
 no_first_of_elements fit (len ∷ shape) (elem.Index index ∷ elems) fits = rw (fits.0) (no_first_of_elements fit shape elems fits.1)
 
-no_refusal : (fit : Fit) (shape : List ℕ) (elems : List SliceInfoElem) → in_count elems ≡ length shape → first_fault fit shape elems ≡ None → slice_refusal fit None shape elems ≡ None
+no_refusal : (fit : Fit) (shape : List ℕ) (elems : List SliceInfoElem) → in_count elems ≡ length shape → first_fault fit shape elems ≡ None
+    → slice_refusal fit None shape elems ≡ None
 no_refusal fit shape elems counts none = rw (eq-eqb (in_count elems) (length shape) counts, none) refl
 
 -- a step without fault fits
@@ -77,7 +80,8 @@ no_fault_of_fitting_step {view} (MergeInto take into) v fits =
       stride = (merged.has_merged_stride-Decides take into view).1 fits.3;
     })
 no_fault_of_fitting_step (ReshapeTo shape order) v fits = (reshape_refusal-ReshapeFits order shape v).1 fits
-no_fault_of_fitting_step {view} (BroadcastTo shape) v fits = no_fault_where_it_can shape view.shape (record { common = fits.0; size_fits = fits.1 })
+no_fault_of_fitting_step {view} (BroadcastTo shape) v fits = no_fault_where_it_can shape view.shape
+    (record { common = fits.0; size_fits = fits.1 })
 
 pub step_fault-StepFits : {view : View} (step : StepValue) → IsView view → (step_fault view step ≡ None) ↔ StepFits view step
 step_fault-StepFits step v = (fits_of_no_fault_of_step step v, no_fault_of_fitting_step step v)

@@ -1,5 +1,6 @@
 -- Laws of views: each index of the shape has a place; how many places there are, in which order, and where they lie.
-use Rattle.std.proofs.Common.{◌≡◌, ℕ, ◌+◌, ◌<◌, ◌≤◌, ◌^◌, ℤ, pos, negsuc, ◌+ℤ◌, ◌≤ℤ◌, Bool, true, false, cond, Some, None, List, [], length, map, refl, sym, ap, subst, ◌∙◌, arith}
+use Rattle.std.proofs.Common.{◌≡◌, ℕ, ◌+◌, ◌<◌, ◌≤◌, ◌^◌, ℤ, pos, negsuc, ◌+ℤ◌, ◌≤ℤ◌, Bool, true, false, cond, Some, None, List, [], length}
+use Rattle.std.proofs.Common.{map, refl, sym, ap, subst, ◌∙◌, arith}
 use Rattle.std.specs.Prelude.{slice_get}
 use Rattle.std.specs.Option.{option_map}
 use Rattle.std.specs.List.{All}
@@ -26,7 +27,8 @@ use Rattle.ndarray_layout.specs.View.{View, IsView, LiesWithin, place_at, view_p
 use Rattle.ndarray_layout.proofs.Offsets.{offset_within}
 
 -- a layout from its lowest element on
-pub lowest_view : {shape : List ℕ} {strides : List ℤ} → IsValidLayout shape strides → IsView (record { start = low_span shape strides; shape = shape; strides = strides })
+pub lowest_view : {shape : List ℕ} {strides : List ℤ} → IsValidLayout shape strides
+    → IsView (record { start = low_span shape strides; shape = shape; strides = strides })
 lowest_view {shape} {strides} valid = record {
   valid = valid;
   low = omega arith;
@@ -34,7 +36,9 @@ lowest_view {shape} {strides} valid = record {
 }
 
 -- a layout that reaches no further than a view does, to either side, is a view from its start on
-pub IsView-within : {view new : View} → IsView view → length new.shape ≡ length new.strides → nonzero_size new.shape ≤ limit → low_span new.shape new.strides + view.start ≤ low_span view.shape view.strides + new.start → new.start + high_span new.shape new.strides ≤ view.start + high_span view.shape view.strides → IsView new
+pub IsView-within : {view new : View} → IsView view → length new.shape ≡ length new.strides → nonzero_size new.shape ≤ limit
+    → low_span new.shape new.strides + view.start ≤ low_span view.shape view.strides + new.start
+    → new.start + high_span new.shape new.strides ≤ view.start + high_span view.shape view.strides → IsView new
 IsView-within {view} {new} v counts fits low high =
     let spans = low_high_span new.shape new.strides in
     let whole = low_high_span view.shape view.strides in
@@ -67,15 +71,19 @@ view_place {view} index v h =
     }
 
 -- an offset that is given is that of an index
-pub some_offset : (shape : List ℕ) (strides : List ℤ) (index : List ℕ) {offset : ℤ} → Some offset ≡ checked_offset shape strides index → (is_index shape index ≡ true) × (offset ≡ offset_of strides index)
+pub some_offset : (shape : List ℕ) (strides : List ℤ) (index : List ℕ) {offset : ℤ} → Some offset ≡ checked_offset shape strides index
+    → (is_index shape index ≡ true) × (offset ≡ offset_of strides index)
 some_offset shape strides index {offset} e = by (is_index shape index) refl e
   where
-    by : (t : Bool) → is_index shape index ≡ t → Some offset ≡ cond t (Some (offset_of strides index)) None → (is_index shape index ≡ true) × (offset ≡ offset_of strides index)
+    by : (t : Bool) → is_index shape index ≡ t → Some offset ≡ cond t (Some (offset_of strides index)) None
+        → (is_index shape index ≡ true) × (offset ≡ offset_of strides index)
     by true h g = (h, cc)
     by false h g = absurd (cc)
 
 -- the place at an offset that is given
-pub offset_place_within : {view : View} (index : List ℕ) {offset : ℤ} → IsView view → Some offset ≡ checked_offset view.shape view.strides index → (pos 0 ≤ℤ (pos view.start +ℤ offset)) × ((pos view.start +ℤ offset) ≤ℤ pos limit)
+pub offset_place_within : {view : View} (index : List ℕ) {offset : ℤ} → IsView view
+    → Some offset ≡ checked_offset view.shape view.strides index
+    → (pos 0 ≤ℤ (pos view.start +ℤ offset)) × ((pos view.start +ℤ offset) ≤ℤ pos limit)
 offset_place_within {view} index v e =
     let some = some_offset view.shape view.strides index e in
     let here = view_place index v some.0 in
@@ -91,23 +99,27 @@ no_places order view h = ap (map (place view.start view.strides)) (indices_in_of
 
 -- as many places as indices
 pub length-view_places : (order : Order) (view : View) → length (view_places order view) ≡ size view.shape
-length-view_places order view = length-map (indices_in order view.shape) (place view.start view.strides) ∙ length-indices_in order view.shape
+length-view_places order view = length-map (indices_in order view.shape) (place view.start view.strides) ∙ length-indices_in order
+    view.shape
 
 -- where a view lies within data, each of its places does
 pub places_lie_within : (len : ℕ) (order : Order) (view : View) → LiesWithin len view → All (IsInside len) (view_places order view)
 places_lie_within len order view within =
     let indices = indices_in order view.shape in
-    let inside = All-weaker (λ index. is_index view.shape index ≡ true) (λ index. IsInside len (place view.start view.strides index)) within indices (All-indices_in order view.shape) in
+    let inside = All-weaker (λ index. is_index view.shape index ≡ true) (λ index. IsInside len (place view.start view.strides index)) within
+        indices (All-indices_in order view.shape) in
     All-map (IsInside len) (place view.start view.strides) indices inside
 
 -- the same of the places as unsigned numbers
-pub items_lie_within : (len : ℕ) (order : Order) (view : View) (items : List ℕ) → map pos items ≡ view_places order view → LiesWithin len view → All (λ item. item < len) items
+pub items_lie_within : (len : ℕ) (order : Order) (view : View) (items : List ℕ) → map pos items ≡ view_places order view
+    → LiesWithin len view → All (λ item. item < len) items
 items_lie_within len order view items same within = λ k d below.
     let places = subst (All (IsInside len)) (sym same) (places_lie_within len order view within) in
     subst (IsInside len) (get_or-map pos items k d (pos d) below) (places k (pos d) (omega (arith, length-map items pos)))
 
 -- what is listed at a rank is the place of the index of that rank
-pub item_at_rank : (order : Order) (view : View) (items : List ℕ) (r : ℕ) → map pos items ≡ view_places order view → r < size view.shape → option_map pos (slice_get items r) ≡ Some (place_at view (index_of_rank_in order view.shape r))
+pub item_at_rank : (order : Order) (view : View) (items : List ℕ) (r : ℕ) → map pos items ≡ view_places order view → r < size view.shape
+    → option_map pos (slice_get items r) ≡ Some (place_at view (index_of_rank_in order view.shape r))
 item_at_rank order view items r same below =
     sym (slice_get-map pos items r)
     ∙ ap (λ places. slice_get places r) same

@@ -11,7 +11,8 @@ use Rattle.ndarray_layout.proofs.TakenSteps.{left_by, not_stopped, one_more, sto
 use Rattle.ndarray_layout.proofs.runs.run.Goals as goal
 
 -- the step that is taken next
-next : (steps : List Step) (at : ℕ) {step : Step} → at < length steps → step ≡ get_or steps at step → slice_get (map step_value steps) at ≡ Some (step_value step)
+next : (steps : List Step) (at : ℕ) {step : Step} → at < length steps → step ≡ get_or steps at step
+    → slice_get (map step_value steps) at ≡ Some (step_value step)
 next steps at {step} within is =
     slice_get-map step_value steps at ∙ ap (option_map step_value) (slice_get-get_or steps at step within ∙ ap Some (sym is))
 

@@ -4,7 +4,9 @@ use Rattle.nd_base.specs.Signed.{all_signed}
 use Rattle.ndarray_layout.proofs.reshapes.Advance.{from-left-fault, to-left-fault}
 use Rattle.ndarray_layout.proofs.reshapes.Written.{written-first, written-whole, whole-sizes, whole-alike, whole-strides}
 use Rattle.ndarray_layout.proofs.reshape.walk.walk.Goals as goal
-use Rattle.ndarray_layout.proofs.reshape.walk.walk.Goals.{then-loop-at-test+else-at-len, else-loop-at-test, then-not-only_ones-via-then-not-only_ones, then-not-only_ones-via-else-not-only_ones+then-not-only_ones-2}
+use Rattle.ndarray_layout.proofs.reshape.walk.walk.Goals.{then-loop-at-test+else-at-len, else-loop-at-test}
+use Rattle.ndarray_layout.proofs.reshape.walk.walk.Goals.{then-not-only_ones-via-then-not-only_ones}
+use Rattle.ndarray_layout.proofs.reshape.walk.walk.Goals.{then-not-only_ones-via-else-not-only_ones+then-not-only_ones-2}
 
 pub loop-at-init : goal.loop-at-init
 loop-at-init g c = record {
@@ -16,7 +18,8 @@ loop-at-init g c = record {
 pub returns-then-not-only_ones-clause-fault : goal.returns-then-not-only_ones-clause-fault
 returns-then-not-only_ones-clause-fault g c =
     let l = c.loop-at in
-    let over : l.at.from_axes < length (g.S.Sequence.items c.args.from.now) → length (g.T.Sequence.items c.args.to.now) ≤ l.at.to_axes = elim c.loop-at-test.branch [
+    let over : l.at.from_axes < length (g.S.Sequence.items c.args.from.now) → length (g.T.Sequence.items c.args.to.now) ≤ l.at.to_axes =
+        elim c.loop-at-test.branch [
       | then-loop-at-test+else-at-len w ↦ λ some. let end = w.if-at-len.false in let count = w.len-in-loop-at.ensures in omega arith
       | else-loop-at-test w ↦ λ some. let end = w.loop-at-test.false in let count = c.len.ensures in absurd (omega arith)
     ] in
@@ -31,42 +34,55 @@ returns-then-not-only_ones-clause-fault g c =
           let left = w.only_ones-else-not-only_ones.ensures.longer w.if-not-only_ones-2.true in
           let above = left.1 in
           let under = left.2 in
-          to-left-fault left.0 c.requires.can_walk at (elim (cases_lt l.at.from_axes (length (g.S.Sequence.items c.args.from.now))) [ inl some ↦ absurd (let end = over some in omega arith) | inr past ↦ past ]) above under left.3
+          to-left-fault left.0 c.requires.can_walk at (elim (cases_lt l.at.from_axes (length (g.S.Sequence.items c.args.from.now)))
+              [ inl some ↦ absurd (let end = over some in omega arith) | inr past ↦ past ]) above under left.3
     ]
     ∙ ap Some (sym c.from_kind.ensures)
 
 pub returns-clause-sizes : goal.returns-clause-sizes
 returns-clause-sizes g c =
     let l = c.loop-at in
-    let over : l.at.from_axes < length (g.S.Sequence.items c.args.from.now) → length (g.T.Sequence.items c.args.to.now) ≤ l.at.to_axes = elim c.loop-at-test.branch [
+    let over : l.at.from_axes < length (g.S.Sequence.items c.args.from.now) → length (g.T.Sequence.items c.args.to.now) ≤ l.at.to_axes =
+        elim c.loop-at-test.branch [
       | then-loop-at-test+else-at-len w ↦ λ some. let end = w.if-at-len.false in let count = w.len-in-loop-at.ensures in omega arith
       | else-loop-at-test w ↦ λ some. let end = w.loop-at-test.false in let count = c.len.ensures in absurd (omega arith)
     ] in
     let room = l.invariant.room in
-    let whole = written-whole (g.O.Sequence.items l.out) (g.O.Sequence.items c.write_ones.new.out) l.at.from_axes l.at.to_axes c.requires.can_walk over (c.only_ones.ensures.ones c.if-not-only_ones.false) (c.only_ones-else-not-only_ones.ensures.ones c.if-not-only_ones-2.false)
-    room (c.write_ones.ensures.room ∙ room) c.write_ones.ensures.kept (λ j above below. c.write_ones.ensures.written j above (let count = c.write_ones.ensures.room in omega arith)) l.invariant.written in
+    let whole = written-whole (g.O.Sequence.items l.out) (g.O.Sequence.items c.write_ones.new.out) l.at.from_axes l.at.to_axes
+        c.requires.can_walk over (c.only_ones.ensures.ones c.if-not-only_ones.false) (c.only_ones-else-not-only_ones.ensures.ones
+        c.if-not-only_ones-2.false)
+    room (c.write_ones.ensures.room ∙ room) c.write_ones.ensures.kept (λ j above below. c.write_ones.ensures.written j above
+        (let count = c.write_ones.ensures.room in omega arith)) l.invariant.written in
     whole-sizes whole
 
 pub returns-clause-alike : goal.returns-clause-alike
 returns-clause-alike g c =
     let l = c.loop-at in
-    let over : l.at.from_axes < length (g.S.Sequence.items c.args.from.now) → length (g.T.Sequence.items c.args.to.now) ≤ l.at.to_axes = elim c.loop-at-test.branch [
+    let over : l.at.from_axes < length (g.S.Sequence.items c.args.from.now) → length (g.T.Sequence.items c.args.to.now) ≤ l.at.to_axes =
+        elim c.loop-at-test.branch [
       | then-loop-at-test+else-at-len w ↦ λ some. let end = w.if-at-len.false in let count = w.len-in-loop-at.ensures in omega arith
       | else-loop-at-test w ↦ λ some. let end = w.loop-at-test.false in let count = c.len.ensures in absurd (omega arith)
     ] in
     let room = l.invariant.room in
-    let whole = written-whole (g.O.Sequence.items l.out) (g.O.Sequence.items c.write_ones.new.out) l.at.from_axes l.at.to_axes c.requires.can_walk over (c.only_ones.ensures.ones c.if-not-only_ones.false) (c.only_ones-else-not-only_ones.ensures.ones c.if-not-only_ones-2.false)
-    room (c.write_ones.ensures.room ∙ room) c.write_ones.ensures.kept (λ j above below. c.write_ones.ensures.written j above (let count = c.write_ones.ensures.room in omega arith)) l.invariant.written in
+    let whole = written-whole (g.O.Sequence.items l.out) (g.O.Sequence.items c.write_ones.new.out) l.at.from_axes l.at.to_axes
+        c.requires.can_walk over (c.only_ones.ensures.ones c.if-not-only_ones.false) (c.only_ones-else-not-only_ones.ensures.ones
+        c.if-not-only_ones-2.false)
+    room (c.write_ones.ensures.room ∙ room) c.write_ones.ensures.kept (λ j above below. c.write_ones.ensures.written j above
+        (let count = c.write_ones.ensures.room in omega arith)) l.invariant.written in
     whole-alike (g.O.Sequence.items c.write_ones.new.out) c.requires.can_walk (c.write_ones.ensures.room ∙ room) whole
 
 pub returns-clause-strides : goal.returns-clause-strides
 returns-clause-strides g c =
     let l = c.loop-at in
-    let over : l.at.from_axes < length (g.S.Sequence.items c.args.from.now) → length (g.T.Sequence.items c.args.to.now) ≤ l.at.to_axes = elim c.loop-at-test.branch [
+    let over : l.at.from_axes < length (g.S.Sequence.items c.args.from.now) → length (g.T.Sequence.items c.args.to.now) ≤ l.at.to_axes =
+        elim c.loop-at-test.branch [
       | then-loop-at-test+else-at-len w ↦ λ some. let end = w.if-at-len.false in let count = w.len-in-loop-at.ensures in omega arith
       | else-loop-at-test w ↦ λ some. let end = w.loop-at-test.false in let count = c.len.ensures in absurd (omega arith)
     ] in
     let room = l.invariant.room in
-    let whole = written-whole (g.O.Sequence.items l.out) (g.O.Sequence.items c.write_ones.new.out) l.at.from_axes l.at.to_axes c.requires.can_walk over (c.only_ones.ensures.ones c.if-not-only_ones.false) (c.only_ones-else-not-only_ones.ensures.ones c.if-not-only_ones-2.false)
-    room (c.write_ones.ensures.room ∙ room) c.write_ones.ensures.kept (λ j above below. c.write_ones.ensures.written j above (let count = c.write_ones.ensures.room in omega arith)) l.invariant.written in
+    let whole = written-whole (g.O.Sequence.items l.out) (g.O.Sequence.items c.write_ones.new.out) l.at.from_axes l.at.to_axes
+        c.requires.can_walk over (c.only_ones.ensures.ones c.if-not-only_ones.false) (c.only_ones-else-not-only_ones.ensures.ones
+        c.if-not-only_ones-2.false)
+    room (c.write_ones.ensures.room ∙ room) c.write_ones.ensures.kept (λ j above below. c.write_ones.ensures.written j above
+        (let count = c.write_ones.ensures.room in omega arith)) l.invariant.written in
     whole-strides (g.O.Sequence.items c.write_ones.new.out) c.requires.can_walk (c.write_ones.ensures.room ∙ room) whole

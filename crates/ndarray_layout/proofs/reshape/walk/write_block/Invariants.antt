@@ -10,7 +10,8 @@ invariant-loop-k g l = record {
   high : l.k ≤ l.end;
   room : length (g.O.Sequence.items l.out) ≡ length (g.T.Sequence.items l.to);
   stride_is : l.stride ≡ pos (size (drop l.k (take l.end (g.T.Sequence.items l.to)))) *ℤ signed l.step;
-  written : (j : ℕ) → l.k ≤ j + 1 → j < l.end → signed (get_or (g.O.Sequence.items l.out) j 0) ≡ pos (size (drop (j + 1) (take l.end (g.T.Sequence.items l.to)))) *ℤ signed l.step;
+  written : (j : ℕ) → l.k ≤ j + 1 → j < l.end
+      → signed (get_or (g.O.Sequence.items l.out) j 0) ≡ pos (size (drop (j + 1) (take l.end (g.T.Sequence.items l.to)))) *ℤ signed l.step;
   kept : (j : ℕ) → j < l.start → get_or (g.O.Sequence.items l.out) j 0 ≡ get_or (g.O.Sequence.items l.fn.out) j 0;
   target : g.O.SequenceMut.same_target l.fn.out l.out;
 }

@@ -22,13 +22,16 @@ fits : (g : Over) (c : After-do_collapse_axis-offset g) → collapse_fault (here
 fits g c = rw c.slice.ensures.list at (c.if-not-has_entry.ensures.0 refl)
 
 -- and lies so far from the first
-moved : (g : Over) (c : After-do_collapse_axis-offset g) → c.do_collapse_axis-offset.result ≡ pos c.args.index *ℤ get_or (here g c).strides c.args.axis.0 (pos 0)
+moved : (g : Over) (c : After-do_collapse_axis-offset g)
+    → c.do_collapse_axis-offset.result ≡ pos c.args.index *ℤ get_or (here g c).strides c.args.axis.0 (pos 0)
 moved g c =
     let known = rw c.index.ensures at c.do_collapse_axis-offset.ensures.offset in
     rw (get_or-map signed (g.D.Lengths.list c.self.inside.strides) c.args.axis.0 0) known
 
 -- so the first index that is left has a place
-within : (g : Over) (c : After-do_collapse_axis-offset g) → (pos 0 ≤ℤ (pos c.self.inside.start +ℤ c.do_collapse_axis-offset.result)) × ((pos c.self.inside.start +ℤ c.do_collapse_axis-offset.result) ≤ℤ pos limit)
+within : (g : Over) (c : After-do_collapse_axis-offset g)
+    → (pos 0 ≤ℤ (pos c.self.inside.start +ℤ c.do_collapse_axis-offset.result))
+    × ((pos c.self.inside.start +ℤ c.do_collapse_axis-offset.result) ≤ℤ pos limit)
 within g c = rw (moved g c) (collapsed_start_within c.args.axis.0 c.args.index (here g c) c.self.invariant (fits g c))
 
 pub offset_place-self-inside-requires-clause-low : goal.offset_place-self-inside-requires-clause-low
@@ -42,19 +45,22 @@ offset_place-self-inside-requires-clause-high g c =
     rw (to_z-of_z w64 c.do_collapse_axis-offset.result f) (within g c).1
 
 abbrev written : (g : Over) → After-offset_place-self-inside g → View
-written g c = view_of c.offset_place-self-inside.result (g.D.Lengths.list c.do_collapse_axis-offset.new.dims) (g.D.Lengths.list c.self.inside.strides)
+written g c = view_of c.offset_place-self-inside.result (g.D.Lengths.list c.do_collapse_axis-offset.new.dims)
+    (g.D.Lengths.list c.self.inside.strides)
 
 -- the start and the shape that were written are those of the collapse
 collapsed : (g : Over) (c : After-offset_place-self-inside g) → written g c ≡ collapse_of c.args.axis.0 c.args.index (here g c.before)
 collapsed g c =
     let offset = c.do_collapse_axis-offset.result in
     let f : FitsSigned w64 offset = search rules in
-    let start = ap magnitude (c.offset_place-self-inside.ensures ∙ ap (λ z. pos c.self.inside.start +ℤ z) (to_z-of_z w64 offset f ∙ moved g c.before)) in
+    let start = ap magnitude (c.offset_place-self-inside.ensures ∙ ap (λ z. pos c.self.inside.start +ℤ z) (to_z-of_z w64 offset f
+        ∙ moved g c.before)) in
     let shape = rw c.index.ensures at c.do_collapse_axis-offset.ensures.dims in
     rw (start, shape) refl
 
 -- so it is a view of the same data
-kept : (g : Over) (c : After-offset_place-self-inside g) → Descends (collapse_source c.args.axis.0 c.args.index) (here g c.before) (written g c)
+kept : (g : Over) (c : After-offset_place-self-inside g)
+    → Descends (collapse_source c.args.axis.0 c.args.index) (here g c.before) (written g c)
 kept g c = rw (collapsed g c) (Descends-collapse_of c.args.axis.0 c.args.index (here g c.before) c.self.invariant (fits g c.before))
 
 pub invariant_of-self : goal.invariant_of-self

@@ -18,18 +18,22 @@ strides_for_dim-requires-clause-size_fits g c =
     omega (arith, size_le_nonzero_size shape)
 
 -- a layout along strides that are known to be valid ones
-view_along : {start : ℕ} {shape strides known : List ℕ} → start ≡ low_span shape (all_signed strides) → strides ≡ known → IsValidLayout shape (all_signed known) → IsView (view_of start shape strides)
+view_along : {start : ℕ} {shape strides known : List ℕ} → start ≡ low_span shape (all_signed strides) → strides ≡ known
+    → IsValidLayout shape (all_signed known) → IsView (view_of start shape strides)
 view_along low same valid = rw (low, same) (lowest_view valid)
 
 pub invariant_of-result : goal.invariant_of-result
 invariant_of-result g c =
-    view_along c.offset_from_low_addr_ptr_to_logical_ptr-start.ensures c.in_ok-strides.ensures.list c.in_ok-can_index_slice_with_strides.ensures.valid
+    view_along c.offset_from_low_addr_ptr_to_logical_ptr-start.ensures c.in_ok-strides.ensures.list
+        c.in_ok-can_index_slice_with_strides.ensures.valid
 
 pub returns-clause-is_view : goal.returns-clause-is_view
 returns-clause-is_view g c =
-    view_along c.offset_from_low_addr_ptr_to_logical_ptr-start.ensures c.in_ok-strides.ensures.list c.in_ok-can_index_slice_with_strides.ensures.valid
+    view_along c.offset_from_low_addr_ptr_to_logical_ptr-start.ensures c.in_ok-strides.ensures.list
+        c.in_ok-can_index_slice_with_strides.ensures.valid
 
 pub returns-clause-rule : goal.returns-clause-rule
 returns-clause-rule g c = λ why some.
     subst (λ strides. MeetsOwnedRule (g.D.Lengths.list c.args.shape.dim) (all_signed strides)) (sym c.in_ok-strides.ensures.list)
-    (by_strides_meet g.D.Lengths.list c.args.elem_size c.args.len (g.D.Lengths.list c.args.shape.dim) c.args.shape.strides (sym c.in_ok-can_index_slice_with_strides.ensures.fault) why some)
+    (by_strides_meet g.D.Lengths.list c.args.elem_size c.args.len (g.D.Lengths.list c.args.shape.dim) c.args.shape.strides
+        (sym c.in_ok-can_index_slice_with_strides.ensures.fault) why some)

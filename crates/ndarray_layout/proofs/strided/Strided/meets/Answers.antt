@@ -20,7 +20,10 @@ both_none : (first second : Option ErrorKind) → option_or first second ≡ Non
 both_none None second none = (refl, none)
 both_none (Some fault) second none = absurd (cc)
 
-by_places : (fit : Fit) (one other : List SliceInfoElem) {view : View} (answer : Result Bool ErrorKind) → IsView view → result_err answer ≡ option_or (argument_fault fit view.shape one) (argument_fault fit view.shape other) → IfOk answer (λ meet. IsTrue meet ↔ Meet fit view.shape one other) → IfOk answer (λ meet. HasDistinctPlaces view → IsTrue meet ↔ SharePlace (slice_of fit one view) (slice_of fit other view))
+by_places : (fit : Fit) (one other : List SliceInfoElem) {view : View} (answer : Result Bool ErrorKind) → IsView view
+    → result_err answer ≡ option_or (argument_fault fit view.shape one) (argument_fault fit view.shape other)
+    → IfOk answer (λ meet. IsTrue meet ↔ Meet fit view.shape one other)
+    → IfOk answer (λ meet. HasDistinctPlaces view → IsTrue meet ↔ SharePlace (slice_of fit one view) (slice_of fit other view))
 by_places fit one other {view} (Ok meet) v fault is = λ distinct.
     let fits = both_none (argument_fault fit view.shape one) (argument_fault fit view.shape other) (sym fault) in
     let places = meet_is_shared_place fit one other v fits.0 fits.1 distinct in

@@ -25,7 +25,8 @@ fits g c =
     fits_of_no_refusal c.args.fit g.E.FixedCount.NDIM _ _ none
 
 -- the first index that is left lies so far from the first of the view
-moved : (g : Over) (c : After-struct_told-1 g) → (pos 0 ≤ℤ (pos c.self.inside.start +ℤ c.in_ok-dim.offset)) × ((pos c.self.inside.start +ℤ c.in_ok-dim.offset) ≤ℤ pos limit)
+moved : (g : Over) (c : After-struct_told-1 g)
+    → (pos 0 ≤ℤ (pos c.self.inside.start +ℤ c.in_ok-dim.offset)) × ((pos c.self.inside.start +ℤ c.in_ok-dim.offset) ≤ℤ pos limit)
 moved g c =
     rw (c.in_ok-dim.ensures.offset, c.slice-shape.ensures.list, c.slice-strides.ensures.list, c.elems.ensures)
     (sliced_start_within c.args.fit (g.S.SliceElems.list c.args.slices.now) (here g c) c.self.invariant (fits g c))
@@ -47,15 +48,22 @@ offset_place-start-requires-clause-high g c =
     rw (to_z-of_z w64 c.in_ok-dim.offset f) (moved g c).1
 
 -- the start, the shape and the strides that are written are those of the slice
-sliced : (g : Over) (c : After-offset_place-start g) → view_of c.offset_place-start.result (g.E.Lengths.list c.in_ok-dim.dim) (g.E.Lengths.list c.in_ok-dim.strides) ≡ slice_of c.args.fit (g.S.SliceElems.list c.args.slices.now) (here g c.before)
+sliced : (g : Over) (c : After-offset_place-start g)
+    → view_of c.offset_place-start.result (g.E.Lengths.list c.in_ok-dim.dim) (g.E.Lengths.list c.in_ok-dim.strides)
+    ≡ slice_of c.args.fit (g.S.SliceElems.list c.args.slices.now) (here g c.before)
 sliced g c =
     let f : FitsSigned w64 c.in_ok-dim.offset = search rules in
-    let start = ap magnitude (c.offset_place-start.ensures ∙ ap (λ z. pos c.self.inside.start +ℤ z) (to_z-of_z w64 c.in_ok-dim.offset f ∙ c.in_ok-dim.ensures.offset)) in
-    rw (start, c.in_ok-dim.ensures.shape, c.in_ok-dim.ensures.strides, c.slice-shape.ensures.list, c.slice-strides.ensures.list, c.elems.ensures) refl
+    let start = ap magnitude (c.offset_place-start.ensures ∙ ap (λ z. pos c.self.inside.start +ℤ z) (to_z-of_z w64 c.in_ok-dim.offset f
+        ∙ c.in_ok-dim.ensures.offset)) in
+    rw (start, c.in_ok-dim.ensures.shape, c.in_ok-dim.ensures.strides, c.slice-shape.ensures.list, c.slice-strides.ensures.list,
+        c.elems.ensures) refl
 
 -- so it is a view of the same data
-kept : (g : Over) (c : After-offset_place-start g) → Descends (selected c.args.fit (g.S.SliceElems.list c.args.slices.now) (here g c.before).shape) (here g c.before) (view_of c.offset_place-start.result (g.E.Lengths.list c.in_ok-dim.dim) (g.E.Lengths.list c.in_ok-dim.strides))
-kept g c = rw (sliced g c) (Descends-slice_of c.args.fit (g.S.SliceElems.list c.args.slices.now) (here g c.before) c.self.invariant (fits g c.before))
+kept : (g : Over) (c : After-offset_place-start g)
+    → Descends (selected c.args.fit (g.S.SliceElems.list c.args.slices.now) (here g c.before).shape) (here g c.before)
+    (view_of c.offset_place-start.result (g.E.Lengths.list c.in_ok-dim.dim) (g.E.Lengths.list c.in_ok-dim.strides))
+kept g c = rw (sliced g c) (Descends-slice_of c.args.fit (g.S.SliceElems.list c.args.slices.now) (here g c.before) c.self.invariant
+    (fits g c.before))
 
 pub invariant_of-result : goal.invariant_of-result
 invariant_of-result g c = (kept g c).is_view

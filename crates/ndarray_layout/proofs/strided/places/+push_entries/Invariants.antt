@@ -12,7 +12,8 @@ decreases-push_entries l = length l.shape.now
 
 abbrev pub invariant-loop-i : goal.invariant-loop-i
 invariant-loop-i l = record {
-  items : map pos l.places.items ≡ map pos l.initial.places.items ++ view_places RowMajor (record { start = l.start; shape = l.i ∷ as_read l.order l.lens; strides = signed l.stride ∷ all_signed (as_read l.order l.rest) });
+  items : map pos l.places.items ≡ map pos l.initial.places.items ++ view_places RowMajor
+      (record { start = l.start; shape = l.i ∷ as_read l.order l.lens; strides = signed l.stride ∷ all_signed (as_read l.order l.rest) });
   len : vec_len l.places ≡ vec_len l.initial.places + l.i * size (as_read l.order l.lens);
   capacity : vec_capacity l.places ≡ vec_capacity l.initial.places;
 }

@@ -16,14 +16,21 @@ use Rattle.ndarray_layout.proofs.ReadView.{places-as_read, IsView-as_read}
 use Rattle.ndarray_layout.proofs.strided.places.push_places.Goals as goal
 
 -- what is walked is the view without its axes of length 1
-walked : (order : Order) (start : ℕ) (shape strides : List ℕ) {lens kept : List ℕ} → lens ≡ of_longer shape shape → kept ≡ of_longer shape strides → view_as_read order start lens (all_signed kept) ≡ view_as_read order start (of_longer shape shape) (of_longer shape (all_signed strides))
+walked : (order : Order) (start : ℕ) (shape strides : List ℕ) {lens kept : List ℕ} → lens ≡ of_longer shape shape
+    → kept ≡ of_longer shape strides
+    → view_as_read order start lens (all_signed kept) ≡ view_as_read order start (of_longer shape shape)
+    (of_longer shape (all_signed strides))
 walked order start shape strides e f = rw (e, f, all_signed-of_longer shape strides) refl
 
-walked_view : (order : Order) (start : ℕ) (shape strides : List ℕ) {lens kept : List ℕ} → lens ≡ of_longer shape shape → kept ≡ of_longer shape strides → IsView (view_of start shape strides) → IsView (view_as_read order start lens (all_signed kept))
+walked_view : (order : Order) (start : ℕ) (shape strides : List ℕ) {lens kept : List ℕ} → lens ≡ of_longer shape shape
+    → kept ≡ of_longer shape strides → IsView (view_of start shape strides) → IsView (view_as_read order start lens (all_signed kept))
 walked_view order start shape strides e f view =
-    subst IsView (sym (walked order start shape strides e f)) (IsView-as_read order start (of_longer shape shape) (of_longer shape (all_signed strides)) (IsView-longer_view view))
+    subst IsView (sym (walked order start shape strides e f)) (IsView-as_read order start (of_longer shape shape)
+        (of_longer shape (all_signed strides)) (IsView-longer_view view))
 
-walked_places : (order : Order) (start : ℕ) (shape strides : List ℕ) {lens kept : List ℕ} → lens ≡ of_longer shape shape → kept ≡ of_longer shape strides → IsView (view_of start shape strides) → view_places RowMajor (view_as_read order start lens (all_signed kept)) ≡ view_places order (view_of start shape strides)
+walked_places : (order : Order) (start : ℕ) (shape strides : List ℕ) {lens kept : List ℕ} → lens ≡ of_longer shape shape
+    → kept ≡ of_longer shape strides → IsView (view_of start shape strides)
+    → view_places RowMajor (view_as_read order start lens (all_signed kept)) ≡ view_places order (view_of start shape strides)
 walked_places order start shape strides e f view =
     let left = IsView-longer_view view in
     ap (view_places RowMajor) (walked order start shape strides e f)
@@ -47,7 +54,8 @@ pub returns-in-Some-clause-items : goal.returns-in-Some-clause-items
 returns-in-Some-clause-items c =
     let lens = c.lens.ensures.list ∙ c.in-Some.ensures.lens in
     let kept = c.strides.ensures ∙ c.in-Some.ensures.strides in
-    c.push_entries.ensures.items ∙ ap (λ xs. map pos c.args.places.items ++ xs) (walked_places c.args.order c.args.start c.args.shape.now c.args.strides.now lens kept c.requires.view)
+    c.push_entries.ensures.items ∙ ap (λ xs. map pos c.args.places.items ++ xs) (walked_places c.args.order c.args.start c.args.shape.now
+        c.args.strides.now lens kept c.requires.view)
 
 pub returns-in-Some-clause-len : goal.returns-in-Some-clause-len
 returns-in-Some-clause-len c =

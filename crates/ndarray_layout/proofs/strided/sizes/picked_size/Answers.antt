@@ -3,7 +3,8 @@ use Rattle.std.specs.Int.{w64}
 use Rattle.std.proofs.lemmas.Int.{to_z-of_z}
 use Rattle.nd_slice.specs.declared.slice.Slice.{Slice}
 use Rattle.nd_slice.proofs.laws.SliceFault.{fits_of_no_fault}
-use Rattle.ndarray_layout.proofs.PickedSize.{none_picked, all_picked, axis_there, slice_picked, index_picked, new_axis_picked, size_small, next_elem, next_axis, fits_axis}
+use Rattle.ndarray_layout.proofs.PickedSize.{none_picked, all_picked, axis_there, slice_picked, index_picked, new_axis_picked, size_small}
+use Rattle.ndarray_layout.proofs.PickedSize.{next_elem, next_axis, fits_axis}
 use Rattle.ndarray_layout.proofs.strided.sizes.picked_size.Goals as goal
 use Rattle.ndarray_layout.proofs.strided.sizes.picked_size.Goals.{in-Slice, in-Index, in-NewAxis}
 
