@@ -17,11 +17,17 @@ use Rattle.ndarray_layout.specs.ReshapedView.{IsReshapeRefusal, reshape_refusal,
 use Rattle.ndarray_layout.specs.View.{View}
 
 -- tests that don't differ are the same
-pub same_bits : (a b : Bool) → not (beq a b) ≡ false → a ≡ b
+same_bits : (a b : Bool) → not (beq a b) ≡ false → a ≡ b
 same_bits true true same = refl
 same_bits true false same = absurd (cc)
 same_bits false true same = absurd (cc)
 same_bits false false same = refl
+
+-- so where neither shape alone has an index, both have one or none has
+pub both_are : {here there b : Bool} {lens shape from to : List ℕ} → here ≡ is_empty lens → there ≡ is_empty shape → lens ≡ from → shape ≡ to
+    → not (beq here there) ≡ false → here ≡ b → (is_empty from ≡ b) × (is_empty to ≡ b)
+both_are {here = here} {there = there} value also lens shape same is =
+    (ap is_empty (sym lens) ∙ sym value ∙ is, ap is_empty (sym shape) ∙ sym also ∙ sym (same_bits here there same) ∙ is)
 
 -- the test of the size
 pub within_limit : (n : ℕ) → None ≡ cond (ltb limit n) (Some Overflow) None → n ≤ limit

@@ -4,26 +4,19 @@ use Rattle.ndarray_layout.proofs.laws.Keeps.{fault-complete, keeps-agree}
 use Rattle.ndarray_layout.proofs.reshape.reshape_dim.Goals as goal
 
 pub returns-in_err-others-clause-complete : goal.returns-in_err-others-clause-complete
-returns-in_err-others-clause-complete g c = fault-complete c.args.order (g.D.Lengths.list c.args.from.now)
-    (all_signed (g.D.Lengths.list c.args.strides.now)) (g.E.Lengths.list c.args.to.now) c.requires.from_some c.requires.to_some
-    c.requires.valid.same_count
+returns-in_err-others-clause-complete g c = fault-complete _ _ _ _ c.requires.from_some c.requires.to_some c.requires.valid.same_count
 
 pub returns-in_err-others-clause-forced : goal.returns-in_err-others-clause-forced
 returns-in_err-others-clause-forced g c = λ others k. keeps-agree c.requires.from_some c.requires.to_some c.requires.valid.same_count k
 
 pub returns-in_err-fill_reshaped-clause-complete : goal.returns-in_err-fill_reshaped-clause-complete
-returns-in_err-fill_reshaped-clause-complete g c = fault-complete c.args.order (g.D.Lengths.list c.args.from.now)
-    (all_signed (g.D.Lengths.list c.args.strides.now)) (g.E.Lengths.list c.args.to.now) c.requires.from_some c.requires.to_some
-    c.requires.valid.same_count
+returns-in_err-fill_reshaped-clause-complete g c = fault-complete _ _ _ _ c.requires.from_some c.requires.to_some c.requires.valid.same_count
 
 pub returns-in_err-fill_reshaped-clause-forced : goal.returns-in_err-fill_reshaped-clause-forced
-returns-in_err-fill_reshaped-clause-forced g c = λ others k. keeps-agree c.requires.from_some c.requires.to_some c.requires.valid.same_count
-    k
+returns-in_err-fill_reshaped-clause-forced g c = λ others k. keeps-agree c.requires.from_some c.requires.to_some c.requires.valid.same_count k
 
 pub returns-clause-complete : goal.returns-clause-complete
-returns-clause-complete g c = fault-complete c.args.order (g.D.Lengths.list c.args.from.now)
-    (all_signed (g.D.Lengths.list c.args.strides.now)) (g.E.Lengths.list c.args.to.now) c.requires.from_some c.requires.to_some
-    c.requires.valid.same_count
+returns-clause-complete g c = fault-complete _ _ _ _ c.requires.from_some c.requires.to_some c.requires.valid.same_count
 
 pub returns-clause-forced : goal.returns-clause-forced
 returns-clause-forced g c = λ others k. keeps-agree c.requires.from_some c.requires.to_some c.requires.valid.same_count k
