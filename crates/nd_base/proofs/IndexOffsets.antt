@@ -1,7 +1,7 @@
 -- Facts about the offsets of indices: which lists are indices, how far they lie, and a sum of offsets from an axis on.
-use Rattle.std.proofs.Common.{inl, inr, min, ◌≡◌, ℕ, suc, ◌+◌, ◌-◌, ◌*◌, ◌<◌, ◌≤◌, ℤ, pos, negsuc, neg_ℤ, ◌+ℤ◌, ◌*ℤ◌, ◌≤ℤ◌, true, false, Option, Some, None, List, [], ◌∷◌, length, drop, get_or, refl, ap, ◌∙◌, arith, add-one, drop-cons}
+use Rattle.std.proofs.Common.{inl, inr, min, ◌≡◌, ℕ, suc, ◌+◌, ◌-◌, ◌*◌, ◌<◌, ◌≤◌, ℤ, pos, negsuc, neg_ℤ, ◌+ℤ◌, ◌*ℤ◌, ◌≤ℤ◌, false, Option, Some, None, List, [], ◌∷◌, length, drop, get_or, refl, ap, ◌∙◌, arith, add-one, drop-cons}
 use Rattle.std.specs.Prelude.{nat_lt}
-use Rattle.std.proofs.lemmas.Bool.{and_from, and_right, cases_Bool, cases_lt, lt-ltb}
+use Rattle.std.proofs.lemmas.Bool.{and_right, cases_Bool, cases_lt}
 use Rattle.std.proofs.lemmas.Int.{ints}
 use Rattle.std.proofs.lemmas.List.{drop_all}
 use Rattle.std.proofs.iter.Yields.{fronts}
@@ -13,10 +13,7 @@ use Rattle.std.specs.Iterator.Adapters.{zip_first, zip_second}
 use Rattle.std.specs.Slice.Iter.{iter_rest}
 use Rattle.std.specs.declared.iter.Zip.{Zip}
 use Rattle.std.specs.declared.slice.Iter.{Iter}
-use Rattle.nd_base.specs.Indices.{is_index}
-use Rattle.nd_base.specs.Offset.{offset_of}
-use Rattle.nd_base.specs.Signed.{signed, all_signed, magnitude}
-use Rattle.nd_base.specs.Span.{reach}
+use Rattle.nd_base.proofs.laws.Definitions.{is_index, offset_of, all_signed, magnitude, signed, reach}
 use Rattle.nd_base.proofs.laws.IsIndex.{entry_of_index}
 use Rattle.nd_base.proofs.laws.Span.{sum_from, sum_from_step}
 use Rattle.std.proofs.lemmas.Nat.{mul-le}
@@ -34,14 +31,6 @@ is_index_of_entry shape index axis l past = elim (cases_Bool (is_index shape ind
   | inl here ↦ absurd (omega (arith, entry_of_index shape index axis here l))
   | inr none ↦ none
 ]
-
--- a list with an entry below the length of each axis is one
-pub is_index_of_entries : (shape index : List ℕ) → length shape ≡ length index → ((axis : ℕ) → axis < length shape → get_or index axis 0 < get_or shape axis 0) → is_index shape index ≡ true
-is_index_of_entries [] [] e h = refl
-is_index_of_entries [] (i ∷ index) e h = absurd (omega arith)
-is_index_of_entries (len ∷ shape) [] e h = absurd (omega arith)
-is_index_of_entries (len ∷ shape) (i ∷ index) e h =
-    and_from (nat_lt i len) (is_index shape index) (lt-ltb i len (h 0 (omega arith))) (is_index_of_entries shape index (omega arith) (λ axis l. h (suc axis) (omega arith)))
 
 -- how far an entry lies from the first one
 abbrev pub entry_offset : ℕ → ℤ → ℕ

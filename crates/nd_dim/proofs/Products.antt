@@ -20,11 +20,12 @@ left (suc n) whole top lens room =
     let less : whole * nonzero_size lens ≤ whole * (suc n * nonzero_size lens) = mul-le-mul_left whole (rw one-mul at least) in
     le_trans less all
 
-pub room_taken : (lens : List ℕ) (k whole top : ℕ) → k < length lens → whole * nonzero_size (drop k lens) ≤ top → (whole * get_or lens k 0) * nonzero_size (drop (k + 1) lens) ≤ top
-room_taken lens k whole top h room = rw add-one (taken (get_or lens k 0) whole top (drop (suc k) lens) (rw (drop-cons lens k 0 h) at room))
+module _ (lens : List ℕ) (k whole top : ℕ) (h : k < length lens) (room : whole * nonzero_size (drop k lens) ≤ top) where
+  pub room_taken : (whole * get_or lens k 0) * nonzero_size (drop (k + 1) lens) ≤ top
+  room_taken = rw add-one (taken (get_or lens k 0) whole top (drop (suc k) lens) (rw (drop-cons lens k 0 h) at room))
 
-pub room_left : (lens : List ℕ) (k whole top : ℕ) → k < length lens → whole * nonzero_size (drop k lens) ≤ top → whole * nonzero_size (drop (k + 1) lens) ≤ top
-room_left lens k whole top h room = rw add-one (left (get_or lens k 0) whole top (drop (suc k) lens) (rw (drop-cons lens k 0 h) at room))
+  pub room_left : whole * nonzero_size (drop (k + 1) lens) ≤ top
+  room_left = rw add-one (left (get_or lens k 0) whole top (drop (suc k) lens) (rw (drop-cons lens k 0 h) at room))
 
 pub within_room : (lens : List ℕ) (whole top : ℕ) → whole * nonzero_size lens ≤ top → whole ≤ top
 within_room lens whole top room = let more : whole ≤ whole * nonzero_size lens = le-mul_of_pos_right whole (nonzero_size_pos lens) in omega arith

@@ -34,7 +34,7 @@ last_fits len start low n z some l e h = omega (arith, ints)
 pub run_inside : (len start : ℕ) (shape : List ℕ) (strides : List ℤ) → length shape ≡ length strides → is_empty shape ≡ false → LiesInside len start shape strides → FillsStretch shape strides → start - low_span shape strides + size shape ≤ len
 run_inside len start shape strides count some inside stretch =
     let above = size_of_nonempty shape some in
-    let last = has_index_in_stretch shape strides (size shape - 1) count some stretch (omega arith) in
+    let last = has_index_in_stretch shape strides count some stretch (size shape - 1) (omega arith) in
     let bounds = inside_bounds len (place start strides last.0) (inside last.0 last.1) in
     last_fits len start (low_span shape strides) (size shape) (offset_of strides last.0) above (low_before_start len start shape strides count some inside) last.2 bounds.1
 
@@ -53,7 +53,7 @@ sum_of_stretch elements start shape strides count some inside stretch =
     let low = low_before_start (length elements) start shape strides count some inside in
     let there = λ (z : ℤ). get_or elements (magnitude z) 0 in
     let walk = λ (k : ℕ). pos (start - low_span shape strides + k) in
-    let moved = IsPermutation-map there (map walk (below (size shape))) (places RowMajor start shape strides) (places_in_stretch RowMajor start shape strides count some low stretch) in
+    let moved = IsPermutation-map there (map walk (below (size shape))) (places RowMajor start shape strides) (places_in_stretch shape strides count some stretch RowMajor start low) in
     ap sum (sym (map_twice there walk (below (size shape))))
     ∙ sym (sum_by-IsPermutation (λ n. n) (map there (map walk (below (size shape)))) (map there (places RowMajor start shape strides)) moved)
     ∙ ap sum (map_twice there (place start strides) (indices shape))

@@ -4,10 +4,7 @@ use Rattle.std.specs.Prelude.{nat_lt}
 use Rattle.std.proofs.lemmas.Bool.{and_from, cases_eq, cases_lt, lt-ltb}
 use Rattle.std.proofs.lemmas.List.{length-set}
 use Rattle.std.proofs.lemmas.Nat.{mul-le}
-use Rattle.nd_base.specs.Indices.{is_index}
-use Rattle.nd_base.specs.Reach.{farthest_offset}
-use Rattle.nd_base.specs.Signed.{magnitude}
-use Rattle.nd_base.specs.Size.{size}
+use Rattle.nd_base.proofs.laws.Definitions.{is_index, farthest_offset, magnitude, size}
 use Rattle.nd_base.proofs.laws.IsIndex.{length_of_index, entry_of_index}
 
 -- ---- which lists are indices

@@ -1,9 +1,7 @@
 -- Laws of layouts whose indices all lie within the data.
 use Rattle.std.proofs.Common.{◌≡◌, ℕ, ◌<◌, ℤ, pos, negsuc, ◌≤ℤ◌, ◌<ℤ◌, List, length, arith}
 use Rattle.std.proofs.lemmas.Int.{ints}
-use Rattle.nd_base.specs.Place.{place}
-use Rattle.nd_base.specs.Span.{span, low_span}
-use Rattle.nd_base.specs.Inside.{IsInside, LiesInside}
+use Rattle.nd_base.proofs.laws.Definitions.{IsInside, LiesInside, place, low_span, span}
 use Rattle.nd_base.proofs.laws.Offset.{offset_bounds}
 use Rattle.nd_base.proofs.laws.Span.{low_high_span}
 

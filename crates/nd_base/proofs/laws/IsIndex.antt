@@ -3,8 +3,7 @@ use Rattle.std.proofs.Common.{◌≡◌, ℕ, zero, suc, ◌<◌, Bool, true, fa
 use Rattle.std.specs.Prelude.{nat_lt, ◌&&◌}
 use Rattle.std.proofs.lemmas.Bool.{and_from, and_parts, and_right, eqb-false, lt-ltb, ltb-true, ne_eqb, or_from, or_parts}
 use Rattle.std.proofs.lemmas.List.{reverse-append}
-use Rattle.nd_base.specs.Indices.{is_index}
-use Rattle.nd_base.specs.Size.{is_empty}
+use Rattle.nd_base.proofs.laws.Definitions.{is_index, is_empty}
 
 -- an index has one entry for each axis
 pub length_of_index : (shape index : List ℕ) → is_index shape index ≡ true → length index ≡ length shape

@@ -1,18 +1,13 @@
 -- Laws of how far an index lies from the first one.
-use Rattle.std.proofs.Common.{◌≡◌, ℕ, suc, ◌-◌, ◌*◌, ◌<◌, ◌≤◌, ℤ, pos, negsuc, neg_ℤ, ◌+ℤ◌, ◌*ℤ◌, ◌≤ℤ◌, Bool, true, false, cond, Some, None, List, [], ◌∷◌, ◌++◌, length, reverse, refl, ap, ◌∙◌, arith}
+use Rattle.std.proofs.Common.{◌≡◌, ℕ, zero, suc, ◌-◌, ◌*◌, ◌<◌, ◌≤◌, ℤ, pos, negsuc, neg_ℤ, ◌+ℤ◌, ◌*ℤ◌, ◌≤ℤ◌, Bool, true, false, cond, Some, None, List, [], ◌∷◌, ◌++◌, length, replicate, reverse, refl, ap, ◌∙◌, arith}
 use Rattle.std.specs.Prelude.{nat_lt}
 use Rattle.std.specs.List.{All}
 use Rattle.std.proofs.Math.Nat.{mul-le-mul_right}
 use Rattle.std.proofs.lemmas.Bool.{and_parts, ltb-true}
 use Rattle.std.proofs.lemmas.Int.{ints}
 use Rattle.std.proofs.lemmas.List.{length-map, length-reverse, reverse-append}
-use Rattle.nd_base.specs.Indices.{is_index}
-use Rattle.nd_base.specs.Offset.{offset_of, checked_offset}
-use Rattle.nd_base.specs.Reach.{farthest_offset}
-use Rattle.nd_base.specs.Signed.{signed, all_signed}
-use Rattle.nd_base.specs.Size.{limit}
-use Rattle.nd_base.specs.Span.{reach_down, reach_up, low_span, high_span}
-use Rattle.nd_base.specs.ValidLayout.{IsValidLayout}
+use Rattle.nd_base.proofs.laws.Definitions.{is_index, checked_offset, offset_of, farthest_offset, all_signed, signed, limit, high_span}
+use Rattle.nd_base.proofs.laws.Definitions.{low_span, reach_down, reach_up, IsValidLayout}
 use Rattle.nd_base.proofs.laws.IsIndex.{length_of_index}
 use Rattle.nd_base.proofs.laws.NonzeroSize.{entry_le_nonzero_size}
 use Rattle.nd_base.proofs.laws.Reach.{farthest_offset_le}
@@ -40,6 +35,12 @@ offset_bounds (len ∷ shape) (stride ∷ strides) (i ∷ index) h e =
     let here = entry_bounds len stride i (ltb-true i len parts.0) in
     let rest = offset_bounds shape strides index parts.1 (omega arith) in
     (omega (arith, ints, here.0, rest.0), omega (arith, ints, here.1, rest.1))
+
+-- zeros lie where the first index does
+pub offset_of-zeros : (strides : List ℤ) (n : ℕ) → offset_of strides (replicate n 0) ≡ pos 0
+offset_of-zeros strides zero = refl
+offset_of-zeros [] (suc n) = refl
+offset_of-zeros (stride ∷ strides) (suc n) = omega (arith, ints, offset_of-zeros strides n)
 
 -- one axis more moves by its entry
 pub offset_of-push : (strides : List ℤ) (index : List ℕ) (stride : ℤ) (i : ℕ) → length strides ≡ length index → offset_of (strides ++ stride ∷ []) (index ++ i ∷ []) ≡ (pos i *ℤ stride) +ℤ offset_of strides index

@@ -21,6 +21,13 @@ size_of_nonempty (n ∷ lens) h =
     let parts = or_parts (eqb n 0) (is_empty lens) h in
     mul-pos (pos_of_ne-zero (eqb-false n 0 parts.0)) (size_of_nonempty lens parts.1)
 
+-- its lengths are too
+pub length_pos : (shape : List ℕ) (axis : ℕ) → is_empty shape ≡ false → axis < length shape → 0 < get_or shape axis 0
+length_pos [] axis some below = absurd (omega arith)
+length_pos (len ∷ lens) zero some below = pos_of_ne-zero (eqb-false len 0 (or_parts (eqb len 0) (is_empty lens) some).0)
+length_pos (len ∷ lens) (suc axis) some below =
+    length_pos lens axis (or_parts (eqb len 0) (is_empty lens) some).1 (omega arith)
+
 -- the part of a shape without a zero length has none
 pub drop_nonempty : (shape : List ℕ) (k : ℕ) → is_empty shape ≡ false → is_empty (drop k shape) ≡ false
 drop_nonempty shape zero h = h
@@ -83,14 +90,11 @@ size_take_le lens zero h = size_of_nonempty lens h
 size_take_le [] (suc k) h = omega arith
 size_take_le (n ∷ lens) (suc k) h = mul-le-mul_left n (size_take_le lens k (or_parts (eqb n 0) (is_empty lens) h).1)
 
-head_positive : (n : ℕ) (lens : List ℕ) → is_empty (n ∷ lens) ≡ false → 0 < n
-head_positive n lens h = pos_of_ne-zero (eqb-false n 0 (or_parts (eqb n 0) (is_empty lens) h).0)
-
 -- nor is what comes after the front
 pub size_drop_le : (lens : List ℕ) (k : ℕ) → is_empty lens ≡ false → size (drop k lens) ≤ size lens
 size_drop_le lens zero h = omega arith
 size_drop_le [] (suc k) h = omega arith
 size_drop_le (n ∷ lens) (suc k) h =
     let rest = size_drop_le lens k (or_parts (eqb n 0) (is_empty lens) h).1 in
-    let more : 1 * size lens ≤ n * size lens = mul-le 1 (size lens) n (size lens) (head_positive n lens h) (omega arith) in
+    let more : 1 * size lens ≤ n * size lens = mul-le 1 (size lens) n (size lens) (length_pos (n ∷ lens) 0 h (omega arith)) (omega arith) in
     omega (arith, one-mul (size lens))

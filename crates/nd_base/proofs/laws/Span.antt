@@ -3,8 +3,7 @@ use Rattle.std.proofs.Common.{◌≡◌, ℕ, zero, suc, ◌+◌, ◌<◌, ◌�
 use Rattle.std.specs.Prelude.{remove}
 use Rattle.std.proofs.lemmas.Bool.{cases_lt}
 use Rattle.std.proofs.lemmas.List.{drop_all, length-reverse, reverse-append}
-use Rattle.nd_base.specs.Signed.{signed, all_signed}
-use Rattle.nd_base.specs.Span.{sum_over_axes, reach, reach_down, reach_up, span, low_span, high_span}
+use Rattle.nd_base.proofs.laws.Definitions.{all_signed, signed, high_span, low_span, reach, reach_down, reach_up, span, sum_over_axes}
 
 -- ---- from an axis on
 -- the sum over the axes from k on
@@ -46,6 +45,11 @@ sum_and_others f [] strides k h e = absurd (omega arith)
 sum_and_others f (len ∷ shape) [] k h e = absurd (omega arith)
 sum_and_others f (len ∷ shape) (stride ∷ strides) zero h e = refl
 sum_and_others f (len ∷ shape) (stride ∷ strides) (suc k) h e = omega (arith, sum_and_others f shape strides k (omega arith) (omega arith))
+
+-- so no axis reaches farther than all do together
+pub reach_le_span : (shape : List ℕ) (strides : List ℤ) (k : ℕ) → k < length shape → length shape ≡ length strides
+    → reach (get_or shape k 0) (get_or strides k (pos 0)) ≤ span shape strides
+reach_le_span shape strides k below count = omega (arith, sum_and_others reach shape strides k below count)
 
 -- one axis more is one term more
 pub sum_over_axes-push : (f : ℕ → ℤ → ℕ) (shape : List ℕ) (strides : List ℤ) (len : ℕ) (stride : ℤ) → length shape ≡ length strides → sum_over_axes f (shape ++ len ∷ []) (strides ++ stride ∷ []) ≡ f len stride + sum_over_axes f shape strides

@@ -11,13 +11,7 @@ use Rattle.std.proofs.lemmas.Int.{ints}
 use Rattle.std.specs.Cmp.Rules.{signed_items}
 use Rattle.nd_base.specs.declared.order.Order.{Order}
 use Rattle.nd_base.specs.declared.order.Order.TheVariants.{RowMajor}
-use Rattle.nd_base.specs.Indices.{below}
-use Rattle.nd_base.specs.Offset.{offset_of}
-use Rattle.nd_base.specs.Place.{places}
-use Rattle.nd_base.specs.Rank.{rank, index_of_rank}
-use Rattle.nd_base.specs.Signed.{magnitude}
-use Rattle.nd_base.specs.Size.{size, is_empty}
-use Rattle.nd_base.specs.Span.{low_span}
+use Rattle.nd_base.proofs.laws.Definitions.{below, offset_of, places, index_of_rank, rank, magnitude, is_empty, size, low_span}
 use Rattle.nd_base.proofs.laws.Rank.{is_index-index_of_rank, rank-index_of_rank, same_from_rank_in}
 use Rattle.nd_dim.specs.AxisOrder.{magnitude_at}
 use Rattle.nd_dim.specs.Contiguous.{has_default_strides, is_contiguous, is_lone_step_back, is_packed, is_packed_at, lens_before}
@@ -52,25 +46,26 @@ stretch_of_default lens = record {
 }
 
 -- ---- packed axes
-packed_fact : (lens : List ℕ) (strides : List ℤ) (axis : ℕ) → is_packed_at lens strides axis ≡ true → IsPackedAt lens strides axis
-packed_fact lens strides axis h = elim (or_cases (eqb (get_or lens axis 0) 1) (eqb (magnitude_at strides axis) (size (lens_before lens strides axis))) h) [
-  | inl one ↦ inl (eqb-true (get_or lens axis 0) 1 one)
-  | inr fits ↦ inr (eqb-true (magnitude_at strides axis) (size (lens_before lens strides axis)) fits)
-]
+module _ (lens : List ℕ) (strides : List ℤ) where
+  packed_fact : (axis : ℕ) → is_packed_at lens strides axis ≡ true → IsPackedAt lens strides axis
+  packed_fact axis h = elim (or_cases (eqb (get_or lens axis 0) 1) (eqb (magnitude_at strides axis) (size (lens_before lens strides axis))) h) [
+    | inl one ↦ inl (eqb-true (get_or lens axis 0) 1 one)
+    | inr fits ↦ inr (eqb-true (magnitude_at strides axis) (size (lens_before lens strides axis)) fits)
+  ]
 
-packed_test : (lens : List ℕ) (strides : List ℤ) (axis : ℕ) → IsPackedAt lens strides axis → is_packed_at lens strides axis ≡ true
-packed_test lens strides axis (inl one) = or_left (eqb (get_or lens axis 0) 1) (eqb (magnitude_at strides axis) (size (lens_before lens strides axis))) (eq-eqb (get_or lens axis 0) 1 one)
-packed_test lens strides axis (inr fits) = or_right (eqb (get_or lens axis 0) 1) (eqb (magnitude_at strides axis) (size (lens_before lens strides axis))) (eq-eqb (magnitude_at strides axis) (size (lens_before lens strides axis)) fits)
+  packed_test : (axis : ℕ) → IsPackedAt lens strides axis → is_packed_at lens strides axis ≡ true
+  packed_test axis (inl one) = or_left (eqb (get_or lens axis 0) 1) (eqb (magnitude_at strides axis) (size (lens_before lens strides axis))) (eq-eqb (get_or lens axis 0) 1 one)
+  packed_test axis (inr fits) = or_right (eqb (get_or lens axis 0) 1) (eqb (magnitude_at strides axis) (size (lens_before lens strides axis))) (eq-eqb (magnitude_at strides axis) (size (lens_before lens strides axis)) fits)
 
--- where every axis is packed, the indices fill a stretch
-stretch_from_packed : (lens : List ℕ) (strides : List ℤ) → length lens ≡ length strides → is_empty lens ≡ false → ((axis : ℕ) → axis < length lens → IsPackedAt lens strides axis) → FillsStretch lens strides
-stretch_from_packed lens strides count some packed =
-    let fills = fills_from_packed lens strides count some packed in
-    stretch_from_reaches lens strides count fills.each
+  -- where every axis is packed, the indices fill a stretch
+  stretch_from_packed : length lens ≡ length strides → is_empty lens ≡ false → ((axis : ℕ) → axis < length lens → IsPackedAt lens strides axis) → FillsStretch lens strides
+  stretch_from_packed count some packed =
+      let fills = fills_from_packed lens strides count some packed in
+      stretch_from_reaches lens strides count fills.each
 
--- and where they fill one, every axis is
-packed_from_stretch : (lens : List ℕ) (strides : List ℤ) → length lens ≡ length strides → is_empty lens ≡ false → FillsStretch lens strides → (axis : ℕ) → axis < length lens → IsPackedAt lens strides axis
-packed_from_stretch lens strides count some stretch = packed_from_reaches lens strides count some (reaches_from_stretch lens strides count some stretch)
+  -- and where they fill one, every axis is
+  packed_from_stretch : length lens ≡ length strides → is_empty lens ≡ false → FillsStretch lens strides → (axis : ℕ) → axis < length lens → IsPackedAt lens strides axis
+  packed_from_stretch count some stretch = packed_from_reaches lens strides count some (reaches_from_stretch lens strides count some stretch)
 
 -- ---- a lone axis
 not_before_itself : (m : ℕ) → (nat_lt m m || (m == m && nat_lt 0 0)) ≡ false
@@ -144,27 +139,28 @@ rule_from_packed (len ∷ more ∷ lens) strides count some packed =
     let several : asked all strides ≡ is_packed all strides = cond-false (eqb (length all) 1) (is_lone_step_back all strides) (is_packed all strides) (ne_eqb (length all) 1 (λ e. omega arith)) in
     or_right (has_default_strides all strides) (asked all strides) (several ∙ all_below (is_packed_at all strides) (length all) (λ axis l. packed_test all strides axis (packed axis l)))
 
--- a layout that the rule takes fills one stretch
-pub stretch_from_rule : (lens : List ℕ) (strides : List ℤ) → length lens ≡ length strides → is_empty lens ≡ false → is_contiguous lens strides ≡ true → FillsStretch lens strides
-stretch_from_rule lens strides count some h = elim (or_cases (has_default_strides lens strides) (asked lens strides) h) [
-  | inl default ↦
-      let P : List ℤ → Type 0 = λ s. FillsStretch lens s in
-      subst P (sym ((signed_items strides (map pos (default_strides lens))).0 default)) (stretch_of_default lens)
-  | inr other ↦ stretch_from_packed lens strides count some (packed_from_asked lens strides count some other)
-]
+module _ (lens : List ℕ) (strides : List ℤ) (count : length lens ≡ length strides) (some : is_empty lens ≡ false) where
+  -- a layout that the rule takes fills one stretch
+  pub stretch_from_rule : is_contiguous lens strides ≡ true → FillsStretch lens strides
+  stretch_from_rule h = elim (or_cases (has_default_strides lens strides) (asked lens strides) h) [
+    | inl default ↦
+        let P : List ℤ → Type 0 = λ s. FillsStretch lens s in
+        subst P (sym ((signed_items strides (map pos (default_strides lens))).0 default)) (stretch_of_default lens)
+    | inr other ↦ stretch_from_packed lens strides count some (packed_from_asked lens strides count some other)
+  ]
 
--- and the rule takes each that does
-pub rule_from_stretch : (lens : List ℕ) (strides : List ℤ) → length lens ≡ length strides → is_empty lens ≡ false → FillsStretch lens strides → is_contiguous lens strides ≡ true
-rule_from_stretch lens strides count some stretch = rule_from_packed lens strides count some (packed_from_stretch lens strides count some stretch)
+  -- and the rule takes each that does
+  pub rule_from_stretch : FillsStretch lens strides → is_contiguous lens strides ≡ true
+  rule_from_stretch stretch = rule_from_packed lens strides count some (packed_from_stretch lens strides count some stretch)
 
--- of a shape without a zero axis, the rule takes exactly the layouts that fill one stretch
-pub contiguous_exactly : (lens : List ℕ) (strides : List ℤ) → length lens ≡ length strides → is_empty lens ≡ false → IsTrue (is_contiguous lens strides) ↔ FillsStretch lens strides
-contiguous_exactly lens strides count some = (stretch_from_rule lens strides count some, rule_from_stretch lens strides count some)
+  -- of a shape without a zero axis, the rule takes exactly the layouts that fill one stretch
+  pub contiguous_exactly : IsTrue (is_contiguous lens strides) ↔ FillsStretch lens strides
+  contiguous_exactly = (stretch_from_rule, rule_from_stretch)
 
 -- ---- a walk along a contiguous layout
 -- the places of a layout that the rule takes are start less the low span, one more, and so on: each index is met once
 pub places_of_contiguous : (order : Order) (start : ℕ) (lens : List ℕ) (strides : List ℤ) → length lens ≡ length strides → is_empty lens ≡ false → low_span lens strides ≤ start → is_contiguous lens strides ≡ true → IsPermutation (map (λ k. pos (start - low_span lens strides + k)) (below (size lens))) (places order start lens strides)
-places_of_contiguous order start lens strides count some fits h = places_in_stretch order start lens strides count some fits (stretch_from_rule lens strides count some h)
+places_of_contiguous order start lens strides count some fits h = places_in_stretch lens strides count some (stretch_from_rule lens strides count some h) order start fits
 
 -- ---- examples
 both_reversed : FillsStretch (2 ∷ 3 ∷ []) (negsuc 2 ∷ negsuc 0 ∷ [])

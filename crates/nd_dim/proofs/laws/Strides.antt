@@ -6,12 +6,9 @@ use Rattle.std.proofs.lemmas.Int.{ints}
 use Rattle.std.proofs.lemmas.List.{drop_at, ext_get_or, get_or-replicate, get_or-reverse, length-drop, length-map, length-replicate, length-reverse, map-append, reverse-append, reverse-reverse, take-append-drop}
 use Rattle.std.proofs.lemmas.List.FromFn.{length-map-range_with_len, get_or-map-range_with_len}
 use Rattle.nd_base.specs.declared.order.Order.TheVariants.{RowMajor, ColumnMajor}
-use Rattle.nd_base.specs.Indices.{below, is_index}
-use Rattle.nd_base.specs.Offset.{offset_of}
-use Rattle.nd_base.specs.Place.{places}
-use Rattle.nd_base.specs.Rank.{rank, rank_in}
-use Rattle.nd_base.specs.Size.{size, nonzero_size, is_empty, limit}
+use Rattle.nd_base.proofs.laws.Definitions.{below, is_index, offset_of, places, rank, rank_in, is_empty, limit, nonzero_size, size}
 use Rattle.nd_base.proofs.laws.IsIndex.{is_index-reverse, length_of_index, nonempty_from_index}
+use Rattle.nd_base.proofs.laws.Lists.{map-reverse}
 use Rattle.nd_base.proofs.laws.NonzeroSize.{size_le_nonzero_size}
 use Rattle.nd_base.proofs.laws.Offset.{offset_of-reverse}
 use Rattle.nd_base.proofs.laws.Place.{places_at_ranks}
@@ -109,17 +106,13 @@ fortran_by_default shape =
           ∙ size-reverse (take k shape))
     ])
 
-map_reverse : {A B : Type 0} (f : A → B) (xs : List A) → map f (reverse xs) ≡ reverse (map f xs)
-map_reverse f [] = refl
-map_reverse f (x ∷ xs) = ap (map f) (reverse-append (x ∷ []) xs) ∙ map-append f (reverse xs) (x ∷ []) ∙ ap (λ ys. ys ++ f x ∷ []) (map_reverse f xs) ∙ sym (reverse-append (f x ∷ []) (map f xs))
-
 -- the strides by columns place each index at its rank by columns
 pub offset_of-fortran_strides : (shape index : List ℕ) → is_index shape index ≡ true → offset_of (map pos (fortran_strides shape)) index ≡ pos (rank_in ColumnMajor shape index)
 offset_of-fortran_strides shape index h =
     let back = map pos (default_strides (reverse shape)) in
     let long : length back ≡ length (reverse index) = length-map (default_strides (reverse shape)) pos ∙ default_count (reverse shape) ∙ length-reverse shape ∙ sym (length_of_index shape index h) ∙ sym (length-reverse index) in
     ap (λ strides. offset_of (map pos strides) index) (fortran_by_default shape)
-    ∙ ap (λ strides. offset_of strides index) (map_reverse pos (default_strides (reverse shape)))
+    ∙ ap (λ strides. offset_of strides index) (map-reverse pos (default_strides (reverse shape)))
     ∙ ap (offset_of (reverse back)) (sym (reverse-reverse index))
     ∙ offset_of-reverse back (reverse index) long
     ∙ offset_of-default_strides (reverse shape) (reverse index) (is_index-reverse shape index ∙ h)

@@ -4,6 +4,7 @@ use Rattle.std.specs.Option.{option_map, option_and_then}
 use Rattle.std.proofs.lemmas.Bool.{cases_eq, cond-true, cond-false, eq-eqb, ne_eqb}
 use Rattle.std.proofs.lemmas.List.{length-replicate, replicate-append-replicate}
 use Rattle.nd_base.specs.declared.error.ErrorKind.TheVariants.{IncompatibleShape}
+use Rattle.nd_base.proofs.laws.Options.{and_then-option_map, and_then_same, option_map-option_map, option_map_same}
 use Rattle.nd_shape.specs.CommonShape.{common_length, common_lengths, padded, common_shape, common_shape_fault}
 
 -- ---- one length
@@ -154,14 +155,6 @@ common_lengths_count (len ∷ lens) (other ∷ others) s e h =
     joined_count (common_length len other) (common_lengths lens others) (length lens) (λ t g. common_lengths_count lens others t (omega arith) g) s h
 
 -- ---- lengths of 1 in front
-mapped_twice : (f g : List ℕ → List ℕ) (o : Option (List ℕ)) → option_map f (option_map g o) ≡ option_map (λ s. f (g s)) o
-mapped_twice f g None = refl
-mapped_twice f g (Some s) = refl
-
-mapped_alike : (f g : List ℕ → List ℕ) (o : Option (List ℕ)) → ((s : List ℕ) → o ≡ Some s → f s ≡ g s) → option_map f o ≡ option_map g o
-mapped_alike f g None h = refl
-mapped_alike f g (Some s) h = ap Some (h s refl)
-
 -- ones before both lists stay before what they have in common
 common_after_ones : (n : ℕ) (lens others : List ℕ) → common_lengths (replicate n 1 ++ lens) (replicate n 1 ++ others) ≡ option_map (λ s. replicate n 1 ++ s) (common_lengths lens others)
 common_after_ones zero lens others = by (common_lengths lens others)
@@ -171,7 +164,7 @@ common_after_ones zero lens others = by (common_lengths lens others)
     by (Some s) = refl
 common_after_ones (suc n) lens others =
     ap (joined (Some 1)) (common_after_ones n lens others)
-    ∙ mapped_twice (λ s. 1 ∷ s) (λ s. replicate n 1 ++ s) (common_lengths lens others)
+    ∙ option_map-option_map (λ s. 1 ∷ s) (λ s. replicate n 1 ++ s) (common_lengths lens others)
 
 -- with ones in front there are as many
 pub length-padded : (count : ℕ) (shape : List ℕ) → length shape ≤ count → length (padded count shape) ≡ count
@@ -201,7 +194,7 @@ common_shape_at n shape other h g =
     ap (λ xs. common_lengths xs (padded n other)) (padded_more m n shape (omega arith) (omega arith))
     ∙ ap (common_lengths (replicate (n - m) 1 ++ padded m shape)) (padded_more m n other (omega arith) (omega arith))
     ∙ common_after_ones (n - m) (padded m shape) (padded m other)
-    ∙ mapped_alike (λ s. replicate (n - m) 1 ++ s) (padded n) (common_shape shape other) (λ s e. ap (λ k. replicate (n - k) 1 ++ s) (sym (common_shape_count shape other s e)))
+    ∙ option_map_same (common_shape shape other) (λ s e. ap (λ k. replicate (n - k) 1 ++ s) (sym (common_shape_count shape other s e)))
 
 -- ---- the laws
 -- in either order
@@ -226,21 +219,13 @@ common_shape-idempotent shape =
     ap (λ k. common_lengths (replicate k 1 ++ shape) (replicate k 1 ++ shape)) none
     ∙ common_lengths-idempotent shape
 
-followed_alike : (f g : List ℕ → Option (List ℕ)) (o : Option (List ℕ)) → ((s : List ℕ) → o ≡ Some s → f s ≡ g s) → option_and_then f o ≡ option_and_then g o
-followed_alike f g None h = refl
-followed_alike f g (Some s) h = h s refl
-
-followed_mapped : (f : List ℕ → Option (List ℕ)) (g : List ℕ → List ℕ) (o : Option (List ℕ)) → option_and_then (λ s. f (g s)) o ≡ option_and_then f (option_map g o)
-followed_mapped f g None = refl
-followed_mapped f g (Some s) = refl
-
 -- of three shapes, all of one count
 three_at : (n : ℕ) (xs ys zs : List ℕ) → n ≡ max (max (length xs) (length ys)) (length zs) → option_and_then (λ s. common_shape s zs) (common_shape xs ys) ≡ option_and_then (λ s. common_lengths s (padded n zs)) (common_lengths (padded n xs) (padded n ys))
 three_at n xs ys zs e =
-    followed_alike (λ s. common_shape s zs) (λ s. common_lengths (padded n s) (padded n zs)) (common_shape xs ys) (λ s h.
+    and_then_same (common_shape xs ys) (λ s h.
     let count : max (length s) (length zs) ≡ n = ap (λ k. max k (length zs)) (common_shape_count xs ys s h) ∙ sym e in
     ap (λ k. common_lengths (padded k s) (padded k zs)) count)
-    ∙ followed_mapped (λ s. common_lengths s (padded n zs)) (padded n) (common_shape xs ys)
+    ∙ sym (and_then-option_map (λ s. common_lengths s (padded n zs)) (padded n) (common_shape xs ys))
     ∙ ap (option_and_then (λ s. common_lengths s (padded n zs))) (sym (common_shape_at n xs ys (omega arith) (omega arith)))
 
 -- three shapes have one in common however they are grouped, or none
@@ -255,6 +240,6 @@ common_shape-associates xs ys zs =
     let cz : length pz ≡ n = length-padded n zs (omega arith) in
     three_at n xs ys zs refl
     ∙ common_lengths-associates px py pz (cx ∙ sym cy) (cy ∙ sym cz)
-    ∙ followed_alike (λ s. common_lengths px s) (λ s. common_lengths s px) (common_lengths py pz) (λ s h. common_lengths-commutes px s (cx ∙ sym (common_lengths_count py pz s (cy ∙ sym cz) h ∙ cy)))
+    ∙ and_then_same (common_lengths py pz) (λ s h. common_lengths-commutes px s (cx ∙ sym (common_lengths_count py pz s (cy ∙ sym cz) h ∙ cy)))
     ∙ sym (three_at n ys zs xs (omega arith))
-    ∙ followed_alike (λ s. common_shape s xs) (λ s. common_shape xs s) (common_shape ys zs) (λ s h. common_shape-commutes s xs)
+    ∙ and_then_same (common_shape ys zs) (λ s h. common_shape-commutes s xs)

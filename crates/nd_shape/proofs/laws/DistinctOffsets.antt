@@ -4,12 +4,7 @@ use Rattle.std.specs.Prelude.{nat_lt, nat_le, remove, not, ◌&&◌}
 use Rattle.std.proofs.Math.Nat.{mul-le-mul_right, suc-mul}
 use Rattle.std.proofs.lemmas.Bool.{and_from, and_parts, both_ways, cases_eq, cases_lt, cases_order, cond-true, le-leb, ltb-true}
 use Rattle.std.proofs.lemmas.Int.{ints}
-use Rattle.nd_base.specs.Indices.{is_index}
-use Rattle.nd_base.specs.Offset.{offset_of}
-use Rattle.nd_base.specs.Signed.{magnitude}
-use Rattle.nd_base.specs.Size.{is_empty}
-use Rattle.nd_base.specs.Span.{reach}
-use Rattle.nd_base.specs.DistinctOffsets.{HasDistinctOffsets}
+use Rattle.nd_base.proofs.laws.Definitions.{HasDistinctOffsets, is_index, offset_of, magnitude, is_empty, reach}
 use Rattle.nd_dim.specs.AxisOrder.{magnitude_at}
 use Rattle.nd_shape.specs.OwnedRule.{span_up_to, span_of_others, meets_owned_rule, MeetsOwnedRule}
 use Rattle.nd_base.proofs.laws.IsIndex.{length_of_index, entry_of_index, nonempty_from_index}
@@ -59,12 +54,13 @@ record IsLongestDifference (strides : List ℤ) (index other : List ℕ) (axis :
   differs : get_or index axis 0 ≢ get_or other axis 0
   longest : DiffersUpTo (magnitude_at strides axis) strides index other
 
--- it can be the first axis, or that of the rest
-first_taken : (stride : ℤ) (strides : List ℤ) (i j : ℕ) (index other : List ℕ) → i ≢ j → DiffersUpTo (magnitude stride) strides index other → IsLongestDifference (stride ∷ strides) (i ∷ index) (j ∷ other) 0
-first_taken stride strides i j index other ne d = record { exists = omega arith; differs = ne; longest = (λ w. omega arith, d) }
+module _ (stride : ℤ) (strides : List ℤ) (i j : ℕ) (index other : List ℕ) where
+  -- it can be the first axis, or that of the rest
+  first_taken : i ≢ j → DiffersUpTo (magnitude stride) strides index other → IsLongestDifference (stride ∷ strides) (i ∷ index) (j ∷ other) 0
+  first_taken ne d = record { exists = omega arith; differs = ne; longest = (λ w. omega arith, d) }
 
-later_kept : (stride : ℤ) (strides : List ℤ) (i j : ℕ) (index other : List ℕ) (axis : ℕ) → (i ≢ j → magnitude stride ≤ magnitude_at strides axis) → IsLongestDifference strides index other axis → IsLongestDifference (stride ∷ strides) (i ∷ index) (j ∷ other) (suc axis)
-later_kept stride strides i j index other axis short h = record { exists = let e = h.exists in omega arith; differs = h.differs; longest = (short, h.longest) }
+  later_kept : (axis : ℕ) → (i ≢ j → magnitude stride ≤ magnitude_at strides axis) → IsLongestDifference strides index other axis → IsLongestDifference (stride ∷ strides) (i ∷ index) (j ∷ other) (suc axis)
+  later_kept axis short h = record { exists = let e = h.exists in omega arith; differs = h.differs; longest = (short, h.longest) }
 
 -- two lists of entries are equal, or there is such an axis
 longest_difference : (strides : List ℤ) (index other : List ℕ) → length index ≡ length strides → length other ≡ length strides → (index ≡ other) ⊎ ((axis : ℕ) × IsLongestDifference strides index other axis)
@@ -148,55 +144,56 @@ steps_past (negsuc s) here there i j n less far a b e =
     let step : suc i * suc s ≤ j * suc s = mul-le-mul_right (suc s) (omega arith) in
     omega (arith, ints, suc-mul i (suc s))
 
--- under the rule for owned data two indices that differ have different offsets
-told_apart : (shape : List ℕ) (strides : List ℤ) (index other : List ℕ) (axis : ℕ) → length shape ≡ length strides → MeetsOwnedRule shape strides → is_index shape index ≡ true → is_index shape other ≡ true → IsLongestDifference strides index other axis → offset_of strides index ≡ offset_of strides other → ⊥
-told_apart shape strides index other axis count rule h g found same =
-    let exists : axis < length strides = found.exists in
-    let below : axis < length shape = omega arith in
-    let entries : length index ≡ length strides = omega (arith, length_of_index shape index h) in
-    let others : length other ≡ length strides = omega (arith, length_of_index shape other g) in
-    let i = get_or index axis 0 in
-    let j = get_or other axis 0 in
-    let in_index : i < get_or shape axis 0 = entry_of_index shape index axis h below in
-    let in_other : j < get_or shape axis 0 = entry_of_index shape other axis g below in
-    let stride = get_or strides axis (pos 0) in
-    let m = magnitude_at strides axis in
-    let n = span_of_others shape strides axis in
-    let rest = remove shape axis in
-    let moves = remove strides axis in
-    let one = remove index axis in
-    let two = remove other axis in
-    let here = offset_of moves one in
-    let there = offset_of moves two in
-    let first = is_index-remove shape index axis below h in
-    let second = is_index-remove shape other axis below g in
-    let short = rest_differs m strides index other axis entries others found.longest in
-    let up : here ≤ℤ (there +ℤ pos n) = offsets_apart m rest moves one two first second short in
-    let down : there ≤ℤ (here +ℤ pos n) = offsets_apart m rest moves two one second first (turned m moves one two short) in
-    let sums : (pos i *ℤ stride) +ℤ here ≡ (pos j *ℤ stride) +ℤ there = sym (offset_and_others strides index axis exists entries) ∙ same ∙ offset_and_others strides other axis exists others in
-    elim (cases_order i j) [
-      | inl equal ↦ found.differs equal
-      | inr unequal ↦ elim unequal [
-        | inl less ↦ steps_past stride here there i j n less (rule axis below (omega arith)) up down sums
-        | inr more ↦ steps_past stride there here j i n more (rule axis below (omega arith)) down up (sym sums)
+module _ (shape : List ℕ) (strides : List ℤ) where
+  -- under the rule for owned data two indices that differ have different offsets
+  told_apart : (index other : List ℕ) (axis : ℕ) → length shape ≡ length strides → MeetsOwnedRule shape strides → is_index shape index ≡ true → is_index shape other ≡ true → IsLongestDifference strides index other axis → offset_of strides index ≡ offset_of strides other → ⊥
+  told_apart index other axis count rule h g found same =
+      let exists : axis < length strides = found.exists in
+      let below : axis < length shape = omega arith in
+      let entries : length index ≡ length strides = omega (arith, length_of_index shape index h) in
+      let others : length other ≡ length strides = omega (arith, length_of_index shape other g) in
+      let i = get_or index axis 0 in
+      let j = get_or other axis 0 in
+      let in_index : i < get_or shape axis 0 = entry_of_index shape index axis h below in
+      let in_other : j < get_or shape axis 0 = entry_of_index shape other axis g below in
+      let stride = get_or strides axis (pos 0) in
+      let m = magnitude_at strides axis in
+      let n = span_of_others shape strides axis in
+      let rest = remove shape axis in
+      let moves = remove strides axis in
+      let one = remove index axis in
+      let two = remove other axis in
+      let here = offset_of moves one in
+      let there = offset_of moves two in
+      let first = is_index-remove shape index axis below h in
+      let second = is_index-remove shape other axis below g in
+      let short = rest_differs m strides index other axis entries others found.longest in
+      let up : here ≤ℤ (there +ℤ pos n) = offsets_apart m rest moves one two first second short in
+      let down : there ≤ℤ (here +ℤ pos n) = offsets_apart m rest moves two one second first (turned m moves one two short) in
+      let sums : (pos i *ℤ stride) +ℤ here ≡ (pos j *ℤ stride) +ℤ there = sym (offset_and_others strides index axis exists entries) ∙ same ∙ offset_and_others strides other axis exists others in
+      elim (cases_order i j) [
+        | inl equal ↦ found.differs equal
+        | inr unequal ↦ elim unequal [
+          | inl less ↦ steps_past stride here there i j n less (rule axis below (omega arith)) up down sums
+          | inr more ↦ steps_past stride there here j i n more (rule axis below (omega arith)) down up (sym sums)
+        ]
       ]
-    ]
 
--- so two indices with one offset are one
-pub distinct_from_rule : (shape : List ℕ) (strides : List ℤ) → length shape ≡ length strides → MeetsOwnedRule shape strides → HasDistinctOffsets shape strides
-distinct_from_rule shape strides count rule index other h g same =
-    let entries : length index ≡ length strides = omega (arith, length_of_index shape index h) in
-    let others : length other ≡ length strides = omega (arith, length_of_index shape other g) in
-    elim (longest_difference strides index other entries others) [
-      | inl equal ↦ equal
-      | inr found ↦ absurd (told_apart shape strides index other found.0 count rule h g found.1 same)
-    ]
+  -- so two indices with one offset are one
+  pub distinct_from_rule : length shape ≡ length strides → MeetsOwnedRule shape strides → HasDistinctOffsets shape strides
+  distinct_from_rule count rule index other h g same =
+      let entries : length index ≡ length strides = omega (arith, length_of_index shape index h) in
+      let others : length other ≡ length strides = omega (arith, length_of_index shape other g) in
+      elim (longest_difference strides index other entries others) [
+        | inl equal ↦ equal
+        | inr found ↦ absurd (told_apart index other found.0 count rule h g found.1 same)
+      ]
 
--- where the test for a shared element fails, no two indices share one: a shape without an index has no two
-pub distinct_without_overlap : (shape : List ℕ) (strides : List ℤ) → length shape ≡ length strides → (not (is_empty shape) && not (meets_owned_rule shape strides)) ≡ false → HasDistinctOffsets shape strides
-distinct_without_overlap shape strides count apart index other h g same =
-    let some : is_empty shape ≡ false = nonempty_from_index shape index h in
-    elim ((no_overlap shape strides).0 apart) [
-      | inl none ↦ absurd (both_ways (is_empty shape) some none)
-      | inr rule ↦ distinct_from_rule shape strides count rule index other h g same
-    ]
+  -- where the test for a shared element fails, no two indices share one: a shape without an index has no two
+  pub distinct_without_overlap : length shape ≡ length strides → (not (is_empty shape) && not (meets_owned_rule shape strides)) ≡ false → HasDistinctOffsets shape strides
+  distinct_without_overlap count apart index other h g same =
+      let some : is_empty shape ≡ false = nonempty_from_index shape index h in
+      elim ((no_overlap shape strides).0 apart) [
+        | inl none ↦ absurd (both_ways (is_empty shape) some none)
+        | inr rule ↦ distinct_from_rule count rule index other h g same
+      ]

@@ -7,25 +7,17 @@ use Rattle.std.proofs.lemmas.List.{get_or-map, length-map}
 use Rattle.std.proofs.lemmas.List.FromFn.{get_or-map-range_with_len}
 use Rattle.nd_base.specs.declared.order.Order.{Order}
 use Rattle.nd_base.specs.declared.order.Order.TheVariants.{RowMajor, ColumnMajor}
-use Rattle.nd_base.specs.Indices.{below, indices_in, is_index}
-use Rattle.nd_base.specs.Offset.{offset_of}
-use Rattle.nd_base.specs.Rank.{rank_in}
-use Rattle.nd_base.specs.Size.{size, is_empty}
+use Rattle.nd_base.proofs.laws.Definitions.{below, indices_in, is_index, offset_of, place, places, rank_in, is_empty, size}
 use Rattle.nd_base.proofs.laws.Indices.{get_or-indices_in, indices_in_of_empty, length-indices_in}
 use Rattle.nd_base.proofs.laws.IsIndex.{is_index-zeros}
+use Rattle.nd_base.proofs.laws.Offset.{offset_of-zeros}
 use Rattle.nd_base.proofs.laws.Rank.{rank_in-lt-size, index_of_rank_in-rank_in}
 use Rattle.nd_base.proofs.laws.Size.{size_of_empty}
 use Rattle.nd_dim.proofs.laws.Strides.{offset_of-default_strides, offset_of-fortran_strides}
 use Rattle.nd_shape.specs.LayoutOrder.{LiesInOrder, MeetsOrderRule}
-use Rattle.nd_base.specs.Place.{place, places}
 use Rattle.nd_shape.specs.ShapeBuilder.{standard_strides}
 use Rattle.nd_base.proofs.laws.Place.{places_at_ranks}
-use Rattle.nd_shape.proofs.laws.StandardStrides.{standard_count}
-
--- by the strides that a shape has by itself each index lies at its rank
-pub standard_at_rank : (order : Order) (shape index : List ℕ) → is_index shape index ≡ true → offset_of (map pos (standard_strides order shape)) index ≡ pos (rank_in order shape index)
-standard_at_rank RowMajor shape index h = offset_of-default_strides shape index h
-standard_at_rank ColumnMajor shape index h = offset_of-fortran_strides shape index h
+use Rattle.nd_shape.proofs.laws.StandardStrides.{offset_of-standard_strides, standard_count}
 
 -- ---- from the rule
 -- strides that agree on the axes of other lengths than 1 lead to the same offsets
@@ -58,7 +50,7 @@ in_order_from_rule order shape strides e (inr rule) =
     let count : length standard ≡ length shape = standard_count order shape in
     λ start. places_at_ranks order start shape strides (λ index h.
     same_offset shape strides (map pos standard) index e (length-map standard pos ∙ count) h (λ axis l ne. rule axis l ne ∙ sym (get_or-map pos standard axis 0 (pos 0) (omega arith)))
-    ∙ standard_at_rank order shape index h)
+    ∙ offset_of-standard_strides order shape index h)
 
 -- ---- to the rule
 -- where the indices lie in order, each lies at its rank
@@ -91,33 +83,29 @@ is_index-step_along (len ∷ lens) (suc axis) some h ne =
     let more : len ≢ 0 = eqb-false len 0 parts.0 in
     and_from (nat_lt 0 len) (is_index lens (step_along lens axis)) (lt-ltb 0 len (omega arith)) (is_index-step_along lens axis parts.1 (omega arith) ne)
 
-offset_of-zeros : (strides : List ℤ) (n : ℕ) → offset_of strides (replicate n 0) ≡ pos 0
-offset_of-zeros strides zero = refl
-offset_of-zeros [] (suc n) = refl
-offset_of-zeros (s ∷ strides) (suc n) = omega (arith, ints, offset_of-zeros strides n)
-
 offset_of-step_along : (shape : List ℕ) (strides : List ℤ) (axis : ℕ) → length strides ≡ length shape → axis < length shape → offset_of strides (step_along shape axis) ≡ get_or strides axis (pos 0)
 offset_of-step_along [] strides axis e h = absurd (omega arith)
 offset_of-step_along (len ∷ lens) [] axis e h = absurd (omega arith)
 offset_of-step_along (len ∷ lens) (s ∷ strides) zero e h = omega (arith, ints, offset_of-zeros strides (length lens))
 offset_of-step_along (len ∷ lens) (s ∷ strides) (suc axis) e h = omega (arith, ints, offset_of-step_along lens strides axis (omega arith) (omega arith))
 
-pub rule_from_in_order : (order : Order) (shape : List ℕ) (strides : List ℤ) → length strides ≡ length shape → LiesInOrder order shape strides → MeetsOrderRule order shape strides
-rule_from_in_order order shape strides e lies =
-    let standard = standard_strides order shape in
-    let count : length standard ≡ length shape = standard_count order shape in
-    elim (cases_Bool (is_empty shape)) [
-      | inl none ↦ inl none
-      | inr some ↦ inr (λ axis l ne.
-          let index = step_along shape axis in
-          let h : is_index shape index ≡ true = is_index-step_along shape axis some l ne in
-          sym (offset_of-step_along shape strides axis e l)
-          ∙ rank_from_in_order order shape strides lies index h
-          ∙ sym (standard_at_rank order shape index h)
-          ∙ offset_of-step_along shape (map pos standard) axis (length-map standard pos ∙ count) l
-          ∙ get_or-map pos standard axis 0 (pos 0) (omega arith))
-    ]
+module _ (order : Order) (shape : List ℕ) (strides : List ℤ) (e : length strides ≡ length shape) where
+  pub rule_from_in_order : LiesInOrder order shape strides → MeetsOrderRule order shape strides
+  rule_from_in_order lies =
+      let standard = standard_strides order shape in
+      let count : length standard ≡ length shape = standard_count order shape in
+      elim (cases_Bool (is_empty shape)) [
+        | inl none ↦ inl none
+        | inr some ↦ inr (λ axis l ne.
+            let index = step_along shape axis in
+            let h : is_index shape index ≡ true = is_index-step_along shape axis some l ne in
+            sym (offset_of-step_along shape strides axis e l)
+            ∙ rank_from_in_order order shape strides lies index h
+            ∙ sym (offset_of-standard_strides order shape index h)
+            ∙ offset_of-step_along shape (map pos standard) axis (length-map standard pos ∙ count) l
+            ∙ get_or-map pos standard axis 0 (pos 0) (omega arith))
+      ]
 
--- the indices lie in order exactly where the rule is met
-pub in_order_exactly : (order : Order) (shape : List ℕ) (strides : List ℤ) → length strides ≡ length shape → LiesInOrder order shape strides ↔ MeetsOrderRule order shape strides
-in_order_exactly order shape strides e = (rule_from_in_order order shape strides e, in_order_from_rule order shape strides e)
+  -- the indices lie in order exactly where the rule is met
+  pub in_order_exactly : LiesInOrder order shape strides ↔ MeetsOrderRule order shape strides
+  in_order_exactly = (rule_from_in_order, in_order_from_rule order shape strides e)

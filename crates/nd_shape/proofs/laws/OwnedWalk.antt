@@ -10,9 +10,7 @@ use Rattle.std.proofs.lemmas.Nat.{mul-le}
 use Rattle.std.proofs.lemmas.List.FromFn.{length-range_with_len, get_or-range_with_len}
 use Rattle.std.proofs.lemmas.List.Sorted.{Contains-permutation, All-permutation, sum_by-IsPermutation}
 use Rattle.std.proofs.lemmas.List.Sums.{get_or-le-sum_by, sum_by-cons, sum_by-drop_more, sum_by-le, sum_by-le-sum_by, sum_by-take-drop, sum_by_more_le}
-use Rattle.nd_base.specs.Indices.{below}
-use Rattle.nd_base.specs.Signed.{magnitude}
-use Rattle.nd_base.specs.Span.{reach, span, sum_over_axes}
+use Rattle.nd_base.proofs.laws.Definitions.{below, magnitude, reach, span, sum_over_axes}
 use Rattle.nd_base.proofs.laws.Span.{sum_and_others}
 use Rattle.nd_dim.specs.AxisOrder.{magnitude_at, comes_before, IsStrideOrder}
 use Rattle.nd_shape.specs.OwnedRule.{span_of_others, steps_over_others, meets_owned_rule, MeetsOwnedRule}
@@ -24,18 +22,19 @@ use Rattle.nd_shape.proofs.laws.OwnedRule.{reach_up_to, reach_up_to_le, rule_bro
 abbrev pub WalkHolds : ℕ → List ℕ → List ℤ → List ℕ → Type 0
 WalkHolds reached shape strides order = (place : ℕ) → place < length order → 1 < get_or shape (get_or order place 0) 0 → reached + sum_by (reach_at shape strides) (take place order) < magnitude_at strides (get_or order place 0)
 
--- a test that an axis passes
-stepped : (reached : ℕ) (shape : List ℕ) (strides : List ℤ) (axis : ℕ) → steps_over reached shape strides axis ≡ true → 1 < get_or shape axis 0 → reached < magnitude_at strides axis
-stepped reached shape strides axis h long = elim (or_cases (nat_le (get_or shape axis 0) 1) (nat_lt reached (magnitude_at strides axis)) h) [
-  | inl short ↦ absurd (omega (arith, leb-true (get_or shape axis 0) 1 short))
-  | inr far ↦ ltb-true reached (magnitude_at strides axis) far
-]
+module _ (reached : ℕ) (shape : List ℕ) (strides : List ℤ) (axis : ℕ) where
+  -- a test that an axis passes
+  stepped : steps_over reached shape strides axis ≡ true → 1 < get_or shape axis 0 → reached < magnitude_at strides axis
+  stepped h long = elim (or_cases (nat_le (get_or shape axis 0) 1) (nat_lt reached (magnitude_at strides axis)) h) [
+    | inl short ↦ absurd (omega (arith, leb-true (get_or shape axis 0) 1 short))
+    | inr far ↦ ltb-true reached (magnitude_at strides axis) far
+  ]
 
-steps : (reached : ℕ) (shape : List ℕ) (strides : List ℤ) (axis : ℕ) → (1 < get_or shape axis 0 → reached < magnitude_at strides axis) → steps_over reached shape strides axis ≡ true
-steps reached shape strides axis h = elim (cases_lt 1 (get_or shape axis 0)) [
-  | inl long ↦ or_right (nat_le (get_or shape axis 0) 1) (nat_lt reached (magnitude_at strides axis)) (lt-ltb reached (magnitude_at strides axis) (h long))
-  | inr short ↦ or_left (nat_le (get_or shape axis 0) 1) (nat_lt reached (magnitude_at strides axis)) (le-leb (get_or shape axis 0) 1 short)
-]
+  steps : (1 < get_or shape axis 0 → reached < magnitude_at strides axis) → steps_over reached shape strides axis ≡ true
+  steps h = elim (cases_lt 1 (get_or shape axis 0)) [
+    | inl long ↦ or_right (nat_le (get_or shape axis 0) 1) (nat_lt reached (magnitude_at strides axis)) (lt-ltb reached (magnitude_at strides axis) (h long))
+    | inr short ↦ or_left (nat_le (get_or shape axis 0) 1) (nat_lt reached (magnitude_at strides axis)) (le-leb (get_or shape axis 0) 1 short)
+  ]
 
 walk_tested : (reached : ℕ) (shape : List ℕ) (strides : List ℤ) (order : List ℕ) → WalkHolds reached shape strides order → walk_from reached shape strides order ≡ true
 walk_tested reached shape strides [] h = refl
@@ -166,51 +165,52 @@ reaches len stride h =
     let once : 1 * magnitude stride ≤ (len - 1) * magnitude stride = mul-le 1 (magnitude stride) (len - 1) (magnitude stride) (omega arith) (omega arith) in
     omega (arith, one-mul (magnitude stride))
 
--- after an axis of more than one entry, only axes of at most one entry have a stride no longer
-later_short : (shape : List ℕ) (strides : List ℤ) (order : List ℕ) (place later : ℕ) → WalkHolds 0 shape strides order → place < later → later < length order → 1 < get_or shape (get_or order place 0) 0 → magnitude_at strides (get_or order later 0) ≤ magnitude_at strides (get_or order place 0) → get_or shape (get_or order later 0) 0 ≤ 1
-later_short shape strides order place later walk before l long upto = elim (cases_lt 1 (get_or shape (get_or order later 0) 0)) [
-  | inr short ↦ short
-  | inl other ↦
-      let inside : place < length (take later order) = omega (arith, length-take later order) in
-      let part = get_or-le-sum_by (reach_at shape strides) (take later order) place 0 inside in
-      let same = get_or-take later order place 0 before in
-      let own = reaches (get_or shape (get_or order place 0) 0) (get_or strides (get_or order place 0) (pos 0)) long in
-      absurd (omega (arith, walk later l other, rw same at part, own))
-]
+module _ (shape : List ℕ) (strides : List ℤ) (order : List ℕ) where
+  -- after an axis of more than one entry, only axes of at most one entry have a stride no longer
+  later_short : (place later : ℕ) → WalkHolds 0 shape strides order → place < later → later < length order → 1 < get_or shape (get_or order place 0) 0 → magnitude_at strides (get_or order later 0) ≤ magnitude_at strides (get_or order place 0) → get_or shape (get_or order later 0) 0 ≤ 1
+  later_short place later walk before l long upto = elim (cases_lt 1 (get_or shape (get_or order later 0) 0)) [
+    | inr short ↦ short
+    | inl other ↦
+        let inside : place < length (take later order) = omega (arith, length-take later order) in
+        let part = get_or-le-sum_by (reach_at shape strides) (take later order) place 0 inside in
+        let same = get_or-take later order place 0 before in
+        let own = reaches (get_or shape (get_or order place 0) 0) (get_or strides (get_or order place 0) (pos 0)) long in
+        absurd (omega (arith, walk later l other, rw same at part, own))
+  ]
 
--- so the rule is met at each place
-rule_at_place : (shape : List ℕ) (strides : List ℤ) (order : List ℕ) (place : ℕ) → length shape ≡ length strides → IsPermutation (below (length strides)) order → WalkHolds 0 shape strides order → place < length order → 1 < get_or shape (get_or order place 0) 0 → span_of_others shape strides (get_or order place 0) < magnitude_at strides (get_or order place 0)
-rule_at_place shape strides order place count p walk l long =
-    let m = magnitude_at strides (get_or order place 0) in
-    let f = reach_up_to m in
-    let earlier = sum_by-le-sum_by (term_at f shape strides) (reach_at shape strides) (take place order) (λ axis. reach_up_to_le m (get_or shape axis 0) (get_or strides axis (pos 0))) in
-    let none : All (λ axis. term_at f shape strides axis ≤ 0) (drop (place + 1) order) = λ k d g.
-    let next = (place + 1) + k in
-    let inside : next < length order = omega (arith, length-drop (place + 1) order) in
-    let same : get_or (drop (place + 1) order) k d ≡ get_or order next 0 = get_or-drop (place + 1) order k d ∙ get_or_default order next d 0 inside in
-    let zero_there = nowhere m (get_or shape (get_or order next 0) 0) (get_or strides (get_or order next 0) (pos 0)) (later_short shape strides order place next walk (omega arith) inside long) in
-    rw same (omega (arith, zero_there)) in
-    let later = sum_by-le (term_at f shape strides) 0 (drop (place + 1) order) none in
-    omega (arith, walk place l long, others_by_place shape strides order place count p l, mul-zero (length (drop (place + 1) order)))
+  -- so the rule is met at each place
+  rule_at_place : (place : ℕ) → length shape ≡ length strides → IsPermutation (below (length strides)) order → WalkHolds 0 shape strides order → place < length order → 1 < get_or shape (get_or order place 0) 0 → span_of_others shape strides (get_or order place 0) < magnitude_at strides (get_or order place 0)
+  rule_at_place place count p walk l long =
+      let m = magnitude_at strides (get_or order place 0) in
+      let f = reach_up_to m in
+      let earlier = sum_by-le-sum_by (term_at f shape strides) (reach_at shape strides) (take place order) (λ axis. reach_up_to_le m (get_or shape axis 0) (get_or strides axis (pos 0))) in
+      let none : All (λ axis. term_at f shape strides axis ≤ 0) (drop (place + 1) order) = λ k d g.
+      let next = (place + 1) + k in
+      let inside : next < length order = omega (arith, length-drop (place + 1) order) in
+      let same : get_or (drop (place + 1) order) k d ≡ get_or order next 0 = get_or-drop (place + 1) order k d ∙ get_or_default order next d 0 inside in
+      let zero_there = nowhere m (get_or shape (get_or order next 0) 0) (get_or strides (get_or order next 0) (pos 0)) (later_short place next walk (omega arith) inside long) in
+      rw same (omega (arith, zero_there)) in
+      let later = sum_by-le (term_at f shape strides) 0 (drop (place + 1) order) none in
+      omega (arith, walk place l long, others_by_place shape strides order place count p l, mul-zero (length (drop (place + 1) order)))
 
--- where a walk along all axes goes through, whatever their order, the rule is met
-pub rule_from_walk : (shape : List ℕ) (strides : List ℤ) (order : List ℕ) → length shape ≡ length strides → IsPermutation (below (length strides)) order → WalkHolds 0 shape strides order → MeetsOwnedRule shape strides
-rule_from_walk shape strides order count p walk axis inside long =
-    let found = place_of (length strides) order axis p (omega arith) in
-    rw found.2 at (rule_at_place shape strides order found.0 count p walk found.1 (rw found.2 long))
+  -- where a walk along all axes goes through, whatever their order, the rule is met
+  pub rule_from_walk : length shape ≡ length strides → IsPermutation (below (length strides)) order → WalkHolds 0 shape strides order → MeetsOwnedRule shape strides
+  rule_from_walk count p walk axis inside long =
+      let found = place_of (length strides) order axis p (omega arith) in
+      rw found.2 at (rule_at_place found.0 count p walk found.1 (rw found.2 long))
 
--- the walk in an order of the strides answers what the rule does, also where a length is 0
-pub walk_answers_rule : (shape : List ℕ) (strides : List ℤ) (order : List ℕ) → length shape ≡ length strides → IsStrideOrder strides order → meets_owned_walk shape strides order ≡ meets_owned_rule shape strides
-walk_answers_rule shape strides order count h =
-    same_from_decides {P = MeetsOwnedRule shape strides} (meets_owned_walk shape strides order) (meets_owned_rule shape strides)
-    (λ walk. rule_from_walk shape strides order count h.each_once (walk_holds 0 shape strides order walk), walk_from_rule shape strides order count h)
-    (rule_holds shape strides, rule_tested shape strides)
+  -- the walk in an order of the strides answers what the rule does, also where a length is 0
+  pub walk_answers_rule : length shape ≡ length strides → IsStrideOrder strides order → meets_owned_walk shape strides order ≡ meets_owned_rule shape strides
+  walk_answers_rule count h =
+      same_from_decides {P = MeetsOwnedRule shape strides} (meets_owned_walk shape strides order) (meets_owned_rule shape strides)
+      (λ walk. rule_from_walk count h.each_once (walk_holds 0 shape strides order walk), walk_from_rule shape strides order count h)
+      (rule_holds shape strides, rule_tested shape strides)
 
--- no walk reaches further than the axes span together
-pub walked_le_span : (shape : List ℕ) (strides : List ℤ) (order : List ℕ) (place : ℕ) → length shape ≡ length strides → IsPermutation (below (length strides)) order → place < length order → sum_by (reach_at shape strides) (take place order) + reach_at shape strides (get_or order place 0) ≤ span shape strides
-walked_le_span shape strides order place count p l =
-    let all : span shape strides ≡ sum_by (reach_at shape strides) order = sum_in_order reach shape strides order count p in
-    omega (arith, all, sum_by_more_le (reach_at shape strides) order place 0 l)
+  -- no walk reaches further than the axes span together
+  pub walked_le_span : (place : ℕ) → length shape ≡ length strides → IsPermutation (below (length strides)) order → place < length order → sum_by (reach_at shape strides) (take place order) + reach_at shape strides (get_or order place 0) ≤ span shape strides
+  walked_le_span place count p l =
+      let all : span shape strides ≡ sum_by (reach_at shape strides) order = sum_in_order reach shape strides order count p in
+      omega (arith, all, sum_by_more_le (reach_at shape strides) order place 0 l)
 
 -- the test of an axis that steps over no more than the others span
 stopped_test : (shape : List ℕ) (strides : List ℤ) (axis : ℕ) → 1 < get_or shape axis 0 → magnitude_at strides axis ≤ span_of_others shape strides axis → steps_over_others shape strides axis ≡ false

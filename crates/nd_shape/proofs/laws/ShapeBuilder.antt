@@ -2,8 +2,7 @@
 use Rattle.std.proofs.Common.{◌≡◌, ℕ, List, length, sym, ◌∙◌}
 use Rattle.std.specs.Option.{IfSome}
 use Rattle.std.proofs.lemmas.List.{length-map}
-use Rattle.nd_base.specs.Signed.{signed, all_signed}
-use Rattle.nd_base.specs.ValidLayout.{IsValidLayout}
+use Rattle.nd_base.proofs.laws.Definitions.{all_signed, signed, IsValidLayout}
 use Rattle.nd_shape.specs.declared.shape_builder.Strides.{Strides}
 use Rattle.nd_shape.specs.declared.shape_builder.Strides.TheVariants.{C, F, Custom}
 use Rattle.nd_shape.specs.ShapeBuilder.{custom_strides, strides_list}

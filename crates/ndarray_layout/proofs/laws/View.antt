@@ -129,4 +129,4 @@ item_at_rank order view items r same below =
 -- each length of a view is below 2^63
 pub lens_fit : {view : View} → IsView view → All (λ len. len < 2 ^ 63) view.shape
 lens_fit {view} v = λ axis d below.
-    omega (arith, get_or_default_zero view.shape axis d below, length_le_nonzero_size view.shape axis below, v.valid.size_fits)
+    omega (arith, get_or_default_zero view.shape axis d below, length_le_nonzero_size view.shape axis, v.valid.size_fits)

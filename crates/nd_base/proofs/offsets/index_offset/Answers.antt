@@ -3,8 +3,7 @@ use Rattle.std.specs.Prelude.{FitsSigned, unsigned_abs}
 use Rattle.std.proofs.lemmas.Int.{ints, to_z-of_z, fits_signed_from_abs, unsigned_abs-mul}
 use Rattle.std.proofs.lemmas.List.{length_push}
 use Rattle.std.proofs.lemmas.Slice.Zip.{zip_turn}
-use Rattle.nd_base.specs.Signed.{signed}
-use Rattle.nd_base.specs.Size.{limit}
+use Rattle.nd_base.proofs.laws.Definitions.{signed, limit}
 use Rattle.nd_base.proofs.IndexOffsets.{entry_offset, entry_offset_bounds, offset_from, offset_at_turn, far_at_turn, offset_at_end}
 use Rattle.nd_base.proofs.laws.Span.{sum_from}
 use Rattle.nd_base.proofs.offsets.index_offset.Goals as goal

@@ -1,13 +1,10 @@
-use Rattle.std.proofs.Common.{rules, refl, ◌≡◌, ◌+◌, ◌<◌, ◌≤◌, length, get_or, true, false, pos, ◌+ℤ◌, ◌*ℤ◌, ◌≤ℤ◌, neg_ℤ, to_z, of_z, w64, arith, ap, below_more}
+use Rattle.std.proofs.Common.{rules, refl, sym, ◌≡◌, ◌+◌, ◌<◌, ◌≤◌, length, get_or, true, false, pos, ◌+ℤ◌, ◌*ℤ◌, ◌≤ℤ◌, neg_ℤ, to_z, of_z, w64, arith, ap, below_more}
 use Rattle.std.specs.Prelude.{FitsSigned, unsigned_abs, Some}
 use Rattle.std.proofs.lemmas.Int.{ints, to_z-of_z, fits_signed_from_abs, unsigned_abs-mul}
 use Rattle.std.proofs.lemmas.List.{length-map}
-use Rattle.nd_base.specs.Indices.{is_index}
-use Rattle.nd_base.specs.Offset.{offset_of}
-use Rattle.nd_base.specs.Signed.{signed, all_signed}
-use Rattle.nd_base.specs.Size.{limit}
-use Rattle.nd_base.specs.Span.{reach}
-use Rattle.nd_base.proofs.IndexOffsets.{is_index_of_count, is_index_of_entry, is_index_of_entries, entry_offset, entry_offset_bounds, entry_offset_le, offset_from, offset_from_step, offset_from_end}
+use Rattle.nd_base.proofs.laws.Definitions.{is_index, offset_of, all_signed, signed, limit, reach}
+use Rattle.nd_base.proofs.IndexOffsets.{is_index_of_count, is_index_of_entry, entry_offset, entry_offset_bounds, entry_offset_le, offset_from, offset_from_step, offset_from_end}
+use Rattle.nd_base.proofs.laws.Entries.{is_index_from_entries}
 use Rattle.nd_base.proofs.laws.NonzeroSize.{length_le_nonzero_size}
 use Rattle.nd_base.proofs.laws.Span.{sum_from, sum_from_step}
 use Rattle.nd_base.proofs.offsets.stride_offset_checked.Goals as goal
@@ -41,7 +38,7 @@ pub stride_offset-offset-requires : goal.stride_offset-offset-requires
 stride_offset-offset-requires c =
     let entry = get_or c.args.index.now c.loop-axis.axis 0 in
     let stride = signed (get_or c.args.strides.now c.loop-axis.axis 0) in
-    let small = length_le_nonzero_size c.args.dim.now c.loop-axis.axis c.loop-axis-test.true in
+    let small = length_le_nonzero_size c.args.dim.now c.loop-axis.axis in
     let distance : unsigned_abs (pos entry *ℤ stride) ≡ entry_offset entry stride = unsigned_abs-mul (pos entry) stride in
     let bound : entry_offset entry stride ≤ limit = omega (arith, ints, far (goal.at.stride_offset-offset-requires c).Else-index-axis, c.loop-axis.invariant.low, c.loop-axis.invariant.high) in
     record {
@@ -84,7 +81,7 @@ pub returns : goal.returns
 returns c =
     let shape = c.args.dim.now in
     let index = c.args.index.now in
-    let here : is_index shape index ≡ true = is_index_of_entries shape index c.if-dim-index.false (λ axis l. c.loop-axis.invariant.inside axis (omega (arith, c.loop-axis-test.false))) in
+    let here : is_index shape index ≡ true = is_index_from_entries shape index (sym c.if-dim-index.false) (λ axis l. c.loop-axis.invariant.inside axis (omega (arith, c.loop-axis-test.false))) in
     let end = offset_from_end c.args.strides.now index c.loop-axis.axis (omega (arith, c.loop-axis-test.false, c.if-dim-index.false)) in
     let whole : to_z w64 c.loop-axis.offset-bits ≡ offset_of (all_signed c.args.strides.now) index = omega (arith, ints, end, c.loop-axis.invariant.sum) in
     rw here (ap Some whole)

@@ -1,7 +1,6 @@
 use Rattle.std.proofs.Common.{◌≡◌, false, get_or, length, arith, sym, ◌∙◌}
 use Rattle.std.proofs.lemmas.Bool.{or_from, ne_eqb}
-use Rattle.nd_base.specs.Signed.{all_signed}
-use Rattle.nd_base.specs.Size.{size}
+use Rattle.nd_base.proofs.laws.Definitions.{all_signed, size}
 use Rattle.nd_dim.specs.AxisOrder.{magnitude_at}
 use Rattle.nd_dim.specs.Contiguous.{lens_before, is_packed_at}
 use Rattle.nd_dim.proofs.Packed.{all_below, not_all_below}

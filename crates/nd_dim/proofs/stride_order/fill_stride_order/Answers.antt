@@ -2,8 +2,7 @@ use Rattle.std.proofs.Common.{rules, ◌≡◌, ◌+◌, get_or, length, arith, 
 use Rattle.std.specs.List.Sorted.{IsPermutation}
 use Rattle.std.proofs.lemmas.Fn.{always_returns_same}
 use Rattle.std.proofs.lemmas.List.{length-map}
-use Rattle.nd_base.specs.Indices.{below}
-use Rattle.nd_base.specs.Signed.{signed, all_signed}
+use Rattle.nd_base.proofs.laws.Definitions.{below, all_signed, signed}
 use Rattle.nd_dim.specs.AxisOrder.{magnitude_at}
 use Rattle.nd_dim.proofs.StrideOrder.{numbers_in_place, places_differ, before_from_not_after}
 use Rattle.nd_dim.proofs.stride_order.fill_stride_order.Goals as goal

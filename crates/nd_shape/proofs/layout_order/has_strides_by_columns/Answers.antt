@@ -1,7 +1,6 @@
 use Rattle.std.proofs.Common.{◌≡◌, ◌≢◌, ◌+◌, ◌*◌, false, inr, take, get_or, Fits, w64, arith, sym, ap, ◌∙◌, refl, below_more}
 use Rattle.nd_base.specs.declared.order.Order.TheVariants.{ColumnMajor}
-use Rattle.nd_base.specs.Signed.{all_signed}
-use Rattle.nd_base.specs.Size.{size, is_empty}
+use Rattle.nd_base.proofs.laws.Definitions.{all_signed, is_empty, size}
 use Rattle.nd_dim.specs.Strides.{size_until}
 use Rattle.nd_dim.proofs.laws.Strides.{fortran_at}
 use Rattle.nd_base.proofs.laws.NonzeroSize.{size_le_nonzero_size}

@@ -9,7 +9,7 @@ use Rattle.nd_shape.proofs.merge.merge_fitting.Goals.{then-min-le1, then-take_le
 
 pub is_multiple-requires : goal.is_multiple-requires
 is_multiple-requires c =
-    omega (arith, c.requires.valid.size_fits, length_le_nonzero_size c.args.shape.now c.args.into c.requires.into, length_le_nonzero_size c.args.shape.now c.args.take c.requires.take)
+    omega (arith, c.requires.valid.size_fits, length_le_nonzero_size c.args.shape.now c.args.into, length_le_nonzero_size c.args.shape.now c.args.take)
 
 pub returns-then-not-is_multiple-clause-fits : goal.returns-then-not-is_multiple-clause-fits
 returns-then-not-is_multiple-clause-fits c =

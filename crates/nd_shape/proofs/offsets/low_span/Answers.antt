@@ -1,7 +1,6 @@
 use Rattle.std.proofs.Common.{rules, ◌≡◌, ◌+◌, length, arith}
 use Rattle.std.proofs.lemmas.List.{length_push}
-use Rattle.nd_base.specs.Signed.{signed, all_signed}
-use Rattle.nd_base.specs.Span.{reach_down}
+use Rattle.nd_base.proofs.laws.Definitions.{all_signed, signed, reach_down}
 use Rattle.nd_base.proofs.laws.Span.{sum_from, low_high_span}
 use Rattle.nd_shape.proofs.SumLoop.{sum_at_turn, sum_at_end}
 use Rattle.nd_shape.proofs.offsets.low_span.Goals as goal

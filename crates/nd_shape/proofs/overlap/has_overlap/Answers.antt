@@ -1,9 +1,7 @@
 use Rattle.std.proofs.Common.{rules, ◌≡◌, ℕ, false, List, length, sym, ap, ◌∙◌}
 use Rattle.std.specs.Prelude.{not, ◌&&◌}
 use Rattle.std.proofs.lemmas.List.{length-map}
-use Rattle.nd_base.specs.DistinctOffsets.{HasDistinctOffsets}
-use Rattle.nd_base.specs.Signed.{signed, all_signed}
-use Rattle.nd_base.specs.Size.{is_empty}
+use Rattle.nd_base.proofs.laws.Definitions.{HasDistinctOffsets, all_signed, signed, is_empty}
 use Rattle.nd_dim.specs.AxisOrder.{IsStrideOrder}
 use Rattle.nd_shape.specs.OwnedRule.{meets_owned_rule}
 use Rattle.nd_shape.specs.OwnedWalk.{meets_owned_walk}

@@ -5,9 +5,7 @@ use Rattle.std.proofs.lemmas.Bool.{cases_Bool, leb-true, not_from_true, not_from
 use Rattle.std.proofs.lemmas.Int.{to_z-of_z}
 use Rattle.std.proofs.lemmas.List.{length-map}
 use Rattle.std.proofs.lemmas.List.Sums.{sum_by_more}
-use Rattle.nd_base.specs.Indices.{below}
-use Rattle.nd_base.specs.Signed.{signed, all_signed}
-use Rattle.nd_base.specs.Span.{reach}
+use Rattle.nd_base.proofs.laws.Definitions.{below, all_signed, signed, reach}
 use Rattle.nd_dim.specs.AxisOrder.{magnitude_at}
 use Rattle.nd_shape.specs.OwnedRule.{meets_owned_rule}
 use Rattle.nd_shape.specs.OwnedWalk.{reach_at}

@@ -2,11 +2,11 @@ use Rattle.std.proofs.Common.{rules, ◌≡◌, ◌-◌, length, pos, get_or, to
 use Rattle.std.specs.Prelude.{unsigned_abs, FitsSigned}
 use Rattle.std.proofs.lemmas.Int.{to_z-of_z}
 use Rattle.std.proofs.lemmas.List.{length-map}
-use Rattle.nd_base.specs.Signed.{signed, all_signed}
-use Rattle.nd_base.specs.Span.{reach}
+use Rattle.nd_base.proofs.laws.Definitions.{all_signed, signed, reach}
 use Rattle.nd_dim.specs.AxisOrder.{magnitude_at}
 use Rattle.nd_shape.specs.OwnedRule.{span_up_to, span_of_others}
-use Rattle.nd_shape.proofs.OwnedRule.{signed_at, own_le_span, own_le_span_up_to, span_less_own, long_axis}
+use Rattle.nd_base.proofs.laws.Span.{reach_le_span}
+use Rattle.nd_shape.proofs.OwnedRule.{signed_at, own_le_span_up_to, span_less_own, long_axis}
 use Rattle.nd_shape.proofs.overlap.overlaps_others.Goals as goal
 use Rattle.nd_shape.proofs.overlap.overlaps_others.Goals.{After-unsigned_abs-magnitude}
 
@@ -22,7 +22,7 @@ pub reach-requires : goal.reach-requires
 reach-requires c =
     let read = stride_is (goal.at.reach-requires c).After-unsigned_abs-magnitude in
     let count : length (all_signed c.args.strides.now) ≡ length c.args.strides.now = length-map c.args.strides.now signed in
-    let own = own_le_span c.args.shape.now (all_signed c.args.strides.now) c.args.axis (omega arith) (omega arith) in
+    let own = reach_le_span c.args.shape.now (all_signed c.args.strides.now) c.args.axis (omega arith) (omega arith) in
     rw read (omega (arith, own))
 
 -- what the code computes, in the words of the rule

@@ -1,7 +1,6 @@
 use Rattle.std.proofs.Common.{rules, ◌≡◌, ◌+◌, ◌≤◌, length, arith}
 use Rattle.std.proofs.lemmas.List.{length_push}
-use Rattle.nd_base.specs.Signed.{signed, all_signed}
-use Rattle.nd_base.specs.Span.{reach, span}
+use Rattle.nd_base.proofs.laws.Definitions.{all_signed, signed, reach, span}
 use Rattle.nd_shape.specs.OwnedRule.{span_up_to}
 use Rattle.nd_shape.proofs.laws.OwnedRule.{reach_up_to, reach_up_to_le}
 use Rattle.nd_base.proofs.laws.Span.{sum_from, sum_le}

@@ -1,8 +1,6 @@
 -- The sum so far, and that of the axes still to come, make the whole, and those reach no further than the limit.
 use Rattle.std.proofs.Common.{◌≡◌, ◌+◌, ◌≤◌, length}
-use Rattle.nd_base.specs.Signed.{all_signed}
-use Rattle.nd_base.specs.Size.{limit}
-use Rattle.nd_base.specs.Span.{reach}
+use Rattle.nd_base.proofs.laws.Definitions.{all_signed, limit, reach}
 use Rattle.nd_shape.specs.OwnedRule.{span_up_to}
 use Rattle.nd_shape.proofs.laws.OwnedRule.{reach_up_to}
 use Rattle.nd_base.proofs.laws.Span.{sum_from}

@@ -1,8 +1,7 @@
 -- At first all indices are left.
 use Rattle.std.proofs.Common.{◌≡◌, ◌<◌, ◌≤◌, false, replicate, length, refl, arith, ap, ◌∙◌}
 use Rattle.std.proofs.lemmas.Bool.{both_ways}
-use Rattle.nd_base.specs.Dim.{lengths}
-use Rattle.nd_base.specs.Size.{size}
+use Rattle.nd_base.proofs.laws.Definitions.{lengths, size}
 use Rattle.nd_base.specs.declared.lengths.TheConstants.{INLINE_AXES}
 use Rattle.nd_base.proofs.laws.Size.{size_of_empty}
 use Rattle.nd_shape.specs.IndicesLeft.{indices_left}
