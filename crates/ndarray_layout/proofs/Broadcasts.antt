@@ -7,10 +7,8 @@ use Rattle.std.proofs.lemmas.Int.{ints}
 use Rattle.std.proofs.Math.ListN.{get_or-map}
 use Rattle.std.proofs.lemmas.List.{ext_get_or, get_or-append-add, get_or_append_left, get_or-drop, get_or-replicate, length-append}
 use Rattle.std.proofs.lemmas.List.{length-drop, length-map, length-replicate}
-use Rattle.nd_base.specs.Indices.{is_index}
-use Rattle.nd_base.specs.Offset.{offset_of}
-use Rattle.nd_base.specs.Signed.{signed, all_signed}
-use Rattle.nd_base.specs.Span.{sum_over_axes, reach_down, reach_up, low_span, high_span}
+use Rattle.nd_base.proofs.laws.Definitions.{is_index, offset_of, all_signed, signed, high_span, low_span, reach_down, reach_up}
+use Rattle.nd_base.proofs.laws.Definitions.{sum_over_axes}
 use Rattle.nd_base.proofs.laws.IsIndex.{length_of_index}
 use Rattle.nd_shape.proofs.laws.Stretches.{StretchesTo}
 use Rattle.ndarray_layout.specs.BroadcastView.{broadcast_source, broadcast_strides, entries_within, new_axes, stretched_strides}

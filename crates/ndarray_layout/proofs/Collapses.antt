@@ -3,10 +3,7 @@ use Rattle.std.proofs.Common.{◌≡◌, ℕ, zero, suc, ◌<◌, ◌≤◌, ℤ
 use Rattle.std.proofs.Common.{nat_lt, true, arith, ap}
 use Rattle.std.proofs.lemmas.Int.{ints}
 use Rattle.std.proofs.lemmas.Bool.{and_parts, and_from, ltb-true, lt-ltb}
-use Rattle.nd_base.specs.Indices.{is_index}
-use Rattle.nd_base.specs.Offset.{offset_of}
-use Rattle.nd_base.specs.Size.{nonzero_size}
-use Rattle.nd_base.specs.Span.{reach_down, reach_up, low_span, high_span}
+use Rattle.nd_base.proofs.laws.Definitions.{is_index, offset_of, nonzero_size, high_span, low_span, reach_down, reach_up}
 use Rattle.ndarray_layout.proofs.OneAxis.{axis_within}
 use Rattle.ndarray_layout.proofs.Slices.{nonzero_more}
 

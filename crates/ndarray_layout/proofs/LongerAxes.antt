@@ -7,15 +7,12 @@ use Rattle.std.proofs.lemmas.Int.{ints}
 use Rattle.std.proofs.lemmas.List.{append-nil, length-reverse, map-append, reverse-append}
 use Rattle.nd_base.specs.declared.order.Order.{Order}
 use Rattle.nd_base.specs.declared.order.Order.TheVariants.{RowMajor, ColumnMajor}
-use Rattle.nd_base.specs.Indices.{below, indices}
-use Rattle.nd_base.specs.Offset.{offset_of}
-use Rattle.nd_base.specs.Place.{places}
-use Rattle.nd_base.specs.Signed.{signed, all_signed}
-use Rattle.nd_base.specs.Size.{size, nonzero_size}
-use Rattle.nd_base.specs.Span.{reach, reach_down, reach_up, sum_over_axes}
+use Rattle.nd_base.proofs.laws.Definitions.{below, indices, offset_of, places, all_signed, signed, nonzero_size, size, reach}
+use Rattle.nd_base.proofs.laws.Definitions.{reach_down, reach_up, sum_over_axes}
 use Rattle.ndarray_layout.specs.private.LongerAxes.{of_longer, longer_view}
 use Rattle.ndarray_layout.specs.View.{View, IsView, view_places}
 use Rattle.ndarray_layout.proofs.ReadView.{places-as_read}
+use Rattle.std.proofs.lemmas.Simd.{map-map}
 
 -- an axis of length 1 is left out, any other is kept
 of_longer_one : {A : Type 0} {len : ℕ} (lens : List ℕ) (item : A) (items : List A) → len ≡ 1
@@ -110,10 +107,6 @@ IsView-longer_view {view} v =
     }
 
 -- ---- places
-map_after : {A B C : Type 0} (f : B → C) (g : A → B) (xs : List A) → map f (map g xs) ≡ map (λ x. f (g x)) xs
-map_after f g [] = refl
-map_after f g (x ∷ xs) = ap (λ ys. f (g x) ∷ ys) (map_after f g xs)
-
 -- the offsets of all indices, in row-major order
 abbrev offsets : List ℕ → List ℤ → List ℤ
 offsets shape strides = map (offset_of strides) (indices shape)
@@ -172,9 +165,9 @@ offsets_longer (len ∷ lens) (stride ∷ strides) e =
 by_rows : (start : ℕ) (shape : List ℕ) (strides : List ℤ) → length shape ≡ length strides
     → places RowMajor start (of_longer shape shape) (of_longer shape strides) ≡ places RowMajor start shape strides
 by_rows start shape strides e =
-    sym (map_after (λ z. pos start +ℤ z) (offset_of (of_longer shape strides)) (indices (of_longer shape shape)))
+    sym (map-map (λ z. pos start +ℤ z) (offset_of (of_longer shape strides)) (indices (of_longer shape shape)))
     ∙ ap (map (λ z. pos start +ℤ z)) (offsets_longer shape strides e)
-    ∙ map_after (λ z. pos start +ℤ z) (offset_of strides) (indices shape)
+    ∙ map-map (λ z. pos start +ℤ z) (offset_of strides) (indices shape)
 
 -- the last axis is left out or kept as any other
 of_longer-push : {A : Type 0} (shape : List ℕ) (items : List A) (len : ℕ) (item : A) → length shape ≡ length items

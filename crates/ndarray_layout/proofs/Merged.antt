@@ -7,10 +7,8 @@ use Rattle.std.proofs.Math.Nat.{div-add-mod, div-lt_iff_lt-mul, le_of_mul-le-mul
 use Rattle.std.proofs.lemmas.Bool.{cases_eq, cond-true, cond-false, eq-eqb, ne_eqb}
 use Rattle.std.proofs.lemmas.Int.{ints}
 use Rattle.std.proofs.lemmas.List.{get_or-set_same, get_or-set_other, length-set, set-get_or}
-use Rattle.nd_base.specs.Indices.{is_index}
-use Rattle.nd_base.specs.Offset.{offset_of}
-use Rattle.nd_base.specs.Size.{nonzero_size}
-use Rattle.nd_base.specs.Span.{sum_over_axes, reach_down, reach_up, low_span, high_span}
+use Rattle.nd_base.proofs.laws.Definitions.{is_index, offset_of, nonzero_size, high_span, low_span, reach_down, reach_up}
+use Rattle.nd_base.proofs.laws.Definitions.{sum_over_axes}
 use Rattle.nd_base.proofs.laws.IsIndex.{entry_of_index, length_of_index}
 use Rattle.nd_shape.specs.Merge.{IsMergedStride, merge_fits, merged_shape, merged_stride}
 use Rattle.nd_shape.proofs.laws.Merge.{how_it_fits}

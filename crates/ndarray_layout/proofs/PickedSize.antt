@@ -16,7 +16,7 @@ use Rattle.nd_slice.specs.ArgumentFault.{argument_fault, in_count, first_fault}
 use Rattle.nd_slice.specs.Sliced.{sliced_shape}
 use Rattle.nd_slice.proofs.laws.ArgumentFault.{elements_of_no_fault}
 use Rattle.ndarray_layout.proofs.PicksFit.{picks_fit}
-use Rattle.ndarray_layout.proofs.Slices.{or_none}
+use Rattle.nd_base.proofs.laws.Options.{option_or_none}
 
 -- rest and lens are the elements and the lengths still to come, n is the product so far
 pub record PickedSoFar (fit : Fit) (elems : List SliceInfoElem) (shape : List ℕ) (rest : List SliceInfoElem) (lens : List ℕ) (n : ℕ) : Type
@@ -73,7 +73,7 @@ module _ {fit : Fit} {elems : List SliceInfoElem} {shape : List ℕ} {rest : Lis
       → PickedSoFar fit elems shape (elem.Slice slice.start slice.end slice.step ∷ rest) (len ∷ lens) n
       → PickedSoFar fit elems shape rest lens (n * count)
   slice_picked slice {len} {count} is s =
-      let none = or_none (slice_fault fit len slice) (first_fault fit lens rest) s.fits in
+      let none = option_or_none (slice_fault fit len slice) s.fits in
       let few : count ≤ len = omega (arith, is, (picks_fit fit slice none.0).few) in
       record {
         counts = omega (arith, s.counts);
@@ -86,7 +86,7 @@ module _ {fit : Fit} {elems : List SliceInfoElem} {shape : List ℕ} {rest : Lis
   pub index_picked : (index : ℤ) {len : ℕ} → PickedSoFar fit elems shape (elem.Index index ∷ rest) (len ∷ lens) n
       → PickedSoFar fit elems shape rest lens n
   index_picked index {len} s =
-      let none = or_none (index_fault len index) (first_fault fit lens rest) s.fits in
+      let none = option_or_none (index_fault len index) s.fits in
       record {
         counts = omega (arith, s.counts);
         fits = none.1;
@@ -126,4 +126,4 @@ module _ {fit : Fit} {elems : List SliceInfoElem} {shape : List ℕ} {n : ℕ} w
   -- a slice that is there fits its axis
   pub fits_axis : {rest : List SliceInfoElem} {lens : List ℕ} (slice : Slice) {len : ℕ}
       → PickedSoFar fit elems shape (elem.Slice slice.start slice.end slice.step ∷ rest) (len ∷ lens) n → slice_fault fit len slice ≡ None
-  fits_axis {rest} {lens} slice {len} s = (or_none (slice_fault fit len slice) (first_fault fit lens rest) s.fits).0
+  fits_axis {rest} {lens} slice {len} s = (option_or_none (slice_fault fit len slice) s.fits).0

@@ -3,10 +3,7 @@ use Rattle.std.proofs.Common.{◌≡◌, ℕ, ℤ, pos, ◌+ℤ◌, List, [], �
 use Rattle.std.proofs.lemmas.List.{reverse-reverse, length-reverse}
 use Rattle.nd_base.specs.declared.order.Order.{Order}
 use Rattle.nd_base.specs.declared.order.Order.TheVariants.{RowMajor, ColumnMajor}
-use Rattle.nd_base.specs.Indices.{indices}
-use Rattle.nd_base.specs.Offset.{offset_of}
-use Rattle.nd_base.specs.Place.{place, places}
-use Rattle.nd_base.specs.Span.{reach, reach_down, reach_up}
+use Rattle.nd_base.proofs.laws.Definitions.{indices, offset_of, place, places, reach, reach_down, reach_up}
 use Rattle.nd_base.proofs.laws.Indices.{map-indices_in}
 use Rattle.nd_base.proofs.laws.IsIndex.{length_of_index}
 use Rattle.nd_base.proofs.laws.NonzeroSize.{nonzero_size-reverse}
@@ -14,10 +11,7 @@ use Rattle.nd_base.proofs.laws.Offset.{offset_of-reverse}
 use Rattle.nd_base.proofs.laws.Span.{sum_over_axes-reverse}
 use Rattle.ndarray_layout.specs.View.{IsView, view_places}
 use Rattle.ndarray_layout.specs.private.ReadView.{view_as_read}
-
-map_after : {A B C : Type 0} (f : B → C) (g : A → B) (xs : List A) → map f (map g xs) ≡ map (λ x. f (g x)) xs
-map_after f g [] = refl
-map_after f g (x ∷ xs) = ap (λ ys. f (g x) ∷ ys) (map_after f g xs)
+use Rattle.std.proofs.lemmas.Simd.{map-map}
 
 -- the places in an order, with the axes turned where the first moves fastest
 pub places-as_read : (order : Order) (start : ℕ) (shape : List ℕ) (strides : List ℤ) → length shape ≡ length strides
@@ -29,7 +23,7 @@ places-as_read ColumnMajor start shape strides e =
     let counts : length turned ≡ length x = omega (arith, length_of_index (reverse shape) x h, length-reverse shape, length-reverse
         strides) in
     ap (λ z. pos start +ℤ z) (sym (offset_of-reverse turned x counts) ∙ ap (λ s. offset_of s (reverse x)) (reverse-reverse strides)))
-    ∙ sym (map_after (place start strides) reverse (indices (reverse shape)))
+    ∙ sym (map-map (place start strides) reverse (indices (reverse shape)))
 
 pub IsView-as_read : (order : Order) (start : ℕ) (shape : List ℕ) (strides : List ℤ)
     → IsView (record { start = start; shape = shape; strides = strides }) → IsView (view_as_read order start shape strides)

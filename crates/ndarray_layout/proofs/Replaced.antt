@@ -4,10 +4,7 @@ use Rattle.std.proofs.Common.{nat_lt, true, inl, inr, refl, sym, ap, ◌∙◌, 
 use Rattle.std.proofs.lemmas.Bool.{and_parts, and_from, cases_eq, cond-true, cond-false, eq-eqb, ne_eqb, lt-ltb}
 use Rattle.std.proofs.lemmas.Int.{ints}
 use Rattle.std.proofs.lemmas.List.{set-set, set-get_or}
-use Rattle.nd_base.specs.Indices.{is_index}
-use Rattle.nd_base.specs.Offset.{offset_of}
-use Rattle.nd_base.specs.Size.{nonzero_size}
-use Rattle.nd_base.specs.Span.{sum_over_axes}
+use Rattle.nd_base.proofs.laws.Definitions.{is_index, offset_of, nonzero_size, sum_over_axes}
 use Rattle.nd_base.proofs.laws.NonzeroSize.{nonzero_size_of_other, nonzero_size_of_zero}
 
 -- a sum over the axes changes by the terms of that axis

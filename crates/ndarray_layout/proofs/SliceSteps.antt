@@ -12,10 +12,8 @@ use Rattle.std.proofs.Math.Nat.{mul-le-mul_left, mul-le-mul_right}
 use Rattle.std.proofs.lemmas.List.{map-append, length-map, length-set, length-drop, append-nil, drop_all, drop_more, take_all}
 use Rattle.std.proofs.lemmas.List.{take_more_set}
 use Rattle.nd_base.specs.declared.error.ErrorKind.{ErrorKind}
-use Rattle.nd_base.specs.Signed.{magnitude, signed, all_signed}
-use Rattle.nd_base.specs.Size.{limit, nonzero_size}
-use Rattle.nd_base.specs.Span.{reach, reach_down, reach_up, low_span, high_span, span}
-use Rattle.nd_base.specs.ValidLayout.{IsValidLayout}
+use Rattle.nd_base.proofs.laws.Definitions.{all_signed, magnitude, signed, limit, nonzero_size, high_span, low_span, reach, reach_down}
+use Rattle.nd_base.proofs.laws.Definitions.{reach_up, span, IsValidLayout}
 use Rattle.nd_slice.specs.declared.fit.Fit.{Fit}
 use Rattle.nd_slice.specs.declared.slice.Slice.{Slice}
 use Rattle.nd_slice.specs.declared.elem.SliceInfoElem.{SliceInfoElem}
@@ -31,6 +29,8 @@ use Rattle.ndarray_layout.proofs.PicksFit.{picks_fit}
 use Rattle.ndarray_layout.proofs.Slices.{index_entry}
 use Rattle.nd_base.proofs.laws.NonzeroSize.{nonzero_size_pos}
 use Rattle.nd_base.proofs.laws.Span.{low_high_span, reach_parts}
+use Rattle.nd_base.proofs.laws.NonzeroSize.{length_le_nonzero_size}
+use Rattle.nd_base.proofs.laws.Span.{reach_le_span}
 
 -- rest, lens and steps are the elements, the lengths and the strides still to come
 pub record SlicedSoFar (fit : Fit) (elems : List SliceInfoElem) (shape : List ℕ) (strides : List ℤ) (rest : List SliceInfoElem)
@@ -235,19 +235,6 @@ rest_of_product len rest = by (eqb len 0) refl
         let some : 1 ≤ len = pos_of_ne-zero (eqb-false len 0 e) in
         omega (arith, mul-le-mul_right rest some)
 
-pub len_small : (shape : List ℕ) (k : ℕ) → get_or shape k 0 ≤ nonzero_size shape
-len_small [] k = omega arith
-len_small (len ∷ lens) zero = len_of_product len (nonzero_size lens) (nonzero_size_pos lens)
-len_small (len ∷ lens) (suc k) = omega (arith, len_small lens k, rest_of_product len (nonzero_size lens))
-
--- a reach is at most the span
-pub reach_small : (shape : List ℕ) (strides : List ℤ) (k : ℕ) → k < length shape → length shape ≡ length strides
-    → reach (get_or shape k 0) (get_or strides k (pos 0)) ≤ span shape strides
-reach_small [] strides k h e = absurd (omega arith)
-reach_small (len ∷ shape) [] k h e = absurd (omega arith)
-reach_small (len ∷ shape) (stride ∷ strides) zero h e = omega arith
-reach_small (len ∷ shape) (stride ∷ strides) (suc k) h e = omega (arith, reach_small shape strides k (omega arith) (omega arith))
-
 -- what is known at an element that is for an axis
 pub record AtAxis (fit : Fit) (elems : List SliceInfoElem) (shape strides : List ℕ) (one : SliceInfoElem) (k axis : ℕ) (new : ℕ)
     (ns nt : List ℕ) (offset : ℤ) : Type 0 where
@@ -269,8 +256,8 @@ at_both {fit} {elems} {shape} strides {one} other k axis {new} {ns} {nt} {offset
     record {
       so_far = subst (λ (z : ℤ). SlicedSoFar fit elems shape (all_signed strides) rest (get_or shape axis 0 ∷ drop (axis + 1) shape)
           (z ∷ drop (axis + 1) (all_signed strides)) new ns nt offset) same there;
-      len_fits = omega (arith, len_small shape axis, valid.size_fits);
-      reach_fits = omega (arith, ap (reach (get_or shape axis 0)) same, reach_small shape (all_signed strides) axis below valid.same_count,
+      len_fits = omega (arith, length_le_nonzero_size shape axis, valid.size_fits);
+      reach_fits = omega (arith, ap (reach (get_or shape axis 0)) same, reach_le_span shape (all_signed strides) axis below valid.same_count,
           valid.span_fits);
     }
 

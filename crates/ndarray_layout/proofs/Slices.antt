@@ -7,11 +7,7 @@ use Rattle.std.proofs.lemmas.Bool.{and_parts, and_from, ltb-true, lt-ltb, eqb-tr
 use Rattle.std.proofs.Math.Nat.{mul-le-mul, mul-le-mul_right}
 use Rattle.nd_base.specs.declared.error.ErrorKind.{ErrorKind}
 use Rattle.nd_base.specs.declared.error.ErrorKind.TheVariants.{OutOfBounds}
-use Rattle.nd_base.specs.Indices.{is_index}
-use Rattle.nd_base.specs.Offset.{offset_of}
-use Rattle.nd_base.specs.Signed.{magnitude}
-use Rattle.nd_base.specs.Size.{nonzero_size}
-use Rattle.nd_base.specs.Span.{reach_down, reach_up, low_span, high_span}
+use Rattle.nd_base.proofs.laws.Definitions.{is_index, offset_of, magnitude, nonzero_size, high_span, low_span, reach_down, reach_up}
 use Rattle.nd_slice.specs.declared.fit.Fit.{Fit}
 use Rattle.nd_slice.specs.declared.slice.Slice.{Slice}
 use Rattle.nd_slice.specs.declared.elem.SliceInfoElem.{SliceInfoElem}
@@ -24,10 +20,7 @@ use Rattle.nd_slice.specs.Selected.{selected}
 use Rattle.ndarray_layout.proofs.OneAxis.{Within, axis_within}
 use Rattle.ndarray_layout.proofs.Picked.{slice_kept, pick_offset}
 use Rattle.ndarray_layout.proofs.PicksFit.{picks_fit}
-
-pub or_none : (a b : Option ErrorKind) → option_or a b ≡ None → (a ≡ None) × (b ≡ None)
-or_none None b h = (refl, h)
-or_none (Some x) b h = absurd (cc)
+use Rattle.nd_base.proofs.laws.Options.{option_or_none}
 
 -- an index that fits means an entry
 entry_of : (len : ℕ) (z : ℤ) → cond (is_entry len z) None (Some OutOfBounds) ≡ None → (z ≡ pos (magnitude z)) × (magnitude z < len)
@@ -75,7 +68,7 @@ slices_kept fit (elem.Slice start end step ∷ elems) [] strides e i f = absurd 
 slices_kept fit (elem.Slice start end step ∷ elems) (len ∷ shape) [] e i f = absurd (omega arith)
 slices_kept fit (elem.Slice start end step ∷ elems) (len ∷ shape) (stride ∷ strides) e i f =
     let slice : Slice = record { start = start; end = end; step = step } in
-    let none = or_none (slice_fault fit len slice) (first_fault fit shape elems) f in
+    let none = option_or_none (slice_fault fit len slice) f in
     let rest = slices_kept fit elems shape strides (omega arith) (omega arith) none.1 in
     let axis = slice_kept stride (picks fit len slice) (picks_fit fit slice none.0) in
     record {
@@ -88,7 +81,7 @@ slices_kept fit (elem.Slice start end step ∷ elems) (len ∷ shape) (stride �
 slices_kept fit (elem.Index index ∷ elems) [] strides e i f = absurd (omega arith)
 slices_kept fit (elem.Index index ∷ elems) (len ∷ shape) [] e i f = absurd (omega arith)
 slices_kept fit (elem.Index index ∷ elems) (len ∷ shape) (stride ∷ strides) e i f =
-    let none = or_none (index_fault len index) (first_fault fit shape elems) f in
+    let none = option_or_none (index_fault len index) f in
     let rest = slices_kept fit elems shape strides (omega arith) (omega arith) none.1 in
     let entry = index_entry len index none.0 in
     let axis : Within (reach_down len stride) (reach_up len stride) (meaning len index *ℤ stride) = rw (entry.0)
@@ -122,7 +115,7 @@ places_kept fit (elem.Slice start end step ∷ elems) (len ∷ shape) [] index e
 places_kept fit (elem.Slice start end step ∷ elems) (len ∷ shape) (stride ∷ strides) [] e i f h = absurd (cc)
 places_kept fit (elem.Slice start end step ∷ elems) (len ∷ shape) (stride ∷ strides) (j ∷ index) e i f h =
     let slice : Slice = record { start = start; end = end; step = step } in
-    let none = or_none (slice_fault fit len slice) (first_fault fit shape elems) f in
+    let none = option_or_none (slice_fault fit len slice) f in
     let inside = picks_fit fit {len = len} slice none.0 in
     let parts = and_parts (nat_lt j (length (picks fit len slice))) (is_index (sliced_shape fit elems shape) index) h in
     let below = ltb-true j (length (picks fit len slice)) parts.0 in
@@ -136,7 +129,7 @@ places_kept fit (elem.Slice start end step ∷ elems) (len ∷ shape) (stride �
 places_kept fit (elem.Index n ∷ elems) [] strides index e i f h = absurd (omega arith)
 places_kept fit (elem.Index n ∷ elems) (len ∷ shape) [] index e i f h = absurd (omega arith)
 places_kept fit (elem.Index n ∷ elems) (len ∷ shape) (stride ∷ strides) index e i f h =
-    let none = or_none (index_fault len n) (first_fault fit shape elems) f in
+    let none = option_or_none (index_fault len n) f in
     let rest = places_kept fit elems shape strides index (omega arith) (omega arith) none.1 h in
     let entry = index_entry len n none.0 in
     let m = magnitude (meaning len n) in

@@ -19,8 +19,7 @@ use Rattle.ndarray_layout.proofs.laws.StepFits.{fits_of_no_fault_of_step, no_fau
 use Rattle.nd_base.specs.declared.error.LayoutError.{LayoutError}
 use Rattle.nd_base.specs.declared.error.LayoutError.TheVariants.{Shape, Memory}
 use Rattle.nd_base.specs.declared.order.Order.{Order}
-use Rattle.nd_base.specs.Lengths.{NeedsNoMemory}
-use Rattle.nd_base.specs.ShapeFault.{shape_fault}
+use Rattle.nd_base.proofs.laws.Definitions.{NeedsNoMemory, shape_fault}
 use Rattle.ndarray_layout.specs.ReshapedView.{IsReshapeRefusal}
 use Rattle.ndarray_layout.specs.Run.{AllFit, IsRefusedBy, Leave, NeedNoMemory, StopsAt, run_of}
 use Rattle.ndarray_layout.proofs.laws.Run.{first_then, in_turn, joined, run_of_append, run_of_fitting, run_of_refused, run_sound, stayed}

@@ -7,16 +7,13 @@ use Rattle.std.proofs.lemmas.List.{map-append, reverse-append, nil_from_length}
 use Rattle.std.proofs.Math.Nat.{mul-le-mul_right, mul-le-mul_left}
 use Rattle.nd_base.specs.declared.order.Order.{Order}
 use Rattle.nd_base.specs.declared.order.Order.TheVariants.{RowMajor, ColumnMajor}
-use Rattle.nd_base.specs.Indices.{indices}
-use Rattle.nd_base.specs.Place.{place}
-use Rattle.nd_base.specs.Signed.{signed, all_signed}
-use Rattle.nd_base.specs.Size.{size, nonzero_size, limit}
+use Rattle.nd_base.proofs.laws.Definitions.{indices, place, as_read, all_signed, signed, limit, nonzero_size, size}
 use Rattle.ndarray_layout.specs.View.{IsView, view_places}
-use Rattle.nd_base.specs.Reading.{as_read}
 use Rattle.ndarray_layout.specs.private.ReadView.{view_as_read, row_view}
 use Rattle.nd_base.proofs.laws.Indices.{indices_more}
 use Rattle.nd_base.proofs.laws.NonzeroSize.{nonzero_size_pos}
 use Rattle.ndarray_layout.proofs.OneAxis.{axis_within}
+use Rattle.nd_base.proofs.laws.Lists.{map-reverse}
 
 -- an entry of the first axis moves the start
 row_at : (start i : ℕ) {inner : ℕ} (stride : ℤ) (strides : List ℤ) (xs : List (List ℕ)) → pos inner ≡ pos start +ℤ (pos i *ℤ stride)
@@ -76,15 +73,10 @@ entry_within start len lens stride strides i view h =
       };
     }
 
-map_reverse : {A B : Type 0} (f : A → B) (xs : List A) → map f (reverse xs) ≡ reverse (map f xs)
-map_reverse f [] = refl
-map_reverse f (x ∷ xs) = ap (map f) (reverse-append (x ∷ []) xs) ∙ map-append f (reverse xs) (x ∷ []) ∙ ap (λ ys. ys ++ f x ∷ [])
-    (map_reverse f xs) ∙ sym (reverse-append (f x ∷ []) (map f xs))
-
 -- reading strides as signed commutes with turning them round
 pub as_read_signed : (order : Order) (strides : List ℕ) → as_read order (all_signed strides) ≡ all_signed (as_read order strides)
 as_read_signed RowMajor strides = refl
-as_read_signed ColumnMajor strides = sym (map_reverse signed strides)
+as_read_signed ColumnMajor strides = sym (map-reverse signed strides)
 
 as_read_none : {A : Type 0} (order : Order) → as_read {A = A} order [] ≡ []
 as_read_none RowMajor = refl

@@ -6,18 +6,17 @@ use Rattle.std.proofs.lemmas.Int.{ints}
 use Rattle.std.proofs.lemmas.List.Folds.{flat_map-map}
 use Rattle.nd_base.specs.declared.error.ErrorKind.TheVariants.{OutOfBounds}
 use Rattle.nd_base.specs.declared.order.Order.TheVariants.{RowMajor}
-use Rattle.nd_base.specs.Indices.{below, indices}
-use Rattle.nd_base.specs.Signed.{magnitude}
-use Rattle.nd_base.specs.Size.{limit}
+use Rattle.nd_base.proofs.laws.Definitions.{below, indices, magnitude, limit}
 use Rattle.ndarray_layout.specs.CollapsedView.{collapse_fault, collapsed_start, collapse_of, collapse_source}
 use Rattle.ndarray_layout.specs.Descends.{Descends}
 use Rattle.ndarray_layout.specs.View.{View, IsView, view_places}
 use Rattle.ndarray_layout.proofs.ByRows.{by_rows, places_from, row_from}
 use Rattle.ndarray_layout.proofs.Collapses.{CollapseKept, collapse_kept, source_kept, source_injective}
 use Rattle.ndarray_layout.proofs.laws.KeepsPlaces.{Descends-kept}
-use Rattle.ndarray_layout.proofs.laws.View.{IsView-within, pos-magnitude}
+use Rattle.ndarray_layout.proofs.laws.View.{IsView-within}
 use Rattle.std.specs.List.{flat_map}
 use Rattle.std.specs.Prelude.{◌&&◌}
+use Rattle.nd_base.proofs.laws.Signed.{magnitude_from}
 
 fits : (here : Bool) → cond here None (Some OutOfBounds) ≡ None → here ≡ true
 fits true none = refl
@@ -46,7 +45,7 @@ module _ (axis index : ℕ) (view : View) (v : IsView view) (none : collapse_fau
       (omega (arith, ints, part.low, v.low), omega (arith, ints, part.high, v.high))
 
   pub start-collapse_of : pos (collapse_of axis index view).start ≡ collapsed_start axis index view
-  start-collapse_of = pos-magnitude (collapsed_start axis index view) collapsed_start_within.0
+  start-collapse_of = magnitude_from (collapsed_start axis index view) collapsed_start_within.0
 
   is_view : IsView (collapse_of axis index view)
   is_view =

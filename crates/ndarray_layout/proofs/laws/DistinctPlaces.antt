@@ -1,10 +1,9 @@
 -- Laws of views that place no two of their indices at one element.
 use Rattle.std.proofs.Common.{◌≡◌, ◌↔◌, ℕ, ℤ, pos, ◌+ℤ◌, None, List, ap, arith}
 use Rattle.std.proofs.lemmas.Int.{ints}
-use Rattle.nd_base.specs.Offset.{offset_of}
+use Rattle.nd_base.proofs.laws.Definitions.{HasDistinctOffsets, offset_of}
 use Rattle.nd_shape.specs.Acceptance.{acceptance}
 use Rattle.nd_shape.specs.declared.checks.CanIndexCheckMode.TheVariants.{OwnedMutable}
-use Rattle.nd_base.specs.DistinctOffsets.{HasDistinctOffsets}
 use Rattle.nd_shape.proofs.laws.Acceptance.{accepted_distinct}
 use Rattle.ndarray_layout.specs.DistinctPlaces.{HasDistinctPlaces}
 use Rattle.ndarray_layout.specs.View.{View}

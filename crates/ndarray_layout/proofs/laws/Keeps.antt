@@ -9,11 +9,8 @@ use Rattle.std.proofs.lemmas.List.FromFn.{fill_by_all, length-map-range_with_len
 use Rattle.nd_base.specs.declared.error.ErrorKind.TheVariants.{IncompatibleShape, IncompatibleLayout}
 use Rattle.nd_base.specs.declared.order.Order.{Order}
 use Rattle.nd_base.specs.declared.order.Order.TheVariants.{RowMajor, ColumnMajor}
-use Rattle.nd_base.specs.Indices.{below, indices_in}
-use Rattle.nd_base.specs.Offset.{offset_of}
-use Rattle.nd_base.specs.Place.{place, places}
-use Rattle.nd_base.specs.Rank.{index_of_rank, index_of_rank_in}
-use Rattle.nd_base.specs.Size.{size, is_empty}
+use Rattle.nd_base.proofs.laws.Definitions.{below, indices_in, offset_of, place, places, index_of_rank, index_of_rank_in, as_read}
+use Rattle.nd_base.proofs.laws.Definitions.{is_empty, size}
 use Rattle.nd_base.proofs.laws.Indices.{get_or-indices_in, length-indices_in}
 use Rattle.nd_base.proofs.laws.Offset.{offset_of-reverse}
 use Rattle.nd_base.proofs.laws.Reading.{length-as_read, as_read-as_read, size-as_read, is_empty-as_read}
@@ -21,7 +18,6 @@ use Rattle.nd_dim.specs.Strides.{size_after}
 use Rattle.ndarray_layout.specs.reshape.ForcedStrides.{forced_strides, offset_at_rank, stride_at}
 use Rattle.ndarray_layout.specs.reshape.Joints.{has_bad_joint}
 use Rattle.ndarray_layout.specs.reshape.Keeps.{Keeps, AgreeOnLonger}
-use Rattle.nd_base.specs.Reading.{as_read}
 use Rattle.ndarray_layout.specs.reshape.ReshapeFault.{reshape_fault}
 use Rattle.ndarray_layout.specs.private.ReshapeProgress.{PlacesAlike}
 use Rattle.ndarray_layout.proofs.reshapes.Complete.{good-of-alike, alike-of-good}
@@ -125,8 +121,7 @@ keeps-exactly order from strides to some more e = (λ fits. make fits, λ k. fit
 -- on each axis of more than one entry all strides that keep the places are those of the definition
 pub keeps-forced : {order : Order} {from : List ℕ} {strides : List ℤ} {to : List ℕ} {others : List ℤ} (axis : ℕ) → is_empty to ≡ false
     → length from ≡ length strides → Keeps order from strides to others → axis < length to → 1 < get_or (as_read order to) axis 0
-    → get_or (as_read order others) axis (pos 0) ≡ offset_at_rank (as_read order from) (as_read order strides)
-    (size_after (as_read order to) axis)
+    → get_or (as_read order others) axis (pos 0) ≡ offset_at_rank (as_read order from) (as_read order strides) (size_after (as_read order to) axis)
 keeps-forced {order} {from} {strides} {to} {others} axis more e k l long =
     let sizes = size-of-keeps k in
     let equal : length (as_read order to) ≡ length (as_read order others) = length-as_read order to ∙ k.same_count

@@ -5,12 +5,12 @@ use Rattle.std.proofs.lemmas.List.{length-map}
 use Rattle.std.proofs.lemmas.List.Elements.{All-map, All-weaker}
 use Rattle.std.specs.List.{All, Contains}
 use Rattle.nd_base.specs.declared.order.Order.{Order}
-use Rattle.nd_base.specs.Indices.{is_index, indices_in}
+use Rattle.nd_base.proofs.laws.Definitions.{indices_in, is_index, IsInside}
 use Rattle.nd_base.proofs.laws.Indices.{All-indices_in, Contains-indices_in}
-use Rattle.nd_base.specs.Inside.{IsInside}
 use Rattle.ndarray_layout.specs.Descends.{Descends, IsViewOf}
 use Rattle.ndarray_layout.specs.KeepsPlaces.{KeepsPlaces}
 use Rattle.ndarray_layout.specs.View.{View, IsView, LiesWithin, place_at, view_places}
+use Rattle.nd_base.proofs.laws.Lists.{Contains-map}
 
 -- such a view lies within the data that the other lies within
 pub LiesWithin-kept : (len : ℕ) (source : List ℕ → List ℕ) (view result : View) → KeepsPlaces source view result → LiesWithin len view
@@ -58,9 +58,6 @@ IsViewOf-in_turn {source} {more} {view} {between} {result} first second = IsView
     let far = first.places (more index) near.0 in
     (far.0, near.1 ∙ far.1))
 
-contained : (f : List ℕ → ℤ) (xs : List (List ℕ)) (x : List ℕ) → Contains xs x → Contains (map f xs) (f x)
-contained f xs x here = (here.0, omega (arith, length-map xs f, here.1), get_or-map f xs here.0 x ∙ ap f here.2)
-
 -- each of its places is one of the other's
 pub places_are_kept : (order : Order) (source : List ℕ → List ℕ) (view result : View) → KeepsPlaces source view result
     → All (Contains (view_places order view)) (view_places order result)
@@ -68,8 +65,7 @@ places_are_kept order source view result keeps =
     let places = view_places order view in
     let stays : (index : List ℕ) → is_index result.shape index ≡ true → Contains places (place_at result index) = λ index here.
     let kept = keeps index here in
-    subst (Contains places) (sym kept.1) (contained (place_at view) (indices_in order view.shape) (source index)
-        (Contains-indices_in order view.shape (source index) kept.0)) in
+    subst (Contains places) (sym kept.1) (Contains-map (place_at view) (indices_in order view.shape) (Contains-indices_in order view.shape (source index) kept.0)) in
     let indices = indices_in order result.shape in
     All-map (Contains places) (place_at result) indices (All-weaker (λ index. is_index result.shape index ≡ true)
         (λ index. Contains places (place_at result index)) stays indices (All-indices_in order result.shape))

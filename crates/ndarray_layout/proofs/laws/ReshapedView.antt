@@ -8,12 +8,8 @@ use Rattle.std.proofs.lemmas.List.{length-replicate}
 use Rattle.nd_base.specs.declared.error.ErrorKind.{ErrorKind}
 use Rattle.nd_base.specs.declared.error.ErrorKind.TheVariants.{IncompatibleLayout, IncompatibleShape, Overflow}
 use Rattle.nd_base.specs.declared.order.Order.{Order}
-use Rattle.nd_base.specs.Indices.{is_index, indices_in}
-use Rattle.nd_base.specs.Offset.{offset_of}
-use Rattle.nd_base.specs.Place.{place}
-use Rattle.nd_base.specs.Rank.{rank_in}
-use Rattle.nd_base.specs.Size.{is_empty, nonzero_size, size, limit}
-use Rattle.nd_base.specs.Span.{low_span, high_span}
+use Rattle.nd_base.proofs.laws.Definitions.{indices_in, is_index, offset_of, place, rank_in, as_read, is_empty, limit, nonzero_size}
+use Rattle.nd_base.proofs.laws.Definitions.{size, high_span, low_span}
 use Rattle.nd_base.proofs.laws.Indices.{indices_in_of_empty}
 use Rattle.nd_base.proofs.laws.Offset.{offset_bounds}
 use Rattle.nd_base.proofs.laws.Rank.{index_of_rank_in-rank_in, is_index-index_of_rank_in, rank_in-index_of_rank_in, rank_in-lt-size}
@@ -23,7 +19,6 @@ use Rattle.nd_base.proofs.laws.Turned.{least_offset, greatest_offset}
 use Rattle.ndarray_layout.specs.reshape.Joints.{has_bad_joint}
 use Rattle.ndarray_layout.specs.reshape.ForcedStrides.{forced_strides}
 use Rattle.ndarray_layout.specs.reshape.Keeps.{Keeps}
-use Rattle.nd_base.specs.Reading.{as_read}
 use Rattle.ndarray_layout.specs.reshape.ReshapeFault.{reshape_fault}
 use Rattle.nd_base.proofs.laws.Reading.{size-as_read}
 use Rattle.ndarray_layout.proofs.laws.Keeps.{Fits, alike-of-keeps, forced-keeps, keeps-exactly, offset-as_read, size-of-keeps}

@@ -3,33 +3,24 @@ use Rattle.std.proofs.Common.{◌≡◌, ℕ, ◌+◌, ◌*◌, ◌≤◌, pos, 
 use Rattle.std.proofs.lemmas.Int.{ints}
 use Rattle.nd_base.specs.declared.order.Order.{Order}
 use Rattle.nd_base.specs.declared.order.Order.TheVariants.{RowMajor, ColumnMajor}
-use Rattle.nd_base.specs.Indices.{is_index}
-use Rattle.nd_base.specs.Offset.{offset_of}
-use Rattle.nd_base.specs.Rank.{rank_in, index_of_rank_in}
-use Rattle.nd_base.specs.Signed.{all_signed}
-use Rattle.nd_base.specs.Size.{nonzero_size, limit}
-use Rattle.nd_base.specs.Span.{low_span}
+use Rattle.nd_base.proofs.laws.Definitions.{is_index, offset_of, index_of_rank_in, rank_in, all_signed, limit, nonzero_size, low_span}
 use Rattle.nd_dim.proofs.laws.Strides.{offset_of-default_strides, offset_of-fortran_strides}
 use Rattle.nd_shape.specs.ShapeBuilder.{standard_strides}
 use Rattle.nd_shape.proofs.laws.StandardStrides.{standard_signed, standard_low_span}
 use Rattle.ndarray_layout.specs.ReshapedView.{reshape_source}
 use Rattle.ndarray_layout.specs.View.{View, IsView, place_at, view_of}
+use Rattle.nd_shape.proofs.laws.StandardStrides.{offset_of-standard_strides}
 
 -- the view of a shape by the strides that it has by itself in an order, from the first item of the data on
 abbrev pub standard_view : Order → List ℕ → View
 standard_view order shape = view_of (low_span shape (all_signed (standard_strides order shape))) shape (standard_strides order shape)
-
-offset_at_rank : (order : Order) (shape index : List ℕ) → is_index shape index ≡ true
-    → offset_of (map pos (standard_strides order shape)) index ≡ pos (rank_in order shape index)
-offset_at_rank RowMajor shape index here = offset_of-default_strides shape index here
-offset_at_rank ColumnMajor shape index here = offset_of-fortran_strides shape index here
 
 -- in it each index lies at its rank
 pub place_at_rank : (order : Order) (shape index : List ℕ) {view : View} → IsView view → view ≡ standard_view order shape
     → is_index shape index ≡ true → place_at view index ≡ pos (rank_in order shape index)
 place_at_rank order shape index v is here =
     let top : nonzero_size shape ≤ limit = subst (λ lens. nonzero_size lens ≤ limit) (ap (λ made. made.shape) is) v.valid.size_fits in
-    rw (is, standard_low_span order shape top, standard_signed order shape top, offset_at_rank order shape index here) (omega (arith, ints))
+    rw (is, standard_low_span order shape top, standard_signed order shape top, offset_of-standard_strides order shape index here) (omega (arith, ints))
 
 -- the flat index of row i and column j of n rows of m
 pub rank_of_row : (n m i j : ℕ) → rank_in RowMajor (n ∷ m ∷ []) (i ∷ j ∷ []) ≡ i * m + j

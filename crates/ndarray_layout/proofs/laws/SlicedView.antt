@@ -4,8 +4,7 @@ use Rattle.std.proofs.lemmas.Bool.{cond-true, eq-eqb, eqb-true}
 use Rattle.std.proofs.lemmas.Int.{ints}
 use Rattle.nd_base.specs.declared.error.ErrorKind.{ErrorKind}
 use Rattle.nd_base.specs.declared.error.ErrorKind.TheVariants.{IncompatibleShape}
-use Rattle.nd_base.specs.Lengths.{IsCount}
-use Rattle.nd_base.specs.Size.{limit}
+use Rattle.nd_base.proofs.laws.Definitions.{IsCount, limit}
 use Rattle.nd_slice.specs.declared.fit.Fit.{Fit}
 use Rattle.nd_slice.specs.declared.elem.SliceInfoElem.{SliceInfoElem}
 use Rattle.nd_slice.specs.ArgumentFault.{in_count, out_count, first_fault, argument_fault}
@@ -17,8 +16,9 @@ use Rattle.ndarray_layout.specs.Descends.{Descends}
 use Rattle.ndarray_layout.specs.SlicedView.{slice_of, sliced_start, slice_refusal}
 use Rattle.ndarray_layout.specs.View.{View, IsView}
 use Rattle.ndarray_layout.proofs.laws.KeepsPlaces.{Descends-kept}
-use Rattle.ndarray_layout.proofs.laws.View.{IsView-within, pos-magnitude}
+use Rattle.ndarray_layout.proofs.laws.View.{IsView-within}
 use Rattle.ndarray_layout.proofs.Slices.{SliceKept, slices_kept, places_kept}
+use Rattle.nd_base.proofs.laws.Signed.{magnitude_from}
 
 -- an argument that is not refused fits the shape
 pub fits_of_no_refusal : (fit : Fit) (fixed : Option ℕ) (shape : List ℕ) (elems : List SliceInfoElem)
@@ -75,7 +75,7 @@ module _ (fit : Fit) (elems : List SliceInfoElem) (view : View) (v : IsView view
       (omega (arith, ints, part.low, v.low), omega (arith, ints, part.high, v.high))
 
   pub start-slice_of : pos (slice_of fit elems view).start ≡ sliced_start fit elems view
-  start-slice_of = pos-magnitude (sliced_start fit elems view) sliced_start_within.0
+  start-slice_of = magnitude_from (sliced_start fit elems view) sliced_start_within.0
 
   is_view : IsView (slice_of fit elems view)
   is_view =

@@ -20,10 +20,7 @@ use Rattle.ndarray_layout.proofs.laws.BroadcastView.{can_broadcast, no_fault_whe
 use Rattle.ndarray_layout.proofs.laws.CollapsedView.{entry_of_no_fault}
 use Rattle.ndarray_layout.proofs.laws.MergedView as merged
 use Rattle.ndarray_layout.proofs.laws.SlicedView.{fits_of_no_refusal}
-
-both_none : (first second : Option ErrorKind) → option_or first second ≡ None → (first ≡ None) × (second ≡ None)
-both_none None second none = (refl, none)
-both_none (Some fault) second none = absurd (cc)
+use Rattle.nd_base.proofs.laws.Options.{option_or_none}
 
 -- no element is at fault where each fits
 elements_of_no_first : (fit : Fit) (shape : List ℕ) (elems : List SliceInfoElem) → first_fault fit shape elems ≡ None
@@ -33,10 +30,10 @@ elements_of_no_first fit shape (elem.NewAxis ∷ elems) none = elements_of_no_fi
 elements_of_no_first fit [] (elem.Slice start end step ∷ elems) none = tt
 elements_of_no_first fit [] (elem.Index index ∷ elems) none = tt
 elements_of_no_first fit (len ∷ shape) (elem.Slice start end step ∷ elems) none =
-    let parts = both_none (slice_fault fit len (slice_with start end step)) (first_fault fit shape elems) none in
+    let parts = option_or_none (slice_fault fit len (slice_with start end step)) none in
     (fits_of_no_fault fit len (slice_with start end step) parts.0, elements_of_no_first fit shape elems parts.1)
 elements_of_no_first fit (len ∷ shape) (elem.Index index ∷ elems) none =
-    let parts = both_none (index_fault len index) (first_fault fit shape elems) none in
+    let parts = option_or_none (index_fault len index) none in
     (index_fits_of_no_fault len index parts.0, elements_of_no_first fit shape elems parts.1)
 
 no_first_of_elements : (fit : Fit) (shape : List ℕ) (elems : List SliceInfoElem) → ElementsFit fit shape elems

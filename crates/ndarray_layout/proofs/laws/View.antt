@@ -10,19 +10,12 @@ use Rattle.std.proofs.lemmas.List.{get_or-map, length-map}
 use Rattle.std.proofs.lemmas.List.Elements.{All-map, All-weaker}
 use Rattle.std.proofs.lemmas.Option.{slice_get-map}
 use Rattle.nd_base.specs.declared.order.Order.{Order}
-use Rattle.nd_base.specs.Indices.{is_index, indices_in}
-use Rattle.nd_base.specs.Offset.{offset_of, checked_offset}
-use Rattle.nd_base.specs.Rank.{index_of_rank_in}
-use Rattle.nd_base.specs.Signed.{magnitude}
-use Rattle.nd_base.specs.Size.{nonzero_size, size, limit}
-use Rattle.nd_base.specs.Span.{high_span, low_span}
-use Rattle.nd_base.specs.ValidLayout.{IsValidLayout}
+use Rattle.nd_base.proofs.laws.Definitions.{indices_in, is_index, IsInside, checked_offset, offset_of, place, index_of_rank_in}
+use Rattle.nd_base.proofs.laws.Definitions.{magnitude, limit, nonzero_size, size, high_span, low_span, IsValidLayout}
 use Rattle.nd_base.proofs.laws.Indices.{length-indices_in, All-indices_in, indices_in_of_empty}
 use Rattle.nd_base.proofs.laws.NonzeroSize.{length_le_nonzero_size, size_le_nonzero_size}
 use Rattle.nd_base.proofs.laws.Rank.{slice_get-indices_in}
 use Rattle.nd_base.proofs.laws.Span.{low_high_span}
-use Rattle.nd_base.specs.Inside.{IsInside}
-use Rattle.nd_base.specs.Place.{place}
 use Rattle.ndarray_layout.specs.View.{View, IsView, LiesWithin, place_at, view_places}
 use Rattle.ndarray_layout.proofs.Offsets.{offset_within}
 
@@ -51,11 +44,6 @@ IsView-within {view} {new} v counts fits low high =
       low = omega (arith, v.low);
       high = omega (arith, v.high);
     }
-
--- a place that isn't below 0 is its number of elements from the start
-pub pos-magnitude : (z : ℤ) → pos 0 ≤ℤ z → pos (magnitude z) ≡ z
-pos-magnitude (pos n) low = refl
-pos-magnitude (negsuc n) low = absurd (omega (arith, ints))
 
 -- the place of an index
 pub record HasPlace (view : View) (index : List ℕ) : Type 0 where

@@ -7,11 +7,8 @@ use Rattle.std.proofs.Math.Nat.{mul-one, mul-le-mul_left, mul_comm}
 use Rattle.std.proofs.lemmas.Int.{ints}
 use Rattle.std.proofs.lemmas.List.{length-map, take-map, take_all, length-take-le, get_or-take, drop-take, drop-drop}
 use Rattle.nd_base.specs.declared.error.ErrorKind.TheVariants.{IncompatibleShape}
-use Rattle.nd_base.specs.Offset.{offset_of}
-use Rattle.nd_base.specs.Rank.{index_of_rank}
-use Rattle.nd_base.specs.Signed.{signed, all_signed}
-use Rattle.nd_base.specs.Size.{size, is_empty, limit}
-use Rattle.nd_base.specs.Span.{span, low_span, high_span}
+use Rattle.nd_base.proofs.laws.Definitions.{offset_of, index_of_rank, all_signed, signed, is_empty, limit, size, high_span, low_span}
+use Rattle.nd_base.proofs.laws.Definitions.{span}
 use Rattle.nd_base.proofs.laws.Offset.{offset_bounds}
 use Rattle.nd_base.proofs.laws.Rank.{is_index-index_of_rank}
 use Rattle.nd_base.proofs.laws.Size.{size_of_nonempty, size_take_more, size_take_le, size_drop_le, size_from, drop_nonempty}
@@ -19,10 +16,11 @@ use Rattle.nd_base.proofs.laws.Span.{low_high_span}
 use Rattle.ndarray_layout.specs.reshape.ReshapeFault.{fault_as_read}
 use Rattle.ndarray_layout.specs.private.ReshapeProgress.{PlacesAlike, IsDense, segment, CanWalk, GoodBelow, IsReached, IsBlock}
 use Rattle.ndarray_layout.proofs.reshapes.Blocks.{length-seg, first-block}
-use Rattle.ndarray_layout.proofs.reshapes.Halfway.{halfway-first, halfway-reached, len-some}
+use Rattle.ndarray_layout.proofs.reshapes.Halfway.{halfway-first, halfway-reached}
 use Rattle.ndarray_layout.proofs.reshapes.Reached.{take-mono, sizes-fault}
 use Rattle.ndarray_layout.proofs.reshapes.DenseRuns.{run-of-dense}
 use Rattle.ndarray_layout.proofs.reshapes.WalkSteps.{alike-step, none-dense, written-dense, take-nonempty, segment-nonempty, segments-size}
+use Rattle.nd_base.proofs.laws.Size.{length_pos}
 
 -- ---- lists
 pub in-of-len : (lens : List ℕ) (k : ℕ) → get_or lens k 0 ≢ 0 → k < length lens
@@ -130,7 +128,7 @@ module _ {from : List ℕ} {strides : List ℤ} {to : List ℕ} {i k : ℕ} wher
 -- ---- the end of one shape
 grows : (lens : List ℕ) (k j : ℕ) → is_empty lens ≡ false → k ≤ j → j < length lens → get_or lens j 0 ≢ 1 → size (take k lens) < size lens
 grows lens k j h l g other =
-    let some = len-some lens j h g in
+    let some = length_pos lens j h g in
     let next = size_take_more lens j g in
     let less = size_take_le lens (j + 1) h in
     let before = take-mono lens k j h l in

@@ -6,9 +6,7 @@ use Rattle.std.proofs.Math.Nat.{div-div-eq-div-mul, div-eq_of_lt, mod-eq_of_lt, 
 use Rattle.std.proofs.lemmas.Bool.{cases_lt, or_parts, eqb-false}
 use Rattle.std.proofs.lemmas.Int.{ints}
 use Rattle.std.proofs.lemmas.Nat.{div_below, mod_below, mod-mul-add, div-mul-add}
-use Rattle.nd_base.specs.Offset.{offset_of}
-use Rattle.nd_base.specs.Rank.{index_of_rank}
-use Rattle.nd_base.specs.Size.{size, is_empty}
+use Rattle.nd_base.proofs.laws.Definitions.{offset_of, index_of_rank, is_empty, size}
 use Rattle.nd_base.proofs.laws.Size.{size_of_nonempty, size-append, size-push}
 use Rattle.ndarray_layout.specs.private.ReshapeProgress.{PlacesAlike, IsDense}
 use Rattle.ndarray_layout.proofs.reshapes.Joins.{is_empty-rest}

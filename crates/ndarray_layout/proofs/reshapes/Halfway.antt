@@ -14,6 +14,7 @@ use Rattle.ndarray_layout.proofs.reshapes.Blocks.{IsBetween, first-block, block-
 use Rattle.ndarray_layout.proofs.reshapes.Blocks.{between-to, between-from, between-none}
 use Rattle.ndarray_layout.proofs.reshapes.Reached.{LastLonger, take-mono, member-product, good-more, joint-of-apart, no-joint}
 use Rattle.ndarray_layout.proofs.reshapes.Reached.{bad-joint-fault, sizes-fault}
+use Rattle.nd_base.proofs.laws.Size.{length_pos}
 
 -- the products are those of the lengths read since the axes i and k
 pub record IsHalfway (from : List ℕ) (strides : List ℤ) (to : List ℕ) (i k from_end to_end from_product to_product : ℕ) (step : ℤ) : Type 0
@@ -48,15 +49,6 @@ sizes-below lens i m n h l =
     let some = take-mono lens 0 i h (omega arith) in
     let more : size (take i lens) * suc m ≤ size (take i lens) * n = mul-le-mul_left (size (take i lens)) l in
     omega arith
-
-pub len-some : (lens : List ℕ) (k : ℕ) → is_empty lens ≡ false → k < length lens → 0 < get_or lens k 0
-len-some lens k h l =
-    let next = size_take_more lens k l in
-    let first = take-mono lens 0 (k + 1) h (omega arith) in
-    elim (cases_eq (get_or lens k 0) 0) [
-      | inl none ↦ absurd (omega (arith, ap (λ n. size (take k lens) * n) none))
-      | inr some ↦ omega arith
-    ]
 
 pub len-fits : (lens : List ℕ) (k : ℕ) → is_empty lens ≡ false → size lens ≤ limit → k < length lens → get_or lens k 0 ≤ limit
 len-fits lens k h f l =
@@ -117,7 +109,7 @@ module _ {from : List ℕ} {strides : List ℤ} {to : List ℕ} {i k : ℕ} wher
       → len ≡ get_or from from_end 0 → len ≤ 1 → IsHalfway from strides to i k (from_end + 1) to_end (from_product * len) to_product step
   halfway-one {from_end} {from_product} {to_product} w at less l e short =
       let before = at.between (omega arith) in
-      let some = len-some from from_end w.some l in
+      let some = length_pos from from_end w.some l in
       let one : get_or from from_end 0 ≡ 1 = omega arith in
       let same : size (take (from_end + 1) from) ≡ size (take from_end from) = size_take_more from from_end l
           ∙ ap (λ n. size (take from_end from) * n) one ∙ mul-one (size (take from_end from)) in

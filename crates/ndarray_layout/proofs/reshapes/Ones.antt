@@ -8,17 +8,16 @@ use Rattle.std.proofs.lemmas.Bool.{cases_Bool, cases_lt, cases_eq, cond-true, co
 use Rattle.std.proofs.lemmas.Bool.{lt-ltb}
 use Rattle.std.proofs.lemmas.List.{take_all, get_or_past, get_or-take, length-map, length-take-le}
 use Rattle.std.proofs.lemmas.List.FromFn.{fill_by_all}
-use Rattle.nd_base.specs.Indices.{below}
-use Rattle.nd_base.specs.Size.{size, is_empty}
+use Rattle.nd_base.proofs.laws.Definitions.{below, is_empty, size}
 use Rattle.nd_base.proofs.laws.Size.{size_take_more, size_from}
 use Rattle.nd_dim.specs.Strides.{size_after}
 use Rattle.ndarray_layout.specs.reshape.ForcedStrides.{is_one_at, ones_before, strides_of_ones, stride_of_one, stride_at, offset_at_rank}
 use Rattle.ndarray_layout.specs.reshape.Joints.{cumulative_products}
 use Rattle.ndarray_layout.specs.private.ReshapeProgress.{CanWalk, IsReached, IsInside, OnesAlike, PlacesAlike, previous}
 use Rattle.ndarray_layout.proofs.reshapes.Forced.{forced-of-alike, stride_at-long}
-use Rattle.ndarray_layout.proofs.reshapes.Halfway.{len-some}
 use Rattle.ndarray_layout.proofs.reshapes.Members.{member-of-any, any-of-member}
 use Rattle.ndarray_layout.proofs.reshapes.Reached.{member-product, product-member, take-mono}
+use Rattle.nd_base.proofs.laws.Size.{length_pos}
 
 -- ---- numbers that pass a test
 abbrev hits : (ℕ → Bool) → ℕ → ℕ → ℕ
@@ -121,7 +120,7 @@ grows : (lens : List ℕ) (k : ℕ) → is_empty lens ≡ false → k < length l
 grows lens k h l other =
     let next = size_take_more lens k l in
     let some = take-mono lens 0 k h (omega arith) in
-    let here = len-some lens k h l in
+    let here = length_pos lens k h l in
     let more : size (take k lens) * 2 ≤ size (take k lens) * get_or lens k 0 = mul-le-mul_left (size (take k lens)) (omega arith) in
     omega arith
 
@@ -331,7 +330,7 @@ strides-forced {from} {strides} {to} {news} more sizes e end alike ones = fill_b
   where
     at_one : (j : ℕ) → j < length to → nat_lt 1 (get_or to j 0) ≡ false → get_or to j 0 ≡ 1
     at_one j l short =
-        let some = len-some to j more l in
+        let some = length_pos to j more l in
         elim (cases_lt 1 (get_or to j 0)) [
           | inl long ↦ absurd (let holds = lt-ltb 1 (get_or to j 0) long in cc)
           | inr few ↦ omega arith

@@ -8,9 +8,7 @@ use Rattle.std.proofs.lemmas.Bool.{cases_Bool, cond-true, cond-false, ltb-true}
 use Rattle.std.proofs.lemmas.Int.{ints}
 use Rattle.std.proofs.lemmas.List.{reverse-append}
 use Rattle.std.proofs.lemmas.Nat.{div_below, mod_below, mod-mul-add, div-mul-add}
-use Rattle.nd_base.specs.Offset.{offset_of}
-use Rattle.nd_base.specs.Rank.{index_of_rank}
-use Rattle.nd_base.specs.Size.{size, is_empty}
+use Rattle.nd_base.proofs.laws.Definitions.{offset_of, index_of_rank, is_empty, size}
 use Rattle.nd_base.proofs.laws.Size.{size_of_nonempty}
 use Rattle.ndarray_layout.proofs.reshapes.Values.{Axes, value, count, AreLong}
 use Rattle.ndarray_layout.proofs.reshapes.Joins.{long_axes, is_empty-rest, one-of-short, count-reverse}

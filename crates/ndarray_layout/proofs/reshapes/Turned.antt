@@ -6,22 +6,20 @@ use Rattle.nd_base.specs.declared.error.ShapeError.{ShapeError}
 use Rattle.std.proofs.lemmas.List.{length-map, map-append, reverse-append}
 use Rattle.nd_base.specs.declared.order.Order.{Order}
 use Rattle.nd_base.specs.declared.order.Order.TheVariants.{RowMajor, ColumnMajor}
-use Rattle.nd_base.specs.Indices.{below}
-use Rattle.nd_base.specs.Signed.{signed, all_signed}
-use Rattle.nd_base.specs.Size.{size, nonzero_size, is_empty, limit}
-use Rattle.nd_base.specs.Span.{span, reach}
-use Rattle.nd_base.specs.ValidLayout.{IsValidLayout}
+use Rattle.nd_base.proofs.laws.Definitions.{below, as_read, all_signed, signed, is_empty, limit, nonzero_size, size, reach, span}
+use Rattle.nd_base.proofs.laws.Definitions.{IsValidLayout}
 use Rattle.nd_base.proofs.laws.NonzeroSize.{nonzero_size_of_nonempty}
 use Rattle.nd_base.proofs.laws.Span.{sum_over_axes-reverse}
 use Rattle.ndarray_layout.specs.reshape.ForcedStrides.{forced_strides, stride_at}
 use Rattle.ndarray_layout.specs.reshape.Joints.{has_bad_joint}
 use Rattle.ndarray_layout.specs.reshape.Keeps.{Keeps}
-use Rattle.nd_base.specs.Reading.{as_read}
 use Rattle.ndarray_layout.specs.reshape.ReshapeFault.{reshape_fault, fault_as_read}
 use Rattle.ndarray_layout.specs.private.ReshapeProgress.{CanWalk, PlacesAlike}
 use Rattle.ndarray_layout.proofs.reshapes.Complete.{good-of-alike}
 use Rattle.nd_base.proofs.laws.Reading.{length-as_read, as_read-as_read, size-as_read, is_empty-as_read}
 use Rattle.ndarray_layout.proofs.laws.Keeps.{fault-exactly, forced-keeps}
+use Rattle.nd_base.proofs.laws.Reading.{map-as_read}
+use Rattle.nd_base.proofs.laws.Reading.{sum_over_axes-as_read}
 
 signed-reverse : (items : List ℕ) → all_signed (reverse items) ≡ reverse (all_signed items)
 signed-reverse [] = refl
@@ -30,15 +28,6 @@ signed-reverse (item ∷ items) =
     ∙ map-append signed (reverse items) (item ∷ [])
     ∙ ap (λ zs. zs ++ signed item ∷ []) (signed-reverse items)
     ∙ sym (reverse-append (signed item ∷ []) (all_signed items))
-
-signed-as_read : (order : Order) (items : List ℕ) → all_signed (as_read order items) ≡ as_read order (all_signed items)
-signed-as_read RowMajor items = refl
-signed-as_read ColumnMajor items = signed-reverse items
-
-span-as_read : (order : Order) (shape : List ℕ) (strides : List ℤ) → length shape ≡ length strides
-    → span (as_read order shape) (as_read order strides) ≡ span shape strides
-span-as_read RowMajor shape strides e = refl
-span-as_read ColumnMajor shape strides e = sum_over_axes-reverse reach shape strides e
 
 -- a layout that is valid can be walked
 pub can-walk : (order : Order) {from : List ℕ} (strides to : List ℕ) → IsValidLayout from (all_signed strides) → is_empty from ≡ false
@@ -49,13 +38,13 @@ can-walk order {from} strides to valid some more fits =
     let span_fits = valid.span_fits in
     let from_count = length-as_read order from in
     let strides_count = length-as_read order (all_signed strides) in
-    let turned = signed-as_read order strides in
+    let turned = map-as_read order signed strides in
     let from_size = size-as_read order from in
     let to_size = size-as_read order to in
     let from_whole = nonzero_size_of_nonempty from some in
     let to_whole = nonzero_size_of_nonempty to more in
     let reached : span (as_read order from) (all_signed (as_read order strides)) ≡ span from (all_signed strides) =
-        ap (span (as_read order from)) turned ∙ span-as_read order from (all_signed strides) count in
+        ap (span (as_read order from)) turned ∙ sum_over_axes-as_read order reach from (all_signed strides) count in
     record {
       same_count = from_count ∙ count ∙ sym strides_count ∙ sym (ap length turned);
       some = is_empty-as_read order from ∙ some;
@@ -68,7 +57,7 @@ can-walk order {from} strides to valid some more fits =
 fault-read : (order : Order) (from strides to : List ℕ)
     → fault_as_read (as_read order from) (all_signed (as_read order strides)) (as_read order to) ≡ reshape_fault order from
     (all_signed strides) to
-fault-read order from strides to = ap (λ ss. fault_as_read (as_read order from) ss (as_read order to)) (signed-as_read order strides)
+fault-read order from strides to = ap (λ ss. fault_as_read (as_read order from) ss (as_read order to)) (map-as_read order signed strides)
 
 -- strides that keep the places, as they are read, leave no fault
 none-read : (order : Order) (from strides to out : List ℕ)
@@ -77,7 +66,7 @@ none-read : (order : Order) (from strides to out : List ℕ)
     PlacesAlike (as_read order from) (all_signed (as_read order strides)) (as_read order to) (all_signed out) → reshape_fault order from
         (all_signed strides) to ≡ None
 none-read order from strides to out w room sizes alike =
-    let turned = signed-as_read order strides in
+    let turned = map-as_read order signed strides in
     let count = length-map out signed in
     let equal : length (as_read order to) ≡ length (all_signed out) = length-as_read order to ∙ sym room ∙ sym count in
     let good = good-of-alike (as_read order from) (all_signed (as_read order strides)) (as_read order to) (all_signed out) w.some w.more
@@ -91,9 +80,9 @@ forced-read : (order : Order) (from strides to out : List ℕ) → length out �
     → all_signed out ≡ map (stride_at (as_read order from) (all_signed (as_read order strides)) (as_read order to))
     (below (length (as_read order to))) → all_signed (as_read order out) ≡ forced_strides order from (all_signed strides) to
 forced-read order from strides to out room e =
-    signed-as_read order out
+    map-as_read order signed out
     ∙ ap (as_read order) (e ∙ ap₂ (λ ss n. map (stride_at (as_read order from) ss (as_read order to)) (below n))
-        (signed-as_read order strides) (length-as_read order to))
+        (map-as_read order signed strides) (length-as_read order to))
 
 -- ---- what is answered of a walk in an order
 module _ {X : Type 0} {order read : Order} where

@@ -3,9 +3,7 @@ use Rattle.std.proofs.Common.{◌≡◌, ◌≢◌, ℕ, zero, suc, ◌+◌, ◌
 use Rattle.std.proofs.Common.{sym, ap, ◌∙◌, arith, subst, length-set, get_or-set_other, get_or-set_same}
 use Rattle.std.proofs.Math.ListN.{get_or-map}
 use Rattle.std.proofs.lemmas.List.{get_or_past, length-map, take-map, take_all}
-use Rattle.nd_base.specs.Indices.{below}
-use Rattle.nd_base.specs.Signed.{signed, all_signed}
-use Rattle.nd_base.specs.Size.{size}
+use Rattle.nd_base.proofs.laws.Definitions.{below, all_signed, signed, size}
 use Rattle.ndarray_layout.specs.reshape.ForcedStrides.{stride_at}
 use Rattle.ndarray_layout.specs.private.ReshapeProgress.{PlacesAlike, CanWalk, IsReached, IsBlock, IsInside, HasStridesUpTo}
 use Rattle.ndarray_layout.proofs.reshapes.Advance.{in-of-len, take-same, reached-both, alike-both, reached-from, alike-from, reached-to}

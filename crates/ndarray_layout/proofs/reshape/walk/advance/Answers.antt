@@ -1,9 +1,10 @@
 use Rattle.std.proofs.Common.{arith, sym, ◌∙◌}
 use Rattle.nd_base.specs.Signed.{signed, all_signed}
 use Rattle.ndarray_layout.proofs.reshapes.Advance.{steps-fit}
-use Rattle.ndarray_layout.proofs.reshapes.Halfway.{len-fits, len-some}
+use Rattle.ndarray_layout.proofs.reshapes.Halfway.{len-fits}
 use Rattle.ndarray_layout.proofs.reshapes.Written.{both-set, to-set, written-from, written-block}
 use Rattle.ndarray_layout.proofs.reshape.walk.advance.Goals as goal
+use Rattle.nd_base.proofs.laws.Size.{length_pos}
 
 pub returns-then-from_len-to_len-clause-written : goal.returns-then-from_len-to_len-clause-written
 returns-then-from_len-to_len-clause-written g c =
@@ -25,14 +26,14 @@ returns-then-to_len-eq1-clause-written g c =
 
 pub next_block-requires-clause-from_longer : goal.next_block-requires-clause-from_longer
 next_block-requires-clause-from_longer g c =
-    let some = len-some (g.S.Sequence.items c.args.from.now) c.args.at.from_axes c.requires.can_walk.some c.requires.from_left in
+    let some = length_pos (g.S.Sequence.items c.args.from.now) c.args.at.from_axes c.requires.can_walk.some c.requires.from_left in
     let same = c.item-from_len.ensures in
     let other = c.if-from_len-eq1.false in
     omega (arith, some, same, other)
 
 pub next_block-requires-clause-to_longer : goal.next_block-requires-clause-to_longer
 next_block-requires-clause-to_longer g c =
-    let some = len-some (g.T.Sequence.items c.args.to.now) c.args.at.to_axes c.requires.can_walk.more c.requires.to_left in
+    let some = length_pos (g.T.Sequence.items c.args.to.now) c.args.at.to_axes c.requires.can_walk.more c.requires.to_left in
     let same = c.item-to_len.ensures in
     let other = c.if-to_len-eq1.false in
     omega (arith, some, same, other)
@@ -44,7 +45,7 @@ write_block-requires-clause-len_fits g c = λ k l. len-fits (g.T.Sequence.items 
 pub write_block-requires-clause-steps_fit : goal.write_block-requires-clause-steps_fit
 write_block-requires-clause-steps_fit g c =
     let b = c.in_ok-block.block in
-    let some = len-some (g.T.Sequence.items c.args.to.now) c.args.at.to_axes c.requires.can_walk.more c.requires.to_left in
+    let some = length_pos (g.T.Sequence.items c.args.to.now) c.args.at.to_axes c.requires.can_walk.more c.requires.to_left in
     let same = c.item-to_len.ensures in
     let other = c.if-to_len-eq1.false in
     λ j above below. steps-fit j c.requires.can_walk c.requires.written.reached c.in_ok-block.ensures.reached c.in_ok-block.ensures.block
@@ -53,7 +54,7 @@ write_block-requires-clause-steps_fit g c =
 pub returns-clause-written : goal.returns-clause-written
 returns-clause-written g c =
     let b = c.in_ok-block.block in
-    let some = len-some (g.T.Sequence.items c.args.to.now) c.args.at.to_axes c.requires.can_walk.more c.requires.to_left in
+    let some = length_pos (g.T.Sequence.items c.args.to.now) c.args.at.to_axes c.requires.can_walk.more c.requires.to_left in
     let same = c.item-to_len.ensures in
     let other = c.if-to_len-eq1.false in
     written-block (g.O.Sequence.items c.args.out.now) (g.O.Sequence.items c.write_block.new.out) c.requires.can_walk

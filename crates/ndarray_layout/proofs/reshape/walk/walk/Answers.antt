@@ -1,9 +1,8 @@
 use Rattle.std.proofs.Common.{◌<◌, ◌≤◌, Some, length, inl, inr, arith, sym, ap, ◌∙◌}
 use Rattle.std.proofs.lemmas.Bool.{cases_lt}
-use Rattle.nd_base.specs.Signed.{all_signed}
+use Rattle.nd_base.proofs.laws.Definitions.{all_signed}
 use Rattle.ndarray_layout.proofs.reshapes.Advance.{from-left-fault, to-left-fault}
 use Rattle.ndarray_layout.proofs.reshapes.Written.{written-first, written-whole, whole-sizes, whole-alike, whole-strides}
-use Rattle.nd_base.specs.Signed.{all_signed}
 use Rattle.ndarray_layout.specs.private.ReshapeProgress.{HasStridesUpTo}
 use Rattle.ndarray_layout.proofs.reshape.walk.walk.Given.{Over}
 use Rattle.ndarray_layout.proofs.reshape.walk.walk.Goals as goal

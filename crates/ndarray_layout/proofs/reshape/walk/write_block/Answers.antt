@@ -6,8 +6,7 @@ use Rattle.std.proofs.Math.Nat.{mul_comm}
 use Rattle.std.proofs.lemmas.Bool.{cases_eq}
 use Rattle.std.proofs.lemmas.List.{length-take-le, get_or-take}
 use Rattle.std.proofs.lemmas.Int.{to_z-of_z, to_z_pos}
-use Rattle.nd_base.specs.Size.{size, limit}
-use Rattle.nd_base.specs.Signed.{signed}
+use Rattle.nd_base.proofs.laws.Definitions.{signed, limit, size}
 use Rattle.nd_base.proofs.laws.Size.{size_from}
 use Rattle.nd_base.proofs.laws.Times.{times_times}
 use Rattle.ndarray_layout.proofs.reshape.walk.write_block.Goals as goal

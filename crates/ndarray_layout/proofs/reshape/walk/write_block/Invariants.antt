@@ -1,7 +1,6 @@
 -- The stride of the axis that is written last, and those of all axes from it on.
 use Rattle.std.proofs.Common.{◌≡◌, ℕ, ◌+◌, ◌≤◌, ◌<◌, pos, ◌*ℤ◌, length, take, drop, get_or}
-use Rattle.nd_base.specs.Signed.{signed}
-use Rattle.nd_base.specs.Size.{size}
+use Rattle.nd_base.proofs.laws.Definitions.{signed, size}
 use Rattle.ndarray_layout.proofs.reshape.walk.write_block.Given as goal
 
 abbrev pub invariant-loop-k : goal.invariant-loop-k

@@ -3,8 +3,7 @@ use Rattle.std.proofs.Common.{rules, ◌≡◌, None, FitsSigned, pos, ◌+ℤ�
 use Rattle.std.specs.Int.{w64}
 use Rattle.std.proofs.Math.ListN.{get_or-map}
 use Rattle.std.proofs.lemmas.Int.{to_z-of_z}
-use Rattle.nd_base.specs.Signed.{signed, all_signed, magnitude}
-use Rattle.nd_base.specs.Size.{limit}
+use Rattle.nd_base.proofs.laws.Definitions.{all_signed, magnitude, signed, limit}
 use Rattle.ndarray_layout.specs.CollapsedView.{collapse_fault, collapse_of, collapse_source}
 use Rattle.ndarray_layout.specs.Descends.{Descends}
 use Rattle.ndarray_layout.specs.View.{View, view_of}

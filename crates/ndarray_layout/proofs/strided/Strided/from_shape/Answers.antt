@@ -1,9 +1,6 @@
 -- The first index lies as far on as the layout reaches down.
 use Rattle.std.proofs.Common.{◌≡◌, ℕ, ◌≤◌, List, arith, subst, sym}
-use Rattle.nd_base.specs.Signed.{all_signed}
-use Rattle.nd_base.specs.Size.{nonzero_size, limit}
-use Rattle.nd_base.specs.Span.{low_span}
-use Rattle.nd_base.specs.ValidLayout.{IsValidLayout}
+use Rattle.nd_base.proofs.laws.Definitions.{all_signed, limit, nonzero_size, low_span, IsValidLayout}
 use Rattle.nd_base.proofs.laws.NonzeroSize.{size_le_nonzero_size}
 use Rattle.ndarray_layout.specs.View.{IsView, view_of}
 use Rattle.nd_shape.specs.OwnedRule.{MeetsOwnedRule}

@@ -15,17 +15,14 @@ use Rattle.ndarray_layout.specs.View.{View, IsView, view_of}
 use Rattle.ndarray_layout.proofs.laws.SharePlace.{meet_is_shared_place}
 use Rattle.ndarray_layout.proofs.laws.View.{lens_fit}
 use Rattle.ndarray_layout.proofs.strided.Strided.meets.Goals as goal
-
-both_none : (first second : Option ErrorKind) → option_or first second ≡ None → (first ≡ None) × (second ≡ None)
-both_none None second none = (refl, none)
-both_none (Some fault) second none = absurd (cc)
+use Rattle.nd_base.proofs.laws.Options.{option_or_none}
 
 by_places : (fit : Fit) (one other : List SliceInfoElem) {view : View} (answer : Result Bool ErrorKind) → IsView view
     → result_err answer ≡ option_or (argument_fault fit view.shape one) (argument_fault fit view.shape other)
     → IfOk answer (λ meet. IsTrue meet ↔ Meet fit view.shape one other)
     → IfOk answer (λ meet. HasDistinctPlaces view → IsTrue meet ↔ SharePlace (slice_of fit one view) (slice_of fit other view))
 by_places fit one other {view} (Ok meet) v fault is = λ distinct.
-    let fits = both_none (argument_fault fit view.shape one) (argument_fault fit view.shape other) (sym fault) in
+    let fits = option_or_none (argument_fault fit view.shape one) (sym fault) in
     let places = meet_is_shared_place fit one other v fits.0 fits.1 distinct in
     (λ true. places.0 (is.0 true), λ share. is.1 (places.1 share))
 by_places fit one other (Err fault) v same is = tt

@@ -1,6 +1,5 @@
 use Rattle.std.proofs.Common.{◌≡◌, pos, map, ap, ◌∙◌, arith, refl}
-use Rattle.nd_base.specs.Signed.{all_signed}
-use Rattle.nd_base.specs.Size.{size}
+use Rattle.nd_base.proofs.laws.Definitions.{all_signed, size}
 use Rattle.ndarray_layout.specs.View.{View, view_of, view_places}
 use Rattle.ndarray_layout.proofs.laws.View.{item_at_rank, items_lie_within, size_fits}
 use Rattle.ndarray_layout.proofs.strided.Strided.places.Goals as goal

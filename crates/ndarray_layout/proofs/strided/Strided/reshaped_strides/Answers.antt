@@ -4,21 +4,15 @@ use Rattle.std.specs.Prelude.{None, IfErr, IfOk, OnOk}
 use Rattle.std.proofs.lemmas.Bool.{false≢true}
 use Rattle.std.specs.Result.{IsErrAnd}
 use Rattle.nd_base.specs.declared.error.LayoutError.TheVariants.{Memory}
-use Rattle.nd_base.specs.Signed.{all_signed}
-use Rattle.nd_base.specs.Size.{is_empty, nonzero_size, limit}
+use Rattle.nd_base.proofs.laws.Definitions.{NeedsNoMemory, all_signed, is_empty, limit, nonzero_size}
 use Rattle.ndarray_layout.specs.ReshapedView.{IsReshapeRefusal, reshape_refusal, reshaped_strides as strides_of}
 use Rattle.ndarray_layout.specs.View.{View, view_of}
 use Rattle.ndarray_layout.proofs.reshapes.Views.{refusal_between, refused_between, both_are, strides_between, strides_of_none}
 use Rattle.ndarray_layout.proofs.reshapes.Views.{within_limit}
-use Rattle.nd_base.specs.Lengths.{NeedsNoMemory}
 use Rattle.std.specs.Prelude.{length}
 use Rattle.ndarray_layout.proofs.strided.Strided.reshaped_strides.Given.{Over}
 use Rattle.ndarray_layout.proofs.strided.Strided.reshaped_strides.Goals as goal
-
--- what holds of an error holds of the one that is handed on
-handed_on : {X E : Type 0} (P : E → Type 0) (result : Result X E) (error : E) → IsErrAnd result (λ e. e ≡ error) → P error → IfErr result P
-handed_on P (Ok x) error is known = tt
-handed_on P (Err e) error is known = subst P (sym is) known
+use Rattle.nd_base.proofs.laws.Faults.{IfErr-handed_on}
 
 pub returns-in_err-zeros-clause-fault : goal.returns-in_err-zeros-clause-fault
 returns-in_err-zeros-clause-fault g c =
@@ -29,8 +23,7 @@ returns-in_err-zeros-clause-fault g c =
     let asks = subst (λ (v : View). (nonzero_size to ≤ limit) × (is_empty to ≡ is_empty v.shape)) c.self.view_is
         (fits, empty.1 ∙ sym empty.0) in
     let few = λ (none : NeedsNoMemory g.E.FixedCount.NDIM (length to)). false≢true (c.in_err-zeros.ensures.memory (rw c.ndim.ensures.count none)) in
-    handed_on (λ e. IsReshapeRefusal g.E.FixedCount.NDIM c.args.order to c.args.self.now e) c.from_residual-in_err-zeros.result
-        (Memory c.in_err-zeros.field-0.0) c.from_residual-in_err-zeros.ensures.1 (asks, few)
+    IfErr-handed_on (λ e. IsReshapeRefusal g.E.FixedCount.NDIM c.args.order to c.args.self.now e) c.from_residual-in_err-zeros.result c.from_residual-in_err-zeros.ensures.1 (asks, few)
 
 pub returns-then-is_empty-clause-strides : goal.returns-then-is_empty-clause-strides
 returns-then-is_empty-clause-strides g c =

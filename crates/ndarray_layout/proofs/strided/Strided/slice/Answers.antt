@@ -2,8 +2,7 @@
 use Rattle.std.proofs.Common.{rules, ◌≡◌, None, FitsSigned, pos, ◌+ℤ◌, ◌≤ℤ◌, sym, ap, subst, ◌∙◌, refl}
 use Rattle.std.specs.Int.{w64}
 use Rattle.std.proofs.lemmas.Int.{to_z-of_z}
-use Rattle.nd_base.specs.Signed.{magnitude}
-use Rattle.nd_base.specs.Size.{limit}
+use Rattle.nd_base.proofs.laws.Definitions.{magnitude, limit}
 use Rattle.nd_slice.specs.ArgumentFault.{argument_fault}
 use Rattle.nd_slice.specs.Selected.{selected}
 use Rattle.ndarray_layout.specs.Descends.{Descends}

@@ -2,13 +2,11 @@
 use Rattle.std.proofs.Common.{◌≡◌, ℕ, List, length, ◌∷◌, sym, subst, ◌+◌, ◌*◌, ◌≤◌, ◌<◌, pos, map, vec_len, vec_capacity, ◌++◌, arith, ap}
 use Rattle.std.proofs.Common.{◌∙◌}
 use Rattle.std.proofs.Math.Nat.{mul-le-mul_right}
-use Rattle.nd_base.specs.Signed.{signed, all_signed}
-use Rattle.nd_base.specs.Size.{size}
+use Rattle.nd_base.proofs.laws.Definitions.{as_read, all_signed, signed, size}
 use Rattle.std.proofs.lemmas.Grind.{common_steps}
 use Rattle.nd_base.specs.declared.order.Order.{Order}
 use Rattle.nd_base.specs.declared.order.Order.TheVariants.{RowMajor}
 use Rattle.ndarray_layout.specs.View.{IsView, view_places}
-use Rattle.nd_base.specs.Reading.{as_read}
 use Rattle.ndarray_layout.specs.private.ReadView.{view_as_read, row_view}
 use Rattle.ndarray_layout.proofs.Walks.{IsEntry, entry_of, as_read_signed, places_more, row_after, view_of_row, size_of_row, walk_whole}
 use Rattle.ndarray_layout.proofs.strided.places.+push_entries.Goals as goal

@@ -3,11 +3,9 @@ use Rattle.std.proofs.Common.{◌≡◌, ℕ, List, ◌++◌, pos, map, sym, ap,
 use Rattle.std.proofs.lemmas.List.{append-nil}
 use Rattle.nd_base.specs.declared.order.Order.{Order}
 use Rattle.nd_base.specs.declared.order.Order.TheVariants.{RowMajor}
-use Rattle.nd_base.specs.Signed.{all_signed}
-use Rattle.nd_base.specs.Size.{size}
+use Rattle.nd_base.proofs.laws.Definitions.{as_read, all_signed, size}
 use Rattle.ndarray_layout.specs.private.LongerAxes.{of_longer}
 use Rattle.ndarray_layout.specs.View.{IsView, view_of, view_places}
-use Rattle.nd_base.specs.Reading.{as_read}
 use Rattle.ndarray_layout.specs.private.ReadView.{view_as_read}
 use Rattle.ndarray_layout.proofs.LongerAxes.{all_signed-of_longer, IsView-longer_view, size-of_longer, view_places-longer_view}
 use Rattle.ndarray_layout.proofs.laws.View.{no_places}

@@ -4,9 +4,7 @@ use Rattle.std.proofs.Common.{◌∙◌}
 use Rattle.std.specs.Prelude.{◌↔◌, IsTrue}
 use Rattle.std.proofs.lemmas.List.{length-replicate}
 use Rattle.nd_base.specs.declared.error.ErrorKind.{ErrorKind}
-use Rattle.nd_base.specs.Lengths.{NeedsNoMemory}
-use Rattle.nd_base.specs.ShapeFault.{shape_fault}
-use Rattle.nd_base.specs.Signed.{all_signed}
+use Rattle.nd_base.proofs.laws.Definitions.{NeedsNoMemory, shape_fault, all_signed}
 use Rattle.nd_slice.specs.declared.fit.Fit.{Fit}
 use Rattle.nd_slice.specs.declared.elem.SliceInfoElem.{SliceInfoElem}
 use Rattle.nd_slice.specs.ArgumentFault.{first_fault, out_count}
