@@ -150,8 +150,12 @@ sum_broadcast : {f : ℕ → ℤ → ℕ} → StaysAtZero f → {shape view_shap
 sum_broadcast stays {shape} {view_shape} {strides} s =
     let n = new_axes shape view_shape in
     let lens = drop n shape in
-    omega (arith, sum_after_new stays n shape (stretched_strides lens view_shape strides) (omega arith), sum_stretched stays lens view_shape
-        strides (count_after shape view_shape s.fewer) s.counts)
+    omega (
+      arith,
+      sum_after_new stays n shape (stretched_strides lens view_shape strides) (omega arith),
+      sum_stretched stays lens view_shape
+          strides (count_after shape view_shape s.fewer) s.counts,
+    )
 
 pub broadcast_kept : {shape view_shape : List ℕ} {strides : List ℤ} → Stretches shape view_shape strides
     → BroadcastKept shape view_shape strides
@@ -160,7 +164,7 @@ broadcast_kept {shape} {view_shape} {strides} s =
     let new : List ℤ = replicate n (pos 0) in
     let after = stretched_strides (drop n shape) view_shape strides in
     let count : length after ≡ length strides = length-stretched_strides (drop n shape) view_shape strides
-        (count_after shape view_shape s.fewer) s.counts in
+    (count_after shape view_shape s.fewer) s.counts in
     record {
       counts = omega (arith, length-append new after, length-replicate {A = ℤ} n (pos 0), count, s.counts, s.fewer);
       low = sum_broadcast down s;
@@ -180,9 +184,9 @@ broadcast_source_kept {shape} {view_shape} {strides} entries s here =
     let same : new_axes entries view_shape ≡ n = ap (λ m. m - length view_shape) count in
     let stretched : Stretched lens view_shape = λ k l. rw (get_or-drop n shape k 0) (s.stretches k l) in
     let rest = within_kept lens view_shape strides (drop n entries) (count_after shape view_shape s.fewer) s.counts stretched
-        (index_after_new n shape entries here) in
+    (index_after_new n shape entries here) in
     let source : broadcast_source view_shape entries ≡ entries_within view_shape (drop n entries) =
-        ap (λ m. entries_within view_shape (drop m entries)) same in
+    ap (λ m. entries_within view_shape (drop m entries)) same in
     record {
       within = ap (is_index view_shape) source ∙ rest.within;
       offset = offset_after_new n (stretched_strides lens view_shape strides) entries (omega arith) ∙ rest.offset
@@ -218,7 +222,7 @@ strides_by_axes shape view_shape strides new fewer counts count front after =
     let count_zeros : length zeros ≡ n = length-replicate {A = ℤ} n (pos 0) in
     let count_lens = count_after shape view_shape fewer in
     let count_old : length old ≡ length (all_signed strides) = length-stretched_strides lens view_shape (all_signed strides) count_lens
-        (counts ∙ sym count_strides) in
+    (counts ∙ sym count_strides) in
     let count_all : length (all_signed new) ≡ length (zeros ++ old) = omega (arith, length-append zeros old) in
     ext_get_or (pos 0) (all_signed new) (zeros ++ old) count_all (λ k l.
     elim (cases_lt k n) [
@@ -233,8 +237,8 @@ strides_by_axes shape view_shape strides new fewer counts count front after =
           let one = get_or (all_signed strides) i (pos 0) in
           let same = eqb (get_or shape (n + i) 0) (get_or view_shape i 0) in
           let here : get_or old i (pos 0) ≡ cond same one (pos 0) = stretched_at lens view_shape (all_signed strides) i count_lens
-              (counts ∙ sym count_strides) inside ∙ ap (λ len. cond (eqb len (get_or view_shape i 0)) one (pos 0))
-              (get_or-drop n shape i 0) in
+          (counts ∙ sym count_strides) inside ∙ ap (λ len. cond (eqb len (get_or view_shape i 0)) one (pos 0))
+          (get_or-drop n shape i 0) in
           get_or-map signed new k 0
           ∙ ap (λ j. signed (get_or new j 0)) at
           ∙ ap signed (after i inside)

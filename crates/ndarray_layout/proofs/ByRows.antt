@@ -19,7 +19,7 @@ places_from place strides xs = map (λ index. place +ℤ offset_of strides index
 by_entries : (f : List ℕ → ℤ) (row : ℤ → List ℤ) (whole cut : List (List ℕ))
     → ((i : ℕ) → map f (map (λ index. i ∷ index) whole) ≡ flat_map row (map f (map (λ index. i ∷ index) cut)))
     → (entries : List ℕ) → map f (flat_map (λ i. map (λ index. i ∷ index) whole) entries)
-        ≡ flat_map row (map f (flat_map (λ i. map (λ index. i ∷ index) cut) entries))
+    ≡ flat_map row (map f (flat_map (λ i. map (λ index. i ∷ index) cut) entries))
 by_entries f row whole cut each [] = refl
 by_entries f row whole cut each (i ∷ entries) =
     let more = flat_map (λ i. map (λ index. i ∷ index) whole) entries in
@@ -55,7 +55,7 @@ one_row place stride (entry ∷ entries) =
 pub by_rows : (place : ℤ) (shape : List ℕ) (strides : List ℤ) (last : ℕ) → length shape ≡ last + 1 → length strides ≡ last + 1
     → places_from place strides (indices shape)
     ≡ flat_map (λ start. row_from start (get_or strides last (pos 0)) (get_or shape last 0))
-        (places_from place strides (indices (set shape last 1)))
+    (places_from place strides (indices (set shape last 1)))
 by_rows place [] strides last long also = absurd (omega arith)
 by_rows place (len ∷ shape) [] last long also = absurd (omega arith)
 by_rows place (len ∷ []) (stride ∷ []) zero long also =

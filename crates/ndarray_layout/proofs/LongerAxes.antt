@@ -127,9 +127,9 @@ offsets_by_entry : (stride : ℤ) (strides : List ℤ) (lens entries : List ℕ)
 offsets_by_entry stride strides lens [] = refl
 offsets_by_entry stride strides lens (i ∷ entries) =
     map-append (offset_of (stride ∷ strides)) (map (λ index. i ∷ index) (indices lens))
-        (flat_map (λ i. map (λ index. i ∷ index) (indices lens)) entries)
+    (flat_map (λ i. map (λ index. i ∷ index) (indices lens)) entries)
     ∙ ap (λ xs. xs ++ map (offset_of (stride ∷ strides)) (flat_map (λ i. map (λ index. i ∷ index) (indices lens)) entries))
-        (offsets_at stride strides i (indices lens))
+    (offsets_at stride strides i (indices lens))
     ∙ ap (λ xs. moved stride i (offsets lens strides) ++ xs) (offsets_by_entry stride strides lens entries)
 
 unmoved : (stride : ℤ) (inner : List ℤ) → moved stride 0 inner ≡ inner
@@ -179,7 +179,7 @@ of_longer-push {A} (n ∷ shape) (first ∷ items) len item e = by (eqb n 1) (of
   where
     by : (one : Bool) → of_longer (shape ++ len ∷ []) (items ++ item ∷ []) ≡ of_longer shape items ++ of_longer (len ∷ []) (item ∷ [])
         → cond one (of_longer (shape ++ len ∷ []) (items ++ item ∷ [])) (first ∷ of_longer (shape ++ len ∷ []) (items ++ item ∷ []))
-            ≡ cond one (of_longer shape items) (first ∷ of_longer shape items) ++ of_longer (len ∷ []) (item ∷ [])
+        ≡ cond one (of_longer shape items) (first ∷ of_longer shape items) ++ of_longer (len ∷ []) (item ∷ [])
     by true rest = rest
     by false rest = ap (λ xs. first ∷ xs) rest
 
@@ -209,7 +209,7 @@ view_places-longer_view ColumnMajor view counts =
     let strides = view.strides in
     let turned : length (reverse shape) ≡ length (reverse strides) = omega (arith, counts, length-reverse shape, length-reverse strides) in
     sym (places-as_read ColumnMajor view.start (of_longer shape shape) (of_longer shape strides) (length-of_longer shape shape strides refl
-        counts))
+    counts))
     ∙ rw (sym (of_longer-reverse shape shape refl), sym (of_longer-reverse shape strides counts))
-        (by_rows view.start (reverse shape) (reverse strides) turned)
+    (by_rows view.start (reverse shape) (reverse strides) turned)
     ∙ places-as_read ColumnMajor view.start shape strides counts

@@ -16,7 +16,7 @@ of_longer_at_one shape items axis below counts one =
     let len = get_or shape axis 0 in
     let rest = of_longer (drop (suc axis) shape) (drop (suc axis) items) in
     rw (add-one, drop-cons shape axis 0 below, drop-cons items axis 0 (omega arith))
-        (cond-true (eqb len 1) rest (get_or items axis 0 ∷ rest) (eq-eqb len 1 one))
+    (cond-true (eqb len 1) rest (get_or items axis 0 ∷ rest) (eq-eqb len 1 one))
 
 -- any other is kept
 pub of_longer_at_other : (shape items : List ℕ) (axis : ℕ) → axis < length shape → length shape ≡ length items → get_or shape axis 0 ≢ 1
@@ -25,14 +25,14 @@ of_longer_at_other shape items axis below counts other =
     let len = get_or shape axis 0 in
     let rest = of_longer (drop (suc axis) shape) (drop (suc axis) items) in
     rw (add-one, drop-cons shape axis 0 below, drop-cons items axis 0 (omega arith))
-        (cond-false (eqb len 1) rest (get_or items axis 0 ∷ rest) (ne_eqb len 1 other))
+    (cond-false (eqb len 1) rest (get_or items axis 0 ∷ rest) (ne_eqb len 1 other))
 
 -- one item more is written
 pub written_more : (written : List ℕ) (count : ℕ) {item : ℕ} {rest left whole : List ℕ} → count < length written → left ≡ item ∷ rest
     → take count written ++ left ≡ whole → take (count + 1) (set written count item) ++ rest ≡ whole
 written_more written count {item} {rest} room next so_far =
     rw (take_more_set written count item room) (append_assoc (take count written) (item ∷ []) rest ∙ ap (λ xs. take count written ++ xs)
-        (sym next) ∙ so_far)
+    (sym next) ∙ so_far)
 
 doubled : (power rest : ℕ) → power * 2 * rest ≡ power * (2 * rest)
 doubled power rest = omega arith
@@ -63,7 +63,7 @@ pub room_at : (shape : List ℕ) (axis count : ℕ) → axis < length shape → 
 room_at shape axis count below some long so_far fits =
     let rest = nonzero_size (drop (axis + 1) shape) in
     let more = room_more count (get_or shape axis 0) rest (nonzero_size shape) long (nonzero_size_from_other shape axis below some)
-        so_far in
+    so_far in
     let few = few_of_room (count + 1) rest (nonzero_size shape) (nonzero_size_pos (drop (axis + 1) shape)) more fits in
     omega (arith, few)
 

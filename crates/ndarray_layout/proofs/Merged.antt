@@ -157,9 +157,9 @@ sum_merged {f} reaches {shape} {strides} {taken} {into} {stride} two on is =
     let stride1 : get_or strides1 taken (pos 0) ≡ ts = get_or-set_other strides into taken stride (pos 0) two.apart in
     let same1 : set strides1 taken ts ≡ strides1 = ap (set strides1 taken) (sym stride1) ∙ set-get_or strides1 taken (pos 0) in
     let second : sum_over_axes f (set shape1 taken u) strides1 + f (get_or shape taken 0) ts ≡ sum_over_axes f shape1 strides1 + f u ts =
-        rw (same1, len1, stride1) at (sum_replaced f shape1 strides1 taken u ts there1 counts1) in
+    rw (same1, len1, stride1) at (sum_replaced f shape1 strides1 taken u ts there1 counts1) in
     let less : f m stride + f u ts ≤ f (get_or shape taken 0) ts + f (get_or shape into 0) (get_or strides into (pos 0)) =
-        rw is (reach_merged reaches (get_or shape taken 0) ts (get_or shape into 0) (get_or strides into (pos 0)) u (left_le m) on) in
+    rw is (reach_merged reaches (get_or shape taken 0) ts (get_or shape into 0) (get_or strides into (pos 0)) u (left_le m) on) in
     omega (arith, first, second, less)
 
 -- what is left reaches no further than the layout, and is no larger
@@ -180,7 +180,7 @@ size_merged shape taken into there to apart =
     let there1 : taken < length shape1 = omega (arith, length-set shape into m) in
     let len1 : get_or shape1 taken 0 ≡ t = get_or-set_other shape into taken m 0 apart in
     let second : nonzero_size (merged_shape taken into shape) * factor t ≡ nonzero_size shape1 * 1 =
-        rw (len1, factor_of_left m) at (size_replaced shape1 taken (left_on m) there1) in
+    rw (len1, factor_of_left m) at (size_replaced shape1 taken (left_on m) there1) in
     by t n (nonzero_size shape) (nonzero_size shape1) (nonzero_size (merged_shape taken into shape)) first second
   where
     by : (t n a b c : ℕ) → b * factor n ≡ a * factor (n * t) → c * factor t ≡ b * 1 → c ≤ a
@@ -233,7 +233,7 @@ entry_for_both shape entries taken into there to apart here =
     let count1 : length shape1 ≡ length shape = length-set shape into m in
     let count2 : length shape2 ≡ length shape = length-set shape1 taken (left_on m) ∙ count1 in
     let on_into : get_or shape2 into 0 ≡ m = get_or-set_other shape1 taken into (left_on m) 0 (λ e. apart (sym e))
-        ∙ get_or-set_same shape into m 0 to in
+    ∙ get_or-set_same shape into m 0 to in
     let on_taken : get_or shape2 taken 0 ≡ left_on m = get_or-set_same shape1 taken (left_on m) 0 (omega arith) in
     let below : get_or entries into 0 < m = rw on_into at (entry_of_index shape2 entries into here (omega arith)) in
     let one : get_or entries taken 0 < left_on m = rw on_taken at (entry_of_index shape2 entries taken here (omega arith)) in
@@ -275,11 +275,11 @@ merge_source_kept {shape} {strides} {taken} {into} {stride} entries two serves h
     let count : length strides ≡ length entries = omega (arith, both.count, two.counts) in
     let by_stride = offset_by_stride strides entries into stride (omega (arith, two.into_there, two.counts)) count in
     let by_taken : offset_of strides middle +ℤ (pos 0 *ℤ ts) ≡ offset_of strides entries +ℤ (pos q *ℤ ts) =
-        rw both.none at (offset_by_entry strides entries taken q (omega (arith, two.taken_there, two.counts)) count) in
+    rw both.none at (offset_by_entry strides entries taken q (omega (arith, two.taken_there, two.counts)) count) in
     let middle_entry : get_or middle into 0 ≡ j = get_or-set_other entries taken into q 0 (λ e. two.apart (sym e)) in
     let count1 : length strides ≡ length middle = count ∙ sym (length-set entries taken q) in
     let by_into : offset_of strides (set middle into r) +ℤ (pos j *ℤ is) ≡ offset_of strides middle +ℤ (pos r *ℤ is) =
-        rw middle_entry at (offset_by_entry strides middle into r (omega (arith, two.into_there, two.counts)) count1) in
+    rw middle_entry at (offset_by_entry strides middle into r (omega (arith, two.into_there, two.counts)) count1) in
     let one : pos j *ℤ stride ≡ (pos q *ℤ ts) +ℤ (pos r *ℤ is) = serves j both.below in
     record {
       within = index_restored shape middle into m r inside1 r_below;
@@ -299,15 +299,15 @@ merge_source_injective shape taken into entries others there to apart here other
     let middle = set entries taken (j / n) in
     let other_middle = set others taken (k / n) in
     let on_taken = λ (index : List ℕ) (q r : ℕ) (l : taken < length index). get_or-set_other (set index taken q) into taken r 0 apart
-        ∙ get_or-set_same index taken q 0 l in
+    ∙ get_or-set_same index taken q 0 l in
     let on_into = λ (index : List ℕ) (q r : ℕ) (l : into < length index). get_or-set_same (set index taken q) into r 0
-        (subst (λ x. into < x) (sym (length-set index taken q)) l) in
+    (subst (λ x. into < x) (sym (length-set index taken q)) l) in
     let quotients : j / n ≡ k / n = sym (on_taken entries (j / n) (j % n) (omega (arith, first.count))) ∙ ap (λ l. get_or l taken 0) same
-        ∙ on_taken others (k / n) (k % n) (omega (arith, second.count)) in
+    ∙ on_taken others (k / n) (k % n) (omega (arith, second.count)) in
     let rests : j % n ≡ k % n = sym (on_into entries (j / n) (j % n) (omega (arith, first.count))) ∙ ap (λ l. get_or l into 0) same
-        ∙ on_into others (k / n) (k % n) (omega (arith, second.count)) in
+    ∙ on_into others (k / n) (k % n) (omega (arith, second.count)) in
     let entry : j ≡ k = sym (div-add-mod j n) ∙ ap (λ q. n * q + j % n) quotients ∙ ap (λ r. n * (k / n) + r) rests ∙ div-add-mod k n in
     let turned = λ (e : into ≡ taken). apart (sym e) in
     let middles : middle ≡ other_middle = same_with_entry into (j % n) (k % n) same (get_or-set_other entries taken into (j / n) 0 turned
-        ∙ entry ∙ sym (get_or-set_other others taken into (k / n) 0 turned)) in
+    ∙ entry ∙ sym (get_or-set_other others taken into (k / n) 0 turned)) in
     same_with_entry taken (j / n) (k / n) middles (first.none ∙ sym second.none)

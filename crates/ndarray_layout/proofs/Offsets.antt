@@ -1,8 +1,8 @@
 -- Where the indices of a layout lie.
-use Rattle.std.proofs.Common.{◌≡◌, ℕ, ◌+◌, ℤ, pos, ◌+ℤ◌, ◌*ℤ◌, List, [], ◌∷◌, length, true, arith, nat_lt}
+use Rattle.std.proofs.Common.{◌≡◌, ℕ, ◌+◌, ℤ, ◌+ℤ◌, List, [], ◌∷◌, length, true, arith, nat_lt}
 use Rattle.std.proofs.lemmas.Int.{ints}
 use Rattle.std.proofs.lemmas.Bool.{and_parts, ltb-true}
-use Rattle.nd_base.proofs.laws.Definitions.{is_index, offset_of, high_span, low_span, reach_down, reach_up}
+use Rattle.nd_base.proofs.laws.Definitions.{is_index, offset_of, high_span, low_span}
 use Rattle.ndarray_layout.proofs.OneAxis.{Within, axis_within}
 
 -- the sum of numbers within bounds

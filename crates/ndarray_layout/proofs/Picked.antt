@@ -98,6 +98,6 @@ slice_kept {len} stride {step} (pick ∷ picks) fit =
     let n = length picks in
     let new_stride = picked_stride (suc n) stride step in
     let first : Within (reach_down len stride) (reach_up len stride) (pos pick *ℤ stride) = axis_within len pick stride
-        (fit.within 0 (omega arith)) in
+    (fit.within 0 (omega arith)) in
     let end = axis_within len (get_or all n 0) stride (fit.within n (omega arith)) in
     some_kept fit.few first (rw (pick_offset stride n fit (omega arith)) at end)

@@ -54,7 +54,7 @@ one_axis n count len lens few = by (eqb len 0) refl
         rw none (omega arith)
     by false e =
         let more : n * (count * nonzero_size lens) ≤ n * (len * nonzero_size lens) = mul-le-mul_left n
-            (mul-le-mul_right (nonzero_size lens) few) in
+        (mul-le-mul_right (nonzero_size lens) few) in
         omega (arith, mul_assoc n count (nonzero_size lens), more)
 
 -- an axis of which one entry is left
@@ -112,7 +112,7 @@ module _ {fit : Fit} {elems : List SliceInfoElem} {shape : List ℕ} {n : ℕ} w
       → PickedSoFar fit elems shape (drop k elems) lens n → PickedSoFar fit elems shape (one ∷ drop (k + 1) elems) lens n
   next_elem {lens} k other h e s =
       subst (λ (rest : List SliceInfoElem). PickedSoFar fit elems shape rest lens n) (drop_more elems k other h
-          ∙ ap (λ x. x ∷ drop (k + 1) elems) e) s
+      ∙ ap (λ x. x ∷ drop (k + 1) elems) e) s
 
   pub axis_there : {rest : List SliceInfoElem} (k : ℕ) → 0 < in_count rest → PickedSoFar fit elems shape rest (drop k shape) n
       → k < length shape

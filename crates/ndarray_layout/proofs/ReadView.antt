@@ -1,5 +1,5 @@
 -- A layout with its axes turned round has the same sums and products, and the places of the turned indices.
-use Rattle.std.proofs.Common.{◌≡◌, ℕ, ℤ, pos, ◌+ℤ◌, List, [], ◌∷◌, length, map, reverse, arith, refl, sym, ap, ◌∙◌}
+use Rattle.std.proofs.Common.{◌≡◌, ℕ, ℤ, pos, ◌+ℤ◌, List, length, reverse, arith, refl, sym, ap, ◌∙◌}
 use Rattle.std.proofs.lemmas.List.{reverse-reverse, length-reverse}
 use Rattle.nd_base.specs.declared.order.Order.{Order}
 use Rattle.nd_base.specs.declared.order.Order.TheVariants.{RowMajor, ColumnMajor}
@@ -20,8 +20,13 @@ places-as_read RowMajor start shape strides e = refl
 places-as_read ColumnMajor start shape strides e =
     let turned = reverse strides in
     map-indices_in RowMajor (place start turned) (λ x. place start strides (reverse x)) (reverse shape) (λ x h.
-    let counts : length turned ≡ length x = omega (arith, length_of_index (reverse shape) x h, length-reverse shape, length-reverse
-        strides) in
+    let counts : length turned ≡ length x = omega (
+      arith,
+      length_of_index (reverse shape) x h,
+      length-reverse shape,
+      length-reverse
+          strides,
+    ) in
     ap (λ z. pos start +ℤ z) (sym (offset_of-reverse turned x counts) ∙ ap (λ s. offset_of s (reverse x)) (reverse-reverse strides)))
     ∙ sym (map-map (place start strides) reverse (indices (reverse shape)))
 

@@ -15,8 +15,11 @@ pub sum_replaced : (f : ℕ → ℤ → ℕ) (shape : List ℕ) (strides : List 
 sum_replaced f [] strides axis len stride h e = absurd (omega arith)
 sum_replaced f (n ∷ shape) [] axis len stride h e = absurd (omega arith)
 sum_replaced f (n ∷ shape) (s ∷ strides) zero len stride h e = omega arith
-sum_replaced f (n ∷ shape) (s ∷ strides) (suc axis) len stride h e = omega (arith, sum_replaced f shape strides axis len stride
-    (omega arith) (omega arith))
+sum_replaced f (n ∷ shape) (s ∷ strides) (suc axis) len stride h e = omega (
+  arith,
+  sum_replaced f shape strides axis len stride
+      (omega arith) (omega arith),
+)
 
 -- the factor that a length adds to the product of the lengths that are not 0
 abbrev pub factor : ℕ → ℕ
@@ -52,7 +55,7 @@ size_replaced (n ∷ shape) zero len h = rw (by_factor len shape, by_factor n sh
     turned a b c = omega arith
 size_replaced (n ∷ shape) (suc axis) len h =
     rw (by_factor n (set shape axis len), by_factor n shape) (after (factor n) (nonzero_size (set shape axis len))
-        (factor (get_or shape axis 0)) (nonzero_size shape) (factor len) (size_replaced shape axis len (omega arith)))
+    (factor (get_or shape axis 0)) (nonzero_size shape) (factor len) (size_replaced shape axis len (omega arith)))
   where
     after : (a x y z w : ℕ) → x * y ≡ z * w → a * x * y ≡ a * z * w
     after a x y z w e = omega (arith, ap (λ m. a * m) e)
@@ -64,8 +67,12 @@ pub offset_by_stride : (strides : List ℤ) (index : List ℕ) (axis : ℕ) (str
 offset_by_stride [] index axis stride h e = absurd (omega arith)
 offset_by_stride (s ∷ strides) [] axis stride h e = absurd (omega arith)
 offset_by_stride (s ∷ strides) (i ∷ index) zero stride h e = omega (arith, ints)
-offset_by_stride (s ∷ strides) (i ∷ index) (suc axis) stride h e = omega (arith, ints, offset_by_stride strides index axis stride
-    (omega arith) (omega arith))
+offset_by_stride (s ∷ strides) (i ∷ index) (suc axis) stride h e = omega (
+  arith,
+  ints,
+  offset_by_stride strides index axis stride
+      (omega arith) (omega arith),
+)
 
 -- and with the entry on that axis
 pub offset_by_entry : (strides : List ℤ) (index : List ℕ) (axis i : ℕ) → axis < length strides → length strides ≡ length index
@@ -74,8 +81,12 @@ pub offset_by_entry : (strides : List ℤ) (index : List ℕ) (axis i : ℕ) →
 offset_by_entry [] index axis i h e = absurd (omega arith)
 offset_by_entry (s ∷ strides) [] axis i h e = absurd (omega arith)
 offset_by_entry (s ∷ strides) (j ∷ index) zero i h e = omega (arith, ints)
-offset_by_entry (s ∷ strides) (j ∷ index) (suc axis) i h e = omega (arith, ints, offset_by_entry strides index axis i (omega arith)
-    (omega arith))
+offset_by_entry (s ∷ strides) (j ∷ index) (suc axis) i h e = omega (
+  arith,
+  ints,
+  offset_by_entry strides index axis i (omega arith)
+      (omega arith),
+)
 
 -- an index of a shape with another length there is one of the shape, with an entry of the axis there
 pub index_restored : (shape index : List ℕ) (axis len i : ℕ) → is_index (set shape axis len) index ≡ true → i < get_or shape axis 0

@@ -1,5 +1,5 @@
 -- Slicing axis by axis: what is left by the elements so far, and the slice of the rest.
-use Rattle.std.proofs.Common.{◌≡◌, ℕ, zero, suc, ◌+◌, ◌*◌, ◌<◌, ◌≤◌, ℤ, pos, ◌+ℤ◌, ◌*ℤ◌, ◌≤ℤ◌, List, [], ◌∷◌, ◌++◌, length, get_or, take}
+use Rattle.std.proofs.Common.{◌≡◌, ℕ, ◌+◌, ◌*◌, ◌<◌, ◌≤◌, ℤ, pos, ◌+ℤ◌, ◌*ℤ◌, ◌≤ℤ◌, List, [], ◌∷◌, ◌++◌, length, get_or, take}
 use Rattle.std.proofs.Common.{drop, set, None, Some, arith, refl, ap, sym, ◌∙◌, append_assoc, subst, to_z, of_z, cond, eqb, Bool, true}
 use Rattle.std.proofs.Common.{false, pos_of_ne-zero}
 use Rattle.std.specs.Prelude.{FitsSigned}
@@ -12,8 +12,8 @@ use Rattle.std.proofs.Math.Nat.{mul-le-mul_left, mul-le-mul_right}
 use Rattle.std.proofs.lemmas.List.{map-append, length-map, length-set, length-drop, append-nil, drop_all, drop_more, take_all}
 use Rattle.std.proofs.lemmas.List.{take_more_set}
 use Rattle.nd_base.specs.declared.error.ErrorKind.{ErrorKind}
-use Rattle.nd_base.proofs.laws.Definitions.{all_signed, magnitude, signed, limit, nonzero_size, high_span, low_span, reach, reach_down}
-use Rattle.nd_base.proofs.laws.Definitions.{reach_up, span, IsValidLayout}
+use Rattle.nd_base.proofs.laws.Definitions.{all_signed, magnitude, signed, limit, high_span, low_span, reach, reach_down}
+use Rattle.nd_base.proofs.laws.Definitions.{reach_up, IsValidLayout}
 use Rattle.nd_slice.specs.declared.fit.Fit.{Fit}
 use Rattle.nd_slice.specs.declared.slice.Slice.{Slice}
 use Rattle.nd_slice.specs.declared.elem.SliceInfoElem.{SliceInfoElem}
@@ -27,7 +27,6 @@ use Rattle.ndarray_layout.proofs.OneAxis.{Within, axis_within}
 use Rattle.ndarray_layout.proofs.Picked.{slice_kept}
 use Rattle.ndarray_layout.proofs.PicksFit.{picks_fit}
 use Rattle.ndarray_layout.proofs.Slices.{index_entry}
-use Rattle.nd_base.proofs.laws.NonzeroSize.{nonzero_size_pos}
 use Rattle.nd_base.proofs.laws.Span.{low_high_span, reach_parts}
 use Rattle.nd_base.proofs.laws.NonzeroSize.{length_le_nonzero_size}
 use Rattle.nd_base.proofs.laws.Span.{reach_le_span}
@@ -64,11 +63,11 @@ none_sliced valid counts room also = record {
 }
 
 pub record AllSliced (fit : Fit) (elems : List SliceInfoElem) (shape : List ℕ) (strides : List ℤ) (ns nt : List ℕ) (offset : ℤ) : Type 0
-    where
-  pub fault : None ≡ first_fault fit shape elems
-  pub shape_is : ns ≡ sliced_shape fit elems shape
-  pub strides_is : all_signed nt ≡ sliced_strides fit elems shape strides
-  pub offset_is : offset ≡ sliced_offset fit elems shape strides
+  where
+    pub fault : None ≡ first_fault fit shape elems
+    pub shape_is : ns ≡ sliced_shape fit elems shape
+    pub strides_is : all_signed nt ≡ sliced_strides fit elems shape strides
+    pub offset_is : offset ≡ sliced_offset fit elems shape strides
 
 module _ {fit : Fit} {elems : List SliceInfoElem} {shape : List ℕ} {strides : List ℤ} {ns nt : List ℕ} {offset : ℤ} where
   none_left : (lens : List ℕ) (steps : List ℤ) (new : ℕ) → SlicedSoFar fit elems shape strides [] lens steps new ns nt offset
@@ -172,7 +171,7 @@ module _ {fit : Fit} {elems : List SliceInfoElem} {shape : List ℕ} {strides : 
   index_step index {len} {stride} m none s =
       let entry = index_entry len index none in
       let axis : Within (reach_down len stride) (reach_up len stride) (meaning len index *ℤ stride) = rw entry.0
-          (axis_within len (magnitude (meaning len index)) stride entry.1) in
+      (axis_within len (magnitude (meaning len index)) stride entry.1) in
       record {
         same_count = omega (arith, s.same_count);
         counts = omega (arith, s.counts);
@@ -257,17 +256,21 @@ at_both {fit} {elems} {shape} strides {one} other k axis {new} {ns} {nt} {offset
       so_far = subst (λ (z : ℤ). SlicedSoFar fit elems shape (all_signed strides) rest (get_or shape axis 0 ∷ drop (axis + 1) shape)
           (z ∷ drop (axis + 1) (all_signed strides)) new ns nt offset) same there;
       len_fits = omega (arith, length_le_nonzero_size shape axis, valid.size_fits);
-      reach_fits = omega (arith, ap (reach (get_or shape axis 0)) same, reach_le_span shape (all_signed strides) axis below valid.same_count,
-          valid.span_fits);
+      reach_fits = omega (
+        arith,
+        ap (reach (get_or shape axis 0)) same,
+        reach_le_span shape (all_signed strides) axis below valid.same_count,
+        valid.span_fits,
+      );
     }
 
 -- ---- the arms of the loop
 -- the state after an element, and that the new offset fits
 pub record Stepped (fit : Fit) (elems : List SliceInfoElem) (shape strides : List ℕ) (k axis new : ℕ) (ns nt : List ℕ) (offset : ℤ) : Type 0
-    where
-  pub fits : FitsSigned w64 offset
-  pub next : SlicedSoFar fit elems shape (all_signed strides) (drop (k + 1) elems) (drop axis shape) (drop axis (all_signed strides)) new ns
-      nt (to_z w64 (of_z w64 offset))
+  where
+    pub fits : FitsSigned w64 offset
+    pub next : SlicedSoFar fit elems shape (all_signed strides) (drop (k + 1) elems) (drop axis shape) (drop axis (all_signed strides)) new ns
+        nt (to_z w64 (of_z w64 offset))
 
 stepped : {fit : Fit} {elems : List SliceInfoElem} {shape strides : List ℕ} {k axis new : ℕ} {ns nt : List ℕ} {offset : ℤ}
     → IsValidLayout shape (all_signed strides)

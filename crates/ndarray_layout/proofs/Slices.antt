@@ -1,11 +1,9 @@
 -- A slice of a layout is a layout within it, and its indices lie where the selected ones do.
 use Rattle.std.proofs.Common.{◌≡◌, ℕ, ◌*◌, ◌<◌, ◌≤◌, ℤ, pos, negsuc, ◌+ℤ◌, ◌*ℤ◌, ◌≤ℤ◌, List, [], ◌∷◌, length, get_or, nat_lt, Bool, true}
-use Rattle.std.proofs.Common.{false, eqb, cond, Option, Some, None, arith, refl, pos_of_ne-zero}
-use Rattle.std.specs.Option.{option_or}
+use Rattle.std.proofs.Common.{false, eqb, cond, Some, None, arith, refl, pos_of_ne-zero}
 use Rattle.std.proofs.lemmas.Int.{ints}
 use Rattle.std.proofs.lemmas.Bool.{and_parts, and_from, ltb-true, lt-ltb, eqb-true, eqb-false}
 use Rattle.std.proofs.Math.Nat.{mul-le-mul, mul-le-mul_right}
-use Rattle.nd_base.specs.declared.error.ErrorKind.{ErrorKind}
 use Rattle.nd_base.specs.declared.error.ErrorKind.TheVariants.{OutOfBounds}
 use Rattle.nd_base.proofs.laws.Definitions.{is_index, offset_of, magnitude, nonzero_size, high_span, low_span, reach_down, reach_up}
 use Rattle.nd_slice.specs.declared.fit.Fit.{Fit}
@@ -62,8 +60,13 @@ slices_kept fit [] [] strides e i f = record { counts = refl; size = omega arith
 slices_kept fit [] (len ∷ shape) strides e i f = absurd (omega arith)
 slices_kept fit (elem.NewAxis ∷ elems) shape strides e i f =
     let rest = slices_kept fit elems shape strides e i f in
-    record { counts = omega (arith, rest.counts); size = omega (arith, rest.size); low = omega (arith, ints, rest.low); high =
-        omega (arith, ints, rest.high) }
+    record {
+      counts = omega (arith, rest.counts);
+      size = omega (arith, rest.size);
+      low = omega (arith, ints, rest.low);
+      high =
+          omega (arith, ints, rest.high);
+    }
 slices_kept fit (elem.Slice start end step ∷ elems) [] strides e i f = absurd (omega arith)
 slices_kept fit (elem.Slice start end step ∷ elems) (len ∷ shape) [] e i f = absurd (omega arith)
 slices_kept fit (elem.Slice start end step ∷ elems) (len ∷ shape) (stride ∷ strides) e i f =
@@ -85,7 +88,7 @@ slices_kept fit (elem.Index index ∷ elems) (len ∷ shape) (stride ∷ strides
     let rest = slices_kept fit elems shape strides (omega arith) (omega arith) none.1 in
     let entry = index_entry len index none.0 in
     let axis : Within (reach_down len stride) (reach_up len stride) (meaning len index *ℤ stride) = rw (entry.0)
-        (axis_within len (magnitude (meaning len index)) stride entry.1) in
+    (axis_within len (magnitude (meaning len index)) stride entry.1) in
     record {
       counts = rest.counts;
       size = omega (arith, nonzero_more 1 len (nonzero_size (sliced_shape fit elems shape)) (nonzero_size shape) (omega arith) rest.size);
@@ -108,7 +111,7 @@ places_kept fit [] (len ∷ shape) strides index e i f h = absurd (omega arith)
 places_kept fit (elem.NewAxis ∷ elems) shape strides [] e i f h = absurd (cc)
 places_kept fit (elem.NewAxis ∷ elems) shape strides (j ∷ index) e i f h =
     let rest = places_kept fit elems shape strides index e i f (and_parts (nat_lt j 1) (is_index (sliced_shape fit elems shape) index)
-        h).1 in
+    h).1 in
     record { within = rest.within; offset = omega (arith, ints, rest.offset) }
 places_kept fit (elem.Slice start end step ∷ elems) [] strides index e i f h = absurd (omega arith)
 places_kept fit (elem.Slice start end step ∷ elems) (len ∷ shape) [] index e i f h = absurd (omega arith)

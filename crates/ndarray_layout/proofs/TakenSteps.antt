@@ -87,13 +87,19 @@ refused_of X {view} step (Memory e) v last refused memory = wanted view step v l
   where
     wanted : (view : View) (step : StepValue) → IsView view → WantsMemoryLast step → step_fault view step ≡ None
         → (may_want_memory step ≡ false → ⊥) → MayRefuseMemory view step
-    wanted view (SliceBy elems fit) v last none wants = (fits_of_no_fault_of_step (SliceBy elems fit) v none, ltb-true INLINE_AXES
-        (out_count elems) (true_from_ne_false (nat_lt INLINE_AXES (out_count elems)) wants))
+    wanted view (SliceBy elems fit) v last none wants = (
+      fits_of_no_fault_of_step (SliceBy elems fit) v none,
+      ltb-true INLINE_AXES
+          (out_count elems) (true_from_ne_false (nat_lt INLINE_AXES (out_count elems)) wants),
+    )
     wanted view (CollapseTo axis index) v last none wants = wants refl
     wanted view (MergeInto take into) v last none wants = wants refl
     wanted view (ReshapeTo shape order) v last none wants = absurd last
-    wanted view (BroadcastTo shape) v last none wants = (fits_of_no_fault_of_step (BroadcastTo shape) v none, ltb-true INLINE_AXES
-        (length shape) (true_from_ne_false (nat_lt INLINE_AXES (length shape)) wants))
+    wanted view (BroadcastTo shape) v last none wants = (
+      fits_of_no_fault_of_step (BroadcastTo shape) v none,
+      ltb-true INLINE_AXES
+          (length shape) (true_from_ne_false (nat_lt INLINE_AXES (length shape)) wants),
+    )
 
 -- a count that wants memory is above four
 past_inline : (n : ℕ) → ¬ NeedsNoMemory None n → INLINE_AXES < n

@@ -1,9 +1,9 @@
 -- The walk over the indices of a view, entry by entry of its slowest axis.
-use Rattle.std.proofs.Common.{◌≡◌, ℕ, ◌+◌, ◌*◌, ◌<◌, ◌≤◌, ℤ, pos, ◌+ℤ◌, ◌*ℤ◌, ◌≤ℤ◌, List, length, [], ◌∷◌, ◌++◌, map, reverse, eqb, arith}
+use Rattle.std.proofs.Common.{◌≡◌, ℕ, ◌+◌, ◌*◌, ◌<◌, ◌≤◌, ℤ, pos, ◌+ℤ◌, ◌*ℤ◌, ◌≤ℤ◌, List, length, [], ◌∷◌, ◌++◌, map, eqb, arith}
 use Rattle.std.proofs.Common.{refl, sym, ap, ◌∙◌, add-one, append_assoc, subst}
 use Rattle.std.proofs.lemmas.Int.{ints}
 use Rattle.std.proofs.lemmas.Bool.{cond-false, ne_eqb}
-use Rattle.std.proofs.lemmas.List.{map-append, reverse-append, nil_from_length}
+use Rattle.std.proofs.lemmas.List.{map-append, nil_from_length}
 use Rattle.std.proofs.Math.Nat.{mul-le-mul_right, mul-le-mul_left}
 use Rattle.nd_base.specs.declared.order.Order.{Order}
 use Rattle.nd_base.specs.declared.order.Order.TheVariants.{RowMajor, ColumnMajor}
@@ -31,8 +31,8 @@ pub places_more : (start i : ℕ) {inner : ℕ} (lens : List ℕ) (stride : ℤ)
 places_more start i lens stride strides e =
     let row = map (λ index. i ∷ index) (indices lens) in
     rw (add-one i) (ap (map (place start (stride ∷ strides))) (indices_more i lens) ∙ map-append (place start (stride ∷ strides))
-        (indices (i ∷ lens)) row ∙ ap (λ xs. map (place start (stride ∷ strides)) (indices (i ∷ lens)) ++ xs)
-        (row_at start i stride strides (indices lens) e))
+    (indices (i ∷ lens)) row ∙ ap (λ xs. map (place start (stride ∷ strides)) (indices (i ∷ lens)) ++ xs)
+    (row_at start i stride strides (indices lens) e))
 
 -- a row with one entry more
 pub row_more : (start i : ℕ) {inner : ℕ} (stride : ℤ) → pos inner ≡ pos start +ℤ (pos i *ℤ stride)
@@ -52,7 +52,7 @@ pub record IsEntry (start len : ℕ) (lens : List ℕ) (stride : ℤ) (strides :
 some_size : (len : ℕ) (lens : List ℕ) → 0 < len → nonzero_size (len ∷ lens) ≤ limit → (len ≤ limit) × (nonzero_size lens ≤ limit)
 some_size len lens some h =
     let whole : nonzero_size (len ∷ lens) ≡ len * nonzero_size lens = cond-false (eqb len 0) (nonzero_size lens) (len * nonzero_size lens)
-        (ne_eqb len 0 (λ z. omega arith)) in
+    (ne_eqb len 0 (λ z. omega arith)) in
     let rest = nonzero_size_pos lens in
     (omega (arith, mul-le-mul_left len rest), omega (arith, mul-le-mul_right (nonzero_size lens) some))
 
@@ -90,8 +90,12 @@ strides_split order strides rest e = as_read_signed order strides ∙ ap all_sig
 -- the same of the view
 pub view_split : (order : Order) (start : ℕ) {len stride : ℕ} (shape lens strides rest : List ℕ)
     → as_read order shape ≡ len ∷ as_read order lens → as_read order strides ≡ stride ∷ as_read order rest
-    → view_as_read order start shape (all_signed strides) ≡ record { start = start; shape = len ∷ as_read order lens; strides =
-    signed stride ∷ all_signed (as_read order rest) }
+    → view_as_read order start shape (all_signed strides) ≡ record {
+      start = start;
+      shape = len ∷ as_read order lens;
+      strides =
+          signed stride ∷ all_signed (as_read order rest);
+    }
 view_split order start shape lens strides rest e f = rw (e, strides_split order strides rest f) refl
 
 pub entry_of : (order : Order) (start : ℕ) {len stride : ℕ} (i : ℕ) (shape lens strides rest : List ℕ)
@@ -100,7 +104,7 @@ pub entry_of : (order : Order) (start : ℕ) {len stride : ℕ} (i : ℕ) (shape
     → IsEntry start len (as_read order lens) (signed stride) (all_signed (as_read order rest)) i
 entry_of order start {len} {stride} i shape lens strides rest e f view h =
     entry_within start len (as_read order lens) (signed stride) (all_signed (as_read order rest)) i
-        (subst IsView (view_split order start shape lens strides rest e f) view) h
+    (subst IsView (view_split order start shape lens strides rest e f) view) h
 
 -- where one axis is left it is a row
 rest_of_row : (order : Order) {len : ℕ} (shape lens : List ℕ) → as_read order shape ≡ len ∷ as_read order lens → length lens ≡ 0
@@ -123,17 +127,25 @@ view_of_row order start shape lens strides rest e f none view =
     let split = strides_split order strides rest f in
     let lengths : length (as_read order shape) ≡ 1 = ap length row in
     let alone : all_signed (as_read order rest) ≡ [] = nil_from_length (all_signed (as_read order rest))
-        (omega (arith, view.valid.same_count, lengths, ap length split)) in
+    (omega (arith, view.valid.same_count, lengths, ap length split)) in
     rw (row, split, alone) refl
 
 -- the walk is whole at the last entry
 pub walk_whole : (order : Order) (start : ℕ) {len stride i : ℕ} (shape lens strides rest : List ℕ)
     → as_read order shape ≡ len ∷ as_read order lens → as_read order strides ≡ stride ∷ as_read order rest → i ≡ len
-    → view_places RowMajor (record { start = start; shape = i ∷ as_read order lens; strides = signed stride ∷ all_signed
-    (as_read order rest) }) ≡ view_places RowMajor (view_as_read order start shape (all_signed strides))
+    → view_places RowMajor (record {
+      start = start;
+      shape = i ∷ as_read order lens;
+      strides = signed stride ∷ all_signed
+          (as_read order rest);
+    }) ≡ view_places RowMajor (view_as_read order start shape (all_signed strides))
 walk_whole order start {stride} shape lens strides rest e f all =
-    ap (λ n. view_places RowMajor (record { start = start; shape = n ∷ as_read order lens; strides = signed stride ∷ all_signed
-        (as_read order rest) })) all
+    ap (λ n. view_places RowMajor (record {
+      start = start;
+      shape = n ∷ as_read order lens;
+      strides = signed stride ∷ all_signed
+          (as_read order rest);
+    })) all
     ∙ ap (view_places RowMajor) (sym (view_split order start shape lens strides rest e f))
 
 -- one row more after the rows so far

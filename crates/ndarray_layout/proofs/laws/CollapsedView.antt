@@ -27,7 +27,7 @@ pub entry_of_no_fault : (shape : List ℕ) (axis index : ℕ) → collapse_fault
     → (axis < length shape) × (index < get_or shape axis 0)
 entry_of_no_fault shape axis index none =
     let parts = and_parts (nat_lt axis (length shape)) (nat_lt index (get_or shape axis 0))
-        (fits (nat_lt axis (length shape) && nat_lt index (get_or shape axis 0)) none) in
+    (fits (nat_lt axis (length shape) && nat_lt index (get_or shape axis 0)) none) in
     (ltb-true axis (length shape) parts.0, ltb-true index (get_or shape axis 0) parts.1)
 
 -- an entry of a view that can be taken
@@ -70,7 +70,7 @@ pub places-collapse_of_last : (view : View) (last : ℕ) (starts : List ℕ) →
     → map pos starts ≡ view_places RowMajor (collapse_of last 0 view)
     → view_places RowMajor view
     ≡ flat_map (λ start. map (λ entry. pos start +ℤ (pos entry *ℤ get_or view.strides last (pos 0))) (below (get_or view.shape last 0)))
-        starts
+    starts
 places-collapse_of_last view last starts long also same =
     let stride = get_or view.strides last (pos 0) in
     let row = λ (start : ℤ). row_from start stride (get_or view.shape last 0) in

@@ -35,7 +35,7 @@ offset-as_read ColumnMajor shape strides r e =
     let index = index_of_rank (reverse shape) r in
     ap (λ ss. offset_of ss (reverse index)) (sym (reverse-reverse strides))
     ∙ offset_of-reverse (reverse strides) index (length-reverse strides ∙ sym e ∙ sym (length-reverse shape)
-        ∙ sym (length-index_of_rank (reverse shape) r))
+    ∙ sym (length-index_of_rank (reverse shape) r))
 
 -- ---- places by rank
 place-at-rank : (order : Order) (shape : List ℕ) (strides : List ℤ) (r : ℕ) → r < size shape
@@ -73,11 +73,11 @@ keeps-of-alike order from strides to others e g sizes alike =
     let by_rank = λ (r : ℕ). offset_of strides (index_of_rank_in order from r) in
     let whole = size-as_read order from in
     let there : places order 0 to others ≡ map by_rank (below (size to)) = fill_by_all by_rank (places order 0 to others) (size to) (pos 0)
-        (count-places order to others) (λ r l.
+    (count-places order to others) (λ r l.
     place-at-rank order to others r l ∙ offset-as_read order to others r g ∙ alike r (omega arith)
-        ∙ sym (offset-as_read order from strides r e)) in
+    ∙ sym (offset-as_read order from strides r e)) in
     let here : places order 0 from strides ≡ map by_rank (below (size from)) = fill_by_all by_rank (places order 0 from strides) (size from)
-        (pos 0) (count-places order from strides) (λ r l. place-at-rank order from strides r l) in
+    (pos 0) (count-places order from strides) (λ r l. place-at-rank order from strides r l) in
     record { same_count = g; same_places = there ∙ ap (λ n. map by_rank (below n)) (sym sizes) ∙ sym here }
 
 -- ---- reshape is complete
@@ -103,19 +103,23 @@ keeps-exactly order from strides to some more e = (λ fits. make fits, λ k. fit
     fit k =
         let sizes = size-of-keeps k.1 in
         let equal : length (as_read order to) ≡ length (as_read order k.0) = length-as_read order to ∙ k.1.same_count
-            ∙ sym (length-as_read order k.0) in
-        (sizes, good-of-alike (as_read order from) (as_read order strides) (as_read order to) (as_read order k.0) from_read to_read counts
-            equal (size-as_read order from ∙ sizes ∙ sym (size-as_read order to)) (alike-of-keeps e k.1))
+        ∙ sym (length-as_read order k.0) in (
+          sizes,
+          good-of-alike (as_read order from) (as_read order strides) (as_read order to) (as_read order k.0) from_read to_read counts
+              equal (size-as_read order from ∙ sizes ∙ sym (size-as_read order to)) (alike-of-keeps e k.1),
+        )
 
     make : Fits order from strides to → (others : List ℤ) × Keeps order from strides to others
     make fits =
         let made = alike-of-good (as_read order from) (as_read order strides) (as_read order to) from_read to_read counts
-            (size-as_read order from ∙ fits.0 ∙ sym (size-as_read order to)) fits.1 in
+        (size-as_read order from ∙ fits.0 ∙ sym (size-as_read order to)) fits.1 in
         let others = as_read order made.0 in
-        let equal : length to ≡ length others = sym (length-as_read order to) ∙ made.1 ∙ sym (length-as_read order made.0) in
-        (others, keeps-of-alike order from strides to others e equal fits.0
-            (subst (PlacesAlike (as_read order from) (as_read order strides) (as_read order to)) (sym (as_read-as_read order made.0))
-            made.2))
+        let equal : length to ≡ length others = sym (length-as_read order to) ∙ made.1 ∙ sym (length-as_read order made.0) in (
+          others,
+          keeps-of-alike order from strides to others e equal fits.0
+              (subst (PlacesAlike (as_read order from) (as_read order strides) (as_read order to)) (sym (as_read-as_read order made.0))
+              made.2),
+        )
 
 -- ---- and then the strides of the definition do
 -- on each axis of more than one entry all strides that keep the places are those of the definition
@@ -125,10 +129,10 @@ pub keeps-forced : {order : Order} {from : List ℕ} {strides : List ℤ} {to : 
 keeps-forced {order} {from} {strides} {to} {others} axis more e k l long =
     let sizes = size-of-keeps k in
     let equal : length (as_read order to) ≡ length (as_read order others) = length-as_read order to ∙ k.same_count
-        ∙ sym (length-as_read order others) in
+    ∙ sym (length-as_read order others) in
     let count = length-as_read order to in
     forced-of-alike (as_read order from) (as_read order strides) (as_read order to) (as_read order others) axis (is_empty-as_read order to
-        ∙ more) (size-as_read order from ∙ sizes ∙ sym (size-as_read order to)) equal (alike-of-keeps e k) (omega arith) long
+    ∙ more) (size-as_read order from ∙ sizes ∙ sym (size-as_read order to)) equal (alike-of-keeps e k) (omega arith) long
 
 pub forced-keeps : (order : Order) (from : List ℕ) (strides : List ℤ) (to : List ℕ) → is_empty from ≡ false → is_empty to ≡ false
     → length from ≡ length strides → Fits order from strides to → Keeps order from strides to (forced_strides order from strides to)
@@ -137,17 +141,17 @@ forced-keeps order from strides to some more e fits =
     let others = kept.0 in
     let sizes : size (as_read order from) ≡ size (as_read order to) = size-as_read order from ∙ fits.0 ∙ sym (size-as_read order to) in
     let equal : length (as_read order to) ≡ length (as_read order others) = length-as_read order to ∙ kept.1.same_count
-        ∙ sym (length-as_read order others) in
+    ∙ sym (length-as_read order others) in
     let at = stride_at (as_read order from) (as_read order strides) (as_read order to) in
     let made : PlacesAlike (as_read order from) (as_read order strides) (as_read order to) (map at (below (length (as_read order to)))) =
-        alike-forced (as_read order from) (as_read order strides) (as_read order to) (as_read order others) (is_empty-as_read order to
-        ∙ more) sizes equal (alike-of-keeps e kept.1) in
+    alike-forced (as_read order from) (as_read order strides) (as_read order to) (as_read order others) (is_empty-as_read order to
+    ∙ more) sizes equal (alike-of-keeps e kept.1) in
     let read : map at (below (length (as_read order to))) ≡ as_read order (forced_strides order from strides to) =
-        ap (λ n. map at (below n)) (length-as_read order to) ∙ sym (as_read-as_read order (map at (below (length to)))) in
+    ap (λ n. map at (below n)) (length-as_read order to) ∙ sym (as_read-as_read order (map at (below (length to)))) in
     let counts : length to ≡ length (forced_strides order from strides to) = sym (length-map-range_with_len at 0 (length to))
-        ∙ sym (length-as_read order (map at (below (length to)))) in
+    ∙ sym (length-as_read order (map at (below (length to)))) in
     keeps-of-alike order from strides to (forced_strides order from strides to) e counts fits.0
-        (subst (PlacesAlike (as_read order from) (as_read order strides) (as_read order to)) read made)
+    (subst (PlacesAlike (as_read order from) (as_read order strides) (as_read order to)) read made)
 
 -- ---- the fault of a reshape
 -- there is none exactly where the sizes agree and no joint is bad
@@ -164,7 +168,7 @@ fault-exactly order from strides to = (λ none. fit none, λ fits. fault fits)
     fault : Fits order from strides to → reshape_fault order from strides to ≡ None
     fault fits = cond-false bad (Some IncompatibleLayout) (if same then None else Some IncompatibleShape) fits.1
         ∙ cond-true same None (Some IncompatibleShape) (eq-eqb (size (as_read order from)) (size (as_read order to))
-            (size-as_read order from ∙ fits.0 ∙ sym (size-as_read order to)))
+        (size-as_read order from ∙ fits.0 ∙ sym (size-as_read order to)))
 
     sizes : bad ≡ false → reshape_fault order from strides to ≡ None → size from ≡ size to
     sizes good none = elim (cases_Bool same) [
@@ -172,7 +176,7 @@ fault-exactly order from strides to = (λ none. fit none, λ fits. fault fits)
           ∙ size-as_read order to
       | inr apart ↦
           let is_shape = sym (cond-false same None (Some IncompatibleShape) apart)
-              ∙ sym (cond-false bad (Some IncompatibleLayout) (if same then None else Some IncompatibleShape) good) ∙ none in
+          ∙ sym (cond-false bad (Some IncompatibleLayout) (if same then None else Some IncompatibleShape) good) ∙ none in
           absurd (cc)
     ]
 
@@ -208,16 +212,16 @@ longer-within lens axis long = elim (cases_lt axis (length lens)) [
 -- what agrees as it is read agrees as it stands
 agree-as_read : (order : Order) (to : List ℕ) (others strides : List ℤ) → length to ≡ length others → length to ≡ length strides
     → ((axis : ℕ) → axis < length to → 1 < get_or (as_read order to) axis 0 → get_or (as_read order others) axis (pos 0)
-        ≡ get_or (as_read order strides) axis (pos 0))
+    ≡ get_or (as_read order strides) axis (pos 0))
     → AgreeOnLonger to others strides
 agree-as_read RowMajor to others strides e g agree axis long = agree axis (longer-within to axis long) long
 agree-as_read ColumnMajor to others strides e g agree axis long =
     let l = longer-within to axis long in
     let back = length to - 1 - axis in
     let one : get_or (reverse others) back (pos 0) ≡ get_or others axis (pos 0) = ap (λ n. get_or (reverse others) (n - 1 - axis) (pos 0)) e
-        ∙ from-back others axis (pos 0) (omega arith) in
+    ∙ from-back others axis (pos 0) (omega arith) in
     let other : get_or (reverse strides) back (pos 0) ≡ get_or strides axis (pos 0) =
-        ap (λ n. get_or (reverse strides) (n - 1 - axis) (pos 0)) g ∙ from-back strides axis (pos 0) (omega arith) in
+    ap (λ n. get_or (reverse strides) (n - 1 - axis) (pos 0)) g ∙ from-back strides axis (pos 0) (omega arith) in
     sym one ∙ agree back (omega arith) (subst (λ n. 1 < n) (sym (from-back to axis 0 l)) long) ∙ other
 
 -- all strides that do agree with those of the definition on each axis of more than one entry

@@ -1,7 +1,5 @@
 -- Laws of views whose indices lie where their sources in another view do.
-use Rattle.std.proofs.Common.{◌≡◌, ℕ, ℤ, true, List, map, refl, sym, ap, subst, ◌∙◌, arith}
-use Rattle.std.proofs.Math.ListN.{get_or-map}
-use Rattle.std.proofs.lemmas.List.{length-map}
+use Rattle.std.proofs.Common.{◌≡◌, ℕ, true, List, refl, sym, subst, ◌∙◌}
 use Rattle.std.proofs.lemmas.List.Elements.{All-map, All-weaker}
 use Rattle.std.specs.List.{All, Contains}
 use Rattle.nd_base.specs.declared.order.Order.{Order}
@@ -68,4 +66,4 @@ places_are_kept order source view result keeps =
     subst (Contains places) (sym kept.1) (Contains-map (place_at view) (indices_in order view.shape) (Contains-indices_in order view.shape (source index) kept.0)) in
     let indices = indices_in order result.shape in
     All-map (Contains places) (place_at result) indices (All-weaker (λ index. is_index result.shape index ≡ true)
-        (λ index. Contains places (place_at result index)) stays indices (All-indices_in order result.shape))
+    (λ index. Contains places (place_at result index)) stays indices (All-indices_in order result.shape))

@@ -69,7 +69,7 @@ pub merge_fault_of_answer : (take into : ℕ) (view : View) {merged : Bool} → 
     → (merged ≡ true) ↔ HasMergedStride take into view → merge_fault take into view ≡ cond merged None (Some IncompatibleLayout)
 merge_fault_of_answer take into view {merged} none fits =
     let same : has_merged_stride take into view ≡ merged = same_from_decides (has_merged_stride take into view) merged
-        (has_merged_stride-Decides take into view) fits in
+    (has_merged_stride-Decides take into view) fits in
     rw (none, same) refl
 
 two_axes : {take into : ℕ} {view : View} → IsView view → axes_fault view.shape take into ≡ None → TwoAxes view.shape view.strides take into

@@ -90,9 +90,11 @@ fits_of_no_fault : (order : Order) (from : List ℕ) (strides : List ℤ) (to : 
     → Fits order from strides to
 fits_of_no_fault order from strides to none =
     let parts = no_fault_parts (has_bad_joint (as_read order from) (as_read order strides) (as_read order to))
-        (eqb (size (as_read order from)) (size (as_read order to))) none in
-    (sym (size-as_read order from) ∙ eqb-true (size (as_read order from)) (size (as_read order to)) parts.1
-        ∙ size-as_read order to, parts.0)
+    (eqb (size (as_read order from)) (size (as_read order to))) none in (
+      sym (size-as_read order from) ∙ eqb-true (size (as_read order from)) (size (as_read order to)) parts.1
+          ∙ size-as_read order to,
+      parts.0,
+    )
 
 no_fault_of_fits : (order : Order) (from : List ℕ) (strides : List ℤ) (to : List ℕ) → Fits order from strides to
     → reshape_fault order from strides to ≡ None
@@ -157,7 +159,7 @@ fits_of_no_refusal : (order : Order) (shape : List ℕ) {view : View} → IsView
     → ReshapeFits order shape view
 fits_of_no_refusal order shape {view} v none =
     let parts = none_parts (ltb limit (nonzero_size shape)) (is_empty view.shape) (is_empty shape)
-        (reshape_fault order view.shape view.strides shape) none in
+    (reshape_fault order view.shape view.strides shape) none in
     (ltb-false limit (nonzero_size shape) parts.0, (reshaped_strides order shape view, reshaped_keeps order shape v none))
 
 no_refusal_of_fits : (order : Order) (shape : List ℕ) {view : View} → IsView view → ReshapeFits order shape view
@@ -166,9 +168,9 @@ no_refusal_of_fits order shape {view} v fits =
     let sizes = size-of-keeps fits.1.1 in
     let same = same_emptiness view.shape shape sizes in
     rw (le-ltb limit (nonzero_size shape) fits.0) (none_from (is_empty view.shape) (is_empty shape)
-        (reshape_fault order view.shape view.strides shape) same (λ some.
+    (reshape_fault order view.shape view.strides shape) same (λ some.
     no_fault_of_fits order view.shape view.strides shape
-        ((keeps-exactly order view.shape view.strides shape (same ∙ some) some v.valid.same_count).1 fits.1)))
+    ((keeps-exactly order view.shape view.strides shape (same ∙ some) some v.valid.same_count).1 fits.1)))
 
 pub reshape_refusal-ReshapeFits : (order : Order) (shape : List ℕ) {view : View} → IsView view
     → (reshape_refusal order shape view ≡ None) ↔ ReshapeFits order shape view

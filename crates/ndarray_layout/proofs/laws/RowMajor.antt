@@ -1,10 +1,9 @@
 -- Laws of views in the order of their data: each index lies at its rank, and row i and column j of a list read as rows of m at i * m + j.
-use Rattle.std.proofs.Common.{◌≡◌, ℕ, ◌+◌, ◌*◌, ◌≤◌, pos, true, List, [], ◌∷◌, map, ap, subst, ◌∙◌, arith}
+use Rattle.std.proofs.Common.{◌≡◌, ℕ, ◌+◌, ◌*◌, ◌≤◌, pos, true, List, [], ◌∷◌, ap, subst, ◌∙◌, arith}
 use Rattle.std.proofs.lemmas.Int.{ints}
 use Rattle.nd_base.specs.declared.order.Order.{Order}
-use Rattle.nd_base.specs.declared.order.Order.TheVariants.{RowMajor, ColumnMajor}
-use Rattle.nd_base.proofs.laws.Definitions.{is_index, offset_of, index_of_rank_in, rank_in, all_signed, limit, nonzero_size, low_span}
-use Rattle.nd_dim.proofs.laws.Strides.{offset_of-default_strides, offset_of-fortran_strides}
+use Rattle.nd_base.specs.declared.order.Order.TheVariants.{RowMajor}
+use Rattle.nd_base.proofs.laws.Definitions.{is_index, index_of_rank_in, rank_in, all_signed, limit, nonzero_size, low_span}
 use Rattle.nd_shape.specs.ShapeBuilder.{standard_strides}
 use Rattle.nd_shape.proofs.laws.StandardStrides.{standard_signed, standard_low_span}
 use Rattle.ndarray_layout.specs.ReshapedView.{reshape_source}

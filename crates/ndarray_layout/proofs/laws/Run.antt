@@ -23,8 +23,13 @@ stepped view step = record { taken = 1; view = view_after view step; source = so
 -- two outcomes, of which the second began with the view that the first left; a fault ends both
 abbrev pub joined : Option ErrorKind → Outcome → Outcome → Outcome
 joined None first second =
-    record { taken = first.taken + second.taken; view = second.view; source = λ index. first.source (second.source index); fault =
-        second.fault }
+    record {
+      taken = first.taken + second.taken;
+      view = second.view;
+      source = λ index. first.source (second.source index);
+      fault =
+          second.fault;
+    }
 joined (Some kind) first second = first
 
 -- what two parts of a run make of a view, one after the other
@@ -67,12 +72,12 @@ run_of_append (step ∷ steps) more view = by (step_fault view step) (run_of_app
         → run_of (steps ++ more) (view_after view step) ≡ in_turn (run_of steps) (run_of more) (view_after view step)
         → first_then fault view step (run_of (steps ++ more) (view_after view step))
         ≡ joined (first_then fault view step (run_of steps (view_after view step))).fault
-            (first_then fault view step (run_of steps (view_after view step)))
-            (run_of more (first_then fault view step (run_of steps (view_after view step))).view)
+        (first_then fault view step (run_of steps (view_after view step)))
+        (run_of more (first_then fault view step (run_of steps (view_after view step))).view)
     by None rest =
         let after = view_after view step in
         ap (joined None (stepped view step)) rest ∙ joined_in_turn (stepped view step) (run_of steps after)
-            (run_of more (run_of steps after).view) None (run_of steps after).fault refl refl
+        (run_of more (run_of steps after).view) None (run_of steps after).fault refl refl
     by (Some kind) rest = refl
 
 -- ---- what is left

@@ -54,7 +54,7 @@ pub refusal_of_other_counts : (fit : Fit) (fixed : Option ℕ) (shape : List ℕ
     → (HasCounts (Some (length shape)) fixed elems → ⊥) → slice_refusal fit fixed shape elems ≡ Some IncompatibleShape
 refusal_of_other_counts fit None shape elems other =
     of_one_kind (eqb (in_count elems) (length shape)) (first_fault fit shape elems)
-        (λ e. absurd (other (record { in_fits = eqb-true (in_count elems) (length shape) e; out_fits = tt })))
+    (λ e. absurd (other (record { in_fits = eqb-true (in_count elems) (length shape) e; out_fits = tt })))
 refusal_of_other_counts fit (Some count) shape elems other =
     of_one_kind (eqb (out_count elems) count) (argument_fault fit shape elems) (λ out.
     of_one_kind (eqb (in_count elems) (length shape)) (first_fault fit shape elems) (λ e.

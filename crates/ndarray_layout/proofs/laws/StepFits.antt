@@ -1,8 +1,6 @@
 -- A step has no fault exactly where it fits a view.
-use Rattle.std.proofs.Common.{◌≡◌, ◌↔◌, ℕ, None, Some, Option, List, [], ◌∷◌, length, get_or, refl}
+use Rattle.std.proofs.Common.{◌≡◌, ◌↔◌, ℕ, None, List, [], ◌∷◌, length, get_or, refl}
 use Rattle.std.proofs.lemmas.Bool.{eq-eqb, lt-ltb, ne_eqb}
-use Rattle.std.specs.Option.{option_or}
-use Rattle.nd_base.specs.declared.error.ErrorKind.{ErrorKind}
 use Rattle.nd_slice.specs.declared.fit.Fit.{Fit}
 use Rattle.nd_slice.specs.Picks.{slice_with}
 use Rattle.nd_slice.specs.SliceFault.{slice_fault, index_fault}

@@ -1,5 +1,5 @@
 -- Laws of views: each index of the shape has a place; how many places there are, in which order, and where they lie.
-use Rattle.std.proofs.Common.{◌≡◌, ℕ, ◌+◌, ◌<◌, ◌≤◌, ◌^◌, ℤ, pos, negsuc, ◌+ℤ◌, ◌≤ℤ◌, Bool, true, false, cond, Some, None, List, [], length}
+use Rattle.std.proofs.Common.{◌≡◌, ℕ, ◌+◌, ◌<◌, ◌≤◌, ◌^◌, ℤ, pos, ◌+ℤ◌, ◌≤ℤ◌, Bool, true, false, cond, Some, None, List, [], length}
 use Rattle.std.proofs.Common.{map, refl, sym, ap, subst, ◌∙◌, arith}
 use Rattle.std.specs.Prelude.{slice_get}
 use Rattle.std.specs.Option.{option_map}
@@ -11,7 +11,7 @@ use Rattle.std.proofs.lemmas.List.Elements.{All-map, All-weaker}
 use Rattle.std.proofs.lemmas.Option.{slice_get-map}
 use Rattle.nd_base.specs.declared.order.Order.{Order}
 use Rattle.nd_base.proofs.laws.Definitions.{indices_in, is_index, IsInside, checked_offset, offset_of, place, index_of_rank_in}
-use Rattle.nd_base.proofs.laws.Definitions.{magnitude, limit, nonzero_size, size, high_span, low_span, IsValidLayout}
+use Rattle.nd_base.proofs.laws.Definitions.{limit, nonzero_size, size, high_span, low_span, IsValidLayout}
 use Rattle.nd_base.proofs.laws.Indices.{length-indices_in, All-indices_in, indices_in_of_empty}
 use Rattle.nd_base.proofs.laws.NonzeroSize.{length_le_nonzero_size, size_le_nonzero_size}
 use Rattle.nd_base.proofs.laws.Rank.{slice_get-indices_in}
@@ -95,7 +95,7 @@ pub places_lie_within : (len : ℕ) (order : Order) (view : View) → LiesWithin
 places_lie_within len order view within =
     let indices = indices_in order view.shape in
     let inside = All-weaker (λ index. is_index view.shape index ≡ true) (λ index. IsInside len (place view.start view.strides index)) within
-        indices (All-indices_in order view.shape) in
+    indices (All-indices_in order view.shape) in
     All-map (IsInside len) (place view.start view.strides) indices inside
 
 -- the same of the places as unsigned numbers

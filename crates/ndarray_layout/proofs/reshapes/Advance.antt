@@ -45,10 +45,10 @@ pub alike-next : {from : List ℕ} {strides : List ℤ} {to : List ℕ} (out new
     → PlacesAlike (take i_end from) (take i_end strides) (take k_end to) (take k_end (all_signed news))
 alike-next {from} {strides} {to} out news {i} {i_end} {k} {k_end} step w at further l g e f kept dense new_dense alike =
     let same : take k (all_signed news) ≡ take k (all_signed out) = take-map signed k news
-        ∙ ap all_signed (take-same news out k (f ∙ sym e) kept) ∙ sym (take-map signed k out) in
+    ∙ ap all_signed (take-same news out k (f ∙ sym e) kept) ∙ sym (take-map signed k out) in
     let count = length-map news signed in
     alike-step from strides to (all_signed out) (all_signed news) i i_end k k_end step w.some w.more w.same_count (sym f ∙ sym count) l g
-        further.from_in further.to_in at.sizes further.sizes same dense new_dense alike
+    further.from_in further.to_in at.sizes further.sizes same dense new_dense alike
 
 -- ---- an axis of both
 pub reached-both : {from : List ℕ} {strides : List ℤ} {to : List ℕ} {i k : ℕ} → CanWalk from strides to → IsReached from strides to i k
@@ -75,10 +75,10 @@ alike-both {from} strides {to} out news {i} {k} {stride} w at further e f kept h
     let to_in = further.to_in in
     let block = first-block from (all_signed strides) i w.same_count (omega arith) in
     let dense : IsDense (segment i (i + 1) from) (segment i (i + 1) (all_signed strides)) (signed stride) =
-        subst (IsDense (segment i (i + 1) from) (segment i (i + 1) (all_signed strides))) (get_or-map signed strides i 0
-        ∙ ap signed (sym s)) block.dense in
+    subst (IsDense (segment i (i + 1) from) (segment i (i + 1) (all_signed strides))) (get_or-map signed strides i 0
+    ∙ ap signed (sym s)) block.dense in
     alike-next out news (signed stride) w at further (omega arith) (omega arith) e f kept dense (one-dense to news k stride f (omega arith)
-        here) alike
+    here) alike
 
 -- ---- an axis of one entry
 stays : (lens : List ℕ) (k : ℕ) → k < length lens → get_or lens k 0 ≡ 1 → size (take (k + 1) lens) ≡ size (take k lens)
@@ -103,7 +103,7 @@ module _ {from : List ℕ} {strides : List ℤ} {to : List ℕ} {i k : ℕ} wher
       let left = in-of-len from i (λ z. omega arith) in
       let block = first-block from strides i w.same_count left in
       alike-next out out (get_or strides i (pos 0)) w at (reached-from at one) (omega arith) (omega arith) e e (λ j l. refl) block.dense
-          (none-dense to (all_signed out) k (get_or strides i (pos 0))) alike
+      (none-dense to (all_signed out) k (get_or strides i (pos 0))) alike
 
   pub reached-to : IsReached from strides to i k → get_or to k 0 ≡ 1 → IsReached from strides to i (k + 1)
   reached-to at one =
@@ -123,7 +123,7 @@ module _ {from : List ℕ} {strides : List ℤ} {to : List ℕ} {i k : ℕ} wher
       let left = in-of-len to k (λ z. omega arith) in
       let step = signed (get_or news k 0) in
       alike-next out news step w at (reached-to at one) (omega arith) (omega arith) e f kept (none-dense from strides i step)
-          (one-dense to news k (get_or news k 0) f left refl) alike
+      (one-dense to news k (get_or news k 0) f left refl) alike
 
 -- ---- the end of one shape
 grows : (lens : List ℕ) (k j : ℕ) → is_empty lens ≡ false → k ≤ j → j < length lens → get_or lens j 0 ≢ 1 → size (take k lens) < size lens
@@ -197,16 +197,16 @@ module _ {from : List ℕ} {strides : List ℤ} {to : List ℕ} {i i_end k k_end
       let len : get_or part k 0 ≡ get_or to k 0 = get_or-take k_end to k 0 (omega arith) in
       let at_j : k + 1 + (j - k) ≡ j + 1 = omega arith in
       let least : n ≤ size (drop (k + 1) part) = subst (λ m. size (drop m part) ≤ size (drop (k + 1) part)) at_j
-          (subst (λ xs. size xs ≤ size (drop (k + 1) part)) (drop-drop (j - k) (k + 1) part) (size_drop_le (drop (k + 1) part) (j - k)
-          (drop_nonempty part (k + 1) part_some))) in
+      (subst (λ xs. size xs ≤ size (drop (k + 1) part)) (drop-drop (j - k) (k + 1) part) (size_drop_le (drop (k + 1) part) (j - k)
+      (drop_nonempty part (k + 1) part_some))) in
       let some = size_of_nonempty (drop (j + 1) part) (drop_nonempty part (j + 1) part_some) in
       let more : size (drop (k + 1) part) * 2 ≤ size (drop (k + 1) part) * get_or part k 0 = mul-le-mul_left (size (drop (k + 1) part))
-          (omega arith) in
+      (omega arith) in
       let turned = mul_comm (size (drop (k + 1) part)) (get_or part k 0) in
       let below : n < size lens = omega arith in
       let seg_some = segment-nonempty from i i_end w.some in
       let counts : length lens ≡ length steps = length-seg i i_end from (omega arith) from_in
-          ∙ sym (length-seg i i_end strides (omega arith) (omega (arith, w.same_count))) in
+      ∙ sym (length-seg i i_end strides (omega arith) (omega (arith, w.same_count))) in
       let bounds = offset_bounds lens steps (index_of_rank lens n) (is_index-index_of_rank lens n below) counts in
       let run = run-of-dense lens steps step n seg_some block.dense below in
       let spans : low_span lens steps + high_span lens steps ≡ span lens steps = low_high_span lens steps in
@@ -214,7 +214,7 @@ module _ {from : List ℕ} {strides : List ℤ} {to : List ℕ} {i i_end k k_end
       let dropped = span-drop from strides i in
       let limits = w.span_fits in
       subst (λ z. FitsSigned w64 z) run (fits-between (offset_of steps (index_of_rank lens n)) (low_span lens steps) (high_span lens steps)
-          bounds.0 bounds.1 (omega arith))
+      bounds.0 bounds.1 (omega arith))
 
   pub alike-block : (out news : List ℕ) → CanWalk from strides to → IsReached from strides to i k → IsReached from strides to i_end k_end
       → IsBlock from strides i i_end step → k < k_end → length out ≡ length to → length news ≡ length to
@@ -226,5 +226,5 @@ module _ {from : List ℕ} {strides : List ℤ} {to : List ℕ} {i i_end k k_end
       let ahead = block.ahead in
       let count = length-map news signed in
       let dense = written-dense to (all_signed news) k k_end step (sym f ∙ sym count) (omega arith) further.to_in
-          (λ j above below. get_or-map signed news j 0 ∙ written j above below) in
+      (λ j above below. get_or-map signed news j 0 ∙ written j above below) in
       alike-next out news step w at further (omega arith) (omega arith) e f kept block.dense dense alike

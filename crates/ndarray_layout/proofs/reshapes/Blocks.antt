@@ -48,7 +48,7 @@ first-block from strides k e l = record {
   ahead = omega arith;
   dense = subst (λ xs. IsDense xs (segment k (k + 1) strides) (get_or strides k (pos 0))) (sym (segment-first k from 0 l))
       (subst (λ ss. IsDense (get_or from k 0 ∷ []) ss (get_or strides k (pos 0))) (sym (segment-first k strides (pos 0) (omega arith)))
-          ((λ long. omega (arith, ints)), tt));
+      ((λ long. omega (arith, ints)), tt));
 }
 
 module _ {from : List ℕ} {strides : List ℤ} {start end : ℕ} {step : ℤ} where
@@ -64,9 +64,9 @@ module _ {from : List ℕ} {strides : List ℤ} {start end : ℕ} {step : ℤ} w
         dense = subst (λ xs. IsDense xs (segment start (end + 1) strides) (get_or strides end (pos 0)))
             (sym (segment-more start end from 0 (omega arith) l))
             (subst (λ ss. IsDense (segment start end from ++ get_or from end 0 ∷ []) ss (get_or strides end (pos 0)))
-                (sym (segment-more start end strides (pos 0) (omega arith) (omega arith)))
+            (sym (segment-more start end strides (pos 0) (omega arith) (omega arith)))
             (dense-push (segment start end from) (segment start end strides) (get_or from end 0) (get_or strides end (pos 0)) (omega arith)
-                whole b.dense));
+            whole b.dense));
       }
 
   pub block-one : length from ≡ length strides → end < length from → get_or from end 0 ≡ 1 → IsBlock from strides start end step
@@ -79,9 +79,9 @@ module _ {from : List ℕ} {strides : List ℤ} {start end : ℕ} {step : ℤ} w
         ahead = omega arith;
         dense = subst (λ xs. IsDense xs (segment start (end + 1) strides) step) (sym (segment-more start end from 0 (omega arith) l))
             (subst (λ ss. IsDense (segment start end from ++ get_or from end 0 ∷ []) ss step)
-                (sym (segment-more start end strides (pos 0) (omega arith) (omega arith)))
+            (sym (segment-more start end strides (pos 0) (omega arith) (omega arith)))
             (dense-push-one (segment start end from) (segment start end strides) (get_or strides end (pos 0)) step (omega arith) one
-                b.dense));
+            b.dense));
       }
 
 -- ---- between products

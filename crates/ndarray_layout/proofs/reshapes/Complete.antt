@@ -105,7 +105,7 @@ tails-of-good from strides to some more same sizes good p l =
     let j = found.0 in
     let whole : j * p ≡ size to = found.1 ∙ count-long_axes from strides some same ∙ sizes in
     let inside = joint-below j p (loose-more (reverse rows) p (long-reverse rows (long-long_axes from strides)) l)
-        (size_of_nonempty to more) whole in
+    (size_of_nonempty to more) whole in
     let member : Member (loose_joints from strides) j = subst (λ js. Member js j) (sym (joints-of-long from strides some)) found.2 in
     tail-of-product to j p more (product-of-good to j inside (bad-of from strides to j member good)) whole
 
@@ -145,10 +145,10 @@ good-of-alike from strides to others some more same equal sizes alike =
     let lens : lens_of (fast to others) ≡ fast_lens to = lens-reverse lines ∙ ap reverse (lens-long_axes to others equal) in
     let values : AreAlike (fast from strides) (fast to others) = λ r l.
     sym (offset-at-rank from strides r some same (omega arith)) ∙ sym (alike r (omega arith)) ∙ offset-at-rank to others r more equal
-        (omega arith) in
+    (omega arith) in
     good-of-tails from strides to some more same sizes
-        (λ p l. subst (λ ls. IsTail ls p) lens (tails_of_alike (length (fast from strides) + length (fast to others)) (fast from strides)
-        (fast to others) (omega arith) rows_long lines_long (rows_count ∙ sizes ∙ sym lines_count) values p l))
+    (λ p l. subst (λ ls. IsTail ls p) lens (tails_of_alike (length (fast from strides) + length (fast to others)) (fast from strides)
+    (fast to others) (omega arith) rows_long lines_long (rows_count ∙ sizes ∙ sym lines_count) values p l))
 
 -- strides for the axes of more than one entry are strides for all
 pub record StridesOf (lens : List ℕ) (axes : Axes) : Type 0 where
@@ -159,8 +159,12 @@ pub record StridesOf (lens : List ℕ) (axes : Axes) : Type 0 where
 strides-left : {len : ℕ} {lens : List ℕ} {axes : Axes} → nat_lt 1 len ≡ false → StridesOf lens axes → StridesOf (len ∷ lens) axes
 strides-left {len} {lens} short rest =
     let count = rest.same_count in
-    record { strides = pos 0 ∷ rest.strides; same_count = omega arith; longer = long-left len lens (pos 0) rest.strides short
-        ∙ rest.longer }
+    record {
+      strides = pos 0 ∷ rest.strides;
+      same_count = omega arith;
+      longer = long-left len lens (pos 0) rest.strides short
+          ∙ rest.longer;
+    }
 
 strides-kept : {len : ℕ} {lens : List ℕ} → ((axes : Axes) → lens_of axes ≡ long_lens lens → StridesOf lens axes) → nat_lt 1 len ≡ true
     → (axes : Axes) → lens_of axes ≡ len ∷ long_lens lens → StridesOf (len ∷ lens) axes
@@ -170,8 +174,12 @@ strides-kept {len} {lens} rest long (axis ∷ axes) e =
     let tail : lens_of axes ≡ long_lens lens = cc in
     let others = rest axes tail in
     let count = others.same_count in
-    record { strides = axis.1 ∷ others.strides; same_count = omega arith; longer = long-kept len lens axis.1 others.strides long
-        ∙ ap₂ (λ n xs. (n, axis.1) ∷ xs) (sym head) others.longer }
+    record {
+      strides = axis.1 ∷ others.strides;
+      same_count = omega arith;
+      longer = long-kept len lens axis.1 others.strides long
+          ∙ ap₂ (λ n xs. (n, axis.1) ∷ xs) (sym head) others.longer;
+    }
 
 strides-of : (lens : List ℕ) (axes : Axes) → lens_of axes ≡ long_lens lens → StridesOf lens axes
 strides-of [] [] e = record { strides = []; same_count = refl; longer = refl }
@@ -192,12 +200,12 @@ from-axes from strides to axes some more same sizes lens alike =
     let made = strides-of to (reverse axes) turned in
     let back : fast to made.strides ≡ axes = ap reverse made.longer ∙ reverse-reverse axes in
     let rows_count : count (fast from strides) ≡ size from = count-reverse (long_axes from strides) ∙ count-long_axes from strides some
-        same in (
+    same in (
       made.strides,
       made.same_count,
       λ r l.
           offset-at-rank to made.strides r more made.same_count (omega arith) ∙ ap (λ xs. value xs r) back ∙ sym (alike r (omega arith))
-              ∙ sym (offset-at-rank from strides r some same l),
+          ∙ sym (offset-at-rank from strides r some same l),
     )
 
 pub alike-of-good : (from : List ℕ) (strides : List ℤ) (to : List ℕ) → is_empty from ≡ false → is_empty to ≡ false
@@ -207,7 +215,7 @@ alike-of-good from strides to some more same sizes good =
     let rows = long_axes from strides in
     let rows_long = long-reverse rows (long-long_axes from strides) in
     let counts : count (fast from strides) ≡ size (fast_lens to) = count-reverse rows ∙ count-long_axes from strides some same ∙ sizes
-        ∙ sym (size-long_lens to more) ∙ sym (size-reverse (long_lens to)) in
+    ∙ sym (size-long_lens to more) ∙ sym (size-reverse (long_lens to)) in
     let a = reaches (length (fast from strides) + length (fast_lens to)) (fast from strides) (fast_lens to) (omega arith) rows_long
-        (all-long-reverse (long_lens to) (all-long to)) counts (tails-of-good from strides to some more same sizes good) in
+    (all-long-reverse (long_lens to) (all-long to)) counts (tails-of-good from strides to some more same sizes good) in
     from-axes from strides to a.0 some more same sizes a.1 a.2

@@ -26,7 +26,7 @@ run-of-dense (len ∷ lens) (stride ∷ strides) step r h d l =
     elim (cases_lt 1 len) [
       | inl long ↦
           let first : pos (r / n) *ℤ stride ≡ pos (r / n * n) *ℤ step = ap (λ z. pos (r / n) *ℤ z) (d.0 long)
-              ∙ times_times (r / n) n step in
+          ∙ times_times (r / n) n step in
           let whole : r / n * n + r % n ≡ r = ap (λ m. m + r % n) (mul_comm (r / n) n) ∙ div-add-mod r n in
           ap₂ (λ x y. x +ℤ y) first rest ∙ sym (times_sum (r / n * n) (r % n) step) ∙ ap (λ m. pos m *ℤ step) whole
       | inr short ↦
@@ -75,7 +75,7 @@ dense-of-products (len ∷ lens) (stride ∷ strides) step e h = (
 pub offset-append : (lens : List ℕ) (strides : List ℤ) (others : List ℕ) (steps : List ℤ) (r : ℕ) → length lens ≡ length strides
     → is_empty lens ≡ false → 0 < size others → r < size lens * size others →
     offset_of (strides ++ steps) (index_of_rank (lens ++ others) r) ≡ offset_of strides (index_of_rank lens (r / size others)) +ℤ offset_of
-        steps (index_of_rank others (r % size others))
+    steps (index_of_rank others (r % size others))
 offset-append [] [] others steps r e h some l =
     let same : r % size others ≡ r = mod-eq_of_lt (omega arith) in
     ap (λ n. offset_of steps (index_of_rank others n)) (sym same) ∙ omega (arith, ints)
@@ -97,7 +97,7 @@ offset-append (len ∷ lens) (stride ∷ strides) others steps r e h some l =
     ap (λ k. (pos (r / k) *ℤ stride) +ℤ offset_of (strides ++ steps) (index_of_rank (lens ++ others) (r % k))) whole
     ∙ ap₂ (λ i z. (pos i *ℤ stride) +ℤ z) count rest
     ∙ ap₂ (λ i j. (pos (r / n / m) *ℤ stride) +ℤ (offset_of strides (index_of_rank lens i) +ℤ offset_of steps (index_of_rank others j)))
-        high entry
+    high entry
     ∙ omega (arith, ints)
   where
     nonzero : (a b : ℕ) → 0 < a → 0 < b → 0 < a * b
@@ -109,7 +109,7 @@ pub places-append : (from : List ℕ) (strides : List ℤ) (to : List ℕ) (othe
     (offs : List ℤ) → length from ≡ length strides → length to ≡ length others → is_empty from ≡ false → is_empty to ≡ false → is_empty lens
     ≡ false →
     size from ≡ size to → size lens ≡ size news → PlacesAlike from strides to others → PlacesAlike lens steps news offs
-        → PlacesAlike (from ++ lens) (strides ++ steps) (to ++ news) (others ++ offs)
+    → PlacesAlike (from ++ lens) (strides ++ steps) (to ++ news) (others ++ offs)
 places-append from strides to others lens steps news offs e g h k some same equal alike like r l =
     let n = size lens in
     let more = size_of_nonempty lens some in

@@ -31,7 +31,7 @@ size_after-below lens axis h l long =
     let whole = size_from lens axis l in
     let within = size_drop_le lens axis h in
     let more : size (drop (axis + 1) lens) * 2 ≤ size (drop (axis + 1) lens) * get_or lens axis 0 = mul-le-mul_left
-        (size (drop (axis + 1) lens)) long in
+    (size (drop (axis + 1) lens)) long in
     let turned = mul_comm (get_or lens axis 0) (size (drop (axis + 1) lens)) in
     omega arith
 
@@ -52,7 +52,7 @@ offset-of-axis (len ∷ lens) (stride ∷ strides) (suc axis) h e l long =
     let q = size_after lens axis in
     let few : q < size lens = size_after-below lens axis none (omega arith) long in
     let same : size_after (len ∷ lens) (suc axis) ≡ q = ap (λ n. size (drop n (len ∷ lens))) (add-one (suc axis))
-        ∙ sym (ap (λ n. size (drop n lens)) (add-one axis)) in
+    ∙ sym (ap (λ n. size (drop n lens)) (add-one axis)) in
     let rest = offset-of-axis lens strides axis none (omega arith) (omega arith) long in
     ap (λ r. offset_of (stride ∷ strides) (index_of_rank (len ∷ lens) r)) same
     ∙ ap₂ (λ i r. (pos i *ℤ stride) +ℤ offset_of strides (index_of_rank lens r)) (div-eq_of_lt few) (mod-eq_of_lt few)
@@ -62,7 +62,7 @@ offset-of-axis (len ∷ lens) (stride ∷ strides) (suc axis) h e l long =
 pub offset-agree : (lens : List ℕ) (strides others : List ℤ) (index : List ℕ) → is_index lens index ≡ true → length lens ≡ length strides
     → length lens ≡ length others →
     ((axis : ℕ) → axis < length lens → 1 < get_or lens axis 0 → get_or strides axis (pos 0) ≡ get_or others axis (pos 0))
-        → offset_of strides index ≡ offset_of others index
+    → offset_of strides index ≡ offset_of others index
 offset-agree [] strides others [] h e g agree = refl
 offset-agree [] strides others (i ∷ index) h e g agree = absurd (cc)
 offset-agree (len ∷ lens) strides others [] h e g agree = absurd (cc)
@@ -72,13 +72,13 @@ offset-agree (len ∷ lens) (stride ∷ strides) (other ∷ others) (i ∷ index
     let parts = and_parts (nat_lt i len) (is_index lens index) h in
     let below = ltb-true i len parts.0 in
     let rest = offset-agree lens strides others index parts.1 (omega arith) (omega arith) (λ axis l long. agree (suc axis) (omega arith)
-        long) in
+    long) in
     elim (cases_lt 1 len) [
       | inl long ↦ ap₂ (λ s z. (pos i *ℤ s) +ℤ z) (agree 0 (omega arith) long) rest
       | inr short ↦
           let first : i ≡ 0 = omega arith in
           ap (λ n. (pos n *ℤ stride) +ℤ offset_of strides index) first ∙ omega (arith, ints, rest)
-              ∙ sym (ap (λ n. (pos n *ℤ other) +ℤ offset_of others index) first)
+          ∙ sym (ap (λ n. (pos n *ℤ other) +ℤ offset_of others index) first)
     ]
 
 -- ---- strides that keep the places

@@ -2,7 +2,6 @@
 use Rattle.std.proofs.Common.{◌≡◌, ◌≢◌, ℕ, suc, ◌+◌, ◌*◌, ◌<◌, ◌≤◌, false, ℤ, pos, ◌*ℤ◌, List, length, get_or, take, sym, ap, ap₂, ◌∙◌, ◌⊎◌}
 use Rattle.std.proofs.Common.{inl, inr, arith, subst, Some}
 use Rattle.std.proofs.Math.Nat.{mul-le-mul_left, mul-one, mul_comm, mul_assoc}
-use Rattle.std.proofs.lemmas.Bool.{cases_eq}
 use Rattle.std.proofs.lemmas.List.{take_all}
 use Rattle.nd_base.specs.declared.error.ErrorKind.TheVariants.{IncompatibleShape, IncompatibleLayout}
 use Rattle.nd_base.specs.Size.{size, is_empty, limit}
@@ -18,15 +17,15 @@ use Rattle.nd_base.proofs.laws.Size.{length_pos}
 
 -- the products are those of the lengths read since the axes i and k
 pub record IsHalfway (from : List ℕ) (strides : List ℤ) (to : List ℕ) (i k from_end to_end from_product to_product : ℕ) (step : ℤ) : Type 0
-    where
-  pub from_in : from_end ≤ length from
-  pub to_in : to_end ≤ length to
-  pub to_ahead : k < to_end
-  pub from_size : size (take from_end from) ≡ size (take i from) * from_product
-  pub to_size : size (take to_end to) ≡ size (take i from) * to_product
-  pub joints : GoodBelow from strides to (size (take from_end from))
-  pub block : IsBlock from strides i from_end step
-  pub between : from_product ≢ to_product → IsBetween from strides to from_end to_end step
+  where
+    pub from_in : from_end ≤ length from
+    pub to_in : to_end ≤ length to
+    pub to_ahead : k < to_end
+    pub from_size : size (take from_end from) ≡ size (take i from) * from_product
+    pub to_size : size (take to_end to) ≡ size (take i from) * to_product
+    pub joints : GoodBelow from strides to (size (take from_end from))
+    pub block : IsBlock from strides i from_end step
+    pub between : from_product ≢ to_product → IsBetween from strides to from_end to_end step
 
 -- ---- products
 pub next-product : (lens : List ℕ) (k start product : ℕ) {len : ℕ} → k < length lens → size (take k lens) ≡ start * product
@@ -68,7 +67,7 @@ module _ {from : List ℕ} {strides : List ℤ} {to : List ℕ} {i k : ℕ} wher
       → step ≡ get_or strides i (pos 0) → IsHalfway from strides to i k (i + 1) (k + 1) len other step
   halfway-first len other step w at l g lens e f s =
       let here : Member (cumulative_products to) (size (take i from)) = subst (Member (cumulative_products to)) (sym at.sizes)
-          (member-product to k (omega arith)) in
+      (member-product to k (omega arith)) in
       record {
         from_in = omega arith;
         to_in = omega arith;
@@ -112,7 +111,7 @@ module _ {from : List ℕ} {strides : List ℤ} {to : List ℕ} {i k : ℕ} wher
       let some = length_pos from from_end w.some l in
       let one : get_or from from_end 0 ≡ 1 = omega arith in
       let same : size (take (from_end + 1) from) ≡ size (take from_end from) = size_take_more from from_end l
-          ∙ ap (λ n. size (take from_end from) * n) one ∙ mul-one (size (take from_end from)) in
+      ∙ ap (λ n. size (take from_end from) * n) one ∙ mul-one (size (take from_end from)) in
       let from_size = at.from_size in
       let to_size = at.to_size in
       let below = sizes-below from i from_product to_product w.some less in

@@ -30,21 +30,34 @@ tail_at at = count at.front * at.inner.0
 pub break-of-tail : (axes : Axes) (p : ℕ) → IsLooseTail axes p → (at : Break axes) × (p ≡ tail_at at)
 break-of-tail [] p h = absurd h
 break-of-tail (axis ∷ []) p (inl h) = absurd h.1
-break-of-tail (axis ∷ next ∷ axes) p (inl h) = (record { front = []; inner = axis; outer = next; back = axes; parts = refl; apart = h.1 },
-    omega (arith, h.0))
+break-of-tail (axis ∷ next ∷ axes) p (inl h) = (
+  record { front = []; inner = axis; outer = next; back = axes; parts = refl; apart = h.1 },
+  omega (arith, h.0),
+)
 break-of-tail (axis ∷ axes) p (inr h) =
     let rest = break-of-tail axes h.0 h.2 in
     let at = rest.0 in (
-      record { front = axis ∷ at.front; inner = at.inner; outer = at.outer; back = at.back; parts = ap (λ xs. axis ∷ xs) at.parts; apart =
-          at.apart },
+      record {
+        front = axis ∷ at.front;
+        inner = at.inner;
+        outer = at.outer;
+        back = at.back;
+        parts = ap (λ xs. axis ∷ xs) at.parts;
+        apart =
+            at.apart;
+      },
       h.1 ∙ ap (λ n. axis.0 * n) rest.1 ∙ sym (mul_assoc axis.0 (count at.front) at.inner.0),
     )
 
 pub tail-of-break : (front : Axes) (inner outer : ℕ × ℤ) (back : Axes) → outer.1 ≢ pos inner.0 *ℤ inner.1
     → IsLooseTail (front ++ inner ∷ outer ∷ back) (count front * inner.0)
 tail-of-break [] inner outer back h = inl (omega arith, h)
-tail-of-break (axis ∷ front) inner outer back h = inr (count front * inner.0, mul_assoc axis.0 (count front) inner.0, tail-of-break front
-    inner outer back h)
+tail-of-break (axis ∷ front) inner outer back h = inr (
+  count front * inner.0,
+  mul_assoc axis.0 (count front) inner.0,
+  tail-of-break front
+      inner outer back h,
+)
 
 -- ---- by the lengths before it, the axes read from the slowest on
 -- the axes of more than one entry
@@ -106,7 +119,7 @@ joints-short : {len : ℕ} (stride : ℤ) (lens : List ℕ) (strides : List ℤ)
 joints-short {len} stride lens strides one =
     let few : nat_lt 1 len ≡ false = ap (nat_lt 1) one in
     let test : (nat_lt 1 len && is_loose stride (first_longer lens strides))
-        ≡ false = ap (λ b. b && is_loose stride (first_longer lens strides)) few in
+    ≡ false = ap (λ b. b && is_loose stride (first_longer lens strides)) few in
     let none : List ℕ = [] in
     ap (λ b. (if b then len ∷ [] else none) ++ map (λ joint. len * joint) (loose_joints lens strides)) test
     ∙ ap (λ n. map (λ joint. n * joint) (loose_joints lens strides)) one
@@ -118,7 +131,7 @@ joints-long : (len : ℕ) (stride : ℤ) (lens : List ℕ) (strides : List ℤ) 
     → loose_joints (len ∷ lens) (stride ∷ strides) ≡ joints ((len, stride) ∷ long_axes lens strides)
 joints-long len stride lens strides long rest =
     let test : (nat_lt 1 len && is_loose stride (first_longer lens strides)) ≡ is_loose stride (head_of (long_axes lens strides)) =
-        ap (λ b. b && is_loose stride (first_longer lens strides)) long ∙ ap (is_loose stride) (first-of-long lens strides) in
+    ap (λ b. b && is_loose stride (first_longer lens strides)) long ∙ ap (is_loose stride) (first-of-long lens strides) in
     ap₂ (λ b js. (if b then len ∷ [] else []) ++ map (λ joint. len * joint) js) test rest
 
 pub joints-of-long : (lens : List ℕ) (strides : List ℤ) → is_empty lens ≡ false
@@ -164,8 +177,14 @@ joint-of-member (axis ∷ axes) j m =
           let t = times-member axis.0 (joints axes) j h in
           let rest = joint-of-member axes t.0 t.2 in
           let at = rest.0 in (
-            record { before = axis ∷ at.before; outer = at.outer; inner = at.inner; after = at.after; parts = ap (λ xs. axis ∷ xs) at.parts;
-                apart = at.apart },
+            record {
+              before = axis ∷ at.before;
+              outer = at.outer;
+              inner = at.inner;
+              after = at.after;
+              parts = ap (λ xs. axis ∷ xs) at.parts;
+              apart = at.apart;
+            },
             t.1 ∙ ap (λ n. axis.0 * n) rest.1 ∙ sym (mul_assoc axis.0 (count at.before) at.outer.0),
           )
     ]
@@ -173,21 +192,31 @@ joint-of-member (axis ∷ axes) j m =
     here : (first : ℕ × ℤ) (others : Axes) → (is_loose first.1 (head_of others) ≡ true) × (first.0 ≡ j)
         → (at : Joint (first ∷ others)) × (j ≡ joint_at at)
     here first [] h = absurd (let no = h.0 in cc)
-    here first (next ∷ others) h = (record { before = []; outer = first; inner = next; after = others; parts = refl; apart = loose-apart
-        first.1 next h.0 }, sym h.1 ∙ sym (one-mul first.0))
+    here first (next ∷ others) h = (
+      record {
+        before = [];
+        outer = first;
+        inner = next;
+        after = others;
+        parts = refl;
+        apart = loose-apart
+            first.1 next h.0;
+      },
+      sym h.1 ∙ sym (one-mul first.0),
+    )
 
 pub member-of-joint : (before : Axes) (outer inner : ℕ × ℤ) (after : Axes) → outer.1 ≢ pos inner.0 *ℤ inner.1
     → Member (joints (before ++ outer ∷ inner ∷ after)) (count before * outer.0)
 member-of-joint [] outer inner after h =
     subst (Member (joints (outer ∷ inner ∷ after))) (sym (one-mul outer.0))
     (member-left (if is_loose outer.1 (Some inner) then outer.0 ∷ [] else []) (map (λ joint. outer.0 * joint) (joints (inner ∷ after)))
-        outer.0 (to-choice (is_loose outer.1 (Some inner)) outer.0 (apart-loose outer.1 inner h)))
+    outer.0 (to-choice (is_loose outer.1 (Some inner)) outer.0 (apart-loose outer.1 inner h)))
 member-of-joint (axis ∷ before) outer inner after h =
     let whole : Axes = before ++ outer ∷ inner ∷ after in
     subst (Member (joints (axis ∷ whole))) (sym (mul_assoc axis.0 (count before) outer.0))
     (member-right (if is_loose axis.1 (head_of whole) then axis.0 ∷ [] else []) (map (λ joint. axis.0 * joint) (joints whole))
-        (axis.0 * (count before * outer.0)) (member-times axis.0 (joints whole) (count before * outer.0)
-        (member-of-joint before outer inner after h)))
+    (axis.0 * (count before * outer.0)) (member-times axis.0 (joints whole) (count before * outer.0)
+    (member-of-joint before outer inner after h)))
 
 -- ---- from the other end
 pub count-append : (axes others : Axes) → count (axes ++ others) ≡ count axes * count others
@@ -227,7 +256,7 @@ tail-of-joint axes j m =
       ap (λ n. n * p) found.1 ∙ joint-and-tail at.before at.outer at.inner at.after ∙ sym (ap count at.parts),
       subst (λ xs. IsLooseTail xs p) (sym (ap reverse at.parts ∙ reversed-parts at.before at.outer at.inner at.after))
           (subst (λ n. IsLooseTail (reverse at.after ++ at.inner ∷ at.outer ∷ reverse at.before) (n * at.inner.0)) (count-reverse at.after)
-              (tail-of-break (reverse at.after) at.inner at.outer (reverse at.before) at.apart)),
+          (tail-of-break (reverse at.after) at.inner at.outer (reverse at.before) at.apart)),
     )
 
 pub joint-of-tail : (axes : Axes) (p : ℕ) → IsLooseTail (reverse axes) p → (j : ℕ) × (j * p ≡ count axes) × Member (joints axes) j
@@ -237,7 +266,7 @@ joint-of-tail axes p l =
     let before = reverse at.back in
     let after = reverse at.front in
     let parts : axes ≡ before ++ at.outer ∷ at.inner ∷ after = sym (reverse-reverse axes) ∙ ap reverse at.parts ∙ reversed-parts at.front
-        at.inner at.outer at.back in
+    at.inner at.outer at.back in
     let j = count before * at.outer.0 in (
       j,
       ap (λ n. j * n) (found.1 ∙ ap (λ n. n * at.inner.0) (sym (count-reverse at.front))) ∙ joint-and-tail before at.outer at.inner after

@@ -76,11 +76,11 @@ hit-read p f s (suc m) (suc n) i d e l h =
     elim (cases_Bool (p s)) [
       | inl hit ↦
           ap₂ (λ xs k. get_or (map f xs) k d) (filter-yes p (range_with_len (s + 1) n) hit)
-              (ap length (filter-yes p (range_with_len (s + 1) m) hit))
+          (ap length (filter-yes p (range_with_len (s + 1) m) hit))
           ∙ hit-read p f (s + 1) m n i d (omega arith) (omega arith) h
       | inr miss ↦
           ap₂ (λ xs k. get_or (map f xs) k d) (filter-no p s (range_with_len (s + 1) n) miss)
-              (ap length (filter-no p s (range_with_len (s + 1) m) miss))
+          (ap length (filter-no p s (range_with_len (s + 1) m) miss))
           ∙ hit-read p f (s + 1) m n i d (omega arith) (omega arith) h
     ]
 
@@ -138,7 +138,7 @@ past-ones lens strides axis n h l other few =
     let product = size (take axis lens) in
     let count = length-map (filter (is_one_at lens product) (below (length lens))) (λ a. slice_index_or strides a (pos 0)) in
     let same : ones_before lens product (length lens) ≡ ones_before lens product axis = hits-none (is_one_at lens product) axis
-        (length lens) l (λ j above under. none-at lens product j (λ one e.
+    (length lens) l (λ j above under. none-at lens product j (λ one e.
     elim (cases_eq j axis) [
       | inl here ↦ absurd (other (sym (ap (λ a. get_or lens a 0) here) ∙ one))
       | inr later ↦
@@ -156,7 +156,7 @@ at-product : (from : List ℕ) (strides : List ℤ) (to : List ℕ) (i k : ℕ) 
 at-product from strides to i k before l e =
     let test = list_any (λ product. product == size (take k to)) (cumulative_products from) in
     let holds : test ≡ true = any-of-member (λ product. product == size (take k to)) (cumulative_products from) (size (take i from))
-        (member-product from i l) (eq-eqb (size (take i from)) (size (take k to)) e) in
+    (member-product from i l) (eq-eqb (size (take i from)) (size (take k to)) e) in
     cond-true test (get_or (strides_of_ones from strides (size (take k to))) (ones_before to (size (take k to)) k) (pos 1)) before holds
 
 off-product : (from : List ℕ) (strides : List ℤ) (to : List ℕ) (k : ℕ) {before : ℤ}
@@ -201,7 +201,7 @@ module _ {from : List ℕ} {strides : List ℤ} {to : List ℕ} {news : List ℤ
       let few = ones.from_first one in
       let same = stays from i l one in
       let more : ones_before from (size (take (i + 1) from)) (i + 1) ≡ ones_before from (size (take i from)) i + 1 =
-          ap (λ n. ones_before from n (i + 1)) same ∙ ones-next from (size (take i from)) i one refl in
+      ap (λ n. ones_before from n (i + 1)) same ∙ ones-next from (size (take i from)) i one refl in
       record {
         written = ones.written;
         from_first = λ e. omega arith;
@@ -215,7 +215,7 @@ module _ {from : List ℕ} {strides : List ℤ} {to : List ℕ} {news : List ℤ
       let few = ones.to_first one in
       let same = stays to k g one in
       let more : ones_before to (size (take (k + 1) to)) (k + 1) ≡ ones_before to (size (take k to)) k + 1 =
-          ap (λ n. ones_before to n (k + 1)) same ∙ ones-next to (size (take k to)) k one refl in
+      ap (λ n. ones_before to n (k + 1)) same ∙ ones-next to (size (take k to)) k one refl in
       let read : stride_of_one from strides to k (previous news k) ≡ pos 1 = at-product from strides to i k (previous news k) l e
       ∙ ap (λ n. get_or (strides_of_ones from strides n) (ones_before to (size (take k to)) k) (pos 1)) (sym e)
       ∙ past-ones from strides i (ones_before to (size (take k to)) k) h l other few in
@@ -244,11 +244,11 @@ module _ {from : List ℕ} {strides : List ℤ} {to : List ℕ} {news : List ℤ
             let most = ones.to_first one in
             let equal : ones_before to product k ≡ ones_before from (size (take i from)) i = omega arith in
             let from_more : ones_before from (size (take (i + 1) from)) (i + 1) ≡ ones_before from (size (take i from)) i + 1 =
-                ap (λ n. ones_before from n (i + 1)) (stays from i l first) ∙ ones-next from (size (take i from)) i first refl in
+            ap (λ n. ones_before from n (i + 1)) (stays from i l first) ∙ ones-next from (size (take i from)) i first refl in
             let to_more : ones_before to (size (take (k + 1) to)) (k + 1) ≡ ones_before to product k + 1 =
-                ap (λ n. ones_before to n (k + 1)) (stays to k g one) ∙ ones-next to product k one refl in
+            ap (λ n. ones_before to n (k + 1)) (stays to k g one) ∙ ones-next to product k one refl in
             let read : stride_of_one from strides to k (previous news k) ≡ get_or strides i (pos 0) = at-product from strides to i k
-                (previous news k) (omega arith) e
+            (previous news k) (omega arith) e
             ∙ ap₂ (λ n m. get_or (strides_of_ones from strides n) m (pos 1)) (sym e) equal
             ∙ nth-one from strides (size (take i from)) i l first refl in
             record {
@@ -284,7 +284,7 @@ block-before to news k k_end j step l above under one written =
     let whole = size_from part (suc j) (omega arith) in
     let entry : get_or part (suc j) 0 ≡ 1 = get_or-take k_end to (suc j) 0 under ∙ one in
     let same : size (drop (suc j) part) ≡ size (drop (suc j + 1) part) = whole ∙ ap (λ n. n * size (drop (suc j + 1) part)) entry
-        ∙ omega arith in
+    ∙ omega arith in
     written (suc j) (omega arith) under
     ∙ ap (λ n. pos n *ℤ step) (sym same ∙ ap (λ n. size (drop n part)) (sym (add-one j)))
     ∙ sym (written j above (omega arith))
@@ -353,7 +353,7 @@ strides-forced {from} {strides} {to} {news} more sizes e end alike ones = fill_b
               ones.written (suc j) (omega arith) (at_one (suc j) l short)
               ∙ ap (stride_of_one from strides to (suc j)) (at_axis j (omega arith))
               ∙ sym (cond-false (nat_lt 1 (get_or to (suc j) 0)) (offset_at_rank from strides (size_after to (suc j)))
-                  (stride_of_one from strides to (suc j) (stride_at from strides to j)) short)
+              (stride_of_one from strides to (suc j) (stride_at from strides to j)) short)
         ]
 
 -- both shapes are read whole
@@ -370,9 +370,9 @@ strides-whole {from} {strides} {to} {news} {i} {k} w at from_end to_end e alike 
     let news_all = take_all k news (omega arith) in
     let sizes : size from ≡ size to = sym (ap size from_all) ∙ at.sizes ∙ ap size to_all in
     let first : PlacesAlike from (take i strides) (take k to) (take k news) = subst (λ xs. PlacesAlike xs (take i strides) (take k to)
-        (take k news)) from_all alike in
+    (take k news)) from_all alike in
     let second : PlacesAlike from strides (take k to) (take k news) = subst (λ xs. PlacesAlike from xs (take k to) (take k news))
-        strides_all first in
+    strides_all first in
     let third : PlacesAlike from strides to (take k news) = subst (λ xs. PlacesAlike from strides xs (take k news)) to_all second in
     let whole : PlacesAlike from strides to news = subst (PlacesAlike from strides to) news_all third in
     strides-forced w.more sizes e (omega arith) whole ones

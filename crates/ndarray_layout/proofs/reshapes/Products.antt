@@ -96,14 +96,26 @@ empty-parts (x ∷ front) back e = absurd (cc)
 -- a longer axis in front
 long-cut-kept : {len : ℕ} {lens back : List ℕ} → ((xs : List ℕ) → long_lens lens ≡ xs ++ back → LongCut lens xs back) → nat_lt 1 len ≡ true
     → (front : List ℕ) → len ∷ long_lens lens ≡ front ++ back → LongCut (len ∷ lens) front back
-long-cut-kept {len} {lens} rest long [] e = record { first = []; last = len ∷ lens; parts = refl; firsts = refl; lasts = long-kept lens long
-    ∙ e }
+long-cut-kept {len} {lens} rest long [] e = record {
+  first = [];
+  last = len ∷ lens;
+  parts = refl;
+  firsts = refl;
+  lasts = long-kept lens long
+      ∙ e;
+}
 long-cut-kept {len} {lens} {back} rest long (x ∷ xs) e =
     let head : len ≡ x = cc in
     let tail : long_lens lens ≡ xs ++ back = cc in
     let cut = rest xs tail in
-    record { first = len ∷ cut.first; last = cut.last; parts = ap (λ ys. len ∷ ys) cut.parts; firsts = long-kept cut.first long
-        ∙ ap₂ (λ y ys. y ∷ ys) head cut.firsts; lasts = cut.lasts }
+    record {
+      first = len ∷ cut.first;
+      last = cut.last;
+      parts = ap (λ ys. len ∷ ys) cut.parts;
+      firsts = long-kept cut.first long
+          ∙ ap₂ (λ y ys. y ∷ ys) head cut.firsts;
+      lasts = cut.lasts;
+    }
 
 pub long-cut : (lens front back : List ℕ) → long_lens lens ≡ front ++ back → LongCut lens front back
 long-cut [] front back e =
@@ -114,8 +126,14 @@ long-cut (len ∷ lens) front back e =
       | inl long ↦ long-cut-kept (λ xs t. long-cut lens xs back t) long front (sym (long-kept lens long) ∙ e)
       | inr short ↦
           let rest = long-cut lens front back (sym (long-left len lens short) ∙ e) in
-          record { first = len ∷ rest.first; last = rest.last; parts = ap (λ xs. len ∷ xs) rest.parts; firsts = long-left len rest.first
-              short ∙ rest.firsts; lasts = rest.lasts }
+          record {
+            first = len ∷ rest.first;
+            last = rest.last;
+            parts = ap (λ xs. len ∷ xs) rest.parts;
+            firsts = long-left len rest.first
+                short ∙ rest.firsts;
+            lasts = rest.lasts;
+          }
     ]
 
 -- ---- the two counts
@@ -133,13 +151,13 @@ tail-of-product to j p some m e =
     let cut = found.0 in
     let none = nonempty-parts cut.front cut.back (sym (ap is_empty cut.parts) ∙ some) in
     let same : size cut.front * p ≡ size cut.front * size cut.back = sym (ap (λ n. n * p) found.1) ∙ e ∙ ap size cut.parts
-        ∙ size-append cut.front cut.back in
+    ∙ size-append cut.front cut.back in
     let rest : p ≡ size cut.back = cancel (size cut.front) (size_of_nonempty cut.front none.0) same in
     let turned : reverse (long_lens to) ≡ reverse (long_lens cut.back) ++ reverse (long_lens cut.front) = ap reverse (ap long_lens cut.parts
-        ∙ long-append cut.front cut.back) ∙ reverse-append (long_lens cut.front) (long_lens cut.back) in
+    ∙ long-append cut.front cut.back) ∙ reverse-append (long_lens cut.front) (long_lens cut.back) in
     let count : size (reverse (long_lens cut.back)) ≡ p = size-reverse (long_lens cut.back) ∙ size-long_lens cut.back none.1 ∙ sym rest in
     subst (λ xs. IsTail xs p) (sym turned) (subst (IsTail (reverse (long_lens cut.back) ++ reverse (long_lens cut.front))) count
-        (tail-of-cut (reverse (long_lens cut.back)) (reverse (long_lens cut.front))))
+    (tail-of-cut (reverse (long_lens cut.back)) (reverse (long_lens cut.front))))
 
 pub product-of-tail : (to : List ℕ) (j p : ℕ) → is_empty to ≡ false → 0 < p → IsTail (reverse (long_lens to)) p → j * p ≡ size to
     → Member (cumulative_products to) j
@@ -147,12 +165,12 @@ product-of-tail to j p some h t e =
     let found = cut-of-tail (reverse (long_lens to)) p t in
     let cut = found.0 in
     let turned : long_lens to ≡ reverse cut.back ++ reverse cut.front = sym (reverse-reverse (long_lens to)) ∙ ap reverse cut.parts
-        ∙ reverse-append cut.front cut.back in
+    ∙ reverse-append cut.front cut.back in
     let whole = long-cut to (reverse cut.back) (reverse cut.front) turned in
     let none = nonempty-parts whole.first whole.last (sym (ap is_empty whole.parts) ∙ some) in
     let rest : size whole.last ≡ p = sym (size-long_lens whole.last none.1) ∙ ap size whole.lasts ∙ size-reverse cut.front ∙ sym found.1 in
     let same : p * j ≡ p * size whole.first = mul_comm p j ∙ e ∙ ap size whole.parts ∙ size-append whole.first whole.last
-        ∙ ap (λ n. size whole.first * n) rest ∙ mul_comm (size whole.first) p in
+    ∙ ap (λ n. size whole.first * n) rest ∙ mul_comm (size whole.first) p in
     let at : j ≡ size whole.first = cancel p h same in
     subst (λ xs. Member (cumulative_products xs) j) (sym whole.parts) (subst (Member (cumulative_products (whole.first ++ whole.last)))
-        (sym at) (product-of-cut whole.first whole.last))
+    (sym at) (product-of-cut whole.first whole.last))

@@ -21,7 +21,7 @@ value-append [] others r = omega (arith, ints, ap (value others) (div-one r))
 value-append (axis ∷ axes) others r =
     let rest = value-append axes others (r / axis.0) in
     let past : value others (r / axis.0 / count axes) ≡ value others (r / (axis.0 * count axes)) = ap (value others)
-        (div-div-eq-div-mul r axis.0 (count axes)) in
+    (div-div-eq-div-mul r axis.0 (count axes)) in
     omega (arith, ints, rest, past)
 
 -- ranks past the last index begin anew
@@ -106,15 +106,15 @@ offset-at-rank (len ∷ lens) (stride ∷ strides) r h e l =
       | inl long ↦
           let below : r / size lens < len = div_below r (size lens) len some l in
           let again : value fast (r % size lens) ≡ value fast r = ap (λ n. value fast (r % n)) (sym whole)
-              ∙ value-mod fast r (long-reverse rows (long-long_axes lens strides)) in
+          ∙ value-mod fast r (long-reverse rows (long-long_axes lens strides)) in
           let turned : reverse (long_axes (len ∷ lens) (stride ∷ strides)) ≡ fast ++ (len, stride) ∷ [] = ap reverse
-              (long-kept len lens stride strides long) ∙ reverse-append ((len, stride) ∷ []) rows in
+          (long-kept len lens stride strides long) ∙ reverse-append ((len, stride) ∷ []) rows in
           let last : value ((len, stride) ∷ []) (r / size lens) ≡ pos (r / size lens) *ℤ stride = ap (λ i. (pos i *ℤ stride) +ℤ pos 0)
-              (mod-eq_of_lt below) ∙ omega (arith, ints) in
+          (mod-eq_of_lt below) ∙ omega (arith, ints) in
           let split : value (fast ++ (len, stride) ∷ []) r ≡ value fast r +ℤ value ((len, stride) ∷ []) (r / size lens) = value-append fast
-              ((len, stride) ∷ []) r ∙ ap (λ n. value fast r +ℤ value ((len, stride) ∷ []) (r / n)) whole in
+          ((len, stride) ∷ []) r ∙ ap (λ n. value fast r +ℤ value ((len, stride) ∷ []) (r / n)) whole in
           ap (λ z. (pos (r / size lens) *ℤ stride) +ℤ z) (rest ∙ again) ∙ omega (arith, ints, last, split)
-              ∙ sym (ap (λ xs. value xs r) turned)
+          ∙ sym (ap (λ xs. value xs r) turned)
       | inr short ↦
           let one = one-of-short {len = len} lens h short in
           let below : r < size lens = omega (arith, ap (λ n. n * size lens) one, one-mul (size lens)) in

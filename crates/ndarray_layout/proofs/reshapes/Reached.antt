@@ -69,7 +69,7 @@ some-longer (len ∷ lens) (s ∷ strides) stride h l =
           omega arith
       | inr short ↦
           let rest = some-longer lens strides stride (is_empty-rest len lens h)
-              (sym (ap (is_loose stride) (cond-false (nat_lt 1 len) (Some (len, s)) (first_longer lens strides) short)) ∙ l) in
+          (sym (ap (is_loose stride) (cond-false (nat_lt 1 len) (Some (len, s)) (first_longer lens strides) short)) ∙ l) in
           let more : len * 1 ≤ len * size lens = mul-le-mul_left len rest_some in
           let most : size lens * 1 ≤ size lens * len = mul-le-mul_left (size lens) here in
           let turned = mul_comm (size lens) len in
@@ -123,7 +123,7 @@ first-longer-at (len ∷ lens) (s ∷ strides) zero e l ones long = cond-true (n
 first-longer-at (len ∷ lens) (s ∷ strides) (suc n) e l ones long =
     let one : nat_lt 1 len ≡ false = ap (nat_lt 1) (ones 0 (omega arith)) in
     cond-false (nat_lt 1 len) (Some (len, s)) (first_longer lens strides) one ∙ first-longer-at lens strides n (omega arith) (omega arith)
-        (λ i h. ones (suc i) (omega arith)) long
+    (λ i h. ones (suc i) (omega arith)) long
 
 long-take : (lens : List ℕ) (k n : ℕ) → is_empty lens ≡ false → k < n → k < length lens → 1 < get_or lens k 0 → 1 < size (take n lens)
 long-take lens k n h l g long =
@@ -151,17 +151,17 @@ member-at (len ∷ lens) (s ∷ strides) zero (suc n) e l g long ones next apart
     let ones_after : (i : ℕ) → i < n → get_or lens i 0 ≡ 1 = λ i h. ones (suc i) (omega arith) (omega arith) in
     let first = first-longer-at lens strides n (omega arith) (omega arith) ones_after next in
     let loose : is_loose s (first_longer lens strides) ≡ true = ap (is_loose s) first
-        ∙ apart-loose s (get_or lens n 0, get_or strides n (pos 0)) apart in
+    ∙ apart-loose s (get_or lens n 0, get_or strides n (pos 0)) apart in
     let test = nat_lt 1 len && is_loose s (first_longer lens strides) in
     let yes : test ≡ true = and_from (nat_lt 1 len) (is_loose s (first_longer lens strides)) (lt-ltb 1 len long) loose in
     let whole : len ≡ len * size (take n lens) = sym (ap (λ m. len * m) (size-ones lens n (omega arith) ones_after) ∙ mul-one len) in
     subst (λ j. Member (loose_joints (len ∷ lens) (s ∷ strides)) j) whole (member-left (if test then len ∷ [] else [])
-        (map (λ joint. len * joint) (loose_joints lens strides)) len (to-choice test len yes))
+    (map (λ joint. len * joint) (loose_joints lens strides)) len (to-choice test len yes))
 member-at (len ∷ lens) (s ∷ strides) (suc k) (suc n) e l g long ones next apart =
     let test = nat_lt 1 len && is_loose s (first_longer lens strides) in
     member-right (if test then len ∷ [] else []) (map (λ joint. len * joint) (loose_joints lens strides)) (len * size (take n lens))
     (member-times len (loose_joints lens strides) (size (take n lens)) (member-at lens strides k n (omega arith) (omega arith) (omega arith)
-        long (λ i h f. ones (suc i) (omega arith) (omega arith)) next apart))
+    long (λ i h f. ones (suc i) (omega arith) (omega arith)) next apart))
 
 none-at : (lens : List ℕ) (strides : List ℤ) (k n : ℕ) → is_empty lens ≡ false → length lens ≡ length strides → k < n → n < length lens
     → 1 < get_or lens k 0 → ((i : ℕ) → k < i → i < n → get_or lens i 0 ≡ 1) → 1 < get_or lens n 0
@@ -177,7 +177,7 @@ none-at (len ∷ lens) (s ∷ strides) zero (suc n) w e l g long ones next m =
     let first = first-longer-at lens strides n (omega arith) (omega arith) ones_after next in
     let test = nat_lt 1 len && is_loose s (first_longer lens strides) in
     elim (member-cases (if test then len ∷ [] else []) (map (λ joint. len * joint) (loose_joints lens strides)) (len * size (take n lens))
-        m) [
+    m) [
       | inl c ↦
           let both = of-choice test len (len * size (take n lens)) c in
           let parts = and_parts (nat_lt 1 len) (is_loose s (first_longer lens strides)) both.0 in
@@ -195,7 +195,7 @@ none-at (len ∷ lens) (s ∷ strides) (suc k) (suc n) w e l g long ones next m 
     let test = nat_lt 1 len && is_loose s (first_longer lens strides) in
     let several = long-take lens k n none (omega arith) (omega arith) long in
     elim (member-cases (if test then len ∷ [] else []) (map (λ joint. len * joint) (loose_joints lens strides)) (len * size (take n lens))
-        m) [
+    m) [
       | inl c ↦
           let both = of-choice test len (len * size (take n lens)) c in
           let same = both.1 in
@@ -205,7 +205,7 @@ none-at (len ∷ lens) (s ∷ strides) (suc k) (suc n) w e l g long ones next m 
           let t = times-member len (loose_joints lens strides) (len * size (take n lens)) c in
           let same : t.0 ≡ size (take n lens) = sym (cancel len here t.1) in
           none-at lens strides k n none (omega arith) (omega arith) (omega arith) long (λ i h f. ones (suc i) (omega arith) (omega arith))
-              next (subst (Member (loose_joints lens strides)) same t.2)
+          next (subst (Member (loose_joints lens strides)) same t.2)
     ]
 
 module _ {lens : List ℕ} {strides : List ℤ} {n : ℕ} {step : ℤ} where
@@ -261,7 +261,7 @@ bad-joint-fault from strides to j m l none =
     ] in
     let bad : is_bad_joint to j ≡ true = and_from (nat_lt j (size to)) (not test) (lt-ltb j (size to) l) (not_from_false test no) in
     cond-true (has_bad_joint from strides to) (Some IncompatibleLayout) (if size from == size to then None else Some IncompatibleShape)
-        (any-of-member (is_bad_joint to) (loose_joints from strides) j m bad)
+    (any-of-member (is_bad_joint to) (loose_joints from strides) j m bad)
 
 good-of-below : (from : List ℕ) (strides : List ℤ) (to : List ℕ) (n : ℕ) → is_empty from ≡ false → GoodBelow from strides to n
     → (size from ≤ n) ⊎ (size to ≤ n) → has_bad_joint from strides to ≡ false
@@ -277,7 +277,7 @@ good-of-below from strides to n h good far =
           let within = product.4 in
           let below : j < n = elim far [ inl f ↦ omega arith | inr f ↦ omega arith ] in
           absurd (both_ways test (not-true test parts.1) (any-of-member (λ product. product == j) (cumulative_products to) j
-              (good j found.1 below) (eq-eqb j j refl)))
+          (good j found.1 below) (eq-eqb j j refl)))
       | inr fine ↦ fine
     ]
 
@@ -289,7 +289,7 @@ sizes-fault from strides to n h good far differ =
       | inr apart ↦ apart
     ] in
     cond-false (has_bad_joint from strides to) (Some IncompatibleLayout) (if size from == size to then None else Some IncompatibleShape)
-        (good-of-below from strides to n h good far)
+    (good-of-below from strides to n h good far)
     ∙ cond-false (size from == size to) None (Some IncompatibleShape) other
 
 -- a number below a product, and none of those before, is no product

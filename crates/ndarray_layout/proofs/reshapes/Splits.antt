@@ -111,7 +111,7 @@ by-whole : {n : ℕ} → Reaches n → (len : ℕ) (stride : ℤ) (axes : Axes) 
 by-whole reach len stride axes lens small h g e fit =
     let one = h.0 in
     taken-whole len stride axes lens (omega arith) (reach axes lens small h.1 g (cancel len (omega arith) e)
-        (rest-fits len stride axes lens h.0 h.1 fit))
+    (rest-fits len stride axes lens h.0 h.1 fit))
 
 by-part : {n : ℕ} → Reaches n → (len q : ℕ) (stride : ℤ) (axes : Axes) (lens : List ℕ) → suc (length axes) + length lens ≤ n → 1 < len
     → 1 < q → AreLong axes → AllLong lens → count ((len * q, stride) ∷ axes) ≡ size (len ∷ lens)
@@ -122,7 +122,7 @@ by-part reach len q stride axes lens small h k g a e fit =
     let apart : TailsFit ((len, stride) ∷ (q, pos len *ℤ stride) ∷ axes) (len ∷ lens) = λ p l. fit p (m.loose p l) in
     let counts : q * count axes ≡ size lens = cancel len (omega arith) (sym (mul_assoc len q (count axes)) ∙ e) in
     taken-part len q stride axes lens long (reach ((q, pos len *ℤ stride) ∷ axes) lens small (k, g) a counts
-        (rest-fits len stride ((q, pos len *ℤ stride) ∷ axes) lens h (k, g) apart))
+    (rest-fits len stride ((q, pos len *ℤ stride) ∷ axes) lens h (k, g) apart))
 
 by-first : {n : ℕ} → Reaches n → (axis : ℕ × ℤ) (axes : Axes) (len : ℕ) (lens : List ℕ) → length axes + length lens < n + 1
     → suc (length axes) + length lens ≤ n → AreLong (axis ∷ axes) → AllLong (len ∷ lens) → StandsAlone axis axes
@@ -138,7 +138,7 @@ by-first reach axis axes len lens few small h g alone e fit =
           let whole : len * q ≡ len = ap (λ m. len * m) lone ∙ mul-one len in
           subst (λ m. HasAlike ((m, axis.1) ∷ axes) (len ∷ lens)) (sym whole)
           (by-whole reach len axis.1 axes lens (omega arith) (g.0, h.1) g.1 (ap (λ m. m * count axes) (sym whole) ∙ given)
-              (subst (λ m. TailsFit ((m, axis.1) ∷ axes) (len ∷ lens)) whole fits))
+          (subst (λ m. TailsFit ((m, axis.1) ∷ axes) (len ∷ lens)) whole fits))
       | inr several ↦
           elim (cases_eq q 0) [
             | inl none ↦
@@ -167,7 +167,7 @@ reaches (suc n) (axis ∷ next ∷ axes) (len ∷ lens) small h g e fit =
           let m = merge axis.0 next.0 axis.1 next.1 axes h same in
           let merged : Axes = (axis.0 * next.0, axis.1) ∷ axes in
           let a : HasAlike merged (len ∷ lens) = reaches n merged (len ∷ lens) (omega arith) m.long g (m.entries ∙ e)
-              (λ p l. fit p (m.loose_back p l)) in
+          (λ p l. fit p (m.loose_back p l)) in
           let entries = m.entries in
           (a.0, a.1, λ r l. sym (m.places r) ∙ a.2 r (omega arith))
       | inr differ ↦ by-first (reaches n) axis (next ∷ axes) len lens (omega arith) (omega arith) h g (inr differ) e fit

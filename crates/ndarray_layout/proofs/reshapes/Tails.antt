@@ -86,14 +86,14 @@ pub merge : (len next : ℕ) (stride second : ℤ) (axes : Axes) → AreLong ((l
     → IsMerge ((len, stride) ∷ (next, second) ∷ axes) ((len * next, stride) ∷ axes)
 merge len next stride second axes h e = subst (λ s. IsMerge ((len, stride) ∷ (next, s) ∷ axes) ((len * next, stride) ∷ axes)) (sym e)
     (record {
-  long = (long-product len next h.0 h.1.0, h.1.1);
-  entries = mul_assoc len next (count axes);
-  shorter = refl;
-  places = λ r. sym (value-merged len next stride axes r (let one = h.0 in omega arith) (let one = h.1.0 in omega arith));
-  loose = loose-merged len next stride axes;
-  loose_back = loose-split len next stride axes;
-  tails = tail-merged len next (lens_of axes);
-})
+      long = (long-product len next h.0 h.1.0, h.1.1);
+      entries = mul_assoc len next (count axes);
+      shorter = refl;
+      places = λ r. sym (value-merged len next stride axes r (let one = h.0 in omega arith) (let one = h.1.0 in omega arith));
+      loose = loose-merged len next stride axes;
+      loose_back = loose-split len next stride axes;
+      tails = tail-merged len next (lens_of axes);
+    })
 
 -- ---- the same places have the same tails
 abbrev pub AreAlike : Axes → Axes → Type 0
@@ -184,17 +184,17 @@ tails_of_alike (suc n) (axis ∷ axes) (other ∷ others) fits h g e alike p loo
     elim (cases_order axis.0 other.0) [
       | inl same ↦
           let even : AreAlike (axis ∷ axes) ((axis.0, other.1) ∷ others) = subst (λ m. AreAlike (axis ∷ axes) ((m, other.1) ∷ others))
-              (sym same) alike in
+          (sym same) alike in
           let counts : count axes ≡ count others = cancel axis.0 (let one = h.0 in omega arith)
-              (e ∙ ap (λ m. m * count others) (sym same)) in
+          (e ∙ ap (λ m. m * count others) (sym same)) in
           let rest = λ (q : ℕ) (l : IsLooseTail axes q). tails_of_alike n axes others (omega arith) h.1 g.1 counts
-              (alike-rest axis.0 axis.1 axes other.1 others (let one = h.0 in omega arith) even) q l in
+          (alike-rest axis.0 axis.1 axes other.1 others (let one = h.0 in omega arith) even) q l in
           subst (λ m. IsTail (m ∷ lens_of others) p) same (tail-further axis.0 axis.1 axes (lens_of others) p rest loose)
       | inr (inl less) ↦
           let m = merged-alike axes others axis other h g less e alike in
           let fewer = m.1.shorter in
           tails_of_alike n m.0 (other ∷ others) (omega arith) m.1.long g (m.1.entries ∙ e) (alike-merged (other ∷ others) m.1 alike) p
-              (m.1.loose p loose)
+          (m.1.loose p loose)
       | inr (inr more) ↦
           let turned = alike-turned (axis ∷ axes) (other ∷ others) e alike in
           let m = merged-alike others axes other axis g h more (sym e) turned in

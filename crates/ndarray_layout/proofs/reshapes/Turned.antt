@@ -1,15 +1,13 @@
 -- What the walk says of axes as they are read, said of them in order.
-use Rattle.std.proofs.Common.{◌≡◌, ℕ, ◌≤◌, false, ℤ, List, [], ◌∷◌, ◌++◌, length, map, reverse, refl, sym, ap, ap₂, ◌∙◌, arith, subst, None}
+use Rattle.std.proofs.Common.{◌≡◌, ℕ, ◌≤◌, false, List, [], ◌∷◌, ◌++◌, length, map, reverse, refl, sym, ap, ap₂, ◌∙◌, arith, subst, None}
 use Rattle.std.proofs.Common.{Some, Result, Ok, Err}
 use Rattle.std.specs.Prelude.{IfOk, IfErr, OnOk}
 use Rattle.nd_base.specs.declared.error.ShapeError.{ShapeError}
 use Rattle.std.proofs.lemmas.List.{length-map, map-append, reverse-append}
 use Rattle.nd_base.specs.declared.order.Order.{Order}
-use Rattle.nd_base.specs.declared.order.Order.TheVariants.{RowMajor, ColumnMajor}
 use Rattle.nd_base.proofs.laws.Definitions.{below, as_read, all_signed, signed, is_empty, limit, nonzero_size, size, reach, span}
 use Rattle.nd_base.proofs.laws.Definitions.{IsValidLayout}
 use Rattle.nd_base.proofs.laws.NonzeroSize.{nonzero_size_of_nonempty}
-use Rattle.nd_base.proofs.laws.Span.{sum_over_axes-reverse}
 use Rattle.ndarray_layout.specs.reshape.ForcedStrides.{forced_strides, stride_at}
 use Rattle.ndarray_layout.specs.reshape.Joints.{has_bad_joint}
 use Rattle.ndarray_layout.specs.reshape.Keeps.{Keeps}
@@ -44,7 +42,7 @@ can-walk order {from} strides to valid some more fits =
     let from_whole = nonzero_size_of_nonempty from some in
     let to_whole = nonzero_size_of_nonempty to more in
     let reached : span (as_read order from) (all_signed (as_read order strides)) ≡ span from (all_signed strides) =
-        ap (span (as_read order from)) turned ∙ sum_over_axes-as_read order reach from (all_signed strides) count in
+    ap (span (as_read order from)) turned ∙ sum_over_axes-as_read order reach from (all_signed strides) count in
     record {
       same_count = from_count ∙ count ∙ sym strides_count ∙ sym (ap length turned);
       some = is_empty-as_read order from ∙ some;
@@ -64,13 +62,13 @@ none-read : (order : Order) (from strides to out : List ℕ)
     → CanWalk (as_read order from) (all_signed (as_read order strides)) (as_read order to) → length out ≡ length to
     → size (as_read order from) ≡ size (as_read order to) →
     PlacesAlike (as_read order from) (all_signed (as_read order strides)) (as_read order to) (all_signed out) → reshape_fault order from
-        (all_signed strides) to ≡ None
+    (all_signed strides) to ≡ None
 none-read order from strides to out w room sizes alike =
     let turned = map-as_read order signed strides in
     let count = length-map out signed in
     let equal : length (as_read order to) ≡ length (all_signed out) = length-as_read order to ∙ sym room ∙ sym count in
     let good = good-of-alike (as_read order from) (all_signed (as_read order strides)) (as_read order to) (all_signed out) w.some w.more
-        w.same_count equal sizes alike in
+    w.same_count equal sizes alike in
     (fault-exactly order from (all_signed strides) to).1 (
       sym (size-as_read order from) ∙ sizes ∙ size-as_read order to,
       sym (ap (λ ss. has_bad_joint (as_read order from) ss (as_read order to)) turned) ∙ good,
@@ -82,7 +80,7 @@ forced-read : (order : Order) (from strides to out : List ℕ) → length out �
 forced-read order from strides to out room e =
     map-as_read order signed out
     ∙ ap (as_read order) (e ∙ ap₂ (λ ss n. map (stride_at (as_read order from) ss (as_read order to)) (below n))
-        (map-as_read order signed strides) (length-as_read order to))
+    (map-as_read order signed strides) (length-as_read order to))
 
 -- ---- what is answered of a walk in an order
 module _ {X : Type 0} {order read : Order} where
@@ -101,7 +99,7 @@ module _ {X : Type 0} {order read : Order} where
       (all_signed (as_read read out))) → OnOk result (reshape_fault order from (all_signed strides) to ≡ None)
   filled-fits from strides to out (Ok done) is w room sizes alike =
       ap (λ o. reshape_fault o from (all_signed strides) to) is ∙ none-read read from strides to (as_read read out) w
-          (room ∙ length-as_read read to) sizes alike
+      (room ∙ length-as_read read to) sizes alike
   filled-fits from strides to out (Err kind) is w room sizes alike = tt
 
   pub filled-strides : (from strides to out : List ℕ) (result : Result X ShapeError) → order ≡ read
@@ -111,7 +109,7 @@ module _ {X : Type 0} {order read : Order} where
       to)
   filled-strides from strides to out (Ok done) is room made =
       sym (ap all_signed (as_read-as_read read out)) ∙ forced-read read from strides to (as_read read out) (room ∙ length-as_read read to)
-          made ∙ sym (ap (λ o. forced_strides o from (all_signed strides) to) is)
+      made ∙ sym (ap (λ o. forced_strides o from (all_signed strides) to) is)
   filled-strides from strides to out (Err kind) is room made = tt
 
 -- strides that are those of the definition keep the places
@@ -122,9 +120,9 @@ pub keeps-filled : {order : Order} {from strides to lens steps news : List ℕ} 
 keeps-filled {order} {from} {strides} {to} {lens} {steps} given e f g some more count none made =
     let fault : reshape_fault order from (all_signed strides) to ≡ None = sym (ap (λ x. reshape_fault order x (all_signed strides) to) e)
     ∙ sym (ap (λ x. reshape_fault order lens (all_signed x) to) f) ∙ sym (ap (λ x. reshape_fault order lens (all_signed steps) x) g)
-        ∙ none in
+    ∙ none in
     let forced : all_signed given ≡ forced_strides order from (all_signed strides) to = made
-        ∙ ap (λ x. forced_strides order lens (all_signed steps) x) g
+    ∙ ap (λ x. forced_strides order lens (all_signed steps) x) g
     ∙ ap (λ x. forced_strides order lens (all_signed x) to) f ∙ ap (λ x. forced_strides order x (all_signed strides) to) e in
     subst (Keeps order from (all_signed strides) to) (sym forced) (forced-keeps order from (all_signed strides) to some more count
-        ((fault-exactly order from (all_signed strides) to).0 fault))
+    ((fault-exactly order from (all_signed strides) to).0 fault))

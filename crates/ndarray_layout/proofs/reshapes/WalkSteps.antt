@@ -15,7 +15,7 @@ take-split start end items l =
     let whole : start + (end - start) ≡ end = omega arith in
     sym (take-append-drop start (take end items))
     ∙ ap₂ (λ xs ys. xs ++ ys) (take-take start end items l) (ap (λ n. drop start (take n items)) (sym whole) ∙ drop-take start (end - start)
-        items)
+    items)
 
 pub take-nonempty : (lens : List ℕ) (k : ℕ) → is_empty lens ≡ false → is_empty (take k lens) ≡ false
 take-nonempty lens k h = (nonempty-parts (take k lens) (drop k lens) (ap is_empty (take-append-drop k lens) ∙ h)).0
@@ -36,9 +36,9 @@ segments-size from to i i_end k k_end h l g e f =
 pub alike-step : (from : List ℕ) (strides : List ℤ) (to : List ℕ) (others news : List ℤ) (i i_end k k_end : ℕ) (step : ℤ)
     → is_empty from ≡ false → is_empty to ≡ false → length from ≡ length strides → length to ≡ length news →
     i ≤ i_end → k ≤ k_end → i_end ≤ length from → k_end ≤ length to → size (take i from) ≡ size (take k to) → size (take i_end from)
-        ≡ size (take k_end to) → take k news ≡ take k others →
+    ≡ size (take k_end to) → take k news ≡ take k others →
     IsDense (segment i i_end from) (segment i i_end strides) step → IsDense (segment k k_end to) (segment k k_end news) step
-        → PlacesAlike (take i from) (take i strides) (take k to) (take k others) →
+    → PlacesAlike (take i from) (take i strides) (take k to) (take k others) →
     PlacesAlike (take i_end from) (take i_end strides) (take k_end to) (take k_end news)
 alike-step from strides to others news i i_end k k_end step h g c d l m f t e u kept dense news_dense alike =
     let lens = segment i i_end from in
@@ -48,23 +48,23 @@ alike-step from strides to others news i i_end k k_end step h g c d l m f t e u 
     run-of-dense new_lens (segment k k_end news) step r (segment-nonempty to k k_end g) news_dense (omega arith)
     ∙ sym (run-of-dense lens (segment i i_end strides) step r (segment-nonempty from i i_end h) dense below) in
     let front : PlacesAlike (take i from) (take i strides) (take k to) (take k news) =
-        subst (PlacesAlike (take i from) (take i strides) (take k to)) (sym kept) alike in
+    subst (PlacesAlike (take i from) (take i strides) (take k to)) (sym kept) alike in
     let from_count : length (take i from) ≡ length (take i strides) = length-take-le i from (omega arith)
-        ∙ sym (length-take-le i strides (omega arith)) in
+    ∙ sym (length-take-le i strides (omega arith)) in
     let to_count : length (take k to) ≡ length (take k news) = length-take-le k to (omega arith)
-        ∙ sym (length-take-le k news (omega arith)) in
+    ∙ sym (length-take-le k news (omega arith)) in
     let whole = places-append (take i from) (take i strides) (take k to) (take k news) lens (segment i i_end strides) new_lens
-        (segment k k_end news) from_count to_count (take-nonempty from i h) (take-nonempty to k g) (segment-nonempty from i i_end h) e
-        seg_size front like in
+    (segment k k_end news) from_count to_count (take-nonempty from i h) (take-nonempty to k g) (segment-nonempty from i i_end h) e
+    seg_size front like in
     let first : PlacesAlike (take i_end from) (take i strides ++ segment i i_end strides) (take k to ++ new_lens)
-        (take k news ++ segment k k_end news) = subst (λ xs. PlacesAlike xs (take i strides ++ segment i i_end strides)
-        (take k to ++ new_lens) (take k news ++ segment k k_end news)) (sym (take-split i i_end from l)) whole in
+    (take k news ++ segment k k_end news) = subst (λ xs. PlacesAlike xs (take i strides ++ segment i i_end strides)
+    (take k to ++ new_lens) (take k news ++ segment k k_end news)) (sym (take-split i i_end from l)) whole in
     let second : PlacesAlike (take i_end from) (take i_end strides) (take k to ++ new_lens) (take k news ++ segment k k_end news) =
-        subst (λ xs. PlacesAlike (take i_end from) xs (take k to ++ new_lens) (take k news ++ segment k k_end news))
-        (sym (take-split i i_end strides l)) first in
+    subst (λ xs. PlacesAlike (take i_end from) xs (take k to ++ new_lens) (take k news ++ segment k k_end news))
+    (sym (take-split i i_end strides l)) first in
     let third : PlacesAlike (take i_end from) (take i_end strides) (take k_end to) (take k news ++ segment k k_end news) =
-        subst (λ xs. PlacesAlike (take i_end from) (take i_end strides) xs (take k news ++ segment k k_end news))
-        (sym (take-split k k_end to m)) second in
+    subst (λ xs. PlacesAlike (take i_end from) (take i_end strides) xs (take k news ++ segment k k_end news))
+    (sym (take-split k k_end to m)) second in
     subst (λ xs. PlacesAlike (take i_end from) (take i_end strides) (take k_end to) xs) (sym (take-split k k_end news m)) third
 
 -- no axes step as one

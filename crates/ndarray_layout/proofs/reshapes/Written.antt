@@ -110,7 +110,7 @@ from-on zero {from} {strides} {to} out {i} {k} w room e over ones at = let end :
 from-on (suc n) {to} out {i} {k} w room e over ones at =
     let past = get_or_past to k 0 (over (omega arith)) in
     from-on n out w room (omega arith) (λ some. over (omega arith)) (λ j above under. ones j (omega arith) under)
-        (written-from out w (ones i (omega arith) (omega arith)) (λ one. omega arith) room at)
+    (written-from out w (ones i (omega arith) (omega arith)) (λ one. omega arith) room at)
 
 to-on : (n : ℕ) {from : List ℕ} {strides : List ℤ} {to : List ℕ} (out : List ℕ) {i k : ℕ} → CanWalk from strides to → length out ≡ length to
     → k + n ≡ length to → length from ≤ i → ((j : ℕ) → k ≤ j → j < length to → get_or to j 0 ≡ 1)
@@ -122,7 +122,7 @@ to-on (suc n) {from} out {i} {k} w room e over ones news at =
     let past = get_or_past from i 0 over in
     to-on n out w room (omega arith) over (λ j above under. ones j (omega arith) under) (λ j above under. news j (omega arith) under)
     (written-to out out w (λ one. omega arith) (ones k (omega arith) (omega arith)) room room (λ j l. refl)
-        (news k (omega arith) (omega arith)) at)
+    (news k (omega arith) (omega arith)) at)
 
 module _ {from : List ℕ} {strides : List ℤ} {to : List ℕ} where
   -- what is written later changes nothing of it
@@ -130,7 +130,7 @@ module _ {from : List ℕ} {strides : List ℤ} {to : List ℕ} where
       → HasStridesUpTo from strides to (all_signed out) i k → HasStridesUpTo from strides to (all_signed news) i k
   written-stays out news {i} {k} room count kept at =
       let same : take k (all_signed news) ≡ take k (all_signed out) = take-map signed k news
-          ∙ ap all_signed (take-same news out k (count ∙ sym room) kept) ∙ sym (take-map signed k out) in
+      ∙ ap all_signed (take-same news out k (count ∙ sym room) kept) ∙ sym (take-map signed k out) in
       record {
         reached = at.reached;
         alike = subst (PlacesAlike (take i from) (take i strides) (take k to)) (sym same) at.alike;
@@ -163,13 +163,13 @@ module _ {from : List ℕ} {strides : List ℤ} {to : List ℕ} where
       let count = length-map out signed in
       let counts = w.same_count in
       let first : PlacesAlike from (take (length from) strides) (take (length to) to) (take (length to) (all_signed out)) =
-          subst (λ xs. PlacesAlike xs (take (length from) strides) (take (length to) to) (take (length to) (all_signed out)))
-          (take_all (length from) from (omega arith)) at.alike in
+      subst (λ xs. PlacesAlike xs (take (length from) strides) (take (length to) to) (take (length to) (all_signed out)))
+      (take_all (length from) from (omega arith)) at.alike in
       let second : PlacesAlike from strides (take (length to) to) (take (length to) (all_signed out)) =
-          subst (λ xs. PlacesAlike from xs (take (length to) to) (take (length to) (all_signed out)))
-          (take_all (length from) strides (omega arith)) first in
+      subst (λ xs. PlacesAlike from xs (take (length to) to) (take (length to) (all_signed out)))
+      (take_all (length from) strides (omega arith)) first in
       let third : PlacesAlike from strides to (take (length to) (all_signed out)) =
-          subst (λ xs. PlacesAlike from strides xs (take (length to) (all_signed out))) (take_all (length to) to (omega arith)) second in
+      subst (λ xs. PlacesAlike from strides xs (take (length to) (all_signed out))) (take_all (length to) to (omega arith)) second in
       subst (PlacesAlike from strides to) (take_all (length to) (all_signed out) (omega arith)) third
 
   pub whole-strides : (out : List ℕ) → CanWalk from strides to → length out ≡ length to

@@ -1,4 +1,3 @@
-use Rattle.nd_base.specs.Signed.{all_signed}
 use Rattle.ndarray_layout.proofs.reshapes.Turned.{keeps-filled}
 use Rattle.ndarray_layout.proofs.laws.Keeps.{fault-complete, keeps-agree}
 use Rattle.ndarray_layout.proofs.reshape.reshape_dim.Goals as goal
@@ -24,4 +23,4 @@ returns-clause-forced g c = λ others k. keeps-agree c.requires.from_some c.requ
 pub returns-clause-keeps : goal.returns-clause-keeps
 returns-clause-keeps g c = keeps-filled (g.E.Lengths.list c.fill_reshaped.new.out)
     c.slice.ensures.list c.slice-2.ensures.list c.slice-3.ensures.list c.requires.from_some c.requires.to_some c.requires.valid.same_count
-        c.in_ok-fill_reshaped.ensures.fits c.in_ok-fill_reshaped.ensures.strides
+    c.in_ok-fill_reshaped.ensures.fits c.in_ok-fill_reshaped.ensures.strides

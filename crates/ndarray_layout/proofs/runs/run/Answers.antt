@@ -1,10 +1,10 @@
 -- Each step fits what those before it left, or ends the run of them all.
-use Rattle.std.proofs.Common.{◌≡◌, ℕ, ◌<◌, List, [], Some, map, take, length, get_or, sym, ap, subst, ◌∙◌, refl, arith}
+use Rattle.std.proofs.Common.{◌≡◌, ℕ, ◌<◌, List, Some, map, length, get_or, sym, ap, subst, ◌∙◌, refl, arith}
 use Rattle.std.specs.List.{slice_get}
 use Rattle.std.specs.Option.{option_map}
 use Rattle.std.proofs.lemmas.List.{length-map, take_all}
 use Rattle.std.proofs.lemmas.Option.{slice_get-get_or, slice_get-map}
-use Rattle.ndarray_layout.specs.Run.{IsRefusedBy, Leave, StopsAt}
+use Rattle.ndarray_layout.specs.Run.{Leave}
 use Rattle.ndarray_layout.specs.declared.runs.Step.{Step}
 use Rattle.ndarray_layout.specs.Step.{step_value}
 use Rattle.ndarray_layout.proofs.TakenSteps.{left_by, not_stopped, one_more, stopped}

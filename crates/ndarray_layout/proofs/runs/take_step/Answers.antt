@@ -1,6 +1,5 @@
 -- Each step makes of the view what its call makes of it, and is refused as its call is.
-use Rattle.std.proofs.Common.{◌≡◌, Result, Ok, Err, sym, subst, ◌∙◌}
-use Rattle.std.specs.Result.{IfErr, IsErrAnd}
+use Rattle.std.proofs.Common.{◌∙◌}
 use Rattle.std.proofs.lemmas.Bool.{ltb-false}
 use Rattle.nd_slice.specs.ArgumentFault.{out_count}
 use Rattle.nd_base.specs.declared.error.LayoutError.TheVariants.{Shape}
@@ -21,7 +20,7 @@ returns-in_err-sliced-in-Slice-clause-fault c =
     let elems = c.in-Slice.elems.items in
     let known = c.in_err-sliced-in-Slice.ensures in
     let refused = refused_of View (SliceBy elems c.in-Slice.fit) c.in_err-sliced-in-Slice.field-0.0 c.requires tt known.fault
-        (λ none few. known.memory none (ltb-false 4 (out_count elems) few)) in
+    (λ none few. known.memory none (ltb-false 4 (out_count elems) few)) in
     rw (c.in-Slice.is) (IfErr-handed_on (λ e. IsRefusedBy view e (SliceBy elems c.in-Slice.fit)) c.from_residual.result c.from_residual.ensures.1 refused)
 
 pub returns-in_err-merge_axes_of-in-Merge-clause-fault : goal.returns-in_err-merge_axes_of-in-Merge-clause-fault

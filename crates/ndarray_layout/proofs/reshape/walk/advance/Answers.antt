@@ -1,5 +1,4 @@
 use Rattle.std.proofs.Common.{arith, sym, ◌∙◌}
-use Rattle.nd_base.specs.Signed.{signed, all_signed}
 use Rattle.ndarray_layout.proofs.reshapes.Advance.{steps-fit}
 use Rattle.ndarray_layout.proofs.reshapes.Halfway.{len-fits}
 use Rattle.ndarray_layout.proofs.reshapes.Written.{both-set, to-set, written-from, written-block}
@@ -9,9 +8,9 @@ use Rattle.nd_base.proofs.laws.Size.{length_pos}
 pub returns-then-from_len-to_len-clause-written : goal.returns-then-from_len-to_len-clause-written
 returns-then-from_len-to_len-clause-written g c =
     both-set (g.S.Sequence.items c.args.strides.now) (g.O.Sequence.items c.args.out.now) c.requires.can_walk c.requires.from_left
-        c.requires.to_left
+    c.requires.to_left
     (sym c.item-from_len.ensures ∙ c.if-from_len-to_len.true ∙ c.item-to_len.ensures) c.requires.room c.set.ensures.items c.item.ensures
-        c.requires.written
+    c.requires.written
 
 pub returns-then-from_len-eq1-clause-written : goal.returns-then-from_len-eq1-clause-written
 returns-then-from_len-eq1-clause-written g c =
@@ -22,7 +21,7 @@ pub returns-then-to_len-eq1-clause-written : goal.returns-then-to_len-eq1-clause
 returns-then-to_len-eq1-clause-written g c =
     to-set (g.O.Sequence.items c.args.out.now) c.requires.can_walk c.requires.to_left
     (λ e. c.if-from_len-eq1.false (c.item-from_len.ensures ∙ e)) (sym c.item-to_len.ensures ∙ c.if-to_len-eq1.true) c.requires.room
-        c.set-then-to_len-eq1.ensures.items c.requires.written
+    c.set-then-to_len-eq1.ensures.items c.requires.written
 
 pub next_block-requires-clause-from_longer : goal.next_block-requires-clause-from_longer
 next_block-requires-clause-from_longer g c =
@@ -49,7 +48,7 @@ write_block-requires-clause-steps_fit g c =
     let same = c.item-to_len.ensures in
     let other = c.if-to_len-eq1.false in
     λ j above below. steps-fit j c.requires.can_walk c.requires.written.reached c.in_ok-block.ensures.reached c.in_ok-block.ensures.block
-        (omega (arith, some, same, other)) above below
+    (omega (arith, some, same, other)) above below
 
 pub returns-clause-written : goal.returns-clause-written
 returns-clause-written g c =
@@ -58,7 +57,7 @@ returns-clause-written g c =
     let same = c.item-to_len.ensures in
     let other = c.if-to_len-eq1.false in
     written-block (g.O.Sequence.items c.args.out.now) (g.O.Sequence.items c.write_block.new.out) c.requires.can_walk
-        (omega (arith, some, same, other)) c.in_ok-block.ensures.reached c.in_ok-block.ensures.block c.in_ok-block.ensures.inside
-        c.in_ok-block.ensures.further
+    (omega (arith, some, same, other)) c.in_ok-block.ensures.reached c.in_ok-block.ensures.block c.in_ok-block.ensures.inside
+    c.in_ok-block.ensures.further
     c.requires.room (c.write_block.ensures.room ∙ c.requires.room) c.write_block.ensures.kept c.write_block.ensures.written
-        c.requires.written
+    c.requires.written

@@ -41,8 +41,8 @@ overflow_mul-to_product g c =
     let count = c.len.ensures in
     let end = c.if-to_end-len.false in
     let fits = product-fits (g.T.Sequence.items c.args.to.now) (g.S.Sequence.items c.args.from.now) c.args.start.from_axes l.to_end
-        l.to_product c.requires.can_walk.more c.requires.can_walk.some c.requires.can_walk.to_fits (omega arith) l.invariant.half.to_size
-        at.ensures in
+    l.to_product c.requires.can_walk.more c.requires.can_walk.some c.requires.can_walk.to_fits (omega arith) l.invariant.half.to_size
+    at.ensures in
     omega (arith, fits)
 
 pub loop-from_product-preserved-then-from_product-to_product : goal.loop-from_product-preserved-then-from_product-to_product
@@ -56,7 +56,7 @@ loop-from_product-preserved-then-from_product-to_product g c =
     let from_size = l.invariant.half.from_size in
     let to_size = l.invariant.half.to_size in
     let below = sizes-below (g.S.Sequence.items c.args.from.now) c.args.start.from_axes l.to_product l.from_product c.requires.can_walk.some
-        (omega arith) in
+    (omega arith) in
     record {
       half = halfway-to c.requires.can_walk l.invariant.half (omega arith) (omega arith) at.ensures;
       inside = inside-to c.requires.can_walk.some c.requires.can_walk.more (omega arith) l.invariant.inside;
@@ -79,7 +79,7 @@ is_whole-requires g c =
     let count = c.len-in-loop-from_product.ensures in
     let end = c.if-from_end-len.false in
     let fits = len-fits (g.S.Sequence.items c.args.from.now) l.from_end c.requires.can_walk.some c.requires.can_walk.from_fits
-        (omega arith) in
+    (omega arith) in
     let same = c.item-len.ensures in
     omega (arith, fits, same)
 
@@ -103,8 +103,8 @@ overflow_mul-from_product g c =
     let count = c.len-in-loop-from_product.ensures in
     let end = c.if-from_end-len.false in
     let fits = product-fits (g.S.Sequence.items c.args.from.now) (g.S.Sequence.items c.args.from.now) c.args.start.from_axes l.from_end
-        l.from_product c.requires.can_walk.some c.requires.can_walk.some c.requires.can_walk.from_fits (omega arith)
-        l.invariant.half.from_size c.item-len.ensures in
+    l.from_product c.requires.can_walk.some c.requires.can_walk.some c.requires.can_walk.from_fits (omega arith)
+    l.invariant.half.from_size c.item-len.ensures in
     omega (arith, fits)
 
 pub loop-from_product-preserved : goal.loop-from_product-preserved
@@ -127,13 +127,13 @@ loop-from_product-preserved g c =
       half = elim c.if-len-gt1.branch [
         | then-len-gt1+else-not-is_whole w ↦
             subst (λ s. IsHalfway from strides to c.args.start.from_axes c.args.start.to_axes (l.from_end + 1) l.to_end
-                (l.from_product * c.item-len.result) l.to_product (signed s)) (sym w.step-is)
+            (l.from_product * c.item-len.result) l.to_product (signed s)) (sym w.step-is)
             (halfway-longer c.requires.can_walk l.invariant.half below left c.item-len.ensures w.if-len-gt1.true
             (stride-read (g.S.Sequence.items c.args.strides.now) l.from_end w.item-next.ensures)
             (w.is_whole.ensures.0 w.if-not-is_whole.false))
         | else-len-gt1 w ↦
             subst (λ s. IsHalfway from strides to c.args.start.from_axes c.args.start.to_axes (l.from_end + 1) l.to_end
-                (l.from_product * c.item-len.result) l.to_product (signed s)) (sym w.step-is)
+            (l.from_product * c.item-len.result) l.to_product (signed s)) (sym w.step-is)
             (halfway-one c.requires.can_walk l.invariant.half below left c.item-len.ensures w.if-len-gt1.false)
       ];
       inside = inside-from c.requires.can_walk.some (omega arith) l.invariant.inside;

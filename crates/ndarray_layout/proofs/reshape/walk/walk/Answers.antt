@@ -22,11 +22,11 @@ returns-then-not-only_ones-clause-fault g c =
     let l = c.loop-at in
     let at = l.invariant.written.reached in
     let over : c.loop-at.at.from_axes < length (g.S.Sequence.items c.args.from.now)
-        → length (g.T.Sequence.items c.args.to.now) ≤ c.loop-at.at.to_axes =
-        elim c.loop-at-test.branch [
-          | then-loop-at-test+else-at-len w ↦ λ some. let end = w.if-at-len.false in let count = w.len-in-loop-at.ensures in omega arith
-          | else-loop-at-test w ↦ λ some. let end = w.loop-at-test.false in let count = c.len.ensures in absurd (omega arith)
-        ] in
+    → length (g.T.Sequence.items c.args.to.now) ≤ c.loop-at.at.to_axes =
+    elim c.loop-at-test.branch [
+      | then-loop-at-test+else-at-len w ↦ λ some. let end = w.if-at-len.false in let count = w.len-in-loop-at.ensures in omega arith
+      | else-loop-at-test w ↦ λ some. let end = w.loop-at-test.false in let count = c.len.ensures in absurd (omega arith)
+    ] in
     elim c.then-not-only_ones.branch [
       | then-not-only_ones-via-then-not-only_ones w ↦
           let left = c.only_ones.ensures.longer w.if-not-only_ones.true in
@@ -34,7 +34,7 @@ returns-then-not-only_ones-clause-fault g c =
       | then-not-only_ones-via-else-not-only_ones+then-not-only_ones-2 w ↦
           let left = w.only_ones-else-not-only_ones.ensures.longer w.if-not-only_ones-2.true in
           to-left-fault left.0 c.requires.can_walk at (elim (cases_lt l.at.from_axes (length (g.S.Sequence.items c.args.from.now)))
-              [ inl some ↦ absurd (let end = over some in omega (arith, left.1, left.2)) | inr past ↦ past ]) left.1 left.2 left.3
+          [ inl some ↦ absurd (let end = over some in omega (arith, left.1, left.2)) | inr past ↦ past ]) left.1 left.2 left.3
     ]
     ∙ ap Some (sym c.from_kind.ensures)
 
@@ -47,11 +47,11 @@ whole g c =
     let l = c.loop-at in
     let count = c.write_ones.ensures.room in
     let over : c.loop-at.at.from_axes < length (g.S.Sequence.items c.args.from.now)
-        → length (g.T.Sequence.items c.args.to.now) ≤ c.loop-at.at.to_axes =
-        elim c.loop-at-test.branch [
-          | then-loop-at-test+else-at-len w ↦ λ some. let end = w.if-at-len.false in let count = w.len-in-loop-at.ensures in omega arith
-          | else-loop-at-test w ↦ λ some. let end = w.loop-at-test.false in let count = c.len.ensures in absurd (omega arith)
-        ] in
+    → length (g.T.Sequence.items c.args.to.now) ≤ c.loop-at.at.to_axes =
+    elim c.loop-at-test.branch [
+      | then-loop-at-test+else-at-len w ↦ λ some. let end = w.if-at-len.false in let count = w.len-in-loop-at.ensures in omega arith
+      | else-loop-at-test w ↦ λ some. let end = w.loop-at-test.false in let count = c.len.ensures in absurd (omega arith)
+    ] in
     let from_ones = c.only_ones.ensures.ones c.if-not-only_ones.false in
     let to_ones = c.only_ones-else-not-only_ones.ensures.ones c.if-not-only_ones-2.false in
     written-whole (g.O.Sequence.items l.out) (g.O.Sequence.items c.write_ones.new.out) l.at.from_axes l.at.to_axes c.requires.can_walk

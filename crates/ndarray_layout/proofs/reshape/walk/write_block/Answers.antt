@@ -53,7 +53,7 @@ overflow_mul-stride g c =
     let low = c.loop-k-test.true in
     let high = v.high in
     let z = next-stride lens c.args.end k l.stride-bits c.args.step within (omega arith) high (let small = c.requires.len_fits (k - 1)
-        (omega arith) in let same = c.item.ensures in omega (arith, small, same)) v.stride_is c.item.ensures in
+    (omega arith) in let same = c.item.ensures in omega (arith, small, same)) v.stride_is c.item.ensures in
     next-fits lens c.args.end k c.args.step (omega arith) (c.requires.steps_fit (k - 1 - 1) (omega arith) (omega arith)) z
 
 pub loop-k-preserved : goal.loop-k-preserved
@@ -68,11 +68,11 @@ loop-k-preserved g c =
     let room = v.room in
     let product = to_z w64 l.stride-bits *ℤ to_z w64 c.item.result in
     let z = next-stride lens c.args.end k l.stride-bits c.args.step within (omega arith) high (let small = c.requires.len_fits (k - 1)
-        (omega arith) in let same = c.item.ensures in omega (arith, small, same)) v.stride_is c.item.ensures in
+    (omega arith) in let same = c.item.ensures in omega (arith, small, same)) v.stride_is c.item.ensures in
     let fits = next-fits lens c.args.end k c.args.step (omega arith) (c.requires.steps_fit (k - 1 - 1) (omega arith) (omega arith)) z in
     let kept = to_z-of_z w64 product fits in
     let value : signed c.unsigned.result ≡ pos (size (drop (k - 1) (take c.args.end lens))) *ℤ signed c.args.step = c.unsigned.ensures.back
-        ∙ kept ∙ z in
+    ∙ kept ∙ z in
     let out = g.O.Sequence.items l.out in
     let made = c.set-in-loop-k.ensures.items in
     let inside : k - 1 - 1 < length out = omega arith in

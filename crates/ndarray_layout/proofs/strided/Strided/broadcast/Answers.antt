@@ -21,7 +21,7 @@ broadcast g c = rw (c.in_ok-dim.ensures.shape, c.in_ok-dim.ensures.strides, c.sl
 kept : (g : Over) (c : In_ok-dim g) → IsViewOf (broadcast_source (here g c).shape) (here g c) (written g c)
 kept g c =
     let none : broadcast_fault (g.E.Lengths.list c.args.shape.now) (here g c).shape
-        ≡ None = rw (c.slice.ensures.list) at (sym c.in_ok-dim.ensures.fault) in
+    ≡ None = rw (c.slice.ensures.list) at (sym c.in_ok-dim.ensures.fault) in
     rw (broadcast g c) (IsViewOf-broadcast_of (g.E.Lengths.list c.args.shape.now) c.self.invariant none)
 
 pub invariant_of-result : goal.invariant_of-result

@@ -1,9 +1,9 @@
 -- What was written is the collapse of the view, and so all that is known of collapses holds of it.
-use Rattle.std.proofs.Common.{rules, ◌≡◌, None, FitsSigned, pos, ◌+ℤ◌, ◌*ℤ◌, ◌≤ℤ◌, get_or, sym, ap, ◌∙◌, refl}
+use Rattle.std.proofs.Common.{rules, ◌≡◌, None, FitsSigned, pos, ◌+ℤ◌, ◌*ℤ◌, ◌≤ℤ◌, get_or, ap, ◌∙◌, refl}
 use Rattle.std.specs.Int.{w64}
 use Rattle.std.proofs.Math.ListN.{get_or-map}
 use Rattle.std.proofs.lemmas.Int.{to_z-of_z}
-use Rattle.nd_base.proofs.laws.Definitions.{all_signed, magnitude, signed, limit}
+use Rattle.nd_base.proofs.laws.Definitions.{magnitude, signed, limit}
 use Rattle.ndarray_layout.specs.CollapsedView.{collapse_fault, collapse_of, collapse_source}
 use Rattle.ndarray_layout.specs.Descends.{Descends}
 use Rattle.ndarray_layout.specs.View.{View, view_of}
@@ -53,7 +53,7 @@ collapsed g c =
     let offset = c.do_collapse_axis-offset.result in
     let f : FitsSigned w64 offset = search rules in
     let start = ap magnitude (c.offset_place-self-inside.ensures ∙ ap (λ z. pos c.self.inside.start +ℤ z) (to_z-of_z w64 offset f
-        ∙ moved g c.before)) in
+    ∙ moved g c.before)) in
     let shape = rw c.index.ensures at c.do_collapse_axis-offset.ensures.dims in
     rw (start, shape) refl
 

@@ -22,15 +22,15 @@ view_along low same valid = rw (low, same) (lowest_view valid)
 pub invariant_of-result : goal.invariant_of-result
 invariant_of-result g c =
     view_along c.offset_from_low_addr_ptr_to_logical_ptr-start.ensures c.in_ok-strides.ensures.list
-        c.in_ok-can_index_slice_with_strides.ensures.valid
+    c.in_ok-can_index_slice_with_strides.ensures.valid
 
 pub returns-clause-is_view : goal.returns-clause-is_view
 returns-clause-is_view g c =
     view_along c.offset_from_low_addr_ptr_to_logical_ptr-start.ensures c.in_ok-strides.ensures.list
-        c.in_ok-can_index_slice_with_strides.ensures.valid
+    c.in_ok-can_index_slice_with_strides.ensures.valid
 
 pub returns-clause-rule : goal.returns-clause-rule
 returns-clause-rule g c = λ why some.
     subst (λ strides. MeetsOwnedRule (g.D.Lengths.list c.args.shape.dim) (all_signed strides)) (sym c.in_ok-strides.ensures.list)
     (by_strides_meet g.D.Lengths.list c.args.elem_size c.args.len (g.D.Lengths.list c.args.shape.dim) c.args.shape.strides
-        (sym c.in_ok-can_index_slice_with_strides.ensures.fault) why some)
+    (sym c.in_ok-can_index_slice_with_strides.ensures.fault) why some)

@@ -1,5 +1,5 @@
 -- Where both arguments fit and the view's places are distinct, the slices meet exactly where they share a place.
-use Rattle.std.proofs.Common.{◌≡◌, ◌↔◌, Bool, Option, None, Some, List, refl, sym, subst}
+use Rattle.std.proofs.Common.{◌≡◌, ◌↔◌, Bool, List, sym, subst}
 use Rattle.std.specs.Option.{option_or}
 use Rattle.std.specs.Prelude.{IsTrue, IfOk, Result, Ok, Err}
 use Rattle.std.specs.Result.{result_err}
@@ -11,7 +11,7 @@ use Rattle.nd_slice.specs.Meet.{Meet}
 use Rattle.ndarray_layout.specs.DistinctPlaces.{HasDistinctPlaces}
 use Rattle.ndarray_layout.specs.SharePlace.{SharePlace}
 use Rattle.ndarray_layout.specs.SlicedView.{slice_of}
-use Rattle.ndarray_layout.specs.View.{View, IsView, view_of}
+use Rattle.ndarray_layout.specs.View.{View, IsView}
 use Rattle.ndarray_layout.proofs.laws.SharePlace.{meet_is_shared_place}
 use Rattle.ndarray_layout.proofs.laws.View.{lens_fit}
 use Rattle.ndarray_layout.proofs.strided.Strided.meets.Goals as goal

@@ -39,7 +39,7 @@ outcome : (g : Over) (c : goal.After-merge_axes g)
     ≡ cond c.merge_axes.result (merge_of c.args.take.0 c.args.into.0 c.args.self.now) c.args.self.now
 outcome g c =
     written c.merge_axes.result c.self.inside.start c.args.take.0 c.args.into.0 (g.D.Lengths.list c.self.inside.dim)
-        (g.D.Lengths.list c.self.inside.strides) c.merge_axes.ensures.shape c.merge_axes.ensures.strides
+    (g.D.Lengths.list c.self.inside.strides) c.merge_axes.ensures.shape c.merge_axes.ensures.strides
     ∙ ap (λ (view : View). cond c.merge_axes.result (merge_of c.args.take.0 c.args.into.0 view) view) c.self.view_is
 
 -- it was merged exactly where some stride has the entries of both
@@ -48,7 +48,7 @@ fits g c =
     let shape = g.D.Lengths.list c.self.inside.dim in
     let strides = g.D.Lengths.list c.self.inside.strides in
     let here : (c.merge_axes.result ≡ true) ↔ HasMergedStride c.args.take.0 c.args.into.0 (view_of c.self.inside.start shape strides) =
-        rw (get_or-map signed strides c.args.take.0 0, get_or-map signed strides c.args.into.0 0) c.merge_axes.ensures.fits in
+    rw (get_or-map signed strides c.args.take.0 0, get_or-map signed strides c.args.into.0 0) c.merge_axes.ensures.fits in
     subst (λ (view : View). (c.merge_axes.result ≡ true) ↔ HasMergedStride c.args.take.0 c.args.into.0 view) c.self.view_is here
 
 whole : (g : Over) (c : goal.After-merge_axes g) → IsView c.args.self.now
@@ -57,12 +57,12 @@ whole g c = subst IsView c.self.view_is c.self.invariant
 -- where it was merged, the view is one of the same data
 kept : (g : Over) (c : goal.After-merge_axes g) → c.merge_axes.result ≡ true
     → Descends (merge_source c.args.take.0 c.args.into.0 c.args.self.now.shape) c.args.self.now
-        (merge_of c.args.take.0 c.args.into.0 c.args.self.now)
+    (merge_of c.args.take.0 c.args.into.0 c.args.self.now)
 kept g c merged =
     let axes : axes_fault (g.D.Lengths.list c.self.inside.dim) c.args.take.0 c.args.into.0
-        ≡ None = rw c.slice.ensures.list at (sym c.in_ok-check_axes.ensures) in
+    ≡ None = rw c.slice.ensures.list at (sym c.in_ok-check_axes.ensures) in
     Descends-merge_of c.args.take.0 c.args.into.0 c.args.self.now (whole g c) (no_fault_where_it_can c.args.take.0 c.args.into.0
-        c.args.self.now (record {
+    c.args.self.now (record {
       axes = subst (λ (view : View). axes_fault view.shape c.args.take.0 c.args.into.0 ≡ None) c.self.view_is axes;
       stride = (has_merged_stride-Decides c.args.take.0 c.args.into.0 c.args.self.now).1 ((fits g c).0 merged);
     }))

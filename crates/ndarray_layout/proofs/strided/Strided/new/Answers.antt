@@ -14,5 +14,5 @@ returns-clause-is_view g c = rw c.offset_from_low_addr_ptr_to_logical_ptr-start.
 pub returns-clause-distinct : goal.returns-clause-distinct
 returns-clause-distinct g c = λ owned.
     distinct_from_acceptance c.args.elem_size c.args.len c.offset_from_low_addr_ptr_to_logical_ptr-start.result
-        (g.D.Lengths.list c.args.dim) (all_signed (g.D.Lengths.list c.args.strides))
-        (rw owned at (sym c.in_ok-can_index_slice.ensures.fault))
+    (g.D.Lengths.list c.args.dim) (all_signed (g.D.Lengths.list c.args.strides))
+    (rw owned at (sym c.in_ok-can_index_slice.ensures.fault))

@@ -1,9 +1,7 @@
 -- Which shapes have an index says what is left to refuse.
-use Rattle.std.proofs.Common.{◌≡◌, ◌≤◌, true, false, Result, Ok, Err, sym, ap, subst, ◌∙◌}
+use Rattle.std.proofs.Common.{◌≡◌, ◌≤◌, false, sym, ap, subst, ◌∙◌}
 use Rattle.std.specs.Prelude.{None, IfErr, IfOk, OnOk}
 use Rattle.std.proofs.lemmas.Bool.{false≢true}
-use Rattle.std.specs.Result.{IsErrAnd}
-use Rattle.nd_base.specs.declared.error.LayoutError.TheVariants.{Memory}
 use Rattle.nd_base.proofs.laws.Definitions.{NeedsNoMemory, all_signed, is_empty, limit, nonzero_size}
 use Rattle.ndarray_layout.specs.ReshapedView.{IsReshapeRefusal, reshape_refusal, reshaped_strides as strides_of}
 use Rattle.ndarray_layout.specs.View.{View, view_of}
@@ -19,16 +17,16 @@ returns-in_err-zeros-clause-fault g c =
     let to = g.E.Lengths.list c.args.shape.now in
     let fits : nonzero_size to ≤ limit = within_limit (nonzero_size to) c.in_ok-size_of_shape_checked.ensures.fault in
     let empty = both_are c.contains-is_empty.ensures.value c.contains.ensures.value c.slice-lens.ensures.list c.slice-new_lens.ensures.list
-        c.if-is_empty-contains.false c.if-is_empty.true in
+    c.if-is_empty-contains.false c.if-is_empty.true in
     let asks = subst (λ (v : View). (nonzero_size to ≤ limit) × (is_empty to ≡ is_empty v.shape)) c.self.view_is
-        (fits, empty.1 ∙ sym empty.0) in
+    (fits, empty.1 ∙ sym empty.0) in
     let few = λ (none : NeedsNoMemory g.E.FixedCount.NDIM (length to)). false≢true (c.in_err-zeros.ensures.memory (rw c.ndim.ensures.count none)) in
     IfErr-handed_on (λ e. IsReshapeRefusal g.E.FixedCount.NDIM c.args.order to c.args.self.now e) c.from_residual-in_err-zeros.result c.from_residual-in_err-zeros.ensures.1 (asks, few)
 
 pub returns-then-is_empty-clause-strides : goal.returns-then-is_empty-clause-strides
 returns-then-is_empty-clause-strides g c =
     let empty = both_are c.contains-is_empty.ensures.value c.contains.ensures.value c.slice-lens.ensures.list c.slice-new_lens.ensures.list
-        c.if-is_empty-contains.false c.if-is_empty.true in
+    c.if-is_empty-contains.false c.if-is_empty.true in
     ap all_signed (c.in_ok-zeros.ensures.list)
     ∙ rw c.ndim.ensures.count (strides_of_none c.args.order (g.E.Lengths.list c.args.shape.now) c.args.self.now empty.1)
 
@@ -55,11 +53,11 @@ returns-clause-fault g c =
     let to = g.E.Lengths.list c.args.shape.now in
     subst (λ (v : View). IfErr c.reshape_dim.result (λ e. IsReshapeRefusal g.E.FixedCount.NDIM c.args.order to v e)) c.self.view_is
     (refused_between _ c.reshape_dim.result g.E.FixedCount.NDIM c.args.order to (here g c) (fits g c) (some g c).0 (some g c).1
-        c.reshape_dim.ensures.fault c.reshape_dim.ensures.memory)
+    c.reshape_dim.ensures.fault c.reshape_dim.ensures.memory)
 
 pub returns-clause-strides : goal.returns-clause-strides
 returns-clause-strides g c =
     let to = g.E.Lengths.list c.args.shape.now in
     subst (λ (v : View). IfOk c.reshape_dim.result (λ d. all_signed (g.E.Lengths.list d) ≡ strides_of c.args.order to v)) c.self.view_is
     (subst (λ strides. IfOk c.reshape_dim.result (λ d. all_signed (g.E.Lengths.list d) ≡ strides))
-        (sym (strides_between c.args.order to (here g c) (some g c).1)) c.reshape_dim.ensures.strides)
+    (sym (strides_between c.args.order to (here g c) (some g c).1)) c.reshape_dim.ensures.strides)

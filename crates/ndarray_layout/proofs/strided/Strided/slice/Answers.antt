@@ -1,5 +1,5 @@
 -- What was written is the slice of the view, and so all that is known of slices holds of it.
-use Rattle.std.proofs.Common.{rules, ◌≡◌, None, FitsSigned, pos, ◌+ℤ◌, ◌≤ℤ◌, sym, ap, subst, ◌∙◌, refl}
+use Rattle.std.proofs.Common.{rules, ◌≡◌, None, FitsSigned, pos, ◌+ℤ◌, ◌≤ℤ◌, sym, ap, ◌∙◌, refl}
 use Rattle.std.specs.Int.{w64}
 use Rattle.std.proofs.lemmas.Int.{to_z-of_z}
 use Rattle.nd_base.proofs.laws.Definitions.{magnitude, limit}
@@ -53,9 +53,15 @@ sliced : (g : Over) (c : After-offset_place-start g)
 sliced g c =
     let f : FitsSigned w64 c.in_ok-dim.offset = search rules in
     let start = ap magnitude (c.offset_place-start.ensures ∙ ap (λ z. pos c.self.inside.start +ℤ z) (to_z-of_z w64 c.in_ok-dim.offset f
-        ∙ c.in_ok-dim.ensures.offset)) in
-    rw (start, c.in_ok-dim.ensures.shape, c.in_ok-dim.ensures.strides, c.slice-shape.ensures.list, c.slice-strides.ensures.list,
-        c.elems.ensures) refl
+    ∙ c.in_ok-dim.ensures.offset)) in
+    rw (
+      start,
+      c.in_ok-dim.ensures.shape,
+      c.in_ok-dim.ensures.strides,
+      c.slice-shape.ensures.list,
+      c.slice-strides.ensures.list,
+      c.elems.ensures,
+    ) refl
 
 -- so it is a view of the same data
 kept : (g : Over) (c : After-offset_place-start g)

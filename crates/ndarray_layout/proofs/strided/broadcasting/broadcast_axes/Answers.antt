@@ -9,7 +9,7 @@ pub returns-in_err-check_broadcast-clause-fault : goal.returns-in_err-check_broa
 returns-in_err-check_broadcast-clause-fault g c =
     let same : shape_fault c.from_residual.result ≡ Some c.in_err-check_broadcast.field-0.0 = search rules in
     let fault : Some c.in_err-check_broadcast.field-0.0 ≡ broadcast_fault (g.E.Lengths.list c.args.shape.now) c.args.view_shape.now =
-        c.in_err-check_broadcast.ensures in
+    c.in_err-check_broadcast.ensures in
     cc
 
 pub stretched-requires-clause-fewer : goal.stretched-requires-clause-fewer

@@ -35,16 +35,19 @@ pub push_entries-places-requires : goal.push_entries-places-requires
 push_entries-places-requires t c =
     let order = c.args.order in
     let known = entry_of order c.args.start c.loop-i.i c.args.shape.now c.in-Some-Some.lens.now c.args.strides.now c.in-Some-Some.rest.now
-        c.in-Some-Some.ensures.0 c.in-Some-Some.ensures'.0 c.requires.view c.loop-i-test.true in
+    c.in-Some-Some.ensures.0 c.in-Some-Some.ensures'.0 c.requires.view c.loop-i-test.true in
     let whole : size (as_read order c.args.shape.now) ≡ c.in-Some-Some.len * size (as_read order c.in-Some-Some.lens.now) =
-        ap size c.in-Some-Some.ensures.0 in (
+    ap size c.in-Some-Some.ensures.0 in (
       omega (arith, c.in-Some-Some.ensures.1),
       (
         omega (arith, c.in-Some-Some.ensures.1, c.requires.few),
         (
           rw (as_read_signed order c.in-Some-Some.rest.now) (known.inner c.entry_place.result c.entry_place.ensures),
-          omega (arith, room_for (vec_len c.args.places) c.loop-i.i c.in-Some-Some.len (size (as_read order c.in-Some-Some.lens.now))
-              (vec_capacity c.args.places) c.loop-i-test.true whole c.requires.room),
+          omega (
+            arith,
+            room_for (vec_len c.args.places) c.loop-i.i c.in-Some-Some.len (size (as_read order c.in-Some-Some.lens.now))
+                (vec_capacity c.args.places) c.loop-i-test.true whole c.requires.room,
+          ),
         ),
       ),
     )
@@ -54,7 +57,7 @@ loop-i-preserved t c =
     let order = c.args.order in
     let inner = rw (as_read_signed order c.in-Some-Some.rest.now) at c.push_entries-places.ensures.items in
     let more = places_more c.args.start c.loop-i.i (as_read order c.in-Some-Some.lens.now) (signed c.in-Some-Some.stride)
-        (all_signed (as_read order c.in-Some-Some.rest.now)) c.entry_place.ensures in
+    (all_signed (as_read order c.in-Some-Some.rest.now)) c.entry_place.ensures in
     record {
       items = row_after _ _ _ inner c.loop-i.invariant.items more;
       len = omega (arith, c.push_entries-places.ensures.len, c.loop-i.invariant.len);
@@ -65,28 +68,31 @@ pub returns-after-loop-i-clause-items : goal.returns-after-loop-i-clause-items
 returns-after-loop-i-clause-items t c =
     let all : c.loop-i.i ≡ c.in-Some-Some.len = omega arith in
     let whole = walk_whole c.args.order c.args.start c.args.shape.now c.in-Some-Some.lens.now c.args.strides.now c.in-Some-Some.rest.now
-        c.in-Some-Some.ensures.0 c.in-Some-Some.ensures'.0 all in
+    c.in-Some-Some.ensures.0 c.in-Some-Some.ensures'.0 all in
     c.loop-i.invariant.items ∙ ap (λ xs. map pos c.args.places.items ++ xs) whole
 
 -- where one axis is left the whole view is one row
 row_of : (order : Order) (start : ℕ) {len stride : ℕ} (shape lens strides rest : List ℕ) → as_read order shape ≡ len ∷ as_read order lens
     → as_read order strides ≡ stride ∷ as_read order rest → IsView (view_as_read order start shape (all_signed strides)) → length lens ≡ 0
     → (view_as_read order start shape (all_signed strides) ≡ row_view start len (signed stride)) × (size (as_read order shape) ≡ len)
-row_of order start shape lens strides rest e f view none = (view_of_row order start shape lens strides rest e f none view, size_of_row order
-    shape lens e none)
+row_of order start shape lens strides rest e f view none = (
+  view_of_row order start shape lens strides rest e f none view,
+  size_of_row order
+      shape lens e none,
+)
 
 pub push_row-requires : goal.push_row-requires
 push_row-requires t c =
     let none : length c.in-Some-Some.lens.now ≡ 0 = grind (arith, common_steps) in
     let row = row_of c.args.order c.args.start c.args.shape.now c.in-Some-Some.lens.now c.args.strides.now c.in-Some-Some.rest.now
-        c.in-Some-Some.ensures.0 c.in-Some-Some.ensures'.0 c.requires.view none in
+    c.in-Some-Some.ensures.0 c.in-Some-Some.ensures'.0 c.requires.view none in
     record { view = subst IsView row.0 c.requires.view; room = omega (arith, c.requires.room, row.1) }
 
 pub returns-then-is_empty : goal.returns-then-is_empty
 returns-then-is_empty t c =
     let none : length c.in-Some-Some.lens.now ≡ 0 = grind (arith, common_steps) in
     let row = row_of c.args.order c.args.start c.args.shape.now c.in-Some-Some.lens.now c.args.strides.now c.in-Some-Some.rest.now
-        c.in-Some-Some.ensures.0 c.in-Some-Some.ensures'.0 c.requires.view none in
+    c.in-Some-Some.ensures.0 c.in-Some-Some.ensures'.0 c.requires.view none in
     record {
       items = c.push_row.ensures.items ∙ ap (λ view. map pos c.args.places.items ++ view_places RowMajor view) (sym row.0);
       len = omega (arith, c.push_row.ensures.len, row.1);

@@ -24,7 +24,7 @@ walked_view : (order : Order) (start : ℕ) (shape strides : List ℕ) {lens kep
     → kept ≡ of_longer shape strides → IsView (view_of start shape strides) → IsView (view_as_read order start lens (all_signed kept))
 walked_view order start shape strides e f view =
     subst IsView (sym (walked order start shape strides e f)) (IsView-as_read order start (of_longer shape shape)
-        (of_longer shape (all_signed strides)) (IsView-longer_view view))
+    (of_longer shape (all_signed strides)) (IsView-longer_view view))
 
 walked_places : (order : Order) (start : ℕ) (shape strides : List ℕ) {lens kept : List ℕ} → lens ≡ of_longer shape shape
     → kept ≡ of_longer shape strides → IsView (view_of start shape strides)
@@ -53,7 +53,7 @@ returns-in-Some-clause-items c =
     let lens = c.lens.ensures.list ∙ c.in-Some.ensures.lens in
     let kept = c.strides.ensures ∙ c.in-Some.ensures.strides in
     c.push_entries.ensures.items ∙ ap (λ xs. map pos c.args.places.items ++ xs) (walked_places c.args.order c.args.start c.args.shape.now
-        c.args.strides.now lens kept c.requires.view)
+    c.args.strides.now lens kept c.requires.view)
 
 pub returns-in-Some-clause-len : goal.returns-in-Some-clause-len
 returns-in-Some-clause-len c =

@@ -18,12 +18,17 @@ loop-entry-init c = record {
 pub entry_place-requires : goal.entry_place-requires
 entry_place-requires c =
     let entry = entry_within c.args.start c.args.len [] (signed c.args.stride) [] c.loop-entry.entry c.requires.view
-        c.loop-entry-test.true in
+    c.loop-entry-test.true in
     record { small = omega (arith, entry.small); first = entry.first; low = entry.low; high = entry.high }
 
 pub push_reserved-requires : goal.push_reserved-requires
-push_reserved-requires c = omega (arith, c.requires.room, c.loop-entry.invariant.len, c.loop-entry.invariant.capacity,
-    c.loop-entry-test.true)
+push_reserved-requires c = omega (
+  arith,
+  c.requires.room,
+  c.loop-entry.invariant.len,
+  c.loop-entry.invariant.capacity,
+  c.loop-entry-test.true,
+)
 
 pub loop-entry-preserved : goal.loop-entry-preserved
 loop-entry-preserved c =
@@ -40,7 +45,7 @@ pub returns-clause-items : goal.returns-clause-items
 returns-clause-items c =
     let all : c.loop-entry.entry ≡ c.args.len = omega (arith, c.loop-entry-test.false, c.loop-entry.auto.entry-end) in
     c.loop-entry.invariant.items
-        ∙ ap (λ n. map pos c.args.places.items ++ view_places RowMajor (row_view c.args.start n (signed c.args.stride))) all
+    ∙ ap (λ n. map pos c.args.places.items ++ view_places RowMajor (row_view c.args.start n (signed c.args.stride))) all
 
 pub returns-clause-len : goal.returns-clause-len
 returns-clause-len c = omega (arith, c.loop-entry.invariant.len, c.loop-entry-test.false, c.loop-entry.auto.entry-end)

@@ -7,7 +7,7 @@ use Rattle.nd_base.specs.declared.error.ErrorKind.{ErrorKind}
 use Rattle.nd_base.proofs.laws.Definitions.{NeedsNoMemory, shape_fault, all_signed}
 use Rattle.nd_slice.specs.declared.fit.Fit.{Fit}
 use Rattle.nd_slice.specs.declared.elem.SliceInfoElem.{SliceInfoElem}
-use Rattle.nd_slice.specs.ArgumentFault.{first_fault, out_count}
+use Rattle.nd_slice.specs.ArgumentFault.{first_fault}
 use Rattle.nd_slice.specs.Counts.{HasCounts}
 use Rattle.ndarray_layout.specs.SlicedView.{slice_refusal}
 use Rattle.ndarray_layout.proofs.laws.SlicedView.{refusal_of_counts}
@@ -32,25 +32,25 @@ pub returns-in_err-check_before_memory-clause-fault : goal.returns-in_err-check_
 returns-in_err-check_before_memory-clause-fault g c =
     let same : shape_fault c.from_residual.result ≡ Some c.in_err-check_before_memory.field-0.0 = search rules in
     same ∙ c.in_err-check_before_memory.ensures.fault ∙ sym (refused c.args.fit c.args.shape.now c.NDIM.ensures c.has_counts.ensures
-        c.if-not-has_counts.false)
+    c.if-not-has_counts.false)
 
 pub returns-in_err-dim-clause-fault : goal.returns-in_err-dim-clause-fault
 returns-in_err-dim-clause-fault g c =
     let same : shape_fault c.from_residual-in_err-dim.result ≡ None = search rules in
     same ∙ sym ((refused c.args.fit c.args.shape.now c.NDIM.ensures c.has_counts.ensures c.if-not-has_counts.false)
-        ∙ no_fault c.out_ndim_of-ndim.result c.NDIM-2.ensures c.in_ok-check_before_memory.ensures.passed c.in_err-dim.ensures.memory)
+    ∙ no_fault c.out_ndim_of-ndim.result c.NDIM-2.ensures c.in_ok-check_before_memory.ensures.passed c.in_err-dim.ensures.memory)
 
 pub returns-in_err-kept-clause-fault : goal.returns-in_err-kept-clause-fault
 returns-in_err-kept-clause-fault g c =
     let same : shape_fault c.from_residual-in_err-kept.result ≡ None = search rules in
     same ∙ sym ((refused c.args.fit c.args.shape.now c.NDIM.ensures c.has_counts.ensures c.if-not-has_counts.false)
-        ∙ no_fault c.out_ndim_of-ndim.result c.NDIM-2.ensures c.in_ok-check_before_memory.ensures.passed c.in_err-kept.ensures.memory)
+    ∙ no_fault c.out_ndim_of-ndim.result c.NDIM-2.ensures c.in_ok-check_before_memory.ensures.passed c.in_err-kept.ensures.memory)
 
 pub returns-in_err-offset-clause-fault : goal.returns-in_err-offset-clause-fault
 returns-in_err-offset-clause-fault g c =
     let same : shape_fault c.from_residual-in_err-offset.result ≡ Some c.in_err-offset.field-0.0 = search rules in
     same ∙ c.in_err-offset.ensures.fault ∙ sym (refused c.args.fit c.args.shape.now c.NDIM.ensures c.has_counts.ensures
-        c.if-not-has_counts.false)
+    c.if-not-has_counts.false)
 
 pub write_axes-requires-clause-counts : goal.write_axes-requires-clause-counts
 write_axes-requires-clause-counts g c = (counted c.args.shape.now c.NDIM.ensures c.has_counts.ensures c.if-not-has_counts.false).in_fits

@@ -1,8 +1,7 @@
-use Rattle.std.proofs.Common.{rules, ◌≡◌, Some, FitsSigned, arith, sym, ◌∙◌, to_z, of_z}
+use Rattle.std.proofs.Common.{rules, ◌≡◌, Some, FitsSigned, arith, sym, ◌∙◌}
 use Rattle.std.specs.Int.{w64}
 use Rattle.std.specs.Result.{result_err}
 use Rattle.std.proofs.lemmas.Int.{to_z-of_z}
-use Rattle.nd_base.specs.Signed.{all_signed}
 use Rattle.ndarray_layout.proofs.SliceSteps.{none_sliced, all_sliced, axis_there, room_there, at_elem, at_both, slice_arm, slice_at_fault}
 use Rattle.ndarray_layout.proofs.SliceSteps.{index_arm, index_at_fault, index_within, new_axis_step}
 use Rattle.ndarray_layout.proofs.strided.slicing.write_axes.Goals as goal
@@ -11,13 +10,13 @@ use Rattle.ndarray_layout.proofs.strided.slicing.write_axes.Goals.{in-Slice+in_o
 pub slice_axis-requires-clause-len_fits : goal.slice_axis-requires-clause-len_fits
 slice_axis-requires-clause-len_fits c =
     let at = at_both c.args.strides.now _ c.loop-elem.elem-index c.loop-elem.old_axis c.requires.valid c.loop-elem-test.true c.in-Slice.is
-        (omega arith) c.loop-elem.invariant in
+    (omega arith) c.loop-elem.invariant in
     omega (arith, at.len_fits)
 
 pub slice_axis-requires-clause-span_fits : goal.slice_axis-requires-clause-span_fits
 slice_axis-requires-clause-span_fits c =
     let at = at_both c.args.strides.now _ c.loop-elem.elem-index c.loop-elem.old_axis c.requires.valid c.loop-elem-test.true c.in-Slice.is
-        (omega arith) c.loop-elem.invariant in
+    (omega arith) c.loop-elem.invariant in
     at.reach_fits
 
 pub overflow_add-offset : goal.overflow_add-offset
@@ -27,9 +26,9 @@ overflow_add-offset c =
     let h : FitsSigned w64 c.in_ok-len-in-Slice.moved = search rules in
     let known = rw (to_z-of_z w64 c.in-Slice.start f, to_z-of_z w64 c.in-Slice.step g) at c.in_ok-len-in-Slice.ensures in
     let at = at_both c.args.strides.now _ c.loop-elem.elem-index c.loop-elem.old_axis c.requires.valid c.loop-elem-test.true c.in-Slice.is
-        (omega arith) c.loop-elem.invariant in
+    (omega arith) c.loop-elem.invariant in
     (slice_arm (record { start = c.in-Slice.start; end = c.in-Slice.end; step = c.in-Slice.step }) c.in_ok-len-in-Slice.stride
-        c.requires.valid at known.count known.stride (to_z-of_z w64 c.in_ok-len-in-Slice.moved h ∙ known.offset) (sym known.fault)).fits
+    c.requires.valid at known.count known.stride (to_z-of_z w64 c.in_ok-len-in-Slice.moved h ∙ known.offset) (sym known.fault)).fits
 
 pub returns-in_err-len-in-Slice-clause-fault : goal.returns-in_err-len-in-Slice-clause-fault
 returns-in_err-len-in-Slice-clause-fault c =
@@ -37,7 +36,7 @@ returns-in_err-len-in-Slice-clause-fault c =
     let g : FitsSigned w64 c.in-Slice.step = search rules in
     let known = rw (to_z-of_z w64 c.in-Slice.start f, to_z-of_z w64 c.in-Slice.step g) at c.in_err-len-in-Slice.ensures in
     let at = at_both c.args.strides.now _ c.loop-elem.elem-index c.loop-elem.old_axis c.requires.valid c.loop-elem-test.true c.in-Slice.is
-        (omega arith) c.loop-elem.invariant in
+    (omega arith) c.loop-elem.invariant in
     let same : result_err c.from_residual.result ≡ Some c.in_err-len-in-Slice.field-0.0 = search rules in
     same ∙ slice_at_fault (record { start = c.in-Slice.start; end = c.in-Slice.end; step = c.in-Slice.step }) known.fault at.so_far
 
@@ -46,7 +45,7 @@ returns-in_err-entry-in-Index-clause-fault c =
     let f : FitsSigned w64 c.in-Index.index = search rules in
     let known = rw (to_z-of_z w64 c.in-Index.index f) at c.in_err-entry-in-Index.ensures in
     let at = at_both c.args.strides.now _ c.loop-elem.elem-index c.loop-elem.old_axis c.requires.valid c.loop-elem-test.true c.in-Index.is
-        (omega arith) c.loop-elem.invariant in
+    (omega arith) c.loop-elem.invariant in
     let same : result_err c.from_residual-in_err-entry-in-Index.result ≡ Some c.in_err-entry-in-Index.field-0.0 = search rules in
     same ∙ index_at_fault _ known.fault at.so_far
 
@@ -55,7 +54,7 @@ stride_offset-offset-requires-clause-small c =
     let f : FitsSigned w64 c.in-Index.index = search rules in
     let known = rw (to_z-of_z w64 c.in-Index.index f) at c.in_ok-entry-in-Index.ensures in
     let at = at_both c.args.strides.now _ c.loop-elem.elem-index c.loop-elem.old_axis c.requires.valid c.loop-elem-test.true c.in-Index.is
-        (omega arith) c.loop-elem.invariant in
+    (omega arith) c.loop-elem.invariant in
     let entry = index_within at (sym known.fault) in
     omega (arith, entry.small c.in_ok-entry-in-Index.entry known.entry)
 
@@ -64,7 +63,7 @@ stride_offset-offset-requires-clause-fits c =
     let f : FitsSigned w64 c.in-Index.index = search rules in
     let known = rw (to_z-of_z w64 c.in-Index.index f) at c.in_ok-entry-in-Index.ensures in
     let at = at_both c.args.strides.now _ c.loop-elem.elem-index c.loop-elem.old_axis c.requires.valid c.loop-elem-test.true c.in-Index.is
-        (omega arith) c.loop-elem.invariant in
+    (omega arith) c.loop-elem.invariant in
     let entry = index_within at (sym known.fault) in
     entry.offset_fits c.in_ok-entry-in-Index.entry known.entry
 
@@ -74,7 +73,7 @@ overflow_add-offset-in-Index c =
     let f : FitsSigned w64 c.in-Index.index = search rules in
     let known = rw (to_z-of_z w64 c.in-Index.index f) at c.in_ok-entry-in-Index.ensures in
     let at = at_both c.args.strides.now _ c.loop-elem.elem-index c.loop-elem.old_axis c.requires.valid c.loop-elem-test.true c.in-Index.is
-        (omega arith) c.loop-elem.invariant in
+    (omega arith) c.loop-elem.invariant in
     let moved = rw known.entry at c.stride_offset-offset.ensures in
     (index_arm _ c.requires.valid at (to_z-of_z w64 c.stride_offset-offset.result h ∙ moved) (sym known.fault)).fits
 
@@ -87,20 +86,20 @@ loop-elem-preserved c =
           let h : FitsSigned w64 w.in_ok-len-in-Slice.moved = search rules in
           let known = rw (to_z-of_z w64 w.in-Slice.start f, to_z-of_z w64 w.in-Slice.step g) at w.in_ok-len-in-Slice.ensures in
           let at = at_both c.args.strides.now _ c.loop-elem.elem-index c.loop-elem.old_axis c.requires.valid c.loop-elem-test.true
-              w.in-Slice.is (omega arith) c.loop-elem.invariant in
+          w.in-Slice.is (omega arith) c.loop-elem.invariant in
           rw (w.old_axis-is, w.new_axis-is, w.new_shape-is, w.new_strides-is, w.offset-is)
-              (slice_arm (record { start = w.in-Slice.start; end = w.in-Slice.end; step = w.in-Slice.step }) w.in_ok-len-in-Slice.stride
-              c.requires.valid at known.count known.stride (to_z-of_z w64 w.in_ok-len-in-Slice.moved h ∙ known.offset)
-              (sym known.fault)).next
+          (slice_arm (record { start = w.in-Slice.start; end = w.in-Slice.end; step = w.in-Slice.step }) w.in_ok-len-in-Slice.stride
+          c.requires.valid at known.count known.stride (to_z-of_z w64 w.in_ok-len-in-Slice.moved h ∙ known.offset)
+          (sym known.fault)).next
       | in-Index+in_ok-entry-in-Index w ↦
           let h : FitsSigned w64 w.stride_offset-offset.result = search rules in
           let f : FitsSigned w64 w.in-Index.index = search rules in
           let known = rw (to_z-of_z w64 w.in-Index.index f) at w.in_ok-entry-in-Index.ensures in
           let at = at_both c.args.strides.now _ c.loop-elem.elem-index c.loop-elem.old_axis c.requires.valid c.loop-elem-test.true
-              w.in-Index.is (omega arith) c.loop-elem.invariant in
+          w.in-Index.is (omega arith) c.loop-elem.invariant in
           let moved = rw known.entry at w.stride_offset-offset.ensures in
           rw (w.old_axis-is, w.new_axis-is, w.new_shape-is, w.new_strides-is, w.offset-is)
-              (index_arm _ c.requires.valid at (to_z-of_z w64 w.stride_offset-offset.result h ∙ moved) (sym known.fault)).next
+          (index_arm _ c.requires.valid at (to_z-of_z w64 w.stride_offset-offset.result h ∙ moved) (sym known.fault)).next
       | in-NewAxis w ↦
           let here = at_elem c.loop-elem.elem-index _ c.loop-elem-test.true w.in-NewAxis.is c.loop-elem.invariant in
           rw (w.old_axis-is, w.new_axis-is, w.new_shape-is, w.new_strides-is, w.offset-is) (new_axis_step here)
