@@ -269,7 +269,8 @@ at_both {fit} {elems} {shape} strides {one} other k axis {new} {ns} {nt} {offset
 pub record Stepped (fit : Fit) (elems : List SliceInfoElem) (shape strides : List ℕ) (k axis new : ℕ) (ns nt : List ℕ) (offset : ℤ) : Type 0
   where
     pub fits : FitsSigned w64 offset
-    pub next : SlicedSoFar fit elems shape (all_signed strides) (drop (k + 1) elems) (drop axis shape) (drop axis (all_signed strides)) new ns
+    pub next : SlicedSoFar fit elems shape (all_signed strides) (drop (k + 1) elems) (drop axis shape) (drop axis (all_signed strides)) new
+        ns
         nt (to_z w64 (of_z w64 offset))
 
 stepped : {fit : Fit} {elems : List SliceInfoElem} {shape strides : List ℕ} {k axis new : ℕ} {ns nt : List ℕ} {offset : ℤ}

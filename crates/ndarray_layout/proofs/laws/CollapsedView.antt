@@ -65,7 +65,8 @@ first_entry : {start : ℕ} (stride : ℤ) → pos start +ℤ (pos 0 *ℤ stride
 first_entry (pos s) = omega (arith, ints)
 first_entry (negsuc s) = omega (arith, ints)
 
--- where the last axis has its first entry alone, the places left begin the rows that it makes: the places of the view are those of the rows, in order
+-- where the last axis has its first entry alone, the places left begin the rows that it makes: the places of the view are those of
+-- the rows, in order
 pub places-collapse_of_last : (view : View) (last : ℕ) (starts : List ℕ) → length view.shape ≡ last + 1 → length view.strides ≡ last + 1
     → map pos starts ≡ view_places RowMajor (collapse_of last 0 view)
     → view_places RowMajor view

@@ -125,7 +125,8 @@ keeps-exactly order from strides to some more e = (λ fits. make fits, λ k. fit
 -- on each axis of more than one entry all strides that keep the places are those of the definition
 pub keeps-forced : {order : Order} {from : List ℕ} {strides : List ℤ} {to : List ℕ} {others : List ℤ} (axis : ℕ) → is_empty to ≡ false
     → length from ≡ length strides → Keeps order from strides to others → axis < length to → 1 < get_or (as_read order to) axis 0
-    → get_or (as_read order others) axis (pos 0) ≡ offset_at_rank (as_read order from) (as_read order strides) (size_after (as_read order to) axis)
+    → get_or (as_read order others) axis (pos 0) ≡ offset_at_rank (as_read order from) (as_read order strides)
+    (size_after (as_read order to) axis)
 keeps-forced {order} {from} {strides} {to} {others} axis more e k l long =
     let sizes = size-of-keeps k in
     let equal : length (as_read order to) ≡ length (as_read order others) = length-as_read order to ∙ k.same_count

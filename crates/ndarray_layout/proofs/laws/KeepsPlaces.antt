@@ -63,7 +63,8 @@ places_are_kept order source view result keeps =
     let places = view_places order view in
     let stays : (index : List ℕ) → is_index result.shape index ≡ true → Contains places (place_at result index) = λ index here.
     let kept = keeps index here in
-    subst (Contains places) (sym kept.1) (Contains-map (place_at view) (indices_in order view.shape) (Contains-indices_in order view.shape (source index) kept.0)) in
+    subst (Contains places) (sym kept.1) (Contains-map (place_at view) (indices_in order view.shape)
+    (Contains-indices_in order view.shape (source index) kept.0)) in
     let indices = indices_in order result.shape in
     All-map (Contains places) (place_at result) indices (All-weaker (λ index. is_index result.shape index ≡ true)
     (λ index. Contains places (place_at result index)) stays indices (All-indices_in order result.shape))

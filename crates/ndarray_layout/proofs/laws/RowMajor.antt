@@ -19,7 +19,8 @@ pub place_at_rank : (order : Order) (shape index : List ℕ) {view : View} → I
     → is_index shape index ≡ true → place_at view index ≡ pos (rank_in order shape index)
 place_at_rank order shape index v is here =
     let top : nonzero_size shape ≤ limit = subst (λ lens. nonzero_size lens ≤ limit) (ap (λ made. made.shape) is) v.valid.size_fits in
-    rw (is, standard_low_span order shape top, standard_signed order shape top, offset_of-standard_strides order shape index here) (omega (arith, ints))
+    rw (is, standard_low_span order shape top, standard_signed order shape top, offset_of-standard_strides order shape index here)
+    (omega (arith, ints))
 
 -- the flat index of row i and column j of n rows of m
 pub rank_of_row : (n m i j : ℕ) → rank_in RowMajor (n ∷ m ∷ []) (i ∷ j ∷ []) ≡ i * m + j

@@ -22,7 +22,8 @@ same_bits false true same = absurd (cc)
 same_bits false false same = refl
 
 -- so where neither shape alone has an index, both have one or none has
-pub both_are : {here there b : Bool} {lens shape from to : List ℕ} → here ≡ is_empty lens → there ≡ is_empty shape → lens ≡ from → shape ≡ to
+pub both_are : {here there b : Bool} {lens shape from to : List ℕ} → here ≡ is_empty lens → there ≡ is_empty shape
+    → lens ≡ from → shape ≡ to
     → not (beq here there) ≡ false → here ≡ b → (is_empty from ≡ b) × (is_empty to ≡ b)
 both_are {here = here} {there = there} value also lens shape same is =
     (ap is_empty (sym lens) ∙ sym value ∙ is, ap is_empty (sym shape) ∙ sym also ∙ sym (same_bits here there same) ∙ is)

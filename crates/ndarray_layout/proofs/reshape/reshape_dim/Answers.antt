@@ -9,10 +9,12 @@ pub returns-in_err-others-clause-forced : goal.returns-in_err-others-clause-forc
 returns-in_err-others-clause-forced g c = λ others k. keeps-agree c.requires.from_some c.requires.to_some c.requires.valid.same_count k
 
 pub returns-in_err-fill_reshaped-clause-complete : goal.returns-in_err-fill_reshaped-clause-complete
-returns-in_err-fill_reshaped-clause-complete g c = fault-complete _ _ _ _ c.requires.from_some c.requires.to_some c.requires.valid.same_count
+returns-in_err-fill_reshaped-clause-complete g c = fault-complete _ _ _ _ c.requires.from_some c.requires.to_some
+    c.requires.valid.same_count
 
 pub returns-in_err-fill_reshaped-clause-forced : goal.returns-in_err-fill_reshaped-clause-forced
-returns-in_err-fill_reshaped-clause-forced g c = λ others k. keeps-agree c.requires.from_some c.requires.to_some c.requires.valid.same_count k
+returns-in_err-fill_reshaped-clause-forced g c = λ others k. keeps-agree c.requires.from_some c.requires.to_some c.requires.valid.same_count
+    k
 
 pub returns-clause-complete : goal.returns-clause-complete
 returns-clause-complete g c = fault-complete _ _ _ _ c.requires.from_some c.requires.to_some c.requires.valid.same_count

@@ -21,7 +21,8 @@ returns-in_err-sliced-in-Slice-clause-fault c =
     let known = c.in_err-sliced-in-Slice.ensures in
     let refused = refused_of View (SliceBy elems c.in-Slice.fit) c.in_err-sliced-in-Slice.field-0.0 c.requires tt known.fault
     (λ none few. known.memory none (ltb-false 4 (out_count elems) few)) in
-    rw (c.in-Slice.is) (IfErr-handed_on (λ e. IsRefusedBy view e (SliceBy elems c.in-Slice.fit)) c.from_residual.result c.from_residual.ensures.1 refused)
+    rw (c.in-Slice.is) (IfErr-handed_on (λ e. IsRefusedBy view e (SliceBy elems c.in-Slice.fit)) c.from_residual.result
+    c.from_residual.ensures.1 refused)
 
 pub returns-in_err-merge_axes_of-in-Merge-clause-fault : goal.returns-in_err-merge_axes_of-in-Merge-clause-fault
 returns-in_err-merge_axes_of-in-Merge-clause-fault c =
@@ -32,7 +33,8 @@ returns-in_err-merge_axes_of-in-Merge-clause-fault c =
     let refused = refused_of (Unit {0}) step (Shape kind) c.requires tt known.fault (λ none few.
     let e = known.fault ∙ none in
     cc) in
-    rw (c.in-Merge.is) (IfErr-handed_on (λ e. IsRefusedBy view e step) c.from_residual-in_err-merge_axes_of-in-Merge.result c.from_residual-in_err-merge_axes_of-in-Merge.ensures.1 refused)
+    rw (c.in-Merge.is) (IfErr-handed_on (λ e. IsRefusedBy view e step) c.from_residual-in_err-merge_axes_of-in-Merge.result
+    c.from_residual-in_err-merge_axes_of-in-Merge.ensures.1 refused)
 
 pub returns-in_err-reshaped-in-Reshape-clause-fault : goal.returns-in_err-reshaped-in-Reshape-clause-fault
 returns-in_err-reshaped-in-Reshape-clause-fault c =
@@ -41,7 +43,8 @@ returns-in_err-reshaped-in-Reshape-clause-fault c =
     let order = c.in-Reshape.order in
     let fault = c.in_err-reshaped-in-Reshape.field-0.0 in
     let refused = reshape_refused_of shape order fault c.requires c.in_err-reshaped-in-Reshape.ensures.fault in
-    rw (c.in-Reshape.is) (IfErr-handed_on (λ e. IsRefusedBy view e (ReshapeTo shape order)) c.from_residual-in_err-reshaped-in-Reshape.result c.from_residual-in_err-reshaped-in-Reshape.ensures.1 refused)
+    rw (c.in-Reshape.is) (IfErr-handed_on (λ e. IsRefusedBy view e (ReshapeTo shape order))
+    c.from_residual-in_err-reshaped-in-Reshape.result c.from_residual-in_err-reshaped-in-Reshape.ensures.1 refused)
 
 pub returns-clause-taken : goal.returns-clause-taken
 returns-clause-taken c =

@@ -63,8 +63,10 @@ returns-clause-sizes g c = whole-sizes (whole g c)
 
 pub returns-clause-alike : goal.returns-clause-alike
 returns-clause-alike g c =
-    whole-alike (g.O.Sequence.items c.write_ones.new.out) c.requires.can_walk (c.write_ones.ensures.room ∙ c.loop-at.invariant.room) (whole g c)
+    whole-alike (g.O.Sequence.items c.write_ones.new.out) c.requires.can_walk
+    (c.write_ones.ensures.room ∙ c.loop-at.invariant.room) (whole g c)
 
 pub returns-clause-strides : goal.returns-clause-strides
 returns-clause-strides g c =
-    whole-strides (g.O.Sequence.items c.write_ones.new.out) c.requires.can_walk (c.write_ones.ensures.room ∙ c.loop-at.invariant.room) (whole g c)
+    whole-strides (g.O.Sequence.items c.write_ones.new.out) c.requires.can_walk
+    (c.write_ones.ensures.room ∙ c.loop-at.invariant.room) (whole g c)

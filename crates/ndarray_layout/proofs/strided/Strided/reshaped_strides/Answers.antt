@@ -20,8 +20,10 @@ returns-in_err-zeros-clause-fault g c =
     c.if-is_empty-contains.false c.if-is_empty.true in
     let asks = subst (λ (v : View). (nonzero_size to ≤ limit) × (is_empty to ≡ is_empty v.shape)) c.self.view_is
     (fits, empty.1 ∙ sym empty.0) in
-    let few = λ (none : NeedsNoMemory g.E.FixedCount.NDIM (length to)). false≢true (c.in_err-zeros.ensures.memory (rw c.ndim.ensures.count none)) in
-    IfErr-handed_on (λ e. IsReshapeRefusal g.E.FixedCount.NDIM c.args.order to c.args.self.now e) c.from_residual-in_err-zeros.result c.from_residual-in_err-zeros.ensures.1 (asks, few)
+    let few = λ (none : NeedsNoMemory g.E.FixedCount.NDIM (length to)).
+    false≢true (c.in_err-zeros.ensures.memory (rw c.ndim.ensures.count none)) in
+    IfErr-handed_on (λ e. IsReshapeRefusal g.E.FixedCount.NDIM c.args.order to c.args.self.now e) c.from_residual-in_err-zeros.result
+    c.from_residual-in_err-zeros.ensures.1 (asks, few)
 
 pub returns-then-is_empty-clause-strides : goal.returns-then-is_empty-clause-strides
 returns-then-is_empty-clause-strides g c =
@@ -35,7 +37,8 @@ abbrev here : (g : Over) → goal.After-reshape_dim g → View
 here g c = view_of c.self.inside.start (g.D.Lengths.list c.self.inside.dim) (g.D.Lengths.list c.self.inside.strides)
 
 -- where both shapes have an index
-some : (g : Over) (c : goal.After-reshape_dim g) → (is_empty (here g c).shape ≡ false) × (is_empty (g.E.Lengths.list c.args.shape.now) ≡ false)
+some : (g : Over) (c : goal.After-reshape_dim g)
+    → (is_empty (here g c).shape ≡ false) × (is_empty (g.E.Lengths.list c.args.shape.now) ≡ false)
 some g c = both_are c.contains-is_empty.ensures.value c.contains.ensures.value c.slice-lens.ensures.list c.slice-new_lens.ensures.list
     c.if-is_empty-contains.false c.if-is_empty.false
 
