@@ -58,14 +58,14 @@ module _ (p : ℕ → Bool) (lens : List ℕ) (n : ℕ) where
   chosen_taken whole chosen e =
       ap (λ w. w * get_or lens n 0) e
       ∙ ap (λ m. size (map (slice_index lens) (filter p (below n))) * m) (sym (cond-true (p n) (get_or lens n 0) 1 chosen))
-      ∙ sym (chosen_more)
+      ∙ sym chosen_more
 
   pub chosen_left : (whole : ℕ) → p n ≡ false → whole ≡ size (map (slice_index lens) (filter p (below n)))
       → whole ≡ size (map (slice_index lens) (filter p (below (n + 1))))
   chosen_left whole passed e =
       e ∙ sym (mul-one (size (map (slice_index lens) (filter p (below n)))))
       ∙ ap (λ m. size (map (slice_index lens) (filter p (below n))) * m) (sym (cond-false (p n) (get_or lens n 0) 1 passed))
-      ∙ sym (chosen_more)
+      ∙ sym chosen_more
 
 small_from_signed : (m n : ℕ) → m < 2 ^ 64 → signed m ≡ pos n → m ≡ n
 small_from_signed m n h e = sym (of_z-to_z w64 m h) ∙ ap unsigned e

@@ -186,7 +186,7 @@ module _ {lens : List ℕ} {strides : List ℤ} {place axis : ℕ} (a : IsAtAxis
   not_longer : size (first_axes lens strides place) < magnitude_at strides axis → ⊥
   not_longer more =
       let first = first_axes lens strides place in
-      let found = a.reaches.filled (size first) (first_smaller) in
+      let found = a.reaches.filled (size first) first_smaller in
       let many : length found.0 ≡ length first = length_of_index lens found.0 found.1 ∙ sym (first_count lens strides place) in
       elim (index_or_entry first found.0 many) [
         | inl within ↦ let low = a.fills.below found.0 within in let at = found.2 in omega arith

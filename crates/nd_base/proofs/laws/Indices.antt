@@ -55,7 +55,7 @@ module _ (order : Order) (shape : List ℕ) where
   -- what is in the list is an index of the shape
   pub is_index-from_Contains : (index : List ℕ) → Contains (indices_in order shape) index → is_index shape index ≡ true
   is_index-from_Contains index h =
-      All-contains (λ x. is_index shape x ≡ true) (indices_in order shape) index (All-indices_in) h
+      All-contains (λ x. is_index shape x ≡ true) (indices_in order shape) index All-indices_in h
 
   -- and each index of the shape is in the list
   pub Contains-indices_in : (index : List ℕ) → is_index shape index ≡ true → Contains (indices_in order shape) index

@@ -46,7 +46,7 @@ module _ (elem_size len : ℕ) (mode : CanIndexCheckMode) (shape : List ℕ) (st
       let some = nonempty_from_index shape index here in
       let test : leaves_data len shape strides ≡ nat_le len (span shape strides) =
       cond-false (is_empty shape) (nat_lt len (span shape strides)) (nat_le len (span shape strides)) some in
-      lies_inside_from_span len shape strides (leb-false len (span shape strides) (sym test ∙ stays)) (accepted_count) index here
+      lies_inside_from_span len shape strides (leb-false len (span shape strides) (sym test ∙ stays)) accepted_count index here
 
 module _ (elem_size len : ℕ) (shape : List ℕ) (strides : List ℤ) (h : acceptance elem_size len OwnedMutable shape strides ≡ None) where
   -- a layout accepted to be written does not fail the test for a shared element
@@ -56,4 +56,4 @@ module _ (elem_size len : ℕ) (shape : List ℕ) (strides : List ℤ) (h : acce
   -- of a layout accepted to be written, every two indices have offsets of their own
   pub accepted_distinct : HasDistinctOffsets shape strides
   accepted_distinct =
-      distinct_without_overlap shape strides (accepted_count elem_size len OwnedMutable shape strides h) (accepted_apart)
+      distinct_without_overlap shape strides (accepted_count elem_size len OwnedMutable shape strides h) accepted_apart
