@@ -2,8 +2,7 @@
 use Rattle.std.proofs.Common.{◌≡◌, ℕ, zero, suc, ◌+◌, ◌*◌, ◌<◌, List, [], ◌∷◌, ◌++◌, length, map, refl, ap, ◌∙◌, arith}
 use Rattle.std.specs.List.{flat_map, range_with_len, slice_get}
 use Rattle.std.proofs.lemmas.List.{length-append, length-map}
-use Rattle.nd_base.specs.Indices.{indices}
-use Rattle.nd_base.specs.Size.{size}
+use Rattle.nd_base.proofs.laws.Definitions.{indices, size}
 
 -- the indices that begin with i
 abbrev pub row : List (List ℕ) → ℕ → List (List ℕ)
@@ -34,16 +33,19 @@ get_right (x ∷ xs) ys zero k e = absurd (omega arith)
 get_right (x ∷ xs) ys (suc n) k e = get_right xs ys n k (omega arith)
 
 -- the index at place j of row k
-pub slice_get_rows : (tails : List (List ℕ)) (a n k j r : ℕ) → k < n → j < length tails → r ≡ k * length tails + j → slice_get (rows tails a n) r ≡ slice_get (row tails (a + k)) j
-slice_get_rows tails a zero k j r h g e = absurd (omega arith)
-slice_get_rows tails a (suc n) zero j r h g e =
-    let long = length-map tails (λ index. a ∷ index) in
-    let here : r ≡ j = omega arith in
-    let first : a ≡ a + 0 = omega arith in
-    get_left (row tails a) (rows tails (a + 1) n) r (omega arith) ∙ ap (slice_get (row tails a)) here ∙ ap (λ i. slice_get (row tails i) j) first
-slice_get_rows tails a (suc n) (suc k) j r h g e =
-    let long = length-map tails (λ index. a ∷ index) in
-    let next : a + 1 + k ≡ a + suc k = omega arith in
-    get_right (row tails a) (rows tails (a + 1) n) r (k * length tails + j) (omega arith)
-    ∙ slice_get_rows tails (a + 1) n k j (k * length tails + j) (omega arith) g refl
-    ∙ ap (λ i. slice_get (row tails i) j) next
+module _ (tails : List (List ℕ)) (j : ℕ) (within : j < length tails) where
+  pub slice_get_rows : (a n k r : ℕ) → k < n → r ≡ k * length tails + j → slice_get (rows tails a n) r ≡ slice_get (row tails (a + k)) j
+  slice_get_rows a zero k r h e = absurd (omega arith)
+  slice_get_rows a (suc n) zero r h e =
+      let long = length-map tails (λ index. a ∷ index) in
+      let here : r ≡ j = omega arith in
+      let first : a ≡ a + 0 = omega arith in
+      get_left (row tails a) (rows tails (a + 1) n) r (omega (arith, within))
+      ∙ ap (slice_get (row tails a)) here
+      ∙ ap (λ i. slice_get (row tails i) j) first
+  slice_get_rows a (suc n) (suc k) r h e =
+      let long = length-map tails (λ index. a ∷ index) in
+      let next : a + 1 + k ≡ a + suc k = omega arith in
+      get_right (row tails a) (rows tails (a + 1) n) r (k * length tails + j) (omega arith)
+      ∙ slice_get_rows (a + 1) n k (k * length tails + j) (omega arith) refl
+      ∙ ap (λ i. slice_get (row tails i) j) next

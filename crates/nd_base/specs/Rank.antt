@@ -1,7 +1,8 @@
 -- The rank of an index: how many indices of the shape come before it in an order.
-use Rattle.std.specs.Prelude.{◌≡◌, ℕ, ◌+◌, ◌*◌, ◌/◌, ◌%◌, List, [], ◌∷◌, reverse, refl}
+use Rattle.std.specs.Prelude.{◌≡◌, ℕ, ◌+◌, ◌*◌, ◌/◌, ◌%◌, List, [], ◌∷◌, refl}
 use Rattle.nd_base.specs.declared.order.Order.{Order}
 use Rattle.nd_base.specs.declared.order.Order.TheVariants.{RowMajor, ColumnMajor}
+use Rattle.nd_base.specs.Reading.{as_read}
 use Rattle.nd_base.specs.Size.{size}
 
 -- the rank in row-major order: each entry counts as many indices as the axes after it have together
@@ -15,15 +16,13 @@ abbrev pub index_of_rank : List ℕ → ℕ → List ℕ
 index_of_rank [] r = []
 index_of_rank (len ∷ lens) r = r / size lens ∷ index_of_rank lens (r % size lens)
 
--- the rank in an order; by columns the axes are read from the back
+-- the rank in an order: that of the index by the axes as they are read
 abbrev pub rank_in : Order → List ℕ → List ℕ → ℕ
-rank_in RowMajor shape index = rank shape index
-rank_in ColumnMajor shape index = rank (reverse shape) (reverse index)
+rank_in order shape index = rank (as_read order shape) (as_read order index)
 
 -- the index at a rank in an order
 abbrev pub index_of_rank_in : Order → List ℕ → ℕ → List ℕ
-index_of_rank_in RowMajor shape r = index_of_rank shape r
-index_of_rank_in ColumnMajor shape r = reverse (index_of_rank (reverse shape) r)
+index_of_rank_in order shape r = as_read order (index_of_rank (as_read order shape) r)
 
 -- examples
 rank_by_rows : rank_in RowMajor (2 ∷ 3 ∷ []) (1 ∷ 0 ∷ []) ≡ 3

@@ -1,18 +1,19 @@
 -- Layouts that lie at the distances 0, 1 and so on below their size, whatever the signs of the strides.
-use Rattle.std.proofs.Common.{◌≡◌, ◌⊎◌, ℕ, zero, suc, ◌+◌, ◌*◌, ◌/◌, ◌%◌, ◌<◌, ℤ, true, List, [], ◌∷◌, length, get_or, set, replicate, refl, sym, ap, ◌∙◌, arith, get_or-set_same, inl, inr, subst}
+use Rattle.std.proofs.Common.{◌≡◌, ◌⊎◌, ℕ, zero, suc, ◌+◌, ◌*◌, ◌/◌, ◌%◌, ◌<◌, ℤ, true, List, [], ◌∷◌, length, get_or, set, replicate}
+use Rattle.std.proofs.Common.{refl, sym, ap, ◌∙◌, arith, get_or-set_same, inl, inr, subst}
 use Rattle.std.proofs.lemmas.List.{ext_get_or, get_or-replicate, length-replicate, length-set, set-get_or, set-set}
 use Rattle.std.proofs.lemmas.Nat.{div_below, div-add-mod', div-mul-add, mod_below, mod-mul-add, mul-add-lt}
-use Rattle.nd_base.specs.Indices.{is_index}
-use Rattle.nd_base.specs.Reach.{farthest_offset}
-use Rattle.nd_base.specs.Size.{size}
+use Rattle.nd_base.proofs.laws.Definitions.{is_index, farthest_offset, size}
 use Rattle.nd_base.proofs.laws.Entries.{farthest_offset-set, is_index-set, is_index_from_entries, size-set}
 use Rattle.nd_base.proofs.laws.IsIndex.{entry_of_index, length_of_index}
+use Rattle.nd_base.proofs.laws.Reach.{farthest_offset-zeros}
 use Rattle.nd_dim.specs.AxisOrder.{magnitude_at}
 
 -- each number below the size is how far one index lies, and no other
 pub record ReachesEach (shape : List ℕ) (strides : List ℤ) : Type 0 where
   pub filled : (k : ℕ) → k < size shape → (index : List ℕ) × (is_index shape index ≡ true) × (farthest_offset strides index ≡ k)
-  pub distinct : (index other : List ℕ) → is_index shape index ≡ true → is_index shape other ≡ true → farthest_offset strides index ≡ farthest_offset strides other → index ≡ other
+  pub distinct : (index other : List ℕ) → is_index shape index ≡ true → is_index shape other ≡ true
+      → farthest_offset strides index ≡ farthest_offset strides other → index ≡ other
 
 -- and no index lies farther
 pub record Fills (shape : List ℕ) (strides : List ℤ) : Type 0 where
@@ -22,11 +23,11 @@ pub record Fills (shape : List ℕ) (strides : List ℤ) : Type 0 where
 -- ---- axes of one entry
 ones_index : (n : ℕ) (index : List ℕ) → is_index (replicate n 1) index ≡ true → index ≡ replicate n 0
 ones_index n index h =
-    let count : length index ≡ n = length_of_index (replicate n 1) index h ∙ length-replicate {A = ℕ} n 1 in
+    let count = length_of_index (replicate n 1) index h ∙ length-replicate {A = ℕ} n 1 in
     ext_get_or 0 index (replicate n 0) (count ∙ sym (length-replicate {A = ℕ} n 0)) (λ k l.
     let inside : k < length (replicate n 1) = omega (arith, length-replicate {A = ℕ} n 1) in
     let entry = entry_of_index (replicate n 1) index k h inside in
-    let one : get_or (replicate n 1) k 0 ≡ 1 = get_or-replicate {A = ℕ} n k 1 0 (omega arith) in
+    let one = get_or-replicate {A = ℕ} n k 1 0 (omega arith) in
     let none : get_or index k 0 ≡ 0 = omega arith in
     none ∙ sym (get_or-replicate {A = ℕ} n k 0 0 (omega arith)))
 
@@ -40,112 +41,105 @@ zeros_are_index n =
     let inside : k < n = omega (arith, length-replicate {A = ℕ} n 1) in
     rw (get_or-replicate {A = ℕ} n k 0 0 inside, get_or-replicate {A = ℕ} n k 1 0 inside) (omega arith))
 
-pub zeros_lie_here : (strides : List ℤ) (n : ℕ) → farthest_offset strides (replicate n 0) ≡ 0
-zeros_lie_here strides zero = refl
-zeros_lie_here [] (suc n) = refl
-zeros_lie_here (stride ∷ strides) (suc n) = omega (arith, zeros_lie_here strides n)
-
 -- they hold one index, which lies at 0
 pub fills_ones : (n : ℕ) (strides : List ℤ) → Fills (replicate n 1) strides
 fills_ones n strides = record {
   each = record {
     filled = λ k h.
         let none : k ≡ 0 = omega (arith, ones_size n) in
-        (replicate n 0, zeros_are_index n, zeros_lie_here strides n ∙ sym none);
+        (replicate n 0, zeros_are_index n, farthest_offset-zeros strides n ∙ sym none);
     distinct = λ index other h g e. ones_index n index h ∙ sym (ones_index n other g);
   };
   below = λ index h.
-      let here : farthest_offset strides index ≡ 0 = ap (farthest_offset strides) (ones_index n index h) ∙ zeros_lie_here strides n in
+      let here = ap (farthest_offset strides) (ones_index n index h) ∙ farthest_offset-zeros strides n in
       omega (arith, ones_size n);
 }
 
 -- ---- one axis more
--- an index of a shape that got a length in place of 1
-record IsSplit (shape : List ℕ) (strides : List ℤ) (axis len : ℕ) (index : List ℕ) : Type 0 where
-  rest : is_index shape (set index axis 0) ≡ true
-  entry : get_or index axis 0 < len
-  sum : farthest_offset strides index ≡ farthest_offset strides (set index axis 0) + get_or index axis 0 * magnitude_at strides axis
-
-split : (shape : List ℕ) (strides : List ℤ) (axis len : ℕ) (index : List ℕ) → length shape ≡ length strides → axis < length shape → get_or shape axis 0 ≡ 1 → is_index (set shape axis len) index ≡ true → IsSplit shape strides axis len index
-split shape strides axis len index e l one h =
-    let longer = set shape axis len in
-    let within : axis < length longer = omega (arith, length-set shape axis len) in
-    let count : length index ≡ length shape = length_of_index longer index h ∙ length-set shape axis len in
-    let back : set longer axis 1 ≡ shape = set-set shape axis len 1 ∙ ap (set shape axis) (sym one) ∙ set-get_or shape axis 0 in
-    let moved = farthest_offset-set strides index axis 0 (omega arith) (omega arith) in
-    record {
-      rest = ap (λ s. is_index s (set index axis 0)) (sym back) ∙ is_index-set longer index axis 1 0 within (omega arith) h;
-      entry = (let there = entry_of_index longer index axis h within in rw get_or-set_same at there);
-      sum = omega (arith, moved);
-    }
-
--- the stride of the axis is the size of the others
+-- an axis of one entry whose stride is the size of the others; it gets another length
 record IsNext (shape : List ℕ) (strides : List ℤ) (axis len : ℕ) : Type 0 where
   count : length shape ≡ length strides
   inside : axis < length shape
   one : get_or shape axis 0 ≡ 1
   packed : magnitude_at strides axis ≡ size shape
+  fills : Fills shape strides
 
-next_below : (shape : List ℕ) (strides : List ℤ) (axis len : ℕ) → IsNext shape strides axis len → Fills shape strides → (index : List ℕ) → is_index (set shape axis len) index ≡ true → farthest_offset strides index < size (set shape axis len)
-next_below shape strides axis len n fills index h =
-    let parts = split shape strides axis len index n.count n.inside n.one h in
-    let rest : farthest_offset strides (set index axis 0) < size shape = fills.below (set index axis 0) parts.rest in
-    let sum : farthest_offset strides index ≡ farthest_offset strides (set index axis 0) + get_or index axis 0 * size shape = parts.sum ∙ ap (λ m. farthest_offset strides (set index axis 0) + get_or index axis 0 * m) n.packed in
-    omega (arith, sum, mul-add-lt (get_or index axis 0) (size shape) (farthest_offset strides (set index axis 0)) len parts.entry rest, size-set shape axis len n.inside n.one)
+-- an index of the shape that got that length: one of the shape before, and an entry of the axis
+record IsSplit (shape : List ℕ) (strides : List ℤ) (axis len : ℕ) (index : List ℕ) : Type 0 where
+  rest : is_index shape (set index axis 0) ≡ true
+  entry : get_or index axis 0 < len
+  sum : farthest_offset strides index ≡ farthest_offset strides (set index axis 0) + get_or index axis 0 * size shape
 
-next_filled : (shape : List ℕ) (strides : List ℤ) (axis len : ℕ) → IsNext shape strides axis len → Fills shape strides → 0 < size shape → (k : ℕ) → k < size (set shape axis len) → (index : List ℕ) × (is_index (set shape axis len) index ≡ true) × (farthest_offset strides index ≡ k)
-next_filled shape strides axis len n fills some k h =
-    let inside : axis < length shape = n.inside in
-    let within : k < len * size shape = omega (arith, size-set shape axis len n.inside n.one) in
-    let q = k / size shape in
-    let first : q < len = div_below k (size shape) len some within in
-    let later : k % size shape < size shape = mod_below k (size shape) some in
-    let whole : q * size shape + k % size shape ≡ k = div-add-mod' k (size shape) in
-    let found = fills.each.filled (k % size shape) later in
-    let same : length found.0 ≡ length shape = length_of_index shape found.0 found.1 in
-    let low = entry_of_index shape found.0 axis found.1 inside in
-    let none : get_or found.0 axis 0 ≡ 0 = omega (arith, n.one) in
-    let moved : farthest_offset strides (set found.0 axis q) + get_or found.0 axis 0 * magnitude_at strides axis ≡ farthest_offset strides found.0 + q * magnitude_at strides axis = farthest_offset-set strides found.0 axis q (same ∙ n.count) (omega arith) in
-    let here : farthest_offset strides (set found.0 axis q) + 0 * magnitude_at strides axis ≡ farthest_offset strides found.0 + q * size shape = ap (λ j. farthest_offset strides (set found.0 axis q) + j * magnitude_at strides axis) (sym none) ∙ moved ∙ ap (λ m. farthest_offset strides found.0 + q * m) n.packed in
-    (set found.0 axis q, is_index-set shape found.0 axis len q inside first found.1, omega (arith, here, found.2, whole))
+module _ {shape : List ℕ} {strides : List ℤ} {axis len : ℕ} (n : IsNext shape strides axis len) where
+  split : (index : List ℕ) → is_index (set shape axis len) index ≡ true → IsSplit shape strides axis len index
+  split index h =
+      let longer = set shape axis len in
+      let inside : axis < length shape = n.inside in
+      let within : axis < length longer = omega (arith, n.inside, length-set shape axis len) in
+      let count = length_of_index longer index h ∙ length-set shape axis len in
+      let back = set-set shape axis len 1 ∙ ap (set shape axis) (sym n.one) ∙ set-get_or shape axis 0 in
+      let moved = rw n.packed at
+      (farthest_offset-set strides index axis 0 (omega (arith, count, n.count)) (omega (arith, count, n.inside))) in
+      record {
+        rest = ap (λ s. is_index s (set index axis 0)) (sym back) ∙ is_index-set longer index h axis 1 0 within (omega arith);
+        entry = rw get_or-set_same at (entry_of_index longer index axis h within);
+        sum = omega (arith, moved);
+      }
 
-next_distinct : (shape : List ℕ) (strides : List ℤ) (axis len : ℕ) → IsNext shape strides axis len → Fills shape strides → (index other : List ℕ) → is_index (set shape axis len) index ≡ true → is_index (set shape axis len) other ≡ true → farthest_offset strides index ≡ farthest_offset strides other → index ≡ other
-next_distinct shape strides axis len n fills index other h g e =
-    let one = split shape strides axis len index n.count n.inside n.one h in
-    let two = split shape strides axis len other n.count n.inside n.one g in
-    let p = size shape in
-    let i = get_or index axis 0 in
-    let j = get_or other axis 0 in
-    let a = farthest_offset strides (set index axis 0) in
-    let b = farthest_offset strides (set other axis 0) in
-    let low : a < p = fills.below (set index axis 0) one.rest in
-    let near : b < p = fills.below (set other axis 0) two.rest in
-    let sums : i * p + a ≡ j * p + b =
-    let first : farthest_offset strides index ≡ a + i * p = one.sum ∙ ap (λ m. a + i * m) n.packed in
-    let second : farthest_offset strides other ≡ b + j * p = two.sum ∙ ap (λ m. b + j * m) n.packed in
-    omega (arith, first, second, e) in
-    let entries : i ≡ j = sym (div-mul-add i p a low) ∙ ap (λ z. z / p) sums ∙ div-mul-add j p b near in
-    let rests : a ≡ b = sym (mod-mul-add i p a low) ∙ ap (λ z. z % p) sums ∙ mod-mul-add j p b near in
-    let same : set index axis 0 ≡ set other axis 0 = fills.each.distinct (set index axis 0) (set other axis 0) one.rest two.rest rests in
-    sym (set-get_or index axis 0)
-    ∙ sym (set-set index axis 0 i)
-    ∙ ap (λ z. set z axis i) same
-    ∙ ap (λ z. set (set other axis 0) axis z) entries
-    ∙ set-set other axis 0 j
-    ∙ set-get_or other axis 0
+  next_below : (index : List ℕ) → is_index (set shape axis len) index ≡ true
+      → farthest_offset strides index < size (set shape axis len)
+  next_below index h =
+      let parts = split index h in
+      let least = set index axis 0 in
+      let room = mul-add-lt (get_or index axis 0) (size shape) (farthest_offset strides least) len parts.entry
+      (n.fills.below least parts.rest) in
+      omega (arith, parts.sum, room, size-set shape axis len n.inside n.one)
+
+  next_filled : 0 < size shape → (k : ℕ) → k < size (set shape axis len)
+      → (index : List ℕ) × (is_index (set shape axis len) index ≡ true) × (farthest_offset strides index ≡ k)
+  next_filled some k h =
+      let within : k < len * size shape = omega (arith, h, size-set shape axis len n.inside n.one) in
+      let q = k / size shape in
+      let whole = div-add-mod' k (size shape) in
+      let found = n.fills.each.filled (k % size shape) (mod_below k (size shape) some) in
+      let same = length_of_index shape found.0 found.1 in
+      let none : get_or found.0 axis 0 ≡ 0 = omega (arith, n.one, entry_of_index shape found.0 axis found.1 n.inside) in
+      let moved = rw (none, n.packed) at (farthest_offset-set strides found.0 axis q (same ∙ n.count) (omega (arith, same, n.inside))) in
+      let entry : q < len = div_below k (size shape) len some within in
+      (set found.0 axis q, is_index-set shape found.0 found.1 axis len q n.inside entry, omega (arith, moved, found.2, whole))
+
+  next_distinct : (index other : List ℕ) → is_index (set shape axis len) index ≡ true → is_index (set shape axis len) other ≡ true
+      → farthest_offset strides index ≡ farthest_offset strides other → index ≡ other
+  next_distinct index other h g e =
+      let one = split index h in
+      let two = split other g in
+      let p = size shape in
+      let i = get_or index axis 0 in
+      let j = get_or other axis 0 in
+      let a = farthest_offset strides (set index axis 0) in
+      let b = farthest_offset strides (set other axis 0) in
+      let low : a < p = n.fills.below (set index axis 0) one.rest in
+      let near : b < p = n.fills.below (set other axis 0) two.rest in
+      let sums : i * p + a ≡ j * p + b = omega (arith, one.sum, two.sum, e) in
+      let entries = sym (div-mul-add i p a low) ∙ ap (λ z. z / p) sums ∙ div-mul-add j p b near in
+      let rests = sym (mod-mul-add i p a low) ∙ ap (λ z. z % p) sums ∙ mod-mul-add j p b near in
+      let same : set index axis 0 ≡ set other axis 0 = n.fills.each.distinct _ _ one.rest two.rest rests in
+      sym (set-get_or index axis 0)
+      ∙ sym (set-set index axis 0 i)
+      ∙ ap (λ z. set z axis i) same
+      ∙ ap (λ z. set (set other axis 0) axis z) entries
+      ∙ set-set other axis 0 j
+      ∙ set-get_or other axis 0
 
 -- the stride of an axis is the size of the others, or it gets one entry: so the layout fills the new size
-pub fills_next : (shape : List ℕ) (strides : List ℤ) (axis len : ℕ) → length shape ≡ length strides → axis < length shape → get_or shape axis 0 ≡ 1 → 0 < size shape → (len ≡ 1) ⊎ (magnitude_at strides axis ≡ size shape) → Fills shape strides → Fills (set shape axis len) strides
-fills_next shape strides axis len count inside one some (inl alone) fills =
-    let same : set shape axis len ≡ shape = ap (set shape axis) (alone ∙ sym one) ∙ set-get_or shape axis 0 in
+pub fills_next : {shape : List ℕ} {strides : List ℤ} (axis : ℕ) {len : ℕ} → length shape ≡ length strides → axis < length shape
+    → get_or shape axis 0 ≡ 1 → 0 < size shape → (len ≡ 1) ⊎ (magnitude_at strides axis ≡ size shape) → Fills shape strides
+    → Fills (set shape axis len) strides
+fills_next {shape = shape} {strides = strides} axis {len = len} count inside one some (inl alone) fills =
+    let same = ap (set shape axis) (alone ∙ sym one) ∙ set-get_or shape axis 0 in
     let P : List ℕ → Type 0 = λ s. Fills s strides in
     subst P (sym same) fills
-fills_next shape strides axis len count inside one some (inr packed) fills =
-    let next : IsNext shape strides axis len = record { count = count; inside = inside; one = one; packed = packed } in
-    record {
-      each = record {
-        filled = next_filled shape strides axis len next fills some;
-        distinct = next_distinct shape strides axis len next fills;
-      };
-      below = next_below shape strides axis len next fills;
-    }
+fills_next {shape = shape} {strides = strides} axis {len = len} count inside one some (inr packed) fills =
+    let next : IsNext shape strides axis len =
+    record { count = count; inside = inside; one = one; packed = packed; fills = fills } in
+    record { each = record { filled = next_filled next some; distinct = next_distinct next }; below = next_below next }

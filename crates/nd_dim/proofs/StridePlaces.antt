@@ -27,26 +27,29 @@ before_by_place m k n a b h g = elim (cases_order m k) [
   ]
 ]
 
--- an axis comes before another exactly where its place is the lesser
-pub comes_before_by_place : (strides : List ℤ) (n axis other : ℕ) → axis < n → other < n → comes_before strides axis other ≡ nat_lt (stride_place strides n axis) (stride_place strides n other)
-comes_before_by_place strides n axis other h g = before_by_place (magnitude_at strides axis) (magnitude_at strides other) n axis other h g
+module _ (strides : List ℤ) (n axis other : ℕ) (h : axis < n) where
+  -- an axis comes before another exactly where its place is the lesser
+  pub comes_before_by_place : other < n
+      → comes_before strides axis other ≡ nat_lt (stride_place strides n axis) (stride_place strides n other)
+  comes_before_by_place g = before_by_place (magnitude_at strides axis) (magnitude_at strides other) n axis other h g
 
--- two axes have two places
-pub place_differs : (strides : List ℤ) (n axis other : ℕ) → axis < n → other < n → stride_place strides n axis ≡ stride_place strides n other → axis ≡ other
-place_differs strides n axis other h g e =
-    sym (mod-mul-add (magnitude_at strides axis) n axis h) ∙ ap (λ k. k % n) e ∙ mod-mul-add (magnitude_at strides other) n other g
+  -- two axes have two places
+  pub place_differs : other < n → stride_place strides n axis ≡ stride_place strides n other → axis ≡ other
+  place_differs g e =
+      sym (mod-mul-add (magnitude_at strides axis) n axis h) ∙ ap (λ k. k % n) e ∙ mod-mul-add (magnitude_at strides other) n other g
 
--- and at no lesser place the stride is no shorter
-pub longer_at_later_place : (strides : List ℤ) (n axis other : ℕ) → axis < n → stride_place strides n other ≤ stride_place strides n axis → magnitude_at strides other ≤ magnitude_at strides axis
-longer_at_later_place strides n axis other h l = elim (cases_order (magnitude_at strides axis) (magnitude_at strides other)) [
-  | inl same ↦ omega arith
-  | inr differ ↦ elim differ [
-    | inl less ↦
-        let first = lesser_first (magnitude_at strides axis) (magnitude_at strides other) n axis other h less in
-        absurd (omega arith)
-    | inr more ↦ omega arith
+  -- and at no lesser place the stride is no shorter
+  pub longer_at_later_place : stride_place strides n other ≤ stride_place strides n axis
+      → magnitude_at strides other ≤ magnitude_at strides axis
+  longer_at_later_place l = elim (cases_order (magnitude_at strides axis) (magnitude_at strides other)) [
+    | inl same ↦ omega arith
+    | inr differ ↦ elim differ [
+      | inl less ↦
+          let first = lesser_first (magnitude_at strides axis) (magnitude_at strides other) n axis other h less in
+          absurd (omega arith)
+      | inr more ↦ omega arith
+    ]
   ]
-]
 
 -- some number is past the places of all axes
 pub past_all : (f : ℕ → ℕ) (n : ℕ) → (top : ℕ) × ((axis : ℕ) → axis < n → f axis < top)

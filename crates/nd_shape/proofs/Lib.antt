@@ -1,4 +1,3 @@
-pub mod Answered
 pub mod AxesWalk
 pub mod CommonShape
 pub mod FirstLeast

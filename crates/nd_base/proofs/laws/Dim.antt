@@ -3,7 +3,7 @@ use Rattle.std.proofs.Common.{◌≡◌, ℕ, List, ◌++◌, take, drop, length
 use Rattle.std.specs.List.{refill}
 use Rattle.std.proofs.Math.Seq.{take-append_seam}
 use Rattle.nd_base.specs.declared.dim.Dim.{Dim}
-use Rattle.nd_base.specs.Dim.{lengths, rewritten}
+use Rattle.nd_base.proofs.laws.Definitions.{lengths, rewritten}
 
 -- numbers written over by as many others are those others
 pub refilled : (ms ns : List ℕ) → length ns ≡ length ms → refill (length ms) ms ns ≡ ns

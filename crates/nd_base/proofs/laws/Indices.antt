@@ -1,19 +1,21 @@
 -- Laws of the list of indices of a shape: which they are, how many, and each of them once.
-use Rattle.std.proofs.Common.{◌≡◌, ◌≢◌, ℕ, zero, suc, ◌+◌, ◌<◌, true, List, [], ◌∷◌, ◌++◌, length, get_or, map, reverse, refl, sym, ap, ◌∙◌, arith}
+use Rattle.std.proofs.Common.{◌≡◌, ◌≢◌, ℕ, zero, suc, ◌+◌, ◌<◌, true, List, [], ◌∷◌, ◌++◌, length, get_or, map, reverse, refl, sym, ap}
+use Rattle.std.proofs.Common.{◌∙◌, arith}
 use Rattle.std.specs.Bool.{Decides}
 use Rattle.std.specs.List.{All, AllPairs, Contains, flat_map, range_with_len}
 use Rattle.std.proofs.lemmas.List.{append-nil, length-map, nil_from_length}
 use Rattle.std.proofs.lemmas.List.Concat.{flat_map-append}
-use Rattle.std.proofs.lemmas.List.Elements.{All-contains, All-head, All-tail}
+use Rattle.std.proofs.lemmas.List.Elements.{All-contains}
 use Rattle.std.proofs.lemmas.List.FromFn.{fill_by_all}
 use Rattle.std.proofs.lemmas.Option.{get_or_from_slice_get}
 use Rattle.nd_base.specs.declared.order.Order.{Order}
 use Rattle.nd_base.specs.declared.order.Order.TheVariants.{RowMajor, ColumnMajor}
-use Rattle.nd_base.specs.Indices.{below, indices, indices_column_major, indices_in, is_index}
-use Rattle.nd_base.specs.Rank.{rank_in, index_of_rank_in}
-use Rattle.nd_base.specs.Size.{size}
+use Rattle.nd_base.proofs.laws.Definitions.{below, indices, indices_column_major, indices_in, is_index}
+use Rattle.nd_base.proofs.laws.Definitions.{index_of_rank_in, rank_in, size}
 use Rattle.nd_base.proofs.Rows.{length_indices}
-use Rattle.nd_base.proofs.laws.Rank.{slice_get-indices_in, is_index-index_of_rank_in, rank_in-index_of_rank_in, rank_in-lt-size, index_of_rank_in-rank_in}
+use Rattle.nd_base.proofs.laws.Lists.{map_same}
+use Rattle.nd_base.proofs.laws.Rank.{slice_get-indices_in, is_index-index_of_rank_in, rank_in-index_of_rank_in, rank_in-lt-size}
+use Rattle.nd_base.proofs.laws.Rank.{index_of_rank_in-rank_in}
 use Rattle.nd_base.proofs.laws.Size.{size-reverse}
 
 -- ---- how many
@@ -32,47 +34,49 @@ length-indices_in RowMajor shape = length-indices shape
 length-indices_in ColumnMajor shape = length-indices_column_major shape
 
 -- ---- which
--- the item at place r is the one of rank r
-pub get_or-indices_in : (order : Order) (shape : List ℕ) (r : ℕ) (d : List ℕ) → r < size shape → get_or (indices_in order shape) r d ≡ index_of_rank_in order shape r
-get_or-indices_in order shape r d h =
-    get_or_from_slice_get (indices_in order shape) r (index_of_rank_in order shape r) d (slice_get-indices_in order shape r h)
+module _ (order : Order) (shape : List ℕ) where
+  -- the item at place r is the one of rank r
+  pub get_or-indices_in : (r : ℕ) (d : List ℕ) → r < size shape → get_or (indices_in order shape) r d ≡ index_of_rank_in order shape r
+  get_or-indices_in r d h =
+      get_or_from_slice_get (indices_in order shape) r (index_of_rank_in order shape r) d (slice_get-indices_in order shape r h)
 
--- they are the indices of rank 0, 1 and so on, below the size
-pub indices_in-by_rank : (order : Order) (shape : List ℕ) → indices_in order shape ≡ map (index_of_rank_in order shape) (below (size shape))
-indices_in-by_rank order shape =
-    fill_by_all (index_of_rank_in order shape) (indices_in order shape) (size shape) [] (length-indices_in order shape) (λ k h. get_or-indices_in order shape k [] h)
+  -- they are the indices of rank 0, 1 and so on, below the size
+  pub indices_in-by_rank : indices_in order shape ≡ map (index_of_rank_in order shape) (below (size shape))
+  indices_in-by_rank =
+      fill_by_all (index_of_rank_in order shape) (indices_in order shape) (size shape) [] (length-indices_in order shape)
+      (λ k h. get_or-indices_in k [] h)
 
--- each item is an index of the shape
-pub All-indices_in : (order : Order) (shape : List ℕ) → All (λ index. is_index shape index ≡ true) (indices_in order shape)
-All-indices_in order shape k d h =
-    let below_size : k < size shape = omega (arith, length-indices_in order shape) in
-    ap (is_index shape) (get_or-indices_in order shape k d below_size) ∙ is_index-index_of_rank_in order shape k below_size
+  -- each item is an index of the shape
+  pub All-indices_in : All (λ index. is_index shape index ≡ true) (indices_in order shape)
+  All-indices_in k d h =
+      let below_size : k < size shape = omega (arith, length-indices_in order shape) in
+      ap (is_index shape) (get_or-indices_in k d below_size) ∙ is_index-index_of_rank_in order shape k below_size
 
--- what is in the list is an index of the shape
-pub is_index-from_Contains : (order : Order) (shape index : List ℕ) → Contains (indices_in order shape) index → is_index shape index ≡ true
-is_index-from_Contains order shape index h =
-    All-contains (λ x. is_index shape x ≡ true) (indices_in order shape) index (All-indices_in order shape) h
+  -- what is in the list is an index of the shape
+  pub is_index-from_Contains : (index : List ℕ) → Contains (indices_in order shape) index → is_index shape index ≡ true
+  is_index-from_Contains index h =
+      All-contains (λ x. is_index shape x ≡ true) (indices_in order shape) index All-indices_in h
 
--- and each index of the shape is in the list
-pub Contains-indices_in : (order : Order) (shape index : List ℕ) → is_index shape index ≡ true → Contains (indices_in order shape) index
-Contains-indices_in order shape index h =
-    let r = rank_in order shape index in
-    let within = rank_in-lt-size order shape index h in
-    (r, omega (arith, within, length-indices_in order shape), get_or-indices_in order shape r index within ∙ index_of_rank_in-rank_in order shape index h)
+  -- and each index of the shape is in the list
+  pub Contains-indices_in : (index : List ℕ) → is_index shape index ≡ true → Contains (indices_in order shape) index
+  Contains-indices_in index h =
+      let r = rank_in order shape index in
+      let within = rank_in-lt-size order shape index h in (
+        r,
+        omega (arith, within, length-indices_in order shape),
+        get_or-indices_in r index within
+            ∙ index_of_rank_in-rank_in order shape index h,
+      )
 
--- so the test says exactly what the list contains
-pub Decides-is_index : (order : Order) (shape index : List ℕ) → Decides (is_index shape index) (Contains (indices_in order shape) index)
-Decides-is_index order shape index = (Contains-indices_in order shape index, is_index-from_Contains order shape index)
-
-map_agree : {A B : Type 0} (f g : A → B) (xs : List A) → All (λ x. f x ≡ g x) xs → map f xs ≡ map g xs
-map_agree f g [] h = refl
-map_agree f g (x ∷ xs) h =
-    ap (λ y. y ∷ map f xs) (All-head (λ y. f y ≡ g y) x xs h) ∙ ap (λ ys. g x ∷ ys) (map_agree f g xs (All-tail (λ y. f y ≡ g y) x xs h))
+  -- so the test says exactly what the list contains
+  pub Decides-is_index : (index : List ℕ) → Decides (is_index shape index) (Contains (indices_in order shape) index)
+  Decides-is_index index = (Contains-indices_in index, is_index-from_Contains index)
 
 -- two functions that agree at each index of the shape agree on the list
-pub map-indices_in : {B : Type 0} (order : Order) (f g : List ℕ → B) (shape : List ℕ) → ((index : List ℕ) → is_index shape index ≡ true → f index ≡ g index) → map f (indices_in order shape) ≡ map g (indices_in order shape)
+pub map-indices_in : {B : Type 0} (order : Order) (f g : List ℕ → B) (shape : List ℕ)
+    → ((index : List ℕ) → is_index shape index ≡ true → f index ≡ g index) → map f (indices_in order shape) ≡ map g (indices_in order shape)
 map-indices_in order f g shape h =
-    map_agree f g (indices_in order shape) (λ k d l. h (get_or (indices_in order shape) k d) (All-indices_in order shape k d l))
+    map_same f g (indices_in order shape) (λ k d l. h (get_or (indices_in order shape) k d) (All-indices_in order shape k d l))
 
 -- a shape of size 0 has no index
 pub indices_in_of_empty : (order : Order) (shape : List ℕ) → size shape ≡ 0 → indices_in order shape ≡ []
@@ -84,8 +88,7 @@ pub AllPairs-indices_in : (order : Order) (shape : List ℕ) → AllPairs (λ in
 AllPairs-indices_in order shape i j d h g e =
     let late : j < size shape = omega (arith, length-indices_in order shape) in
     let early : i < size shape = omega arith in
-    let ranks : i ≡ j =
-    sym (rank_in-index_of_rank_in order shape i early)
+    let ranks = sym (rank_in-index_of_rank_in order shape i early)
     ∙ ap (rank_in order shape) (sym (get_or-indices_in order shape i d early) ∙ e ∙ get_or-indices_in order shape j d late)
     ∙ rank_in-index_of_rank_in order shape j late in
     omega arith
@@ -122,7 +125,8 @@ pub Contains-indices_column_major : (shape index : List ℕ) → is_index shape 
 Contains-indices_column_major shape index h = Contains-indices_in ColumnMajor shape index h
 
 -- and nothing else
-pub is_index-from_Contains_indices_column_major : (shape index : List ℕ) → Contains (indices_column_major shape) index → is_index shape index ≡ true
+pub is_index-from_Contains_indices_column_major : (shape index : List ℕ) → Contains (indices_column_major shape) index
+    → is_index shape index ≡ true
 is_index-from_Contains_indices_column_major shape index h = is_index-from_Contains ColumnMajor shape index h
 
 -- no two items by columns are equal

@@ -1,9 +1,7 @@
 -- Laws of layouts whose indices all lie within the data.
 use Rattle.std.proofs.Common.{◌≡◌, ℕ, ◌<◌, ℤ, pos, negsuc, ◌≤ℤ◌, ◌<ℤ◌, List, length, arith}
 use Rattle.std.proofs.lemmas.Int.{ints}
-use Rattle.nd_base.specs.Place.{place}
-use Rattle.nd_base.specs.Span.{span, low_span}
-use Rattle.nd_base.specs.Inside.{IsInside, LiesInside}
+use Rattle.nd_base.proofs.laws.Definitions.{IsInside, LiesInside, place, low_span, span}
 use Rattle.nd_base.proofs.laws.Offset.{offset_bounds}
 use Rattle.nd_base.proofs.laws.Span.{low_high_span}
 
@@ -13,7 +11,8 @@ inside_from len (pos n) low high = omega (arith, ints)
 inside_from len (negsuc n) low high = omega (arith, ints)
 
 -- with the first index as far on as the layout reaches down, every index lies among the elements that the span counts
-pub lies_inside_from_span : (len : ℕ) (shape : List ℕ) (strides : List ℤ) → span shape strides < len → length shape ≡ length strides → LiesInside len (low_span shape strides) shape strides
+pub lies_inside_from_span : (len : ℕ) (shape : List ℕ) (strides : List ℤ) → span shape strides < len → length shape ≡ length strides
+    → LiesInside len (low_span shape strides) shape strides
 lies_inside_from_span len shape strides fits e index h =
     let bounds = offset_bounds shape strides index h e in
     let whole = low_high_span shape strides in

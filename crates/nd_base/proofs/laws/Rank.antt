@@ -1,20 +1,19 @@
 -- Laws of ranks: the indices of a shape and the numbers below its size stand for one another.
-use Rattle.std.proofs.Common.{◌≡◌, ℕ, zero, suc, ◌+◌, ◌*◌, ◌/◌, ◌%◌, ◌<◌, Some, true, List, [], ◌∷◌, ◌++◌, length, replicate, reverse, refl, sym, ap, ◌∙◌, arith, add-one}
+use Rattle.std.proofs.Common.{◌≡◌, ℕ, zero, suc, ◌+◌, ◌*◌, ◌/◌, ◌%◌, ◌<◌, Some, true, List, [], ◌∷◌, length, replicate, reverse, refl}
+use Rattle.std.proofs.Common.{sym, ap, ◌∙◌, arith}
 use Rattle.std.specs.List.{slice_get}
 use Rattle.std.specs.Option.{option_map}
 use Rattle.std.specs.Prelude.{nat_lt}
 use Rattle.std.proofs.lemmas.Bool.{and_from, and_parts, lt-ltb, ltb-true}
-use Rattle.std.proofs.lemmas.List.{length-reverse, replicate-append-replicate, reverse-append, reverse-reverse}
+use Rattle.std.proofs.lemmas.List.{length-reverse, reverse-reverse}
 use Rattle.std.proofs.lemmas.Nat.{div_below, mod_below, div-add-mod', div-mul-add, mod-mul-add, mul-add-lt}
 use Rattle.std.proofs.lemmas.Option.{slice_get-map}
 use Rattle.nd_base.specs.declared.order.Order.{Order}
 use Rattle.nd_base.specs.declared.order.Order.TheVariants.{RowMajor, ColumnMajor}
-use Rattle.nd_base.specs.Indices.{indices, indices_in, is_index}
-use Rattle.nd_base.specs.Rank.{rank, rank_in, index_of_rank, index_of_rank_in}
-use Rattle.nd_base.specs.Size.{size}
+use Rattle.nd_base.proofs.laws.Definitions.{as_read, indices, indices_in, is_index, index_of_rank}
+use Rattle.nd_base.proofs.laws.Definitions.{index_of_rank_in, rank, rank_in, size}
 use Rattle.nd_base.proofs.Rows.{row, length_indices, slice_get_rows}
-use Rattle.nd_base.proofs.laws.IsIndex.{is_index-reverse}
-use Rattle.nd_base.proofs.laws.Size.{size-reverse}
+use Rattle.nd_base.proofs.laws.Reading.{as_read-as_read, as_read-replicate, is_index-as_read, length-as_read, size-as_read}
 
 -- a number below a product, by its quotient and its remainder
 record IsSplit (len rest r : ℕ) : Type 0 where
@@ -41,7 +40,7 @@ slice_get-indices (len ∷ lens) r h =
     let k = r / size lens in
     let j = r % size lens in
     let entry : 0 + k ≡ k = omega arith in
-    slice_get_rows (indices lens) 0 len k j r parts.first (omega (arith, parts.later)) (sym (ap (λ m. k * m + j) counts ∙ parts.whole))
+    slice_get_rows (indices lens) j (omega (arith, parts.later)) 0 len k r parts.first (sym (ap (λ m. k * m + j) counts ∙ parts.whole))
     ∙ ap (λ i. slice_get (row (indices lens) i) j) entry
     ∙ slice_get-map (λ index. k ∷ index) (indices lens) j
     ∙ ap (option_map (λ index. k ∷ index)) (slice_get-indices lens j parts.later)
@@ -51,7 +50,8 @@ pub is_index-index_of_rank : (shape : List ℕ) (r : ℕ) → r < size shape →
 is_index-index_of_rank [] r h = refl
 is_index-index_of_rank (len ∷ lens) r h =
     let parts = split len (size lens) r h in
-    and_from (nat_lt (r / size lens) len) (is_index lens (index_of_rank lens (r % size lens))) (lt-ltb (r / size lens) len parts.first) (is_index-index_of_rank lens (r % size lens) parts.later)
+    and_from (nat_lt (r / size lens) len) (is_index lens (index_of_rank lens (r % size lens))) (lt-ltb (r / size lens) len parts.first)
+    (is_index-index_of_rank lens (r % size lens) parts.later)
 
 -- and its rank is r
 pub rank-index_of_rank : (shape : List ℕ) (r : ℕ) → r < size shape → rank shape (index_of_rank shape r) ≡ r
@@ -80,60 +80,60 @@ index_of_rank-rank (len ∷ lens) (i ∷ index) h =
     ∙ ap (λ r. i ∷ index_of_rank lens r) (mod-mul-add i (size lens) (rank lens index) below)
     ∙ ap (λ xs. i ∷ xs) (index_of_rank-rank lens index parts.1)
 
--- ---- in an order
-turned : (shape : List ℕ) (r : ℕ) → r < size shape → r < size (reverse shape)
-turned shape r h = omega (arith, size-reverse shape)
-
-turned_index : (shape index : List ℕ) → is_index shape index ≡ true → is_index (reverse shape) (reverse index) ≡ true
-turned_index shape index h = is_index-reverse shape index ∙ h
+-- ---- in an order: by the axes as they are read
+in_size : (order : Order) (shape : List ℕ) (r : ℕ) → r < size shape → r < size (as_read order shape)
+in_size order shape r h = omega (arith, size-as_read order shape)
 
 -- the item of rank r
-pub slice_get-indices_in : (order : Order) (shape : List ℕ) (r : ℕ) → r < size shape → slice_get (indices_in order shape) r ≡ Some (index_of_rank_in order shape r)
+pub slice_get-indices_in : (order : Order) (shape : List ℕ) (r : ℕ) → r < size shape
+    → slice_get (indices_in order shape) r ≡ Some (index_of_rank_in order shape r)
 slice_get-indices_in RowMajor shape r h = slice_get-indices shape r h
 slice_get-indices_in ColumnMajor shape r h =
     slice_get-map reverse (indices (reverse shape)) r
-    ∙ ap (option_map reverse) (slice_get-indices (reverse shape) r (turned shape r h))
+    ∙ ap (option_map reverse) (slice_get-indices (reverse shape) r (in_size ColumnMajor shape r h))
 
--- it is an index of the shape
-pub is_index-index_of_rank_in : (order : Order) (shape : List ℕ) (r : ℕ) → r < size shape → is_index shape (index_of_rank_in order shape r) ≡ true
-is_index-index_of_rank_in RowMajor shape r h = is_index-index_of_rank shape r h
-is_index-index_of_rank_in ColumnMajor shape r h =
-    let index = index_of_rank (reverse shape) r in
-    sym (is_index-reverse shape (reverse index))
-    ∙ ap (is_index (reverse shape)) (reverse-reverse index)
-    ∙ is_index-index_of_rank (reverse shape) r (turned shape r h)
+module _ (order : Order) (shape : List ℕ) where
+  -- it is an index of the shape
+  pub is_index-index_of_rank_in : (r : ℕ) → r < size shape → is_index shape (index_of_rank_in order shape r) ≡ true
+  is_index-index_of_rank_in r h =
+      let read = index_of_rank (as_read order shape) r in
+      sym (is_index-as_read order shape (as_read order read))
+      ∙ ap (is_index (as_read order shape)) (as_read-as_read order read)
+      ∙ is_index-index_of_rank (as_read order shape) r (in_size order shape r h)
 
--- and its rank is r
-pub rank_in-index_of_rank_in : (order : Order) (shape : List ℕ) (r : ℕ) → r < size shape → rank_in order shape (index_of_rank_in order shape r) ≡ r
-rank_in-index_of_rank_in RowMajor shape r h = rank-index_of_rank shape r h
-rank_in-index_of_rank_in ColumnMajor shape r h =
-    ap (rank (reverse shape)) (reverse-reverse (index_of_rank (reverse shape) r))
-    ∙ rank-index_of_rank (reverse shape) r (turned shape r h)
+  -- and its rank is r
+  pub rank_in-index_of_rank_in : (r : ℕ) → r < size shape → rank_in order shape (index_of_rank_in order shape r) ≡ r
+  rank_in-index_of_rank_in r h =
+      ap (rank (as_read order shape)) (as_read-as_read order (index_of_rank (as_read order shape) r))
+      ∙ rank-index_of_rank (as_read order shape) r (in_size order shape r h)
 
--- an index ranks below the size
-pub rank_in-lt-size : (order : Order) (shape index : List ℕ) → is_index shape index ≡ true → rank_in order shape index < size shape
-rank_in-lt-size RowMajor shape index h = rank-lt-size shape index h
-rank_in-lt-size ColumnMajor shape index h =
-    omega (arith, size-reverse shape, rank-lt-size (reverse shape) (reverse index) (turned_index shape index h))
+  -- an index ranks below the size
+  pub rank_in-lt-size : (index : List ℕ) → is_index shape index ≡ true → rank_in order shape index < size shape
+  rank_in-lt-size index h =
+      let below = rank-lt-size (as_read order shape) (as_read order index) (is_index-as_read order shape index ∙ h) in
+      omega (arith, size-as_read order shape)
 
--- and is the one at its rank
-pub index_of_rank_in-rank_in : (order : Order) (shape index : List ℕ) → is_index shape index ≡ true → index_of_rank_in order shape (rank_in order shape index) ≡ index
-index_of_rank_in-rank_in RowMajor shape index h = index_of_rank-rank shape index h
-index_of_rank_in-rank_in ColumnMajor shape index h =
-    ap reverse (index_of_rank-rank (reverse shape) (reverse index) (turned_index shape index h)) ∙ reverse-reverse index
+  -- and is the one at its rank
+  pub index_of_rank_in-rank_in : (index : List ℕ) → is_index shape index ≡ true
+      → index_of_rank_in order shape (rank_in order shape index) ≡ index
+  index_of_rank_in-rank_in index h =
+      ap (as_read order) (index_of_rank-rank (as_read order shape) (as_read order index) (is_index-as_read order shape index ∙ h))
+      ∙ as_read-as_read order index
 
--- so an index is the item at its rank
-pub slice_get-rank_in : (order : Order) (shape index : List ℕ) → is_index shape index ≡ true → slice_get (indices_in order shape) (rank_in order shape index) ≡ Some index
-slice_get-rank_in order shape index h =
-    slice_get-indices_in order shape (rank_in order shape index) (rank_in-lt-size order shape index h)
-    ∙ ap Some (index_of_rank_in-rank_in order shape index h)
+  -- so an index is the item at its rank
+  pub slice_get-rank_in : (index : List ℕ) → is_index shape index ≡ true
+      → slice_get (indices_in order shape) (rank_in order shape index) ≡ Some index
+  slice_get-rank_in index h =
+      slice_get-indices_in order shape (rank_in order shape index) (rank_in-lt-size index h)
+      ∙ ap Some (index_of_rank_in-rank_in index h)
 
--- and two indices of equal rank are one
-pub same_from_rank_in : (order : Order) (shape index other : List ℕ) → is_index shape index ≡ true → is_index shape other ≡ true → rank_in order shape index ≡ rank_in order shape other → index ≡ other
-same_from_rank_in order shape index other h g e =
-    sym (index_of_rank_in-rank_in order shape index h)
-    ∙ ap (index_of_rank_in order shape) e
-    ∙ index_of_rank_in-rank_in order shape other g
+  -- and two indices of equal rank are one
+  pub same_from_rank_in : (index other : List ℕ) → is_index shape index ≡ true → is_index shape other ≡ true
+      → rank_in order shape index ≡ rank_in order shape other → index ≡ other
+  same_from_rank_in index other h g e =
+      sym (index_of_rank_in-rank_in index h)
+      ∙ ap (index_of_rank_in order shape) e
+      ∙ index_of_rank_in-rank_in other g
 
 -- ---- the first index
 -- zeros are of rank 0
@@ -141,17 +141,8 @@ pub rank-zeros : (shape : List ℕ) → rank shape (replicate (length shape) 0) 
 rank-zeros [] = refl
 rank-zeros (len ∷ lens) = omega (arith, rank-zeros lens)
 
--- zeros read from the back are zeros
-pub reverse-zeros : (n : ℕ) → reverse {A = ℕ} (replicate n 0) ≡ replicate n 0
-reverse-zeros zero = refl
-reverse-zeros (suc n) =
-    reverse-append (0 ∷ []) (replicate n 0)
-    ∙ ap (λ xs. xs ++ 0 ∷ []) (reverse-zeros n)
-    ∙ replicate-append-replicate n 1 0
-    ∙ ap (λ m. replicate m 0) (add-one n)
-
 -- so zeros are of rank 0 in each order
 pub rank_in-zeros : (order : Order) (shape : List ℕ) → rank_in order shape (replicate (length shape) 0) ≡ 0
-rank_in-zeros RowMajor shape = rank-zeros shape
-rank_in-zeros ColumnMajor shape =
-    ap (rank (reverse shape)) (reverse-zeros (length shape) ∙ ap (λ n. replicate n 0) (sym (length-reverse shape))) ∙ rank-zeros (reverse shape)
+rank_in-zeros order shape =
+    ap (rank (as_read order shape)) (as_read-replicate order (length shape) 0 ∙ ap (λ n. replicate n 0) (sym (length-as_read order shape)))
+    ∙ rank-zeros (as_read order shape)

@@ -1,5 +1,7 @@
 -- Laws of sizes, the products of lengths.
-use Rattle.std.proofs.Common.{◌≡◌, ℕ, zero, suc, ◌+◌, ◌-◌, ◌*◌, ◌<◌, ◌≤◌, Bool, true, false, ◌||◌, eqb, List, [], ◌∷◌, ◌++◌, length, get_or, take, drop, reverse, refl, sym, ap, ◌∙◌, inl, inr, arith, add-one, drop-cons, eqb-true, mul-le-mul_left, mul-one, mul-pos, mul-zero, mul_assoc, mul_comm, one-mul, pos_of_ne-zero, zero-mul}
+use Rattle.std.proofs.Common.{◌≡◌, ℕ, zero, suc, ◌+◌, ◌-◌, ◌*◌, ◌<◌, ◌≤◌, Bool, true, false, ◌||◌, eqb, List, [], ◌∷◌, ◌++◌, length}
+use Rattle.std.proofs.Common.{get_or, take, drop, reverse, refl, sym, ap, ◌∙◌, inl, inr, arith, add-one, drop-cons, eqb-true}
+use Rattle.std.proofs.Common.{mul-le-mul_left, mul-one, mul-pos, mul-zero, mul_assoc, mul_comm, one-mul, pos_of_ne-zero, zero-mul}
 use Rattle.std.proofs.lemmas.Bool.{or_cases, or_parts, eqb-false}
 use Rattle.std.proofs.lemmas.List.{reverse-append, take_more}
 use Rattle.std.proofs.lemmas.Nat.{mul-le}
@@ -20,6 +22,13 @@ size_of_nonempty [] h = omega arith
 size_of_nonempty (n ∷ lens) h =
     let parts = or_parts (eqb n 0) (is_empty lens) h in
     mul-pos (pos_of_ne-zero (eqb-false n 0 parts.0)) (size_of_nonempty lens parts.1)
+
+-- its lengths are too
+pub length_pos : (shape : List ℕ) (axis : ℕ) → is_empty shape ≡ false → axis < length shape → 0 < get_or shape axis 0
+length_pos [] axis some below = absurd (omega arith)
+length_pos (len ∷ lens) zero some below = pos_of_ne-zero (eqb-false len 0 (or_parts (eqb len 0) (is_empty lens) some).0)
+length_pos (len ∷ lens) (suc axis) some below =
+    length_pos lens axis (or_parts (eqb len 0) (is_empty lens) some).1 (omega arith)
 
 -- the part of a shape without a zero length has none
 pub drop_nonempty : (shape : List ℕ) (k : ℕ) → is_empty shape ≡ false → is_empty (drop k shape) ≡ false
@@ -67,14 +76,16 @@ size_from shape k h = rw add-one (ap size (drop-cons shape k 0 h))
 
 -- the size up to an axis and with it is the size before it times its length
 pub size_take_more : (lens : List ℕ) (k : ℕ) → k < length lens → size (take (k + 1) lens) ≡ size (take k lens) * get_or lens k 0
-size_take_more lens k h = ap size (take_more lens k 0 h) ∙ size-append (take k lens) (get_or lens k 0 ∷ []) ∙ ap (λ m. size (take k lens) * m) (mul-one (get_or lens k 0))
+size_take_more lens k h = ap size (take_more lens k 0 h) ∙ size-append (take k lens) (get_or lens k 0 ∷ [])
+    ∙ ap (λ m. size (take k lens) * m) (mul-one (get_or lens k 0))
 
 -- one length before those whose product is known
-pub size_drop_more : (lens : List ℕ) (axis whole : ℕ) → 0 < axis → axis ≤ length lens → whole ≡ size (drop axis lens) → whole * get_or lens (axis - 1) 0 ≡ size (drop (axis - 1) lens)
+pub size_drop_more : (lens : List ℕ) (axis whole : ℕ) → 0 < axis → axis ≤ length lens → whole ≡ size (drop axis lens)
+    → whole * get_or lens (axis - 1) 0 ≡ size (drop (axis - 1) lens)
 size_drop_more lens axis whole h g e =
     let k = axis - 1 in
     let here : axis ≡ k + 1 = omega arith in
-    let after : whole ≡ size (drop (k + 1) lens) = e ∙ ap (λ a. size (drop a lens)) here in
+    let after = e ∙ ap (λ a. size (drop a lens)) here in
     mul_comm whole (get_or lens k 0) ∙ ap (λ s. get_or lens k 0 * s) after ∙ sym (size_from lens k (omega arith))
 
 -- no front of a shape without a zero length is of greater size
@@ -83,14 +94,11 @@ size_take_le lens zero h = size_of_nonempty lens h
 size_take_le [] (suc k) h = omega arith
 size_take_le (n ∷ lens) (suc k) h = mul-le-mul_left n (size_take_le lens k (or_parts (eqb n 0) (is_empty lens) h).1)
 
-head_positive : (n : ℕ) (lens : List ℕ) → is_empty (n ∷ lens) ≡ false → 0 < n
-head_positive n lens h = pos_of_ne-zero (eqb-false n 0 (or_parts (eqb n 0) (is_empty lens) h).0)
-
 -- nor is what comes after the front
 pub size_drop_le : (lens : List ℕ) (k : ℕ) → is_empty lens ≡ false → size (drop k lens) ≤ size lens
 size_drop_le lens zero h = omega arith
 size_drop_le [] (suc k) h = omega arith
 size_drop_le (n ∷ lens) (suc k) h =
     let rest = size_drop_le lens k (or_parts (eqb n 0) (is_empty lens) h).1 in
-    let more : 1 * size lens ≤ n * size lens = mul-le 1 (size lens) n (size lens) (head_positive n lens h) (omega arith) in
+    let more = mul-le 1 (size lens) n (size lens) (length_pos (n ∷ lens) 0 h (omega arith)) (omega arith) in
     omega (arith, one-mul (size lens))

@@ -1,16 +1,13 @@
 -- Laws of layouts that fill one stretch of memory: where it begins and ends, and that a walk along it meets each index once.
-use Rattle.std.proofs.Common.{◌≡◌, ℕ, ◌+◌, ◌-◌, ◌<◌, ◌≤◌, ℤ, pos, neg_ℤ, ◌+ℤ◌, ◌≤ℤ◌, ◌<ℤ◌, true, false, List, length, get_or, map, sym, ap, ◌∙◌, arith, subst}
+use Rattle.std.proofs.Common.{◌≡◌, ℕ, ◌+◌, ◌-◌, ◌<◌, ◌≤◌, ℤ, pos, neg_ℤ, ◌+ℤ◌, ◌≤ℤ◌, ◌<ℤ◌, true, false, List, length, get_or, map, sym}
+use Rattle.std.proofs.Common.{ap, ◌∙◌, arith, subst}
 use Rattle.std.specs.List.Sorted.{IsPermutation}
 use Rattle.std.proofs.lemmas.Int.{ints}
 use Rattle.std.proofs.lemmas.List.{get_or-map, length-map}
 use Rattle.std.proofs.lemmas.List.FromFn.{get_or-map-range_with_len, length-map-range_with_len}
 use Rattle.nd_base.specs.declared.order.Order.{Order}
-use Rattle.nd_base.specs.Indices.{below, indices_in, is_index}
-use Rattle.nd_base.specs.Offset.{offset_of}
-use Rattle.nd_base.specs.Place.{place, places}
-use Rattle.nd_base.specs.Reach.{farthest_offset}
-use Rattle.nd_base.specs.Size.{size, is_empty}
-use Rattle.nd_base.specs.Span.{low_span}
+use Rattle.nd_base.proofs.laws.Definitions.{below, indices_in, is_index, offset_of, place, places, farthest_offset, is_empty}
+use Rattle.nd_base.proofs.laws.Definitions.{size, low_span}
 use Rattle.nd_base.proofs.laws.Indices.{Contains-indices_in, length-indices_in}
 use Rattle.nd_base.proofs.laws.Offset.{offset_bounds}
 use Rattle.nd_base.proofs.laws.Size.{size_of_nonempty}
@@ -20,56 +17,25 @@ use Rattle.nd_dim.proofs.Filled.{ReachesEach}
 use Rattle.nd_dim.proofs.PackedLayouts.{fills_from_packed, packed_from_reaches}
 use Rattle.nd_dim.proofs.Rearranged.{permutation_from_members}
 
--- ---- where it begins
+-- ---- sums and values
 -- a number above the low span down and below it
-between : (least offset : ℤ) (low : ℕ) → least ≤ℤ offset → offset ≡ neg_ℤ (pos low) → neg_ℤ (pos low) ≤ℤ (least +ℤ pos 0) → least ≡ neg_ℤ (pos low)
+between : (least offset : ℤ) (low : ℕ) → least ≤ℤ offset → offset ≡ neg_ℤ (pos low) → neg_ℤ (pos low) ≤ℤ (least +ℤ pos 0)
+    → least ≡ neg_ℤ (pos low)
 between least offset low above at under = omega (arith, ints)
 
--- the stretch begins the low span down
-pub least_of_stretch : (shape : List ℕ) (strides : List ℤ) → length shape ≡ length strides → is_empty shape ≡ false → (stretch : FillsStretch shape strides) → stretch.least ≡ neg_ℤ (pos (low_span shape strides))
-least_of_stretch shape strides count some stretch =
-    let lowest = least_offset shape strides count some in
-    let first = stretch.filled 0 (size_of_nonempty shape some) in
-    let bounds = offset_bounds shape strides first.0 first.1 count in
-    let under : neg_ℤ (pos (low_span shape strides)) ≤ℤ (stretch.least +ℤ pos 0) =
-    let P : ℤ → Type 0 = λ z. neg_ℤ (pos (low_span shape strides)) ≤ℤ z in
-    subst P first.2 bounds.0 in
-    between stretch.least (offset_of strides lowest.0) (low_span shape strides) (stretch.none_below lowest.0 lowest.1) lowest.2 under
+-- a distance from the low end, whatever the signs
+same_distance : {z least : ℤ} (low k : ℕ) {far : ℕ} → z ≡ least +ℤ pos k → least ≡ neg_ℤ (pos low) → z +ℤ pos low ≡ pos far → far ≡ k
+same_distance low k at begin moved = omega (arith, ints)
 
--- ---- by distances whatever the signs
-same_distance : (z : ℤ) (least : ℤ) (low k far : ℕ) → z ≡ least +ℤ pos k → least ≡ neg_ℤ (pos low) → z +ℤ pos low ≡ pos far → far ≡ k
-same_distance z least low k far at begin moved = omega (arith, ints)
+same_offset : {a b : ℤ} (low : ℕ) {m n : ℕ} → a +ℤ pos low ≡ pos m → b +ℤ pos low ≡ pos n → m ≡ n → a ≡ b
+same_offset low p q e = omega (arith, ints)
 
-same_offset : (a b : ℤ) (low m n : ℕ) → a +ℤ pos low ≡ pos m → b +ℤ pos low ≡ pos n → m ≡ n → a ≡ b
-same_offset a b low m n p q e = omega (arith, ints)
+same_far : {a b : ℤ} (low : ℕ) {m n : ℕ} → a +ℤ pos low ≡ pos m → b +ℤ pos low ≡ pos n → a ≡ b → m ≡ n
+same_far low p q e = omega (arith, ints)
 
-same_far : (a b : ℤ) (low m n : ℕ) → a +ℤ pos low ≡ pos m → b +ℤ pos low ≡ pos n → a ≡ b → m ≡ n
-same_far a b low m n p q e = omega (arith, ints)
-
--- one stretch is filled where each distance below the size is reached once
-pub reaches_from_stretch : (shape : List ℕ) (strides : List ℤ) → length shape ≡ length strides → is_empty shape ≡ false → FillsStretch shape strides → ReachesEach shape strides
-reaches_from_stretch shape strides count some stretch = record {
-  filled = λ k h.
-      let found = stretch.filled k h in
-      let back = turned shape strides found.0 in
-      (back, is_index-turned shape strides found.0 found.1, same_distance (offset_of strides found.0) stretch.least (low_span shape strides) k (farthest_offset strides back) found.2 (least_of_stretch shape strides count some stretch) (offset_of-turned shape strides found.0 count found.1));
-  distinct = λ index other h g e. apart index other h g e;
-}
-  where
-    apart : (index other : List ℕ) → is_index shape index ≡ true → is_index shape other ≡ true → farthest_offset strides index ≡ farthest_offset strides other → index ≡ other
-    apart index other h g e =
-        let one = turned shape strides index in
-        let two = turned shape strides other in
-        let in_one = is_index-turned shape strides index h in
-        let in_two = is_index-turned shape strides other g in
-        let far : farthest_offset strides (turned shape strides one) ≡ farthest_offset strides (turned shape strides two) =
-        ap (farthest_offset strides) (turned-turned shape strides index h) ∙ e ∙ ap (farthest_offset strides) (sym (turned-turned shape strides other g)) in
-        let offsets : offset_of strides one ≡ offset_of strides two =
-        same_offset (offset_of strides one) (offset_of strides two) (low_span shape strides) (farthest_offset strides (turned shape strides one)) (farthest_offset strides (turned shape strides two)) (offset_of-turned shape strides one count in_one) (offset_of-turned shape strides two count in_two) far in
-        let same : one ≡ two = stretch.distinct one two in_one in_two offsets in
-        sym (turned-turned shape strides index h) ∙ ap (turned shape strides) same ∙ turned-turned shape strides other g
-
-pub stretch_from_reaches : (shape : List ℕ) (strides : List ℤ) → length shape ≡ length strides → ReachesEach shape strides → FillsStretch shape strides
+-- each distance reached once is one stretch
+pub stretch_from_reaches : (shape : List ℕ) (strides : List ℤ) → length shape ≡ length strides → ReachesEach shape strides
+    → FillsStretch shape strides
 stretch_from_reaches shape strides count each = record {
   least = neg_ℤ (pos (low_span shape strides));
   none_below = λ index h. (offset_bounds shape strides index h count).0;
@@ -80,67 +46,35 @@ stretch_from_reaches shape strides count each = record {
   distinct = λ index other h g e.
       let one = turned shape strides index in
       let two = turned shape strides other in
-      let far : farthest_offset strides one ≡ farthest_offset strides two =
-      same_far (offset_of strides index) (offset_of strides other) (low_span shape strides) (farthest_offset strides one) (farthest_offset strides two) (offset_of-turned shape strides index count h) (offset_of-turned shape strides other count g) e in
-      let same : one ≡ two = each.distinct one two (is_index-turned shape strides index h) (is_index-turned shape strides other g) far in
+      let far = same_far (low_span shape strides) (offset_of-turned shape strides index count h)
+      (offset_of-turned shape strides other count g) e in
+      let same = each.distinct one two (is_index-turned shape strides index h) (is_index-turned shape strides other g) far in
       sym (turned-turned shape strides index h) ∙ ap (turned shape strides) same ∙ turned-turned shape strides other g;
 }
 
--- ---- where it ends
-less_from_far : (z : ℤ) (low far n : ℕ) → z +ℤ pos low ≡ pos far → far < n → (z +ℤ pos low) <ℤ pos n
-less_from_far z low far n e h = omega (arith, ints)
-
--- counted from where it begins, each index lies below the size
-pub below_size_in_stretch : (shape : List ℕ) (strides : List ℤ) (index : List ℕ) → length shape ≡ length strides → is_empty shape ≡ false → FillsStretch shape strides → is_index shape index ≡ true → (offset_of strides index +ℤ pos (low_span shape strides)) <ℤ pos (size shape)
-below_size_in_stretch shape strides index count some stretch h =
-    let each = reaches_from_stretch shape strides count some stretch in
-    let fills = fills_from_packed shape strides count some (packed_from_reaches shape strides count some each) in
-    less_from_far (offset_of strides index) (low_span shape strides) (farthest_offset strides (turned shape strides index)) (size shape) (offset_of-turned shape strides index count h) (fills.below (turned shape strides index) (is_index-turned shape strides index h))
-
--- and each number below the size is where some index lies, counted so
-pub has_index_in_stretch : (shape : List ℕ) (strides : List ℤ) (k : ℕ) → length shape ≡ length strides → is_empty shape ≡ false → FillsStretch shape strides → k < size shape → HasIndexAt shape strides (pos k +ℤ neg_ℤ (pos (low_span shape strides)))
-has_index_in_stretch shape strides k count some stretch h =
-    let found = stretch.filled k h in
-    let begin = least_of_stretch shape strides count some stretch in
-    (found.0, found.1, omega (arith, ints, found.2, begin))
-
--- there is one such index, and no other
-pub record IsOnlyIndexAt (shape : List ℕ) (strides : List ℤ) (offset : ℤ) (index : List ℕ) : Type 0 where
-  pub inside : is_index shape index ≡ true
-  pub here : offset_of strides index ≡ offset
-  pub only : (other : List ℕ) → is_index shape other ≡ true → offset_of strides other ≡ offset → other ≡ index
-
-pub only_index_in_stretch : (shape : List ℕ) (strides : List ℤ) (k : ℕ) → length shape ≡ length strides → is_empty shape ≡ false → FillsStretch shape strides → k < size shape → (index : List ℕ) × IsOnlyIndexAt shape strides (pos k +ℤ neg_ℤ (pos (low_span shape strides))) index
-only_index_in_stretch shape strides k count some stretch h =
-    let found = has_index_in_stretch shape strides k count some stretch h in (
-      found.0,
-      record {
-        inside = found.1;
-        here = found.2;
-        only = λ other g e. stretch.distinct other found.0 g found.1 (e ∙ sym found.2);
-      },
-    )
-
--- ---- a walk along it
 -- where a value is given to each index, and each of as many values as the size is given to one, these are the values given
-pub values_in_order : (order : Order) (f : ℕ → ℤ) (g : List ℕ → ℤ) (shape : List ℕ) → ((i j : ℕ) → f i ≡ f j → i ≡ j) → ((k : ℕ) → k < size shape → (index : List ℕ) × (is_index shape index ≡ true) × (g index ≡ f k)) → IsPermutation (map f (below (size shape))) (map g (indices_in order shape))
+pub values_in_order : (order : Order) (f : ℕ → ℤ) (g : List ℕ → ℤ) (shape : List ℕ) → ((i j : ℕ) → f i ≡ f j → i ≡ j)
+    → ((k : ℕ) → k < size shape → (index : List ℕ) × (is_index shape index ≡ true) × (g index ≡ f k))
+    → IsPermutation (map f (below (size shape))) (map g (indices_in order shape))
 values_in_order order f g shape differ given =
     let n = size shape in
     let all = indices_in order shape in
-    let many : length (map f (below n)) ≡ n = length-map-range_with_len f 0 n in
-    let at : (k : ℕ) (d : ℤ) → k < n → get_or (map f (below n)) k d ≡ f k = λ k d h. get_or-map-range_with_len f 0 n k k d h (omega arith) in
-    permutation_from_members (map f (below n)) (map g all) (λ i j d h l e. let same : i ≡ j = differ i j (sym (at i d (omega arith)) ∙ e ∙ at j d (omega arith)) in omega arith) (many ∙ sym (length-map all g ∙ length-indices_in order shape)) (λ z c.
+    let many = length-map-range_with_len f 0 n in
+    let at : (k : ℕ) (d : ℤ) → k < n
+    → get_or (map f (below n)) k d ≡ f k = λ k d h. get_or-map-range_with_len f 0 n k k d h (omega arith) in
+    permutation_from_members (map f (below n)) (map g all)
+    (λ i j d h l e. let same : i ≡ j = differ i j (sym (at i d (omega arith)) ∙ e ∙ at j d (omega arith)) in omega arith)
+    (many ∙ sym (length-map all g ∙ length-indices_in order shape)) (λ z c.
     let found = given c.0 (let l = c.1 in omega arith) in
-    let listed = Contains-indices_in order shape found.0 found.1 in
-    (listed.0, (let l = listed.1 in omega (arith, length-map all g)), get_or-map g all listed.0 found.0 z listed.1 ∙ ap g listed.2 ∙ found.2 ∙ sym (at c.0 z (let l = c.1 in omega arith)) ∙ c.2))
+    let listed = Contains-indices_in order shape found.0 found.1 in (
+      listed.0,
+      (let l = listed.1 in omega (arith, length-map all g)),
+      get_or-map g all listed.0 found.0 z listed.1 ∙ ap g listed.2
+          ∙ found.2 ∙ sym (at c.0 z (let l = c.1 in omega arith)) ∙ c.2,
+    ))
 
 moved_apart : (low i j : ℕ) → pos i +ℤ neg_ℤ (pos low) ≡ pos j +ℤ neg_ℤ (pos low) → i ≡ j
 moved_apart low i j e = omega (arith, ints)
-
--- the offsets of all indices, in whatever order of the indices, are the numbers from the low span down, one by one
-pub offsets_in_stretch : (order : Order) (shape : List ℕ) (strides : List ℤ) → length shape ≡ length strides → is_empty shape ≡ false → FillsStretch shape strides → IsPermutation (map (λ k. pos k +ℤ neg_ℤ (pos (low_span shape strides))) (below (size shape))) (map (offset_of strides) (indices_in order shape))
-offsets_in_stretch order shape strides count some stretch =
-    values_in_order order (λ k. pos k +ℤ neg_ℤ (pos (low_span shape strides))) (offset_of strides) shape (moved_apart (low_span shape strides)) (λ k h. has_index_in_stretch shape strides k count some stretch h)
 
 place_there : (start low k : ℕ) (z : ℤ) → low ≤ start → z ≡ pos k +ℤ neg_ℤ (pos low) → pos start +ℤ z ≡ pos (start - low + k)
 place_there start low k z h e = omega (arith, ints)
@@ -148,9 +82,101 @@ place_there start low k z h e = omega (arith, ints)
 same_place : (n i j : ℕ) → pos (n + i) ≡ pos (n + j) → i ≡ j
 same_place n i j e = omega (arith, ints)
 
--- and the places are start less the low span, one more, and so on, as many as the size
-pub places_in_stretch : (order : Order) (start : ℕ) (shape : List ℕ) (strides : List ℤ) → length shape ≡ length strides → is_empty shape ≡ false → low_span shape strides ≤ start → FillsStretch shape strides → IsPermutation (map (λ k. pos (start - low_span shape strides + k)) (below (size shape))) (places order start shape strides)
-places_in_stretch order start shape strides count some fits stretch =
-    values_in_order order (λ k. pos (start - low_span shape strides + k)) (place start strides) shape (same_place (start - low_span shape strides)) (λ k h.
-    let found = has_index_in_stretch shape strides k count some stretch h in
-    (found.0, found.1, place_there start (low_span shape strides) k (offset_of strides found.0) fits found.2))
+less_from_far : (z : ℤ) (low far n : ℕ) → z +ℤ pos low ≡ pos far → far < n → (z +ℤ pos low) <ℤ pos n
+less_from_far z low far n e h = omega (arith, ints)
+
+-- there is one such index, and no other
+pub record IsOnlyIndexAt (shape : List ℕ) (strides : List ℤ) (offset : ℤ) (index : List ℕ) : Type 0 where
+  pub inside : is_index shape index ≡ true
+  pub here : offset_of strides index ≡ offset
+  pub only : (other : List ℕ) → is_index shape other ≡ true → offset_of strides other ≡ offset → other ≡ index
+
+-- ---- a layout that fills a stretch: where it begins and ends, and a walk along it
+module _ (shape : List ℕ) (strides : List ℤ) (count : length shape ≡ length strides) (some : is_empty shape ≡ false)
+    (stretch : FillsStretch shape strides) where
+  -- the stretch begins the low span down
+  pub least_of_stretch : stretch.least ≡ neg_ℤ (pos (low_span shape strides))
+  least_of_stretch =
+      let lowest = least_offset shape strides count some in
+      let first = stretch.filled 0 (size_of_nonempty shape some) in
+      let bounds = offset_bounds shape strides first.0 first.1 count in
+      let under : neg_ℤ (pos (low_span shape strides)) ≤ℤ (stretch.least +ℤ pos 0) =
+      let P : ℤ → Type 0 = λ z. neg_ℤ (pos (low_span shape strides)) ≤ℤ z in
+      subst P first.2 bounds.0 in
+      between stretch.least (offset_of strides lowest.0) (low_span shape strides) (stretch.none_below lowest.0 lowest.1) lowest.2 under
+
+  -- two indices at one distance are one
+  apart : (index other : List ℕ) → is_index shape index ≡ true → is_index shape other ≡ true
+      → farthest_offset strides index ≡ farthest_offset strides other → index ≡ other
+  apart index other h g e =
+      let one = turned shape strides index in
+      let two = turned shape strides other in
+      let in_one = is_index-turned shape strides index h in
+      let in_two = is_index-turned shape strides other g in
+      let far = ap (farthest_offset strides) (turned-turned shape strides index h) ∙ e
+      ∙ ap (farthest_offset strides) (sym (turned-turned shape strides other g)) in
+      let offsets : offset_of strides one ≡ offset_of strides two =
+      same_offset (low_span shape strides) (offset_of-turned shape strides one count in_one)
+      (offset_of-turned shape strides two count in_two) far in
+      sym (turned-turned shape strides index h)
+      ∙ ap (turned shape strides) (stretch.distinct one two in_one in_two offsets)
+      ∙ turned-turned shape strides other g
+
+  -- one stretch is filled where each distance below the size is reached once
+  pub reaches_from_stretch : ReachesEach shape strides
+  reaches_from_stretch = record {
+    filled = λ k h.
+        let found = stretch.filled k h in
+        let begin = least_of_stretch in
+        let inside = is_index-turned shape strides found.0 found.1 in (
+          turned shape strides found.0,
+          inside,
+          same_distance (low_span shape strides) k found.2 begin (offset_of-turned shape strides found.0 count found.1),
+        );
+    distinct = apart;
+  }
+
+  -- counted from where it begins, each index lies below the size
+  pub below_size_in_stretch : (index : List ℕ) → is_index shape index ≡ true
+      → (offset_of strides index +ℤ pos (low_span shape strides)) <ℤ pos (size shape)
+  below_size_in_stretch index h =
+      let each = reaches_from_stretch in
+      let fills = fills_from_packed shape strides count some (packed_from_reaches shape strides count some each) in
+      less_from_far (offset_of strides index) (low_span shape strides) (farthest_offset strides (turned shape strides index)) (size shape)
+      (offset_of-turned shape strides index count h) (fills.below (turned shape strides index) (is_index-turned shape strides index h))
+
+  -- and each number below the size is where some index lies, counted so
+  pub has_index_in_stretch : (k : ℕ) → k < size shape → HasIndexAt shape strides (pos k +ℤ neg_ℤ (pos (low_span shape strides)))
+  has_index_in_stretch k h =
+      let found = stretch.filled k h in
+      let begin = least_of_stretch in
+      (found.0, found.1, omega (arith, ints, found.2, begin))
+
+  pub only_index_in_stretch : (k : ℕ) → k < size shape
+      → (index : List ℕ) × IsOnlyIndexAt shape strides (pos k +ℤ neg_ℤ (pos (low_span shape strides))) index
+  only_index_in_stretch k h =
+      let found = has_index_in_stretch k h in (
+        found.0,
+        record {
+          inside = found.1;
+          here = found.2;
+          only = λ other g e. stretch.distinct other found.0 g found.1 (e ∙ sym found.2);
+        },
+      )
+
+  -- the offsets of all indices, in whatever order of the indices, are the numbers from the low span down, one by one
+  pub offsets_in_stretch : (order : Order)
+      → IsPermutation (map (λ k. pos k +ℤ neg_ℤ (pos (low_span shape strides))) (below (size shape)))
+      (map (offset_of strides) (indices_in order shape))
+  offsets_in_stretch order =
+      values_in_order order (λ k. pos k +ℤ neg_ℤ (pos (low_span shape strides))) (offset_of strides) shape
+      (moved_apart (low_span shape strides)) (λ k h. has_index_in_stretch k h)
+
+  -- and the places are start less the low span, one more, and so on, as many as the size
+  pub places_in_stretch : (order : Order) (start : ℕ) → low_span shape strides ≤ start
+      → IsPermutation (map (λ k. pos (start - low_span shape strides + k)) (below (size shape))) (places order start shape strides)
+  places_in_stretch order start fits =
+      values_in_order order (λ k. pos (start - low_span shape strides + k)) (place start strides) shape
+      (same_place (start - low_span shape strides)) (λ k h.
+      let found = has_index_in_stretch k h in
+      (found.0, found.1, place_there start (low_span shape strides) k (offset_of strides found.0) fits found.2))

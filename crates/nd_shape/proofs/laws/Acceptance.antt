@@ -3,12 +3,8 @@ use Rattle.std.proofs.Common.{◌≡◌, ℕ, ℤ, false, List, length, None, ar
 use Rattle.std.specs.Prelude.{nat_le, nat_lt, not, ◌&&◌}
 use Rattle.std.proofs.lemmas.Bool.{cond-false, leb-false}
 use Rattle.std.proofs.lemmas.Grind.{common_steps}
-use Rattle.nd_base.specs.Size.{is_empty}
-use Rattle.nd_base.specs.Span.{span, low_span}
-use Rattle.nd_base.specs.ValidLayout.{IsValidLayout}
+use Rattle.nd_base.proofs.laws.Definitions.{HasDistinctOffsets, LiesInside, is_empty, low_span, span, IsValidLayout}
 use Rattle.nd_shape.specs.Acceptance.{size_fault, acceptance, leaves_data}
-use Rattle.nd_base.specs.DistinctOffsets.{HasDistinctOffsets}
-use Rattle.nd_base.specs.Inside.{LiesInside}
 use Rattle.nd_shape.specs.OwnedRule.{meets_owned_rule}
 use Rattle.nd_shape.specs.declared.checks.CanIndexCheckMode.{CanIndexCheckMode}
 use Rattle.nd_shape.specs.declared.checks.CanIndexCheckMode.TheVariants.{OwnedMutable}
@@ -17,42 +13,47 @@ use Rattle.nd_shape.proofs.laws.DistinctOffsets.{distinct_without_overlap}
 use Rattle.nd_base.proofs.laws.Inside.{lies_inside_from_span}
 
 -- where sizes and reach have no fault, every sum on the layout fits
-pub sized_valid : (elem_size : ℕ) (shape : List ℕ) (strides : List ℤ) → size_fault elem_size shape strides ≡ None → IsValidLayout shape strides
+pub sized_valid : (elem_size : ℕ) (shape : List ℕ) (strides : List ℤ) → size_fault elem_size shape strides ≡ None
+    → IsValidLayout shape strides
 sized_valid elem_size shape strides h = record {
   same_count = grind (arith, common_steps);
   size_fits = grind (arith, common_steps);
   span_fits = grind (arith, common_steps);
 }
 
--- an accepted layout does not leave the data
-pub accepted_stays : (elem_size len : ℕ) (mode : CanIndexCheckMode) (shape : List ℕ) (strides : List ℤ) → acceptance elem_size len mode shape strides ≡ None → leaves_data len shape strides ≡ false
-accepted_stays elem_size len mode shape strides h = grind (arith, common_steps)
+module _ (elem_size len : ℕ) (mode : CanIndexCheckMode) (shape : List ℕ) (strides : List ℤ)
+    (h : acceptance elem_size len mode shape strides ≡ None) where
+  -- an accepted layout does not leave the data
+  pub accepted_stays : leaves_data len shape strides ≡ false
+  accepted_stays = grind (arith, common_steps)
 
--- it has a stride for each length
-pub accepted_count : (elem_size len : ℕ) (mode : CanIndexCheckMode) (shape : List ℕ) (strides : List ℤ) → acceptance elem_size len mode shape strides ≡ None → length shape ≡ length strides
-accepted_count elem_size len mode shape strides h = grind (arith, common_steps)
+  -- it has a stride for each length
+  pub accepted_count : length shape ≡ length strides
+  accepted_count = grind (arith, common_steps)
 
--- and every sum on it fits
-pub accepted_valid : (elem_size len : ℕ) (mode : CanIndexCheckMode) (shape : List ℕ) (strides : List ℤ) → acceptance elem_size len mode shape strides ≡ None → IsValidLayout shape strides
-accepted_valid elem_size len mode shape strides h = record {
-  same_count = accepted_count elem_size len mode shape strides h;
-  size_fits = grind (arith, common_steps);
-  span_fits = grind (arith, common_steps);
-}
+  -- and every sum on it fits
+  pub accepted_valid : IsValidLayout shape strides
+  accepted_valid = record {
+    same_count = accepted_count;
+    size_fits = grind (arith, common_steps);
+    span_fits = grind (arith, common_steps);
+  }
 
--- and each of its indices lies within the data
-pub accepted_lies_inside : (elem_size len : ℕ) (mode : CanIndexCheckMode) (shape : List ℕ) (strides : List ℤ) → acceptance elem_size len mode shape strides ≡ None → LiesInside len (low_span shape strides) shape strides
-accepted_lies_inside elem_size len mode shape strides h index here =
-    let stays = accepted_stays elem_size len mode shape strides h in
-    let some = nonempty_from_index shape index here in
-    let test : leaves_data len shape strides ≡ nat_le len (span shape strides) = cond-false (is_empty shape) (nat_lt len (span shape strides)) (nat_le len (span shape strides)) some in
-    lies_inside_from_span len shape strides (leb-false len (span shape strides) (sym test ∙ stays)) (accepted_count elem_size len mode shape strides h) index here
+  -- and each of its indices lies within the data
+  pub accepted_lies_inside : LiesInside len (low_span shape strides) shape strides
+  accepted_lies_inside index here =
+      let stays = accepted_stays in
+      let some = nonempty_from_index shape index here in
+      let test : leaves_data len shape strides ≡ nat_le len (span shape strides) =
+      cond-false (is_empty shape) (nat_lt len (span shape strides)) (nat_le len (span shape strides)) some in
+      lies_inside_from_span len shape strides (leb-false len (span shape strides) (sym test ∙ stays)) accepted_count index here
 
--- a layout accepted to be written does not fail the test for a shared element
-accepted_apart : (elem_size len : ℕ) (shape : List ℕ) (strides : List ℤ) → acceptance elem_size len OwnedMutable shape strides ≡ None → (not (is_empty shape) && not (meets_owned_rule shape strides)) ≡ false
-accepted_apart elem_size len shape strides h = grind (arith, common_steps)
+module _ (elem_size len : ℕ) (shape : List ℕ) (strides : List ℤ) (h : acceptance elem_size len OwnedMutable shape strides ≡ None) where
+  -- a layout accepted to be written does not fail the test for a shared element
+  accepted_apart : (not (is_empty shape) && not (meets_owned_rule shape strides)) ≡ false
+  accepted_apart = grind (arith, common_steps)
 
--- of a layout accepted to be written, every two indices have offsets of their own
-pub accepted_distinct : (elem_size len : ℕ) (shape : List ℕ) (strides : List ℤ) → acceptance elem_size len OwnedMutable shape strides ≡ None → HasDistinctOffsets shape strides
-accepted_distinct elem_size len shape strides h =
-    distinct_without_overlap shape strides (accepted_count elem_size len OwnedMutable shape strides h) (accepted_apart elem_size len shape strides h)
+  -- of a layout accepted to be written, every two indices have offsets of their own
+  pub accepted_distinct : HasDistinctOffsets shape strides
+  accepted_distinct =
+      distinct_without_overlap shape strides (accepted_count elem_size len OwnedMutable shape strides h) accepted_apart

@@ -1,19 +1,18 @@
--- The strides that a shape has by itself obey the rule for owned data.
-use Rattle.std.proofs.Common.{◌≡◌, ℕ, zero, suc, ◌+◌, ◌-◌, ◌*◌, ◌<◌, ◌≤◌, pos, false, eqb, List, [], ◌∷◌, length, get_or, map, take, drop, replicate, refl, sym, ap, ◌∙◌, arith, add-one, mul-le-mul_left, mul-one, mul_assoc, mul_comm, one-mul, pos_of_ne-zero}
+-- Laws of the strides that a shape has by itself by rows: how far they reach, and that they obey the rule for owned data.
+use Rattle.std.proofs.Common.{◌≡◌, ℕ, zero, suc, ◌+◌, ◌-◌, ◌*◌, ◌<◌, ◌≤◌, pos, false, eqb, List, [], ◌∷◌, length, get_or, map, take}
+use Rattle.std.proofs.Common.{drop, replicate, refl, sym, ap, ◌∙◌, arith, add-one, mul-le-mul_left, mul-one, mul_assoc, mul_comm}
+use Rattle.std.proofs.Common.{one-mul, pos_of_ne-zero}
 use Rattle.std.specs.Prelude.{nat_le}
 use Rattle.std.proofs.Math.Nat.{suc-mul}
 use Rattle.std.proofs.lemmas.Bool.{cond-false, eqb-false, lt-leb, or_parts}
 use Rattle.std.proofs.lemmas.List.{length-map}
 use Rattle.std.proofs.lemmas.List.FromFn.{fill_by_all}
 use Rattle.std.proofs.lemmas.Nat.{mul-le}
-use Rattle.nd_base.specs.Indices.{below}
-use Rattle.nd_base.specs.Size.{size, is_empty}
-use Rattle.nd_base.specs.Span.{reach, span}
+use Rattle.nd_base.proofs.laws.Definitions.{HasDistinctOffsets, below, is_empty, size, reach, span}
 use Rattle.nd_base.proofs.laws.IsIndex.{nonempty_from_index}
 use Rattle.nd_base.proofs.laws.Size.{size_of_nonempty}
 use Rattle.nd_base.proofs.laws.Span.{sum_le}
 use Rattle.nd_dim.specs.Strides.{size_after, size_until, default_strides, fortran_strides}
-use Rattle.nd_base.specs.DistinctOffsets.{HasDistinctOffsets}
 use Rattle.nd_dim.specs.AxisOrder.{magnitude_at}
 use Rattle.nd_shape.specs.OwnedRule.{span_up_to, span_of_others, MeetsOwnedRule}
 use Rattle.nd_shape.proofs.laws.OwnedRule.{reach_up_to, reach_up_to_le}
@@ -25,38 +24,19 @@ abbrev by_rows : List ℕ → List ℕ
 by_rows [] = []
 by_rows (len ∷ lens) = size lens ∷ by_rows lens
 
--- the first axis moves by a step, and each next one by the step before it times the length there
-abbrev by_columns : ℕ → List ℕ → List ℕ
-by_columns step [] = []
-by_columns step (len ∷ lens) = step ∷ by_columns (step * len) lens
-
 length-by_rows : (lens : List ℕ) → length (by_rows lens) ≡ length lens
 length-by_rows [] = refl
 length-by_rows (len ∷ lens) = ap suc (length-by_rows lens)
-
-length-by_columns : (step : ℕ) (lens : List ℕ) → length (by_columns step lens) ≡ length lens
-length-by_columns step [] = refl
-length-by_columns step (len ∷ lens) = ap suc (length-by_columns (step * len) lens)
 
 get_or-by_rows : (lens : List ℕ) (k : ℕ) → k < length lens → get_or (by_rows lens) k 0 ≡ size (drop (suc k) lens)
 get_or-by_rows [] k h = absurd (omega arith)
 get_or-by_rows (len ∷ lens) zero h = refl
 get_or-by_rows (len ∷ lens) (suc k) h = get_or-by_rows lens k (omega arith)
 
-get_or-by_columns : (step : ℕ) (lens : List ℕ) (k : ℕ) → k < length lens → get_or (by_columns step lens) k 0 ≡ step * size (take k lens)
-get_or-by_columns step [] k h = absurd (omega arith)
-get_or-by_columns step (len ∷ lens) zero h = sym (mul-one step)
-get_or-by_columns step (len ∷ lens) (suc k) h = get_or-by_columns (step * len) lens k (omega arith) ∙ mul_assoc step len (size (take k lens))
-
 default_by_rows : (lens : List ℕ) → is_empty lens ≡ false → default_strides lens ≡ by_rows lens
 default_by_rows lens some =
-    cond-false (is_empty lens) (replicate (length lens) 0) (map (size_after lens) (below (length lens))) some
+    cond-false (is_empty lens) _ _ some
     ∙ sym (fill_by_all (size_after lens) (by_rows lens) (length lens) 0 (length-by_rows lens) (λ k h. rw add-one (get_or-by_rows lens k h)))
-
-fortran_by_columns : (lens : List ℕ) → is_empty lens ≡ false → fortran_strides lens ≡ by_columns 1 lens
-fortran_by_columns lens some =
-    cond-false (is_empty lens) (replicate (length lens) 0) (map (size_until lens) (below (length lens))) some
-    ∙ sym (fill_by_all (size_until lens) (by_columns 1 lens) (length lens) 0 (length-by_columns 1 lens) (λ k h. get_or-by_columns 1 lens k h ∙ one-mul (size (take k lens))))
 
 -- a shape without a zero length begins with a length that is not 0, and goes on without a zero length
 lengths : (len : ℕ) (lens : List ℕ) → is_empty (len ∷ lens) ≡ false → (0 < len) × (is_empty lens ≡ false)
@@ -73,7 +53,6 @@ whole_axis (suc n) step h = let less : suc n - 1 ≡ n = omega arith in rw less 
 past : (m len step : ℕ) → m < step → reach_up_to m len (pos step) ≡ 0
 past m len step h = cond-false (nat_le step m) (reach len (pos step)) 0 (lt-leb step m h)
 
--- ---- by rows
 -- the axes together reach all places but the first
 span_by_rows : (lens : List ℕ) → is_empty lens ≡ false → span lens (map pos (by_rows lens)) + 1 ≡ size lens
 span_by_rows [] some = refl
@@ -86,22 +65,27 @@ pub default_strides_span : (lens : List ℕ) → is_empty lens ≡ false → spa
 default_strides_span lens some = rw (default_by_rows lens some) (span_by_rows lens some)
 
 -- an axis of more than one entry has a stride below the size
-stride_below : (lens : List ℕ) (axis : ℕ) → is_empty lens ≡ false → axis < length lens → 1 < get_or lens axis 0 → magnitude_at (map pos (by_rows lens)) axis < size lens
+stride_below : (lens : List ℕ) (axis : ℕ) → is_empty lens ≡ false → axis < length lens → 1 < get_or lens axis 0
+    → magnitude_at (map pos (by_rows lens)) axis < size lens
 stride_below [] axis some h long = absurd (omega arith)
 stride_below (len ∷ lens) zero some h long =
     let rest = size_of_nonempty lens (lengths len lens some).1 in
-    let twice : 2 * size lens ≤ len * size lens = mul-le 2 (size lens) len (size lens) long (omega arith) in
+    let twice = mul-le 2 (size lens) len (size lens) long (omega arith) in
     omega arith
 stride_below (len ∷ lens) (suc axis) some h long =
     let parts = lengths len lens some in
-    let once : 1 * size lens ≤ len * size lens = mul-le 1 (size lens) len (size lens) parts.0 (omega arith) in
+    let once = mul-le 1 (size lens) len (size lens) parts.0 (omega arith) in
     omega (arith, stride_below lens axis parts.1 (omega arith) long)
 
 over_rows : (lens : List ℕ) → is_empty lens ≡ false → MeetsOwnedRule lens (map pos (by_rows lens))
 over_rows [] some axis h long = absurd (omega arith)
 over_rows (len ∷ lens) some zero h long =
     let m = size lens in
-    omega (arith, sum_le (reach_up_to m) reach (reach_up_to_le m) lens (map pos (by_rows lens)), span_by_rows lens (lengths len lens some).1)
+    omega (
+      arith,
+      sum_le (reach_up_to m) reach (reach_up_to_le m) lens (map pos (by_rows lens)),
+      span_by_rows lens (lengths len lens some).1,
+    )
 over_rows (len ∷ lens) some (suc axis) h long =
     let rest = (lengths len lens some).1 in
     let within : axis < length lens = omega arith in
@@ -111,52 +95,3 @@ over_rows (len ∷ lens) some (suc axis) h long =
 -- the default strides of a shape without a zero length obey the rule
 pub default_strides_meet_rule : (lens : List ℕ) → is_empty lens ≡ false → MeetsOwnedRule lens (map pos (default_strides lens))
 default_strides_meet_rule lens some = rw (default_by_rows lens some) (over_rows lens some)
-
--- and so they give every two indices two offsets, of any shape, for a zero length leaves none
-pub default_strides_distinct : (lens : List ℕ) → HasDistinctOffsets lens (map pos (default_strides lens))
-default_strides_distinct lens index other h g same =
-    let some = nonempty_from_index lens index h in
-    let count : length lens ≡ length (map pos (default_strides lens)) = omega (arith, length-map (default_strides lens) pos, ap length (default_by_rows lens some), length-by_rows lens) in
-    distinct_from_rule lens (map pos (default_strides lens)) count (default_strides_meet_rule lens some) index other h g same
-
--- ---- by columns
--- the axes together reach all places but the first, a step each
-span_by_columns : (step : ℕ) (lens : List ℕ) → is_empty lens ≡ false → span lens (map pos (by_columns step lens)) + step ≡ step * size lens
-span_by_columns step [] some = omega (arith, mul-one step)
-span_by_columns step (len ∷ lens) some =
-    let parts = lengths len lens some in
-    omega (arith, whole_axis len step parts.0, mul_comm step len, span_by_columns (step * len) lens parts.1, mul_assoc step len (size lens))
-
--- so do they along the strides by columns of a shape without a zero length
-pub fortran_strides_span : (lens : List ℕ) → is_empty lens ≡ false → span lens (map pos (fortran_strides lens)) + 1 ≡ size lens
-fortran_strides_span lens some = rw (fortran_by_columns lens some) (span_by_columns 1 lens some ∙ one-mul (size lens))
-
--- the axes with a step past m do not count up to m
-all_past : (m step : ℕ) (lens : List ℕ) → is_empty lens ≡ false → m < step → span_up_to m lens (map pos (by_columns step lens)) ≡ 0
-all_past m step [] some h = refl
-all_past m step (len ∷ lens) some h =
-    let parts = lengths len lens some in
-    let once : step * 1 ≤ step * len = mul-le-mul_left step parts.0 in
-    omega (arith, past m len step h, all_past m (step * len) lens parts.1 (omega arith))
-
-over_columns : (step : ℕ) (lens : List ℕ) (axis : ℕ) → 0 < step → is_empty lens ≡ false → axis < length lens → 1 < get_or lens axis 0 → span_of_others lens (map pos (by_columns step lens)) axis + step ≤ magnitude_at (map pos (by_columns step lens)) axis
-over_columns step [] axis moves some h long = absurd (omega arith)
-over_columns step (len ∷ lens) zero moves some h long =
-    let twice : step * 2 ≤ step * len = mul-le-mul_left step long in
-    omega (arith, all_past step (step * len) lens (lengths len lens some).1 (omega arith))
-over_columns step (len ∷ lens) (suc axis) moves some h long =
-    let parts = lengths len lens some in
-    let m = magnitude_at (map pos (by_columns (step * len) lens)) axis in
-    let once : step * 1 ≤ step * len = mul-le-mul_left step parts.0 in
-    omega (arith, reach_up_to_le m len (pos step), whole_axis len step parts.0, mul_comm step len, over_columns (step * len) lens axis (omega arith) parts.1 (omega arith) long)
-
--- the strides by columns of a shape without a zero length obey the rule
-pub fortran_strides_meet_rule : (lens : List ℕ) → is_empty lens ≡ false → MeetsOwnedRule lens (map pos (fortran_strides lens))
-fortran_strides_meet_rule lens some = rw (fortran_by_columns lens some) (λ axis h long. omega (arith, over_columns 1 lens axis (omega arith) some h long))
-
--- and give every two indices two offsets
-pub fortran_strides_distinct : (lens : List ℕ) → HasDistinctOffsets lens (map pos (fortran_strides lens))
-fortran_strides_distinct lens index other h g same =
-    let some = nonempty_from_index lens index h in
-    let count : length lens ≡ length (map pos (fortran_strides lens)) = omega (arith, length-map (fortran_strides lens) pos, ap length (fortran_by_columns lens some), length-by_columns 1 lens) in
-    distinct_from_rule lens (map pos (fortran_strides lens)) count (fortran_strides_meet_rule lens some) index other h g same

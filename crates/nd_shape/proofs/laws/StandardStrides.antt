@@ -1,61 +1,59 @@
 -- Laws of the strides that a shape has by itself, in either order, as they are read.
-use Rattle.std.proofs.Common.{◌≡◌, ℕ, zero, suc, ◌+◌, ◌-◌, ◌<◌, ◌≤◌, ◌∙◌, pos, false, true, inl, inr, List, [], ◌∷◌, length, get_or, map, replicate, w64, ap, refl, arith, mul-zero}
+use Rattle.std.proofs.Common.{◌≡◌, ℕ, zero, suc, ◌+◌, ◌-◌, ◌<◌, ◌≤◌, ◌∙◌, ℤ, pos, false, true, inl, inr, List, [], ◌∷◌, length, get_or}
+use Rattle.std.proofs.Common.{map, replicate, reverse, ap, sym, refl, arith, mul-zero}
 use Rattle.std.proofs.lemmas.Bool.{cases_Bool, cond-true}
-use Rattle.std.proofs.lemmas.Int.{to_z_pos}
-use Rattle.std.proofs.lemmas.List.{get_or-replicate, length-map}
+use Rattle.std.proofs.lemmas.List.{length-map, length-reverse}
 use Rattle.nd_base.specs.declared.order.Order.{Order}
 use Rattle.nd_base.specs.declared.order.Order.TheVariants.{RowMajor, ColumnMajor}
-use Rattle.nd_base.specs.Indices.{below, is_index}
-use Rattle.nd_base.specs.Offset.{offset_of}
-use Rattle.nd_base.specs.Rank.{rank_in}
-use Rattle.nd_base.specs.Signed.{signed, all_signed}
-use Rattle.nd_base.specs.Size.{size, nonzero_size, is_empty, limit}
-use Rattle.nd_base.specs.Span.{span, low_span}
-use Rattle.nd_base.specs.ValidLayout.{IsValidLayout}
+use Rattle.nd_base.proofs.laws.Definitions.{HasDistinctOffsets, LiesInside, IsValidLayout, as_read, below, is_index, offset_of, rank_in}
+use Rattle.nd_base.proofs.laws.Definitions.{all_signed, signed, is_empty, limit, nonzero_size, size, low_span, reach, span}
+use Rattle.nd_base.proofs.laws.Lists.{get_or-from_back}
 use Rattle.nd_base.proofs.laws.NonzeroSize.{size_le_nonzero_size}
-use Rattle.nd_base.proofs.laws.Rank.{rank_in-lt-size}
-use Rattle.nd_base.proofs.laws.Size.{size_take_le}
-use Rattle.nd_dim.specs.Strides.{size_after, size_until}
-use Rattle.nd_dim.proofs.laws.Strides.{default_count, default_small, fortran_at, fortran_count, offset_of-default_strides, offset_of-fortran_strides}
-use Rattle.nd_base.specs.DistinctOffsets.{HasDistinctOffsets}
-use Rattle.nd_base.specs.Inside.{LiesInside}
+use Rattle.nd_base.proofs.laws.Rank.{rank_in-lt-size, same_from_rank_in}
+use Rattle.nd_base.proofs.laws.Reading.{as_read-as_read, is_empty-as_read, map-as_read, nonzero_size-as_read, sum_over_axes-as_read}
+use Rattle.nd_base.proofs.laws.Signed.{all_signed_small}
+use Rattle.nd_base.proofs.laws.Span.{sum_and_others, sum_over_axes-reverse}
+use Rattle.nd_dim.specs.AxisOrder.{magnitude_at}
+use Rattle.nd_dim.specs.Strides.{default_strides, size_after}
+use Rattle.nd_dim.proofs.laws.Strides.{default_count, default_small, fortran_by_default, fortran_count}
+use Rattle.nd_dim.proofs.laws.Strides.{offset_of-default_strides, offset_of-fortran_strides}
 use Rattle.nd_shape.specs.ShapeBuilder.{standard_strides}
 use Rattle.nd_shape.specs.OwnedRule.{MeetsOwnedRule}
-use Rattle.nd_shape.proofs.laws.DefaultStrides.{default_strides_distinct, default_strides_meet_rule, default_strides_span, fortran_strides_distinct, fortran_strides_meet_rule, fortran_strides_span}
+use Rattle.nd_shape.proofs.laws.DefaultStrides.{default_strides_meet_rule, default_strides_span}
+use Rattle.nd_shape.proofs.laws.OwnedRule.{reach_up_to}
 
 -- ---- one stride for each axis, none past the limit
--- of a shape with a zero length they are zeros
-standard_zeros : (order : Order) (shape : List ℕ) → is_empty shape ≡ true → standard_strides order shape ≡ replicate (length shape) 0
-standard_zeros RowMajor shape none = cond-true (is_empty shape) (replicate (length shape) 0) (map (size_after shape) (below (length shape))) none
-standard_zeros ColumnMajor shape none = cond-true (is_empty shape) (replicate (length shape) 0) (map (size_until shape) (below (length shape))) none
+-- in an order they are the default ones of the axes as they are read
+standard_as_read : (order : Order) (shape : List ℕ) → standard_strides order shape ≡ as_read order (default_strides (as_read order shape))
+standard_as_read RowMajor shape = refl
+standard_as_read ColumnMajor shape = fortran_by_default shape
+
+-- read as they are, as signed numbers
+standard_read : (order : Order) (shape : List ℕ)
+    → as_read order (map pos (standard_strides order shape)) ≡ map pos (default_strides (as_read order shape))
+standard_read order shape =
+    sym (map-as_read order pos (standard_strides order shape))
+    ∙ ap (map pos) (ap (as_read order) (standard_as_read order shape) ∙ as_read-as_read order (default_strides (as_read order shape)))
 
 pub standard_count : (order : Order) (shape : List ℕ) → length (standard_strides order shape) ≡ length shape
 standard_count RowMajor shape = default_count shape
 standard_count ColumnMajor shape = fortran_count shape
 
-fortran_small : (shape : List ℕ) (k : ℕ) → nonzero_size shape ≤ limit → k < length shape → get_or (standard_strides ColumnMajor shape) k 0 ≤ limit
-fortran_small shape k top h =
-    elim (cases_Bool (is_empty shape)) [
-      | inl none ↦
-          let same : get_or (standard_strides ColumnMajor shape) k 0 ≡ 0 = ap (λ xs. get_or xs k 0) (standard_zeros ColumnMajor shape none) ∙ get_or-replicate (length shape) k 0 0 h in
-          omega arith
-      | inr some ↦ omega (arith, fortran_at shape k some h, size_take_le shape k some, size_le_nonzero_size shape)
-    ]
+signed_count : (order : Order) (shape : List ℕ) → length shape ≡ length (map pos (standard_strides order shape))
+signed_count order shape = omega (arith, length-map (standard_strides order shape) pos, standard_count order shape)
 
-standard_small : (order : Order) (shape : List ℕ) (k : ℕ) → nonzero_size shape ≤ limit → k < length shape → get_or (standard_strides order shape) k 0 ≤ limit
-standard_small RowMajor shape k top h = default_small shape k top h
-standard_small ColumnMajor shape k top h = fortran_small shape k top h
-
--- numbers up to the limit are read as they are
-signed_small : (xs : List ℕ) → ((k : ℕ) → k < length xs → get_or xs k 0 ≤ limit) → all_signed xs ≡ map pos xs
-signed_small [] h = refl
-signed_small (x ∷ xs) h =
-    let first : x ≤ limit = h 0 (omega arith) in
-    ap (λ z. z ∷ all_signed xs) (to_z_pos w64 x (omega arith)) ∙ ap (λ zs. pos x ∷ zs) (signed_small xs (λ k l. h (suc k) (omega arith)))
-
-pub standard_signed : (order : Order) (shape : List ℕ) → nonzero_size shape ≤ limit → all_signed (standard_strides order shape) ≡ map pos (standard_strides order shape)
+pub standard_signed : (order : Order) (shape : List ℕ) → nonzero_size shape ≤ limit
+    → all_signed (standard_strides order shape) ≡ map pos (standard_strides order shape)
 standard_signed order shape top =
-    signed_small (standard_strides order shape) (λ k h. standard_small order shape k top (omega (arith, standard_count order shape)))
+    let read = as_read order shape in
+    let fits : nonzero_size read ≤ limit = omega (arith, nonzero_size-as_read order shape) in
+    let strides = default_strides read in
+    let small = all_signed_small strides (λ k h. default_small read k fits (omega (arith, default_count read))) in
+    ap all_signed (standard_as_read order shape)
+    ∙ map-as_read order signed strides
+    ∙ ap (as_read order) small
+    ∙ sym (map-as_read order pos strides)
+    ∙ ap (map pos) (sym (standard_as_read order shape))
 
 -- ---- how far they reach
 -- never below the first index
@@ -64,7 +62,8 @@ low_none [] strides = refl
 low_none (len ∷ shape) [] = refl
 low_none (len ∷ shape) (stride ∷ strides) = omega (arith, low_none shape strides)
 
-pub standard_low_span : (order : Order) (shape : List ℕ) → nonzero_size shape ≤ limit → low_span shape (all_signed (standard_strides order shape)) ≡ 0
+pub standard_low_span : (order : Order) (shape : List ℕ) → nonzero_size shape ≤ limit
+    → low_span shape (all_signed (standard_strides order shape)) ≡ 0
 standard_low_span order shape top = rw (standard_signed order shape top) (low_none shape (standard_strides order shape))
 
 -- along zeros nowhere
@@ -74,43 +73,71 @@ span_of_zeros (len ∷ shape) zero = refl
 span_of_zeros (len ∷ shape) (suc n) = omega (arith, mul-zero (len - 1), span_of_zeros shape n)
 
 -- and not past the size
-span_of_some : (order : Order) (shape : List ℕ) → is_empty shape ≡ false → span shape (map pos (standard_strides order shape)) + 1 ≡ size shape
-span_of_some RowMajor shape some = default_strides_span shape some
-span_of_some ColumnMajor shape some = fortran_strides_span shape some
+default_span : (shape : List ℕ) → span shape (map pos (default_strides shape)) ≤ nonzero_size shape
+default_span shape = elim (cases_Bool (is_empty shape)) [
+  | inl none ↦ rw (cond-true (is_empty shape) _ (map (size_after shape) (below (length shape))) none)
+      (omega (arith, span_of_zeros shape (length shape)))
+  | inr some ↦ omega (arith, default_strides_span shape some, size_le_nonzero_size shape)
+]
 
-standard_span : (order : Order) (shape : List ℕ) → nonzero_size shape ≤ limit → span shape (map pos (standard_strides order shape)) ≤ limit
-standard_span order shape top =
-    elim (cases_Bool (is_empty shape)) [
-      | inl none ↦ omega (arith, ap (λ xs. span shape (map pos xs)) (standard_zeros order shape none), span_of_zeros shape (length shape))
-      | inr some ↦ omega (arith, span_of_some order shape some, size_le_nonzero_size shape)
-    ]
+standard_span : (order : Order) (shape : List ℕ) → span shape (map pos (standard_strides order shape)) ≤ nonzero_size shape
+standard_span order shape =
+    let turned = sum_over_axes-as_read order reach shape (map pos (standard_strides order shape)) (signed_count order shape) in
+    let reached = rw (standard_read order shape) at turned in
+    omega (arith, reached, default_span (as_read order shape), nonzero_size-as_read order shape)
 
 -- so that every sum fits
-pub standard_valid : (order : Order) (shape : List ℕ) → nonzero_size shape ≤ limit → IsValidLayout shape (all_signed (standard_strides order shape))
+pub standard_valid : (order : Order) (shape : List ℕ) → nonzero_size shape ≤ limit
+    → IsValidLayout shape (all_signed (standard_strides order shape))
 standard_valid order shape top = record {
   same_count = omega (arith, length-map (standard_strides order shape) signed, standard_count order shape);
   size_fits = top;
-  span_fits = rw (standard_signed order shape top) (standard_span order shape top);
+  span_fits = rw (standard_signed order shape top) (omega (arith, standard_span order shape));
 }
 
 -- ---- where the indices lie
 -- each at its rank
-offset_at_rank : (order : Order) (shape index : List ℕ) → is_index shape index ≡ true → offset_of (map pos (standard_strides order shape)) index ≡ pos (rank_in order shape index)
-offset_at_rank RowMajor shape index h = offset_of-default_strides shape index h
-offset_at_rank ColumnMajor shape index h = offset_of-fortran_strides shape index h
+pub offset_of-standard_strides : (order : Order) (shape index : List ℕ) → is_index shape index ≡ true
+    → offset_of (map pos (standard_strides order shape)) index ≡ pos (rank_in order shape index)
+offset_of-standard_strides RowMajor shape index h = offset_of-default_strides shape index h
+offset_of-standard_strides ColumnMajor shape index h = offset_of-fortran_strides shape index h
 
 -- so among as many elements as there are indices
-pub standard_inside : (order : Order) (len : ℕ) (shape : List ℕ) → nonzero_size shape ≤ limit → size shape ≤ len → LiesInside len 0 shape (all_signed (standard_strides order shape))
+pub standard_inside : (order : Order) (len : ℕ) (shape : List ℕ) → nonzero_size shape ≤ limit → size shape ≤ len
+    → LiesInside len 0 shape (all_signed (standard_strides order shape))
 standard_inside order len shape top room index h =
     let rank : rank_in order shape index < len = omega (arith, rank_in-lt-size order shape index h) in
-    rw (standard_signed order shape top, offset_at_rank order shape index h) (omega arith)
+    rw (standard_signed order shape top, offset_of-standard_strides order shape index h) (omega arith)
 
 -- and each by itself
-pub standard_distinct : (order : Order) (shape : List ℕ) → nonzero_size shape ≤ limit → HasDistinctOffsets shape (all_signed (standard_strides order shape))
-standard_distinct RowMajor shape top = rw (standard_signed RowMajor shape top) (default_strides_distinct shape)
-standard_distinct ColumnMajor shape top = rw (standard_signed ColumnMajor shape top) (fortran_strides_distinct shape)
+pub standard_distinct : (order : Order) (shape : List ℕ) → nonzero_size shape ≤ limit
+    → HasDistinctOffsets shape (all_signed (standard_strides order shape))
+standard_distinct order shape top = rw (standard_signed order shape top) (λ index other h g same.
+    let one = offset_of-standard_strides order shape index h in
+    let two = offset_of-standard_strides order shape other g in
+    let ranks = sym one ∙ same ∙ two in
+    same_from_rank_in order shape index other h g (cc))
 
--- where there is an index, by the no-alias rule of owned mode itself
-pub standard_meets_rule : (order : Order) (shape : List ℕ) → nonzero_size shape ≤ limit → is_empty shape ≡ false → MeetsOwnedRule shape (all_signed (standard_strides order shape))
-standard_meets_rule RowMajor shape top some = rw (standard_signed RowMajor shape top) (default_strides_meet_rule shape some)
-standard_meets_rule ColumnMajor shape top some = rw (standard_signed ColumnMajor shape top) (fortran_strides_meet_rule shape some)
+-- ---- the no-alias rule of owned mode
+-- it doesn't ask in which order the axes stand
+meets_rule_as_read : (order : Order) (shape : List ℕ) (strides : List ℤ) → length shape ≡ length strides
+    → MeetsOwnedRule (as_read order shape) (as_read order strides) → MeetsOwnedRule shape strides
+meets_rule_as_read RowMajor shape strides count rule = rule
+meets_rule_as_read ColumnMajor shape strides count rule = λ axis within long.
+    let k = length shape - 1 - axis in
+    let place : k ≡ length strides - 1 - axis = omega arith in
+    let len = get_or-from_back shape axis 0 within in
+    let stride = ap (λ n. get_or (reverse strides) n (pos 0)) place ∙ get_or-from_back strides axis (pos 0) (omega arith) in
+    let there : k < length (reverse shape) = omega (arith, length-reverse shape) in
+    let counts : length (reverse shape) ≡ length (reverse strides) = omega (arith, length-reverse shape, length-reverse strides) in
+    let f = reach_up_to (magnitude_at strides axis) in
+    let others = rw (len, stride) at (sum_and_others f (reverse shape) (reverse strides) k there counts) in
+    let holds = rw stride at (rule k there (rw len long)) in
+    omega (arith, holds, others, sum_and_others f shape strides axis within count, sum_over_axes-reverse f shape strides count)
+
+-- where there is an index, they meet it
+pub standard_meets_rule : (order : Order) (shape : List ℕ) → nonzero_size shape ≤ limit → is_empty shape ≡ false
+    → MeetsOwnedRule shape (all_signed (standard_strides order shape))
+standard_meets_rule order shape top some = rw (standard_signed order shape top)
+    (meets_rule_as_read order shape (map pos (standard_strides order shape)) (signed_count order shape)
+    (rw (standard_read order shape) (default_strides_meet_rule (as_read order shape) (is_empty-as_read order shape ∙ some))))

@@ -20,7 +20,7 @@ row_after_row : (len rows columns : ℕ) (shape strides : List ℕ) (made : Resu
 row_after_row len rows columns shape strides (Ok view) lens steps fault is = λ row column.
     let accepted = rw (lens, steps) at (sym fault) in
     let valid = accepted_valid 1 len OwnedMutable (rows ∷ columns ∷ []) (all_signed (columns ∷ 1 ∷ [])) accepted in
-    let small : columns ≤ limit = omega (arith, valid.size_fits, length_le_nonzero_size (rows ∷ columns ∷ []) 1 (omega arith)) in
+    let small : columns ≤ limit = omega (arith, valid.size_fits, length_le_nonzero_size (rows ∷ columns ∷ []) 1) in
     rw (is, lens, steps, to_z_pos w64 columns (omega arith)) (omega (arith, ints))
 row_after_row len rows columns shape strides (Err kind) lens steps fault is = tt
 

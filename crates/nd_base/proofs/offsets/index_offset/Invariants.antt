@@ -1,8 +1,6 @@
 -- The offset so far, and that of the axes still to come, make the whole; it is no farther than they allow.
 use Rattle.std.proofs.Common.{◌≡◌, length, pos, ◌+ℤ◌, ◌≤ℤ◌}
-use Rattle.nd_base.specs.Offset.{offset_of}
-use Rattle.nd_base.specs.Signed.{all_signed}
-use Rattle.nd_base.specs.Size.{limit}
+use Rattle.nd_base.proofs.laws.Definitions.{offset_of, all_signed, limit}
 use Rattle.nd_base.proofs.IndexOffsets.{entry_offset, offset_from}
 use Rattle.nd_base.proofs.laws.Span.{sum_from}
 use Rattle.nd_base.proofs.offsets.index_offset.Given as goal

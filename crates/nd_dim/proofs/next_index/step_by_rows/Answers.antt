@@ -4,28 +4,25 @@ use Rattle.nd_dim.proofs.Stepped.{row_start, row_entry, row_turn, row_step, row_
 use Rattle.nd_dim.proofs.next_index.step_by_rows.Goals as goal
 
 pub loop-axis-init : goal.loop-axis-init
-loop-axis-init c = row_start c.args.shape.now c.args.index.now (length_of_index c.args.shape.now c.args.index.now c.requires)
+loop-axis-init c = row_start c.args.shape.now c.args.index.now c.requires
 
 pub bounds-index-axis : goal.bounds-index-axis
 bounds-index-axis c = omega (arith, length_of_index c.args.shape.now c.args.index.now c.requires)
 
 pub overflow_add-next : goal.overflow_add-next
 overflow_add-next c =
-    let here = row_entry c.args.shape.now c.args.index.now c.loop-axis.index c.loop-axis.axis c.requires (omega arith) (omega arith) c.loop-axis.invariant in
+    let entry = row_entry (omega arith) (omega arith) c.loop-axis.invariant in
     omega (arith, (c.type_inv.shape (c.loop-axis.axis - 1)).fits)
 
 pub returns-then-next-shape-clause-more : goal.returns-then-next-shape-clause-more
 returns-then-next-shape-clause-more c =
-    let next = row_step c.args.shape.now c.args.index.now c.loop-axis.index c.loop-axis.axis c.requires (omega arith) (omega arith) (omega arith) c.loop-axis.invariant in
-    (λ t. next.0, λ h. refl)
+    (λ t. (row_step (omega arith) (omega arith) c.loop-axis.invariant (omega arith)).0, λ h. refl)
 
 pub returns-then-next-shape-clause-next : goal.returns-then-next-shape-clause-next
-returns-then-next-shape-clause-next c =
-    (row_step c.args.shape.now c.args.index.now c.loop-axis.index c.loop-axis.axis c.requires (omega arith) (omega arith) (omega arith) c.loop-axis.invariant).1
+returns-then-next-shape-clause-next c = (row_step (omega arith) (omega arith) c.loop-axis.invariant (omega arith)).1
 
 pub bounds-index-axis-in-loop-axis : goal.bounds-index-axis-in-loop-axis
-bounds-index-axis-in-loop-axis c =
-    omega (arith, length_of_index c.args.shape.now c.args.index.now c.requires)
+bounds-index-axis-in-loop-axis c = omega (arith, length_of_index c.args.shape.now c.args.index.now c.requires)
 
 pub bounds-index-axis-in-loop-axis-2 : goal.bounds-index-axis-in-loop-axis-2
 bounds-index-axis-in-loop-axis-2 c =
@@ -34,13 +31,11 @@ bounds-index-axis-in-loop-axis-2 c =
 pub loop-axis-preserved : goal.loop-axis-preserved
 loop-axis-preserved c =
     rw (set-set c.loop-axis.index (c.loop-axis.axis - 1) (get_or c.loop-axis.index (c.loop-axis.axis - 1) 0 + 1) 0)
-    (row_turn c.args.shape.now c.args.index.now c.loop-axis.index c.loop-axis.axis c.requires (omega arith) (omega arith) (omega arith) c.loop-axis.invariant)
+    (row_turn (omega arith) (omega arith) c.loop-axis.invariant (omega arith))
 
 pub returns-clause-more : goal.returns-clause-more
 returns-clause-more c =
-    let last = row_end c.args.shape.now c.args.index.now c.loop-axis.index c.loop-axis.axis (omega arith) c.loop-axis.invariant in
-    (λ t. absurd (cc), λ h. absurd (omega (arith, last.0)))
+    (λ t. absurd (cc), λ h. absurd (omega (arith, (row_end (omega arith) c.loop-axis.invariant).0)))
 
 pub returns-clause-next : goal.returns-clause-next
-returns-clause-next c =
-    (row_end c.args.shape.now c.args.index.now c.loop-axis.index c.loop-axis.axis (omega arith) c.loop-axis.invariant).1
+returns-clause-next c = (row_end (omega arith) c.loop-axis.invariant).1

@@ -1,7 +1,7 @@
 use Rattle.std.proofs.Common.{sym, ◌∙◌}
 use Rattle.std.proofs.lemmas.List.{length-map}
 use Rattle.nd_base.specs.declared.order.Order.TheVariants.{ColumnMajor}
-use Rattle.nd_base.specs.Signed.{signed, all_signed}
+use Rattle.nd_base.proofs.laws.Definitions.{all_signed, signed}
 use Rattle.nd_shape.proofs.laws.LayoutOrder.{in_order_exactly}
 use Rattle.nd_shape.proofs.layout_order.is_layout_f.Goals as goal
 

@@ -1,8 +1,6 @@
 -- The sum so far is within the limit, and that of the axes still to come completes it.
 use Rattle.std.proofs.Common.{◌≡◌, ◌+◌, ◌≤◌, length}
-use Rattle.nd_base.specs.Size.{limit}
-use Rattle.nd_base.specs.Signed.{all_signed}
-use Rattle.nd_base.specs.Span.{reach, span}
+use Rattle.nd_base.proofs.laws.Definitions.{all_signed, limit, reach, span}
 use Rattle.nd_base.proofs.laws.Span.{sum_from}
 use Rattle.nd_shape.proofs.limits.checked_span.Given as goal
 

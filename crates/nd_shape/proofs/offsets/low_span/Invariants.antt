@@ -1,7 +1,6 @@
 -- The sum so far, and that of the axes still to come, make the whole.
 use Rattle.std.proofs.Common.{◌≡◌, ◌+◌, length}
-use Rattle.nd_base.specs.Signed.{all_signed}
-use Rattle.nd_base.specs.Span.{reach_down, low_span}
+use Rattle.nd_base.proofs.laws.Definitions.{all_signed, low_span, reach_down}
 use Rattle.nd_base.proofs.laws.Span.{sum_from}
 use Rattle.nd_shape.proofs.offsets.low_span.Given as goal
 

@@ -64,5 +64,5 @@ returns-clause-within c j below =
     let are : picks c.args.fit c.args.dim.now c.args.slice ≡ between step x.start x.end = picks_between c.args.fit c.args.dim.now c.args.slice x.start x.end x.ensures.start x.ensures.end ∙ ap (λ z. between z x.start x.end) (sym same) in
     omega (arith, ap (λ xs. get_or xs j 0) are, between_below step x.start x.end j p (omega (arith, c.pick_count.ensures)), x.ensures.within)
 
-pub returns-in_err-start-clause-refusal : goal.returns-in_err-start-clause-refusal
-returns-in_err-start-clause-refusal c = search rules depth 3
+pub returns-in_err-start-clause-unchanged : goal.returns-in_err-start-clause-unchanged
+returns-in_err-start-clause-unchanged c = search rules depth 3

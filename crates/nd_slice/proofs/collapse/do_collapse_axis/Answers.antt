@@ -12,7 +12,7 @@ use Rattle.nd_base.proofs.laws.Span.{sum_and_others}
 use Rattle.nd_slice.proofs.collapse.do_collapse_axis.Goals as goal
 
 pub stride_offset-offset-requires-clause-small : goal.stride_offset-offset-requires-clause-small
-stride_offset-offset-requires-clause-small g c = omega (arith, length_le_nonzero_size (g.D.Lengths.list c.args.dims.now) c.args.axis c.requires.exists, c.requires.valid.size_fits, c.requires.below)
+stride_offset-offset-requires-clause-small g c = omega (arith, length_le_nonzero_size (g.D.Lengths.list c.args.dims.now) c.args.axis, c.requires.valid.size_fits, c.requires.below)
 
 pub stride_offset-offset-requires-clause-fits : goal.stride_offset-offset-requires-clause-fits
 stride_offset-offset-requires-clause-fits g c =

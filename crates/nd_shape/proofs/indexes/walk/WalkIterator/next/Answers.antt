@@ -9,7 +9,8 @@ pub returns-then-not-self-clause-steps : goal.returns-then-not-self-clause-steps
 returns-then-not-self-clause-steps g c =
     let shape = g.D.Lengths.list c.self.inside.dim in
     let index = Some (g.D.Lengths.list c.self.inside.index) in
-    let none = none_left g.O.WalkOrder.order shape c.self.inside.left (cond c.self.inside.has_remaining index None) c.self.invariant (ap (λ b. cond b index None) c.if-not-self.true) in
+    let none = none_left g.O.WalkOrder.order shape c.self.inside.left (cond c.self.inside.has_remaining index None) c.self.invariant
+    (ap (λ b. cond b index None) c.if-not-self.true) in
     let nothing = gives_none g.O.WalkOrder.order shape c.self.inside.left c.args.self.now none c.self.view_is in
     (nothing, nothing)
 
@@ -17,7 +18,7 @@ pub step-self-inside-requires : goal.step-self-inside-requires
 step-self-inside-requires g c =
     let shape = g.D.Lengths.list c.self.inside.dim in
     let index = g.D.Lengths.list c.self.inside.index in
-    let at = stands_at g.O.WalkOrder.order shape index c.self.inside.left (cond c.self.inside.has_remaining (Some index) None) c.self.invariant (ap (λ b. cond b (Some index) None) c.if-not-self.false) in
+    let at = stands_at g.O.WalkOrder.order shape index c.self.inside.left _ c.self.invariant c.if-not-self.false in
     rw (c.slice.ensures.list, c.slice_mut.ensures.list) (stands_at_index g.O.WalkOrder.order shape index c.self.inside.left at.0 at.1)
 
 pub invariant_of-self-then-self : goal.invariant_of-self-then-self
@@ -27,9 +28,12 @@ invariant_of-self-then-self g c =
     let index = list c.self.inside.index in
     let next = c.step-self-inside.new.index in
     let more = c.step-self-inside.result in
-    let at = stands_at g.O.WalkOrder.order shape index c.self.inside.left (cond c.self.inside.has_remaining (Some index) None) c.self.invariant (ap (λ b. cond b (Some index) None) c.if-not-self.false) in
-    let there = goes_on_to g.O.WalkOrder.order shape index next c.self.inside.left more at.0 at.1 (rw (← c.slice.ensures.list, ← c.slice_mut.ensures.list) c.step-self-inside.ensures.more) (rw (← c.slice.ensures.list, ← c.slice_mut.ensures.list) c.step-self-inside.ensures.next) in
-    let kept = g.met.D.Lengths.list_of_with_list c.self.inside.index next (c.step-self-inside.auto.index ∙ ap length c.slice_mut.ensures.list) in
+    let at = stands_at g.O.WalkOrder.order shape index c.self.inside.left _ c.self.invariant c.if-not-self.false in
+    let there = goes_on_to g.O.WalkOrder.order shape next more at.0 at.1
+    (rw (← c.slice.ensures.list, ← c.slice_mut.ensures.list) c.step-self-inside.ensures.more)
+    (rw (← c.slice.ensures.list, ← c.slice_mut.ensures.list) c.step-self-inside.ensures.next) in
+    let kept = g.met.D.Lengths.list_of_with_list c.self.inside.index next
+    (c.step-self-inside.auto.index ∙ ap length c.slice_mut.ensures.list) in
     subst (λ xs. StandsAtFirst g.O.WalkOrder.order shape (c.self.inside.left - 1) (cond more (Some xs) None)) (sym kept) there
 
 -- (after the last index the flag says that there is no next one)
@@ -40,8 +44,10 @@ invariant_of-self g c =
     let index = list c.self.inside.index in
     let next = c.step-self-inside.new.index in
     let more = c.step-self-inside.result in
-    let at = stands_at g.O.WalkOrder.order shape index c.self.inside.left (cond c.self.inside.has_remaining (Some index) None) c.self.invariant (ap (λ b. cond b (Some index) None) c.if-not-self.false) in
-    let there = goes_on_to g.O.WalkOrder.order shape index next c.self.inside.left more at.0 at.1 (rw (← c.slice.ensures.list, ← c.slice_mut.ensures.list) c.step-self-inside.ensures.more) (rw (← c.slice.ensures.list, ← c.slice_mut.ensures.list) c.step-self-inside.ensures.next) in
+    let at = stands_at g.O.WalkOrder.order shape index c.self.inside.left _ c.self.invariant c.if-not-self.false in
+    let there = goes_on_to g.O.WalkOrder.order shape next more at.0 at.1
+    (rw (← c.slice.ensures.list, ← c.slice_mut.ensures.list) c.step-self-inside.ensures.more)
+    (rw (← c.slice.ensures.list, ← c.slice_mut.ensures.list) c.step-self-inside.ensures.next) in
     let ends = λ (b : Bool) (xs : List ℕ). StandsAtFirst g.O.WalkOrder.order shape (c.self.inside.left - 1) (cond b (Some xs) None) in
     subst (λ b. ends b index) (sym c.if-self.false) (subst (λ b. ends b next) c.if-self.false there)
 
@@ -49,8 +55,8 @@ pub returns-clause-steps : goal.returns-clause-steps
 returns-clause-steps g c =
     let shape = g.D.Lengths.list c.self.inside.dim in
     let index = g.D.Lengths.list c.self.inside.index in
-    let at = stands_at g.O.WalkOrder.order shape index c.self.inside.left (cond c.self.inside.has_remaining (Some index) None) c.self.invariant (ap (λ b. cond b (Some index) None) c.if-not-self.false) in
-    let left = gives g.O.WalkOrder.order shape index (g.D.Pattern.IntoDimension.lens c.into_pattern.result) c.self.inside.left c.args.self.now at.0 at.1 c.into_pattern.ensures c.self.view_is in
+    let at = stands_at g.O.WalkOrder.order shape index c.self.inside.left _ c.self.invariant c.if-not-self.false in
+    let left = gives g.O.WalkOrder.order shape at.0 at.1 c.into_pattern.ensures c.self.view_is in
     elim c.if-self.branch [
       | then-self w ↦ rw w.self-is left
       | else-self+else-ndim-ne2 w ↦ rw w.self-is left
