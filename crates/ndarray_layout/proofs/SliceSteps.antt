@@ -46,10 +46,10 @@ pub record SlicedSoFar (fit : Fit) (elems : List SliceInfoElem) (shape : List �
   pub high : (offset +ℤ pos (high_span lens steps)) ≤ℤ pos (high_span shape strides)
 
 -- the state of the loop: the element k and the axis are those that come next
-pub record SlicedTo (fit : Fit) (elems : List SliceInfoElem) (shape strides : List ℕ) (k axis new : ℕ) (ns nt : List ℕ) (offset : ℤ) : Type 0
-  where
-    pub so_far : SlicedSoFar fit elems shape (all_signed strides) (drop k elems) (drop axis shape) (drop axis (all_signed strides)) new ns
-        nt offset
+pub record SlicedTo (fit : Fit) (elems : List SliceInfoElem) (shape strides : List ℕ) (k axis new : ℕ) (ns nt : List ℕ)
+    (offset : ℤ) : Type 0 where
+  pub so_far : SlicedSoFar fit elems shape (all_signed strides) (drop k elems) (drop axis shape) (drop axis (all_signed strides)) new ns
+      nt offset
 
 -- ---- the first element, and the end
 pub none_sliced : {fit : Fit} {elems : List SliceInfoElem} {shape : List ℕ} {strides : List ℤ} {ns nt : List ℕ}
@@ -107,8 +107,8 @@ module _ {fit : Fit} {elems : List SliceInfoElem} {shape strides : List ℕ} {k 
 
   pub at_elem : {one : SliceInfoElem} (other : SliceInfoElem) → k < length elems → get_or elems k other ≡ one
       → SlicedTo fit elems shape strides k axis new ns nt offset
-      → SlicedSoFar fit elems shape (all_signed strides) (one ∷ drop (k + 1) elems) (drop axis shape) (drop axis (all_signed strides)) new ns
-      nt offset
+      → SlicedSoFar fit elems shape (all_signed strides) (one ∷ drop (k + 1) elems) (drop axis shape) (drop axis (all_signed strides))
+      new ns nt offset
   at_elem other h e s =
       let lens = drop axis shape in
       let steps = drop axis (all_signed strides) in
