@@ -45,6 +45,12 @@ pub record SlicedSoFar (fit : Fit) (elems : List SliceInfoElem) (shape : List �
   pub low : pos (low_span lens steps) ≤ℤ (pos (low_span shape strides) +ℤ offset)
   pub high : (offset +ℤ pos (high_span lens steps)) ≤ℤ pos (high_span shape strides)
 
+-- the state of the loop: the element k and the axis are those that come next
+pub record SlicedTo (fit : Fit) (elems : List SliceInfoElem) (shape strides : List ℕ) (k axis new : ℕ) (ns nt : List ℕ)
+    (offset : ℤ) : Type 0 where
+  pub so_far : SlicedSoFar fit elems shape (all_signed strides) (drop k elems) (drop axis shape) (drop axis (all_signed strides)) new ns
+      nt offset
+
 -- ---- the first element, and the end
 pub none_sliced : {fit : Fit} {elems : List SliceInfoElem} {shape : List ℕ} {strides : List ℤ} {ns nt : List ℕ}
     → IsValidLayout shape strides → in_count elems ≡ length shape → length ns ≡ out_count elems → length nt ≡ out_count elems
@@ -81,51 +87,75 @@ module _ {fit : Fit} {elems : List SliceInfoElem} {shape : List ℕ} {strides : 
   }
   none_left (len ∷ lens) steps new s = absurd (omega (arith, s.counts))
 
-  pub all_sliced : (k : ℕ) {lens : List ℕ} {steps : List ℤ} {new : ℕ} → length elems ≤ k
-      → SlicedSoFar fit elems shape strides (drop k elems) lens steps new ns nt offset → AllSliced fit elems shape strides ns nt offset
-  all_sliced k {lens} {steps} {new} h s =
-      let P = λ (rest : List SliceInfoElem). SlicedSoFar fit elems shape strides rest lens steps new ns nt offset in
-      none_left lens steps new (subst P (drop_all k elems h) s)
-
 -- ---- the next element and the next axis
-module _ {fit : Fit} {elems : List SliceInfoElem} {shape : List ℕ} {new : ℕ} {ns nt : List ℕ} {offset : ℤ} where
-  pub at_elem : {strides : List ℤ} (k : ℕ) {lens : List ℕ} {steps : List ℤ} {one : SliceInfoElem} (other : SliceInfoElem) → k < length elems
-      → get_or elems k other ≡ one → SlicedSoFar fit elems shape strides (drop k elems) lens steps new ns nt offset
-      → SlicedSoFar fit elems shape strides (one ∷ drop (k + 1) elems) lens steps new ns nt offset
-  at_elem {strides} k {lens} {steps} other h e s =
-      let P = λ (rest : List SliceInfoElem). SlicedSoFar fit elems shape strides rest lens steps new ns nt offset in
-      subst P (drop_more elems k other h ∙ ap (λ x. x ∷ drop (k + 1) elems) e) s
+-- what is known at an element that is for an axis
+pub record AtAxis (fit : Fit) (elems : List SliceInfoElem) (shape strides : List ℕ) (one : SliceInfoElem) (k axis : ℕ) (new : ℕ)
+    (ns nt : List ℕ) (offset : ℤ) : Type 0 where
+  pub so_far : SlicedSoFar fit elems shape (all_signed strides) (one ∷ drop (k + 1) elems) (get_or shape axis 0 ∷ drop (axis + 1) shape)
+      (signed (get_or strides axis 0) ∷ drop (axis + 1) (all_signed strides)) new ns nt offset
+  pub len_fits : get_or shape axis 0 ≤ limit
+  pub reach_fits : reach (get_or shape axis 0) (signed (get_or strides axis 0)) ≤ limit
 
-  pub axis_below : {strides : List ℤ} {rest : List SliceInfoElem} (k : ℕ) {steps : List ℤ} → 0 < in_count rest
-      → SlicedSoFar fit elems shape strides rest (drop k shape) steps new ns nt offset → k < length shape
-  axis_below k h s = omega (arith, s.counts, length-drop k shape)
+module _ {fit : Fit} {elems : List SliceInfoElem} {shape strides : List ℕ} {k axis new : ℕ} {ns nt : List ℕ} {offset : ℤ} where
+  pub all_sliced : length elems ≤ k → SlicedTo fit elems shape strides k axis new ns nt offset
+      → AllSliced fit elems shape (all_signed strides) ns nt offset
+  all_sliced h s =
+      let lens = drop axis shape in
+      let steps = drop axis (all_signed strides) in
+      let P = λ (rest : List SliceInfoElem). SlicedSoFar fit elems shape (all_signed strides) rest lens steps new ns nt offset in
+      none_left lens steps new (subst P (drop_all k elems h) s.so_far)
 
-  pub at_axis : {strides : List ℤ} {rest : List SliceInfoElem} (k : ℕ) → length shape ≡ length strides → 0 < in_count rest
-      → SlicedSoFar fit elems shape strides rest (drop k shape) (drop k strides) new ns nt offset
-      → SlicedSoFar fit elems shape strides rest (get_or shape k 0 ∷ drop (k + 1) shape) (get_or strides k (pos 0) ∷ drop (k + 1) strides)
+  pub at_elem : {one : SliceInfoElem} (other : SliceInfoElem) → k < length elems → get_or elems k other ≡ one
+      → SlicedTo fit elems shape strides k axis new ns nt offset
+      → SlicedSoFar fit elems shape (all_signed strides) (one ∷ drop (k + 1) elems) (drop axis shape) (drop axis (all_signed strides))
       new ns nt offset
-  at_axis {strides} {rest} k same h s =
-      let below = axis_below k h s in
-      let P = λ (lens : List ℕ). SlicedSoFar fit elems shape strides rest lens (drop k strides) new ns nt offset in
-      let Q = λ (steps : List ℤ). SlicedSoFar fit elems shape strides rest (get_or shape k 0 ∷ drop (k + 1) shape) steps new ns nt offset in
-      subst Q (drop_more strides k (pos 0) (omega arith)) (subst P (drop_more shape k 0 below) s)
+  at_elem other h e s =
+      let lens = drop axis shape in
+      let steps = drop axis (all_signed strides) in
+      let P = λ (rest : List SliceInfoElem). SlicedSoFar fit elems shape (all_signed strides) rest lens steps new ns nt offset in
+      subst P (drop_more elems k other h ∙ ap (λ x. x ∷ drop (k + 1) elems) e) s.so_far
 
   -- an element that is for an axis has one, and one that leaves an axis has room for it
-  pub axis_there : (strides : List ℕ) {one : SliceInfoElem} (other : SliceInfoElem) (k axis : ℕ) → IsValidLayout shape (all_signed strides)
-      → k < length elems → get_or elems k other ≡ one → 0 < in_count (one ∷ drop (k + 1) elems)
-      → SlicedSoFar fit elems shape (all_signed strides) (drop k elems) (drop axis shape) (drop axis (all_signed strides)) new ns nt offset
+  pub axis_there : {one : SliceInfoElem} (other : SliceInfoElem) → IsValidLayout shape (all_signed strides) → k < length elems
+      → get_or elems k other ≡ one → 0 < in_count (one ∷ drop (k + 1) elems) → SlicedTo fit elems shape strides k axis new ns nt offset
       → (axis < length shape) × (axis < length strides)
-  axis_there strides other k axis valid h e some s =
-      let here = at_elem k other h e s in
-      let below = axis_below axis some here in
+  axis_there other valid h e some s =
+      let here = at_elem other h e s in
+      let below : axis < length shape = omega (arith, here.counts, length-drop axis shape) in
       (below, omega (arith, below, valid.same_count, length-map strides signed))
 
-  pub room_there : {strides : List ℤ} {one : SliceInfoElem} (other : SliceInfoElem) (k : ℕ) {lens : List ℕ} {steps : List ℤ}
-      → k < length elems → get_or elems k other ≡ one → 0 < out_count (one ∷ drop (k + 1) elems)
-      → SlicedSoFar fit elems shape strides (drop k elems) lens steps new ns nt offset → (new < length ns) × (new < length nt)
-  room_there other k h e some s =
-      let here = at_elem k other h e s in
+  pub room_there : {one : SliceInfoElem} (other : SliceInfoElem) → k < length elems → get_or elems k other ≡ one
+      → 0 < out_count (one ∷ drop (k + 1) elems) → SlicedTo fit elems shape strides k axis new ns nt offset
+      → (new < length ns) × (new < length nt)
+  room_there other h e some s =
+      let here = at_elem other h e s in
       (omega (arith, here.room), omega (arith, here.room, here.same_room))
+
+  pub at_both : {one : SliceInfoElem} (other : SliceInfoElem) → IsValidLayout shape (all_signed strides) → k < length elems
+      → get_or elems k other ≡ one → 0 < in_count (one ∷ drop (k + 1) elems) → SlicedTo fit elems shape strides k axis new ns nt offset
+      → AtAxis fit elems shape strides one k axis new ns nt offset
+  at_both {one = one} other valid h e some s =
+      let rest = one ∷ drop (k + 1) elems in
+      let steps = drop axis (all_signed strides) in
+      let left = drop (axis + 1) (all_signed strides) in
+      let lens = get_or shape axis 0 ∷ drop (axis + 1) shape in
+      let here = at_elem other h e s in
+      let below = (axis_there other valid h e some s).0 in
+      let same : get_or (all_signed strides) axis (pos 0) ≡ signed (get_or strides axis 0) = get_or-map signed strides axis 0 in
+      let P = λ (lens : List ℕ). SlicedSoFar fit elems shape (all_signed strides) rest lens steps new ns nt offset in
+      let Q = λ (steps : List ℤ). SlicedSoFar fit elems shape (all_signed strides) rest lens steps new ns nt offset in
+      let next : steps ≡ signed (get_or strides axis 0) ∷ left =
+      drop_more (all_signed strides) axis (pos 0) (omega (arith, below, valid.same_count)) ∙ ap (λ z. z ∷ left) same in
+      record {
+        so_far = subst Q next (subst P (drop_more shape axis 0 below) here);
+        len_fits = omega (arith, length_le_nonzero_size shape axis, valid.size_fits);
+        reach_fits = omega (
+          arith,
+          ap (reach (get_or shape axis 0)) same,
+          reach_le_span shape (all_signed strides) axis below valid.same_count,
+          valid.span_fits,
+        );
+      }
 
 -- ---- what is written
 wrote_len : (new v : ℕ) (ns out : List ℕ) {whole : List ℕ} → new < length ns → take new ns ++ (v ∷ out) ≡ whole
@@ -234,52 +264,20 @@ rest_of_product len rest = by (eqb len 0) refl
         let some : 1 ≤ len = pos_of_ne-zero (eqb-false len 0 e) in
         omega (arith, mul-le-mul_right rest some)
 
--- what is known at an element that is for an axis
-pub record AtAxis (fit : Fit) (elems : List SliceInfoElem) (shape strides : List ℕ) (one : SliceInfoElem) (k axis : ℕ) (new : ℕ)
-    (ns nt : List ℕ) (offset : ℤ) : Type 0 where
-  pub so_far : SlicedSoFar fit elems shape (all_signed strides) (one ∷ drop (k + 1) elems) (get_or shape axis 0 ∷ drop (axis + 1) shape)
-      (signed (get_or strides axis 0) ∷ drop (axis + 1) (all_signed strides)) new ns nt offset
-  pub len_fits : get_or shape axis 0 ≤ limit
-  pub reach_fits : reach (get_or shape axis 0) (signed (get_or strides axis 0)) ≤ limit
-
-pub at_both : {fit : Fit} {elems : List SliceInfoElem} {shape : List ℕ} (strides : List ℕ) {one : SliceInfoElem} (other : SliceInfoElem)
-    (k axis : ℕ) {new : ℕ} {ns nt : List ℕ} {offset : ℤ} → IsValidLayout shape (all_signed strides) → k < length elems
-    → get_or elems k other ≡ one → 0 < in_count (one ∷ drop (k + 1) elems) → SlicedSoFar fit elems shape (all_signed strides) (drop k elems)
-    (drop axis shape) (drop axis (all_signed strides)) new ns nt offset → AtAxis fit elems shape strides one k axis new ns nt offset
-at_both {fit} {elems} {shape} strides {one} other k axis {new} {ns} {nt} {offset} valid h e some s =
-    let rest = one ∷ drop (k + 1) elems in
-    let here = at_elem k other h e s in
-    let below = axis_below axis some here in
-    let there = at_axis axis valid.same_count some here in
-    let same : get_or (all_signed strides) axis (pos 0) ≡ signed (get_or strides axis 0) = get_or-map signed strides axis 0 in
-    record {
-      so_far = subst (λ (z : ℤ). SlicedSoFar fit elems shape (all_signed strides) rest (get_or shape axis 0 ∷ drop (axis + 1) shape)
-          (z ∷ drop (axis + 1) (all_signed strides)) new ns nt offset) same there;
-      len_fits = omega (arith, length_le_nonzero_size shape axis, valid.size_fits);
-      reach_fits = omega (
-        arith,
-        ap (reach (get_or shape axis 0)) same,
-        reach_le_span shape (all_signed strides) axis below valid.same_count,
-        valid.span_fits,
-      );
-    }
-
 -- ---- the arms of the loop
 -- the state after an element, and that the new offset fits
 pub record Stepped (fit : Fit) (elems : List SliceInfoElem) (shape strides : List ℕ) (k axis new : ℕ) (ns nt : List ℕ) (offset : ℤ) : Type 0
   where
     pub fits : FitsSigned w64 offset
-    pub next : SlicedSoFar fit elems shape (all_signed strides) (drop (k + 1) elems) (drop axis shape) (drop axis (all_signed strides)) new
-        ns
-        nt (to_z w64 (of_z w64 offset))
+    pub next : SlicedTo fit elems shape strides k axis new ns nt (to_z w64 (of_z w64 offset))
 
 stepped : {fit : Fit} {elems : List SliceInfoElem} {shape strides : List ℕ} {k axis new : ℕ} {ns nt : List ℕ} {offset : ℤ}
     → IsValidLayout shape (all_signed strides)
-    → SlicedSoFar fit elems shape (all_signed strides) (drop (k + 1) elems) (drop axis shape) (drop axis (all_signed strides)) new ns nt
-    offset → Stepped fit elems shape strides k axis new ns nt offset
+    → SlicedSoFar fit elems shape (all_signed strides) (drop k elems) (drop axis shape) (drop axis (all_signed strides)) new ns nt offset
+    → Stepped fit elems shape strides k axis new ns nt offset
 stepped {offset = offset} valid s =
     let f = offset_fits valid s in
-    record { fits = f; next = rw (to_z-of_z w64 offset f) s }
+    record { fits = f; next = record { so_far = rw (to_z-of_z w64 offset f) s } }
 
 module _ {fit : Fit} {elems : List SliceInfoElem} {shape strides : List ℕ} {k axis new : ℕ} {ns nt : List ℕ} {offset : ℤ} where
   pub slice_arm : (slice : Slice) {count : ℕ} (kept : ℕ) {moved : ℤ} → IsValidLayout shape (all_signed strides)
@@ -288,7 +286,7 @@ module _ {fit : Fit} {elems : List SliceInfoElem} {shape strides : List ℕ} {k 
       → signed kept ≡ picked_stride (length (picks fit (get_or shape axis 0) slice)) (signed (get_or strides axis 0)) slice.step
       → moved ≡ first_offset (picks fit (get_or shape axis 0) slice) (signed (get_or strides axis 0))
       → slice_fault fit (get_or shape axis 0) slice ≡ None
-      → Stepped fit elems shape strides k (axis + 1) (new + 1) (set ns new count) (set nt new kept) (offset +ℤ moved)
+      → Stepped fit elems shape strides (k + 1) (axis + 1) (new + 1) (set ns new count) (set nt new kept) (offset +ℤ moved)
   slice_arm slice kept valid at n t m none =
       stepped valid
       (slice_step slice kept n t m none at.so_far)
@@ -296,7 +294,7 @@ module _ {fit : Fit} {elems : List SliceInfoElem} {shape strides : List ℕ} {k 
   pub index_arm : (index : ℤ) {moved : ℤ} → IsValidLayout shape (all_signed strides)
       → AtAxis fit elems shape strides (elem.Index index) k axis new ns nt offset
       → moved ≡ meaning (get_or shape axis 0) index *ℤ signed (get_or strides axis 0) → index_fault (get_or shape axis 0) index ≡ None
-      → Stepped fit elems shape strides k (axis + 1) new ns nt (offset +ℤ moved)
+      → Stepped fit elems shape strides (k + 1) (axis + 1) new ns nt (offset +ℤ moved)
   index_arm index valid at m none =
       stepped valid
       (index_step index m none at.so_far)
