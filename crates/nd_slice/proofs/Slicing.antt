@@ -1,5 +1,5 @@
 -- Facts for one axis that is sliced between two bounds.
-use Rattle.std.proofs.Common.{◌≡◌, ℕ, ◌-◌, ◌*◌, ◌<◌, ◌≤◌, max, List, [], ◌∷◌, length, get_or, arith, refl, sym, ap, ◌∙◌, inl, inr, None, subst}
+use Rattle.std.proofs.Common.{◌≡◌, ℕ, ◌-◌, ◌*◌, ◌<◌, ◌≤◌, max, List, [], ◌∷◌, length, get_or, arith, refl, sym, ap, ◌∙◌, inl, inr, None}
 use Rattle.std.proofs.lemmas.Bool.{cases_lt, le-leb, lt-leb}
 use Rattle.std.proofs.lemmas.Int.{ints, fits_signed_mul}
 use Rattle.std.proofs.Math.IntN.{ℤ, pos, ◌+ℤ◌, ◌*ℤ◌, *ℤ-zero}
@@ -15,20 +15,23 @@ use Rattle.nd_slice.specs.Picks.{every, directed, start_meaning, end_meaning, pi
 use Rattle.nd_slice.specs.SliceFault.{slice_fault}
 use Rattle.nd_slice.specs.Picked.{first_offset, picked_stride}
 use Rattle.nd_slice.proofs.laws.SliceFault.{fits_of_no_fault, step_moves}
-use Rattle.nd_slice.proofs.laws.Between.{between_steps, between_below, between_within, some_between, none_between}
+use Rattle.nd_slice.proofs.laws.Between.{between_steps, between_below, between_within, some_between}
 
 -- the picks of a slice, by the bounds that it means
-pub picks_between : (fit : Fit) (len : ℕ) (slice : Slice) (start end : ℕ) → pos start ≡ start_meaning fit len slice → end ≡ max start (magnitude (end_meaning fit len slice)) → picks fit len slice ≡ between slice.step start end
-picks_between fit len slice start end s e =
-    let from = magnitude (start_meaning fit len slice) in
-    let to = magnitude (end_meaning fit len slice) in
-    let first : from ≡ start = sym (ap magnitude s) in
-    let count : to - from ≡ end - start = omega arith in
-    ap (λ (xs : List ℕ). every (magnitude slice.step) (directed slice.step xs)) (ap (λ n. range_with_len n (to - from)) first ∙ ap (λ n. range_with_len start n) count)
+module _ (fit : Fit) (len : ℕ) (slice : Slice) where
+  pub picks_between : (start end : ℕ) → pos start ≡ start_meaning fit len slice → end ≡ max start (magnitude (end_meaning fit len slice))
+      → picks fit len slice ≡ between slice.step start end
+  picks_between start end s e =
+      let from = magnitude (start_meaning fit len slice) in
+      let to = magnitude (end_meaning fit len slice) in
+      let first : from ≡ start = sym (ap magnitude s) in
+      let count : to - from ≡ end - start = omega arith in
+      ap (λ (xs : List ℕ). every (magnitude slice.step) (directed slice.step xs))
+      (ap (λ n. range_with_len n (to - from)) first ∙ ap (λ n. range_with_len start n) count)
 
--- a slice that fits has a step
-pub moves : (fit : Fit) (len : ℕ) (slice : Slice) (step : ℤ) → None ≡ slice_fault fit len slice → step ≡ slice.step → 0 < magnitude step
-moves fit len slice step e same = subst (λ z. 0 < magnitude z) (sym same) (step_moves fit len slice (fits_of_no_fault fit len slice (sym e)))
+  -- a slice that fits has a step
+  pub moves : (step : ℤ) → None ≡ slice_fault fit len slice → step ≡ slice.step → 0 < magnitude step
+  moves step e same = rw same (step_moves fit len slice (fits_of_no_fault fit len slice (sym e)))
 
 -- how far the first of them lies
 pub offset_of_some : (xs : List ℕ) (s : ℤ) → 0 < length xs → first_offset xs s ≡ pos (get_or xs 0 0) *ℤ s
@@ -43,11 +46,6 @@ offset_of_none (x ∷ xs) s h = absurd (omega arith)
 pub offset_fits : (len first : ℕ) (s : ℤ) → first < len → reach len s ≤ limit → FitsSigned w64 (pos first *ℤ s)
 offset_fits len first s h fits = fits_signed_mul w64 (pos first) s (len - 1) (magnitude s) (omega arith) (omega arith) (omega arith)
 
-pub stride_fits : (len start end : ℕ) (s step : ℤ) → 0 < magnitude step → end ≤ len → reach len s ≤ limit → 1 < length (between step start end) → FitsSigned w64 (s *ℤ step)
-stride_fits len start end s step p h fits many =
-    let far : 1 * magnitude step < end - start = between_within step start end 1 p many in
-    fits_signed_mul w64 s step (magnitude s) (len - 1) (omega arith) (omega arith) (omega arith)
-
 -- the new stride
 picked_many : (count : ℕ) (s step : ℤ) → 1 < count → picked_stride count s step ≡ s *ℤ step
 picked_many count s step h = ap (λ b. if b then pos 0 else (s *ℤ step)) (lt-leb count 1 h)
@@ -55,26 +53,32 @@ picked_many count s step h = ap (λ b. if b then pos 0 else (s *ℤ step)) (lt-l
 picked_few : (count : ℕ) (s step : ℤ) → count ≤ 1 → picked_stride count s step ≡ pos 0
 picked_few count s step h = ap (λ b. if b then pos 0 else (s *ℤ step)) (le-leb count 1 h)
 
--- each pick lies as many new strides on
-pub picked_steps : (step : ℤ) (start end j : ℕ) (s : ℤ) → j < length (between step start end) → pos (get_or (between step start end) j 0) *ℤ s ≡ first_offset (between step start end) s +ℤ (pos j *ℤ picked_stride (length (between step start end)) s step)
-picked_steps step start end j s below =
-    let xs : List ℕ = between step start end in
-    let first : first_offset xs s ≡ pos (get_or xs 0 0) *ℤ s = offset_of_some xs s (omega arith) in
-    elim (cases_lt 1 (length xs)) [
-      | inl many ↦ between_steps step start end j s below ∙ sym (ap (λ x. x +ℤ (pos j *ℤ picked_stride (length xs) s step)) first ∙ ap (λ x. (pos (get_or xs 0 0) *ℤ s) +ℤ (pos j *ℤ x)) (picked_many (length xs) s step many))
-      | inr few ↦
-          let here : pos (get_or xs j 0) *ℤ s ≡ pos (get_or xs 0 0) *ℤ s = ap (λ n. pos (get_or xs n 0) *ℤ s) (omega arith) in
-          let still : pos j *ℤ picked_stride (length xs) s step ≡ pos 0 = ap (λ x. pos j *ℤ x) (picked_few (length xs) s step few) ∙ *ℤ-zero (pos j) in
-          omega (arith, ints, here, still, first)
-    ]
+module _ (step : ℤ) (start end : ℕ) where
+  pub stride_fits : (len : ℕ) (s : ℤ) → 0 < magnitude step → end ≤ len → reach len s ≤ limit → 1 < length (between step start end)
+      → FitsSigned w64 (s *ℤ step)
+  stride_fits len s p h fits many =
+      let far : 1 * magnitude step < end - start = between_within step start end 1 p many in
+      fits_signed_mul w64 s step (magnitude s) (len - 1) (omega arith) (omega arith) (omega arith)
 
--- the first pick is an entry
-pub first_below : (step : ℤ) (start end first : ℕ) → 0 < magnitude step → start < end → first ≡ get_or (between step start end) 0 0 → first < end
-first_below step start end first p some e = omega (arith, between_below step start end 0 p (some_between step start end p some))
+  -- each pick lies as many new strides on
+  pub picked_steps : (j : ℕ) (s : ℤ) → j < length (between step start end)
+      → pos (get_or (between step start end) j 0) *ℤ s
+      ≡ first_offset (between step start end) s +ℤ (pos j *ℤ picked_stride (length (between step start end)) s step)
+  picked_steps j s below =
+      let xs : List ℕ = between step start end in
+      let count = length xs in
+      let first : first_offset xs s ≡ pos (get_or xs 0 0) *ℤ s = offset_of_some xs s (omega arith) in
+      elim (cases_lt 1 count) [
+        | inl many ↦
+            between_steps step start end j s below
+            ∙ sym (ap (λ x. x +ℤ (pos j *ℤ picked_stride count s step)) first
+            ∙ ap (λ x. (pos (get_or xs 0 0) *ℤ s) +ℤ (pos j *ℤ x)) (picked_many count s step many))
+        | inr few ↦
+            let here : pos (get_or xs j 0) *ℤ s ≡ pos (get_or xs 0 0) *ℤ s = ap (λ n. pos (get_or xs n 0) *ℤ s) (omega arith) in
+            let still : pos j *ℤ picked_stride count s step ≡ pos 0 = ap (λ x. pos j *ℤ x) (picked_few count s step few) ∙ *ℤ-zero (pos j) in
+            omega (arith, ints, here, still, first)
+      ]
 
--- its offset
-pub offset_at_some : (step : ℤ) (start end first : ℕ) (s offset : ℤ) → 0 < magnitude step → start < end → first ≡ get_or (between step start end) 0 0 → offset ≡ pos first *ℤ s → offset ≡ first_offset (between step start end) s
-offset_at_some step start end first s offset p some e f = f ∙ ap (λ n. pos n *ℤ s) e ∙ sym (offset_of_some (between step start end) s (some_between step start end p some))
-
-pub offset_at_none : (step : ℤ) (start end : ℕ) (s offset : ℤ) → 0 < magnitude step → end ≤ start → offset ≡ pos 0 → offset ≡ first_offset (between step start end) s
-offset_at_none step start end s offset p none f = f ∙ sym (offset_of_none (between step start end) s (none_between step start end p none))
+  -- the first pick is an entry
+  pub first_below : (first : ℕ) → 0 < magnitude step → start < end → first ≡ get_or (between step start end) 0 0 → first < end
+  first_below first p some e = omega (arith, between_below step start end 0 p (some_between step start end p some))

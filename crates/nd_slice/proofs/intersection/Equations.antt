@@ -43,7 +43,7 @@ negative_times a x = refl
 solves_to : (a b c : ℤ) (x : ℕ) → Solves a b c (pos x) → magnitude b ∣ magnitude (pos (magnitude a * x) +ℤ added_of a c)
 solves_to (pos a) b c x s =
     let e : b *ℤ s.0 ≡ neg_ℤ (pos (a * x) +ℤ neg_ℤ c) = omega (arith, ints, s.1, pos-*ℤ-pos a x) in
-    subst (λ n. magnitude b ∣ n) (magnitude-neg_ℤ (pos (a * x) +ℤ neg_ℤ c)) (multiple_to b s.0 (neg_ℤ (pos (a * x) +ℤ neg_ℤ c)) e)
+    rw (← magnitude-neg_ℤ (pos (a * x) +ℤ neg_ℤ c)) (multiple_to b s.0 (neg_ℤ (pos (a * x) +ℤ neg_ℤ c)) e)
 solves_to (negsuc a) b c x s =
     let e : b *ℤ s.0 ≡ pos (suc a * x) +ℤ c = omega (arith, ints, s.1, negative_times a x) in
     multiple_to b s.0 (pos (suc a * x) +ℤ c) e
@@ -57,62 +57,45 @@ solves_from (negsuc a) b c x divides =
     let y = multiple_from b (pos (suc a * x) +ℤ c) divides in
     (y.0, omega (arith, ints, y.1, negative_times a x))
 
-over : (m n whole d : ℕ) → d ∣ whole → (d ∣ m) ↔ (d ∣ m + n * whole)
-over m n whole d h = dvd-add_iff_left d (dvd_trans d h (dvd-mul_left whole n))
-
 -- a remainder takes the place of the number that it is left of
-remains : (d whole m rest : ℕ) (z : ℤ) → d ∣ whole → 0 < whole → pos rest ≡ int_rem_euclid z (pos whole)
-    → (d ∣ magnitude (pos m +ℤ z)) ↔ (d ∣ m + rest)
-remains d whole m rest (pos n) h some e =
-    let split : n / whole * whole + n % whole ≡ n = div-add-mod' n whole in
-    let left : rest ≡ n % whole = omega (arith, ints, e) in
-    let same : m + rest + n / whole * whole ≡ m + n = omega arith in
-    let both = over (m + rest) (n / whole) whole d h in
-    (λ p. both.1 (subst (λ k. d ∣ k) (sym same) p), λ p. subst (λ k. d ∣ k) same (both.0 p))
-remains d whole m rest (negsuc n) h some e =
-    let split : n / whole * whole + n % whole ≡ n = div-add-mod' n whole in
-    let small : n % whole < whole = mod_below n whole some in
-    let left : rest ≡ whole - 1 - n % whole = omega (arith, ints, e) in
-    let sum : rest + suc n ≡ whole + n / whole * whole = omega arith in
-    let multiple : d ∣ whole + n / whole * whole = (over whole (n / whole) whole d h).0 h in
-    elim (cases_lt m (suc n)) [
-      | inl below ↦
-          let far : pos m +ℤ negsuc n ≡ with_sign_of (suc n - m) true = omega (arith, ints) in
-          let size : magnitude (pos m +ℤ negsuc n) ≡ suc n - m = ap magnitude far ∙ magnitude-with_sign_of (suc n - m) true in
-          let whole_of : m + rest + (suc n - m) ≡ whole + n / whole * whole = omega arith in
-          let total : d ∣ m + rest + (suc n - m) = subst (λ k. d ∣ k) (sym whole_of) multiple in (
-            λ p. (dvd-add_iff_left d (subst (λ k. d ∣ k) size p)).1 total,
-            λ p. subst (λ k. d ∣ k) (sym size) ((dvd-add_iff_right d p).1 total),
-          )
-      | inr above ↦
-          let far : pos m +ℤ negsuc n ≡ pos (m - suc n) = omega (arith, ints) in
-          let size : magnitude (pos m +ℤ negsuc n) ≡ m - suc n = ap magnitude far in
-          let whole_of : m - suc n + (whole + n / whole * whole) ≡ m + rest = omega arith in
-          let both = dvd-add_iff_left d {m = m - suc n} multiple in (
-            λ p. subst (λ k. d ∣ k) whole_of (both.0 (subst (λ k. d ∣ k) size p)),
-            λ p. subst (λ k. d ∣ k) (sym size) (both.1 (subst (λ k. d ∣ k) (sym whole_of) p)),
-          )
-    ]
+module _ (d whole : ℕ) (h : d ∣ whole) where
+  over : (m n : ℕ) → (d ∣ m) ↔ (d ∣ m + n * whole)
+  over m n = dvd-add_iff_left d (dvd_trans d h (dvd-mul_left whole n))
+
+  remains : (m rest : ℕ) (z : ℤ) → 0 < whole → pos rest ≡ int_rem_euclid z (pos whole) → (d ∣ magnitude (pos m +ℤ z)) ↔ (d ∣ m + rest)
+  remains m rest (pos n) some e =
+      let split : n / whole * whole + n % whole ≡ n = div-add-mod' n whole in
+      let left : rest ≡ n % whole = omega (arith, ints, e) in
+      let same : m + rest + n / whole * whole ≡ m + n = omega arith in
+      let both = rw same at (over (m + rest) (n / whole)) in
+      (λ p. both.1 p, λ p. both.0 p)
+  remains m rest (negsuc n) some e =
+      let split : n / whole * whole + n % whole ≡ n = div-add-mod' n whole in
+      let small : n % whole < whole = mod_below n whole some in
+      let left : rest ≡ whole - 1 - n % whole = omega (arith, ints, e) in
+      let sum : rest + suc n ≡ whole + n / whole * whole = omega arith in
+      let multiple : d ∣ whole + n / whole * whole = (over whole (n / whole)).0 h in
+      elim (cases_lt m (suc n)) [
+        | inl below ↦
+            let far : pos m +ℤ negsuc n ≡ with_sign_of (suc n - m) true = omega (arith, ints) in
+            let size : magnitude (pos m +ℤ negsuc n) ≡ suc n - m = ap magnitude far ∙ magnitude-with_sign_of (suc n - m) true in
+            let whole_of : m + rest + (suc n - m) ≡ whole + n / whole * whole = omega arith in
+            let total : d ∣ m + rest + (suc n - m) = rw whole_of multiple in (
+              λ p. (dvd-add_iff_left d (rw size at p)).1 total,
+              λ p. rw size ((dvd-add_iff_right d p).1 total),
+            )
+        | inr above ↦
+            let far : pos m +ℤ negsuc n ≡ pos (m - suc n) = omega (arith, ints) in
+            let size : magnitude (pos m +ℤ negsuc n) ≡ m - suc n = ap magnitude far in
+            let whole_of : m - suc n + (whole + n / whole * whole) ≡ m + rest = omega arith in
+            let both = rw whole_of at (dvd-add_iff_left d {m = m - suc n} multiple) in
+            (λ p. both.0 (rw size at p), λ p. rw size (both.1 p))
+      ]
 
 -- what the code divides: what is added, by the magnitude of b
 pub record IsRest (a b c : ℤ) (rest : ℕ) : Type 0 where
   pub some : 0 < magnitude b
   pub is_rest : pos rest ≡ int_rem_euclid (added_of a c) (pos (magnitude b))
-
-pub least_solution : (a b c : ℤ) (rest x : ℕ) → IsRest a b c rest → IsLeastMultiplier (magnitude a) (magnitude b) rest x → IsLeastSolution a b c (pos x)
-least_solution a b c rest x at h =
-    let same : (k : ℕ) → (magnitude b ∣ magnitude (pos (magnitude a * k) +ℤ added_of a c)) ↔ (magnitude b ∣ magnitude a * k + rest) =
-    λ k. remains (magnitude b) (magnitude b) (magnitude a * k) rest (added_of a c) (dvd_refl (magnitude b)) at.some at.is_rest in
-    record {
-      non_negative = omega (arith, ints);
-      solves = solves_from a b c x ((same x).1 h.divides);
-      least = least_of same;
-    }
-  where
-    least_of : ((k : ℕ) → (magnitude b ∣ magnitude (pos (magnitude a * k) +ℤ added_of a c)) ↔ (magnitude b ∣ magnitude a * k + rest))
-        → (other : ℤ) → pos 0 ≤ℤ other → Solves a b c other → pos x ≤ℤ other
-    least_of same (pos k) on s = omega (arith, ints, h.least k ((same k).0 (solves_to a b c k s)))
-    least_of same (negsuc k) on s = absurd (omega (arith, ints, on))
 
 added_magnitude : (a c : ℤ) → magnitude (pos 0 +ℤ added_of a c) ≡ magnitude c
 added_magnitude (pos a) c =
@@ -122,12 +105,27 @@ added_magnitude (negsuc a) c =
     let e : pos 0 +ℤ c ≡ c = omega (arith, ints) in
     ap magnitude e
 
--- the rest has the divisors of c that b has
-pub rest_divisors : (a b c : ℤ) (rest g : ℕ) → IsRest a b c rest → g ∣ magnitude b → (g ∣ rest) ↔ (g ∣ magnitude c)
-rest_divisors a b c rest g at h =
-    let both = remains g (magnitude b) 0 rest (added_of a c) h at.some at.is_rest in
-    let zero_more : 0 + rest ≡ rest = omega arith in
-    let size = added_magnitude a c in (
-      λ p. subst (λ n. g ∣ n) size (both.1 (subst (λ n. g ∣ n) (sym zero_more) p)),
-      λ p. subst (λ n. g ∣ n) zero_more (both.0 (subst (λ n. g ∣ n) (sym size) p)),
-    )
+module _ {a b c : ℤ} {rest : ℕ} (at : IsRest a b c rest) where
+  same_divisors : (k : ℕ) → (magnitude b ∣ magnitude (pos (magnitude a * k) +ℤ added_of a c)) ↔ (magnitude b ∣ magnitude a * k + rest)
+  same_divisors k =
+      remains (magnitude b) (magnitude b) (dvd_refl (magnitude b)) (magnitude a * k) rest (added_of a c) at.some at.is_rest
+
+  least_of : {x : ℕ} → IsLeastMultiplier (magnitude a) (magnitude b) rest x
+      → (other : ℤ) → pos 0 ≤ℤ other → Solves a b c other → pos x ≤ℤ other
+  least_of h (pos k) on s = omega (arith, ints, h.least k ((same_divisors k).0 (solves_to a b c k s)))
+  least_of h (negsuc k) on s = absurd (omega (arith, ints, on))
+
+  pub least_solution : {x : ℕ} → IsLeastMultiplier (magnitude a) (magnitude b) rest x → IsLeastSolution a b c (pos x)
+  least_solution {x = x} h = record {
+    non_negative = omega (arith, ints);
+    solves = solves_from a b c x ((same_divisors x).1 h.divides);
+    least = least_of h;
+  }
+
+  -- the rest has the divisors of c that b has
+  pub rest_divisors : (g : ℕ) → g ∣ magnitude b → (g ∣ rest) ↔ (g ∣ magnitude c)
+  rest_divisors g h =
+      let both = remains g (magnitude b) h 0 rest (added_of a c) at.some at.is_rest in
+      let zero_more : 0 + rest ≡ rest = omega arith in
+      let size = added_magnitude a c in
+      (λ p. rw size at (both.1 (rw zero_more p)), λ p. rw zero_more at (both.0 (rw size p)))

@@ -11,9 +11,9 @@ use Rattle.nd_slice.specs.Sequence.{InSequence, SequencesMeet, MeetsWithin}
 use Rattle.nd_slice.proofs.intersection.Signs.{of_non_negative, of_non_positive}
 
 -- the least multiple that serves decides
-pub meets_by_least : (ahead first_step second_step room least : ℕ) → 0 < second_step → IsLeastMultiplier second_step first_step ahead least
+pub meets_by_least : {ahead first_step second_step least : ℕ} (room : ℕ) → 0 < second_step → IsLeastMultiplier second_step first_step ahead least
     → (nat_le least (room / second_step) ≡ true) ↔ MeetsWithin ahead first_step second_step room
-meets_by_least ahead first_step second_step room least some at = (
+meets_by_least {ahead = ahead} {first_step = first_step} {second_step = second_step} {least = least} room some at = (
   λ is.
       let fits : least * second_step ≤ room = (le-div_iff_mul-le some).0 (leb-true least (room / second_step) is) in
       (second_step * least, omega arith, dvd-mul_right second_step least, at.divides),
@@ -40,8 +40,9 @@ far_after low high h = omega (arith, ints, of_non_negative (high -ℤ low) (omeg
 pub far_before : (low high : ℤ) → low ≤ℤ high → high ≡ low +ℤ pos (magnitude (low -ℤ high))
 far_before low high h = omega (arith, ints, of_non_positive (low -ℤ high) (omega (arith, ints, h)))
 
-in_from : (first last step number : ℤ) (far : ℕ) → number ≡ first +ℤ pos far → number ≤ℤ last → magnitude step ∣ far → InSequence first last step number
-in_from first last step number far e below multiple =
+in_from : {first last step number : ℤ} (far : ℕ) → number ≡ first +ℤ pos far → number ≤ℤ last → magnitude step ∣ far
+    → InSequence first last step number
+in_from {first = first} {step = step} {number = number} far e below multiple =
     let apart : pos far ≡ number -ℤ first = omega (arith, ints, e) in
     record {
       not_before = omega (arith, ints, e);
@@ -49,8 +50,8 @@ in_from first last step number far e below multiple =
       stepped = subst (λ n. magnitude step ∣ n) (ap magnitude apart) multiple;
     }
 
-in_to : (first last step number : ℤ) (far : ℕ) → number ≡ first +ℤ pos far → InSequence first last step number → magnitude step ∣ far
-in_to first last step number far e within =
+in_to : {first last step number : ℤ} (far : ℕ) → number ≡ first +ℤ pos far → InSequence first last step number → magnitude step ∣ far
+in_to {first = first} {step = step} {number = number} far e within =
     let apart : number -ℤ first ≡ pos far = omega (arith, ints, e) in
     subst (λ n. magnitude step ∣ n) (ap magnitude apart) within.stepped
 
@@ -61,62 +62,67 @@ pub record IsLast (one other : ℤ × ℤ × ℤ) (last : ℤ) : Type 0 where
   pub is_last : (number : ℤ) → number ≤ℤ one.1 → number ≤ℤ other.1 → number ≤ℤ last
 
 -- where the second list begins not before the first
-pub meets_after : (one other : ℤ × ℤ × ℤ) (last : ℤ) (ahead room : ℕ) → IsLast one other last
+meets_after : {one other : ℤ × ℤ × ℤ} {last : ℤ} (ahead room : ℕ) → IsLast one other last
     → other.0 ≡ one.0 +ℤ pos ahead → last ≡ other.0 +ℤ pos room
     → MeetsWithin ahead (magnitude one.2) (magnitude other.2) room ↔ SequencesMeet one other
-meets_after one other last ahead room at begins ends = (
+meets_after {one = one} {other = other} {last = last} ahead room at begins ends = (
   λ meets.
       let number = other.0 +ℤ pos meets.0 in
       let before : number ≤ℤ last = omega (arith, ints, ends, meets.1) in (
         number,
-        in_from one.0 one.1 one.2 number (meets.0 + ahead) (omega (arith, ints, begins)) (omega (arith, ints, before, at.in_one)) meets.3,
-        in_from other.0 other.1 other.2 number meets.0 refl (omega (arith, ints, before, at.in_other)) meets.2,
+        in_from (meets.0 + ahead) (omega (arith, ints, begins)) (omega (arith, ints, before, at.in_one)) meets.3,
+        in_from meets.0 refl (omega (arith, ints, before, at.in_other)) meets.2,
       ),
   λ meets.
       let number = meets.0 in
       let far = magnitude (number -ℤ other.0) in
       let e : number ≡ other.0 +ℤ pos far = far_after other.0 number meets.2.not_before in
       let below : number ≤ℤ last = at.is_last number meets.1.not_after meets.2.not_after in
-      (far, omega (arith, ints, e, below, ends), in_to other.0 other.1 other.2 number far e meets.2, in_to one.0 one.1 one.2 number (far + ahead) (omega (arith, ints, e, begins)) meets.1),
+      (far, omega (arith, ints, e, below, ends), in_to far e meets.2, in_to (far + ahead) (omega (arith, ints, e, begins)) meets.1),
 )
-
--- the order of two lists does not matter
-pub meets_swapped : (one other : ℤ × ℤ × ℤ) → SequencesMeet one other → SequencesMeet other one
-meets_swapped one other meets = (meets.0, meets.2, meets.1)
-
-last_of : (one other : ℤ × ℤ × ℤ) (last : ℤ) → last ≡ int_min one.1 other.1 → IsLast one other last
-last_of one other last e = record {
-  in_one = omega (arith, ints, clamps, e);
-  in_other = omega (arith, ints, clamps, e);
-  is_last = λ number p q. omega (arith, ints, clamps, e, p, q);
-}
 
 -- both ends of what two lists may share, by the code's words
 pub record IsShared (one other : ℤ × ℤ × ℤ) (first last : ℤ) : Type 0 where
   pub first_is : first ≡ int_max one.0 other.0
   pub last_is : last ≡ int_min one.1 other.1
 
-pub meets_on : (one other : ℤ × ℤ × ℤ) (first last : ℤ) (ahead room : ℕ) → IsShared one other first last → first ≤ℤ last
-    → room ≡ magnitude (last -ℤ first) → ahead ≡ magnitude (one.0 -ℤ other.0) → one.0 ≤ℤ other.0
-    → MeetsWithin ahead (magnitude one.2) (magnitude other.2) room ↔ SequencesMeet one other
-meets_on one other first last ahead room at order room_is ahead_is on =
-    let begins : first ≡ other.0 = omega (arith, ints, clamps, at.first_is, on) in
-    let far : last ≡ first +ℤ pos room = far_after first last order ∙ ap (λ n. first +ℤ pos n) (sym room_is) in
-    let ahead_of : other.0 ≡ one.0 +ℤ pos ahead = far_before one.0 other.0 on ∙ ap (λ n. one.0 +ℤ pos n) (sym ahead_is) in
-    meets_after one other last ahead room (last_of one other last at.last_is) ahead_of (omega (arith, ints, far, begins))
+-- and how far they lie apart, where one list begins ahead of the other
+pub record IsMeasured (one other : ℤ × ℤ × ℤ) (first last : ℤ) (ahead room : ℕ) : Type 0 where
+  pub ends : IsShared one other first last
+  pub order : first ≤ℤ last
+  pub room_is : room ≡ magnitude (last -ℤ first)
+  pub ahead_is : ahead ≡ magnitude (one.0 -ℤ other.0)
 
-pub meets_back : (one other : ℤ × ℤ × ℤ) (first last : ℤ) (ahead room : ℕ) → IsShared one other first last → first ≤ℤ last
-    → room ≡ magnitude (last -ℤ first) → ahead ≡ magnitude (one.0 -ℤ other.0) → other.0 ≤ℤ one.0
-    → MeetsWithin ahead (magnitude other.2) (magnitude one.2) room ↔ SequencesMeet one other
-meets_back one other first last ahead room at order room_is ahead_is back =
-    let begins : first ≡ one.0 = omega (arith, ints, clamps, at.first_is, back) in
-    let far : last ≡ first +ℤ pos room = far_after first last order ∙ ap (λ n. first +ℤ pos n) (sym room_is) in
-    let ahead_of : one.0 ≡ other.0 +ℤ pos ahead = far_after other.0 one.0 back ∙ ap (λ n. other.0 +ℤ pos n) (sym ahead_is) in
-    let last_in = last_of one other last at.last_is in
-    let turned = meets_after other one last ahead room (record { in_one = last_in.in_other; in_other = last_in.in_one; is_last = λ number p q. last_in.is_last number q p }) ahead_of (omega (arith, ints, far, begins)) in
-    (λ meets. meets_swapped other one (turned.0 meets), λ meets. turned.1 (meets_swapped one other meets))
+module _ {one other : ℤ × ℤ × ℤ} {first last : ℤ} {ahead room : ℕ} (at : IsMeasured one other first last ahead room) where
+  last_room : last ≡ first +ℤ pos room
+  last_room = far_after first last at.order ∙ ap (λ n. first +ℤ pos n) (sym at.room_is)
+
+  last_of : IsLast one other last
+  last_of = record {
+    in_one = omega (arith, ints, clamps, at.ends.last_is);
+    in_other = omega (arith, ints, clamps, at.ends.last_is);
+    is_last = λ number p q. omega (arith, ints, clamps, at.ends.last_is, p, q);
+  }
+
+  pub meets_on : one.0 ≤ℤ other.0 → MeetsWithin ahead (magnitude one.2) (magnitude other.2) room ↔ SequencesMeet one other
+  meets_on on =
+      let begins : first ≡ other.0 = omega (arith, ints, clamps, at.ends.first_is, on) in
+      let ahead_of : other.0 ≡ one.0 +ℤ pos ahead = far_before one.0 other.0 on ∙ ap (λ n. one.0 +ℤ pos n) (sym at.ahead_is) in
+      meets_after ahead room last_of ahead_of (omega (arith, ints, last_room, begins))
+
+  -- the order of two lists does not matter
+  pub meets_back : other.0 ≤ℤ one.0 → MeetsWithin ahead (magnitude other.2) (magnitude one.2) room ↔ SequencesMeet one other
+  meets_back back =
+      let begins : first ≡ one.0 = omega (arith, ints, clamps, at.ends.first_is, back) in
+      let ahead_of : one.0 ≡ other.0 +ℤ pos ahead = far_after other.0 one.0 back ∙ ap (λ n. other.0 +ℤ pos n) (sym at.ahead_is) in
+      let turned_last : IsLast other one last =
+      record { in_one = last_of.in_other; in_other = last_of.in_one; is_last = λ number p q. last_of.is_last number q p } in
+      let turned = meets_after ahead room turned_last ahead_of (omega (arith, ints, last_room, begins)) in (
+        λ meets. let found = turned.0 meets in (found.0, found.2, found.1),
+        λ meets. turned.1 (meets.0, meets.2, meets.1),
+      )
 
 -- where one list ends before the other begins they share none
-pub meets_none : (one other : ℤ × ℤ × ℤ) (first last : ℤ) → IsShared one other first last → last <ℤ first → SequencesMeet one other → ⊥
-meets_none one other first last at order meets =
+pub meets_none : {one other : ℤ × ℤ × ℤ} {first last : ℤ} → IsShared one other first last → last <ℤ first → SequencesMeet one other → ⊥
+meets_none at order meets =
     omega (arith, ints, clamps, at.first_is, at.last_is, order, meets.1.not_before, meets.1.not_after, meets.2.not_before, meets.2.not_after)

@@ -10,7 +10,7 @@ use Rattle.std.specs.Prelude.{◌≤ℤ◌, neg_ℤ}
 use Rattle.std.specs.Int.{IsGcd}
 use Rattle.nd_base.specs.Signed.{magnitude}
 use Rattle.nd_slice.specs.Equation.{with_sign_of}
-use Rattle.nd_slice.proofs.intersection.Steps.{AreApart}
+use Rattle.nd_slice.proofs.intersection.Steps.{AreApart, IsEnd}
 use lib.Signed.{lt_z}
 
 zero_of_sign : (way : Bool) → with_sign_of 0 way ≡ pos 0
@@ -38,8 +38,14 @@ sign_of (pos n) =
     sym (ap (with_sign_of n) e)
 
 pub product : (m n : ℕ) (p q : Bool) → with_sign_of m p *ℤ with_sign_of n q ≡ with_sign_of (m * n) (not (beq p q))
-product zero n p q = ap (λ z. z *ℤ with_sign_of n q) (zero_of_sign p) ∙ zero-*ℤ (with_sign_of n q) ∙ sym (ap (λ k. with_sign_of k (not (beq p q))) (zero-mul n) ∙ zero_of_sign (not (beq p q)))
-product (suc m) zero p q = ap (λ z. with_sign_of (suc m) p *ℤ z) (zero_of_sign q) ∙ *ℤ-zero (with_sign_of (suc m) p) ∙ sym (ap (λ k. with_sign_of k (not (beq p q))) (mul-zero (suc m)) ∙ zero_of_sign (not (beq p q)))
+product zero n p q =
+    ap (λ z. z *ℤ with_sign_of n q) (zero_of_sign p)
+    ∙ zero-*ℤ (with_sign_of n q)
+    ∙ sym (ap (λ k. with_sign_of k (not (beq p q))) (zero-mul n) ∙ zero_of_sign (not (beq p q)))
+product (suc m) zero p q =
+    ap (λ z. with_sign_of (suc m) p *ℤ z) (zero_of_sign q)
+    ∙ *ℤ-zero (with_sign_of (suc m) p)
+    ∙ sym (ap (λ k. with_sign_of k (not (beq p q))) (mul-zero (suc m)) ∙ zero_of_sign (not (beq p q)))
 product (suc m) (suc n) true true = negsuc-*ℤ-negsuc m n
 product (suc m) (suc n) true false = negsuc-*ℤ-pos m (suc n)
 product (suc m) (suc n) false true = pos-*ℤ-negsuc (suc m) n
@@ -57,11 +63,6 @@ second_way true false = refl
 second_way false true = refl
 second_way false false = refl
 
-difference : (a b first second g : ℕ) (greater : Bool) → AreApart a b g first second greater
-    → with_sign_of (a * first) (not greater) +ℤ with_sign_of (b * second) greater ≡ pos g
-difference a b first second g true e = omega (arith, ints)
-difference a b first second g false e = omega (arith, ints)
-
 -- a factor of each number, with the sign that makes the sum of both multiples the divisor
 abbrev pub first_factor : ℤ → ℕ → Bool → ℤ
 first_factor a first greater = with_sign_of first (beq (lt_z a (pos 0)) greater)
@@ -69,20 +70,17 @@ first_factor a first greater = with_sign_of first (beq (lt_z a (pos 0)) greater)
 abbrev pub second_factor : ℤ → ℕ → Bool → ℤ
 second_factor b second greater = with_sign_of second (not (beq (lt_z b (pos 0)) greater))
 
-sum : (a b : ℤ) (g first second : ℕ) (greater : Bool) → AreApart (magnitude a) (magnitude b) g first second greater
-    → (a *ℤ first_factor a first greater) +ℤ (b *ℤ second_factor b second greater) ≡ pos g
-sum a b g first second greater e =
-    let one : a *ℤ first_factor a first greater ≡ with_sign_of (magnitude a * first) (not greater) =
-    ap (λ z. z *ℤ first_factor a first greater) (sign_of a)
-    ∙ product (magnitude a) first (lt_z a (pos 0)) (beq (lt_z a (pos 0)) greater)
-    ∙ ap (with_sign_of (magnitude a * first)) (first_way (lt_z a (pos 0)) greater) in
-    let other : b *ℤ second_factor b second greater ≡ with_sign_of (magnitude b * second) greater =
-    ap (λ z. z *ℤ second_factor b second greater) (sign_of b)
-    ∙ product (magnitude b) second (lt_z b (pos 0)) (not (beq (lt_z b (pos 0)) greater))
-    ∙ ap (with_sign_of (magnitude b * second)) (second_way (lt_z b (pos 0)) greater) in
-    ap (λ z. z +ℤ (b *ℤ second_factor b second greater)) one
-    ∙ ap (λ z. with_sign_of (magnitude a * first) (not greater) +ℤ z) other
-    ∙ difference (magnitude a) (magnitude b) first second g greater e
+multiple : (a : ℤ) (times : ℕ) (way turned : Bool) → not (beq (lt_z a (pos 0)) way) ≡ turned
+    → a *ℤ with_sign_of times way ≡ with_sign_of (magnitude a * times) turned
+multiple a times way turned e =
+    ap (λ z. z *ℤ with_sign_of times way) (sign_of a)
+    ∙ product (magnitude a) times (lt_z a (pos 0)) way
+    ∙ ap (with_sign_of (magnitude a * times)) e
+
+difference : (a b first second g : ℕ) (greater : Bool) → AreApart a b g first second greater
+    → with_sign_of (a * first) (not greater) +ℤ with_sign_of (b * second) greater ≡ pos g
+difference a b first second g true e = omega (arith, ints)
+difference a b first second g false e = omega (arith, ints)
 
 -- the divisor of two numbers, and a factor of each
 pub record AreFactors (a b x y z : ℤ) : Type 0 where
@@ -94,22 +92,25 @@ pub record AreFactors (a b x y z : ℤ) : Type 0 where
 within : (n g total : ℕ) (way : Bool) → 0 < g → n * g ≤ total → magnitude (with_sign_of n way) ≤ total / g
 within n g total way some h = omega (arith, magnitude-with_sign_of n way, le-div n total g some h)
 
-pub factors : (a b x y z : ℤ) (g first second : ℕ) (greater : Bool) → 0 < magnitude a
-    → IsGcd (magnitude a) (magnitude b) g → AreApart (magnitude a) (magnitude b) g first second greater
-    → first * g ≤ magnitude b → second * g ≤ magnitude a
-    → x ≡ first_factor a first greater → y ≡ second_factor b second greater → z ≡ pos g
-    → AreFactors a b x y z
-factors a b x y z g first second greater some h e p q ex ey ez =
-    let more : 0 < g = pos_of_dvd_of_pos h.0 some in
-    let size : magnitude z ≡ g = ap magnitude ez in
+pub factors : (a b : ℤ) {g first second : ℕ} {greater : Bool} → 0 < magnitude a → IsEnd (magnitude a) (magnitude b) g first second greater
+    → AreFactors a b (first_factor a first greater) (second_factor b second greater) (pos g)
+factors a b {g = g} {first = first} {second = second} {greater = greater} some end =
+    let below = lt_z a (pos 0) in
+    let other_below = lt_z b (pos 0) in
+    let more : 0 < g = pos_of_dvd_of_pos end.divisor.0 some in
+    let one = multiple a first (beq below greater) (not greater) (first_way below greater) in
+    let other = multiple b second (not (beq other_below greater)) greater (second_way other_below greater) in
     record {
-      gcd = subst (IsGcd (magnitude a) (magnitude b)) (sym size) h;
-      total = ap (λ k. (a *ℤ k) +ℤ (b *ℤ y)) ex ∙ ap (λ k. (a *ℤ first_factor a first greater) +ℤ (b *ℤ k)) ey ∙ sum a b g first second greater e ∙ sym ez;
-      first_within = subst (λ k. magnitude k ≤ magnitude b / magnitude z) (sym ex) (subst (λ k. magnitude (first_factor a first greater) ≤ magnitude b / k) (sym size) (within first g (magnitude b) (beq (lt_z a (pos 0)) greater) more p));
-      second_within = subst (λ k. magnitude k ≤ magnitude a / magnitude z) (sym ey) (subst (λ k. magnitude (second_factor b second greater) ≤ magnitude a / k) (sym size) (within second g (magnitude a) (not (beq (lt_z b (pos 0)) greater)) more q));
+      gcd = end.divisor;
+      total = ap (λ z. z +ℤ (b *ℤ second_factor b second greater)) one
+          ∙ ap (λ z. with_sign_of (magnitude a * first) (not greater) +ℤ z) other
+          ∙ difference (magnitude a) (magnitude b) first second g greater end.apart;
+      first_within = within first g (magnitude b) (beq below greater) more end.first_within;
+      second_within = within second g (magnitude a) (not (beq other_below greater)) more end.second_within;
     }
 
 -- of 0 and another number
 pub gcd_of_zero : (a b z : ℤ) → a ≡ pos 0 → z ≡ pos (magnitude b) → IsGcd (magnitude a) (magnitude b) (magnitude z)
 gcd_of_zero a b z none e =
-    subst (IsGcd (magnitude a) (magnitude b)) (sym (ap magnitude e)) (IsGcd-swap (magnitude b) (magnitude a) (magnitude b) (IsGcd-from_zero (magnitude b) (magnitude a) (ap magnitude none)))
+    subst (IsGcd (magnitude a) (magnitude b)) (sym (ap magnitude e))
+    (IsGcd-swap (magnitude b) (magnitude a) (magnitude b) (IsGcd-from_zero (magnitude b) (magnitude a) (ap magnitude none)))

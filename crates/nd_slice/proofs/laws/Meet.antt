@@ -93,7 +93,7 @@ pub meet_symmetric : (fit : Fit) (shape : List ℕ) (one other : List SliceInfoE
 meet_symmetric fit shape one other meet = (meet.0, meet.1, meet.3, meet.2)
 
 -- with no axes two arguments meet
-axis_picks-no_axes : (fit : Fit) (elems : List SliceInfoElem) → axis_picks fit [] elems ≡ []
+pub axis_picks-no_axes : (fit : Fit) (elems : List SliceInfoElem) → axis_picks fit [] elems ≡ []
 axis_picks-no_axes fit [] = refl
 axis_picks-no_axes fit (elem.NewAxis ∷ elems) = axis_picks-no_axes fit elems
 axis_picks-no_axes fit (elem.Slice start end step ∷ elems) = refl

@@ -37,19 +37,18 @@ pub returns-in-None-clause-solvable : goal.returns-in-None-clause-solvable
 returns-in-None-clause-solvable c g h =
     let at = (goal.at.returns-in-None-clause-solvable c).After-least_multiplier-found in
     let known = rw (first_size at, second_size at) at c.in-None.ensures in
-    let both = rest_divisors c.args.a c.args.b c.args.c (magnitude (to_z w128 (of_z w128 c.rem_euclid-rest.result))) g (rest_of at) h.1 in
+    let both = rest_divisors (rest_of at) g h.1 in
     (λ is. absurd (cc), λ divides. (known.solvable g h).1 (both.1 divides))
 
 pub returns-in-Some : goal.returns-in-Some
 returns-in-Some c =
     let at = (goal.at.returns-in-Some c).After-least_multiplier-found in
     let known = rw (first_size at, second_size at) at c.in-Some.ensures in
-    let rest = magnitude (to_z w128 (of_z w128 c.rem_euclid-rest.result)) in
     let least : to_z w128 c.in-Some.least ≡ pos c.in-Some.least = to_z_pos w128 c.in-Some.least (search rules) in
     let apart : to_z w128 c.in-Some.apart ≡ pos c.in-Some.apart = to_z_pos w128 c.in-Some.apart (search rules) in
     record {
-      solvable = λ g h. (λ is. (rest_divisors c.args.a c.args.b c.args.c rest g (rest_of at) h.1).0 ((known.solvable g h).0 refl), λ divides. refl);
-      least = subst (IsLeastSolution c.args.a c.args.b c.args.c) (sym least) (least_solution c.args.a c.args.b c.args.c rest c.in-Some.least (rest_of at) known.least);
+      solvable = λ g h. (λ is. (rest_divisors (rest_of at) g h.1).0 ((known.solvable g h).0 refl), λ divides. refl);
+      least = subst (IsLeastSolution c.args.a c.args.b c.args.c) (sym least) (least_solution (rest_of at) known.least);
       apart = λ g h. apart ∙ ap pos (known.apart g h);
       within = omega (arith, ints, least, apart, known.within);
     }

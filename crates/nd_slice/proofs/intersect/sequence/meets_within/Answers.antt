@@ -2,8 +2,10 @@ use Rattle.nd_slice.proofs.intersection.Sequences.{meets_by_least, meets_by_none
 use Rattle.nd_slice.proofs.intersect.sequence.meets_within.Goals as goal
 
 pub returns-in-Some : goal.returns-in-Some
-returns-in-Some c = meets_by_least c.args.ahead c.args.first_step c.args.second_step c.args.room c.in-Some.least c.requires.second_some c.in-Some.ensures.least
+returns-in-Some c = meets_by_least c.args.room c.requires.second_some c.in-Some.ensures.least
 
 pub returns-in-None : goal.returns-in-None
-returns-in-None c =
-    (λ is. absurd (cc), λ meets. absurd (meets_by_none c.args.ahead c.args.first_step c.args.second_step c.args.room c.in-None.ensures.none meets))
+returns-in-None c = (
+  λ is. absurd (cc),
+  λ meets. absurd (meets_by_none c.args.ahead c.args.first_step c.args.second_step c.args.room c.in-None.ensures.none meets),
+)
