@@ -280,44 +280,19 @@ fn are_answered<D: Lengths>(alloc: Global, from: Shape, order: Order) -> bool {
         && layout.is_along_all(alloc, 3)
 }
 
-/// All reshapes of the layouts of so many axes, the first of a length, answer what they are to.
-fn hold_all(rt: &impl Abort, alloc: Global, count: usize, first: usize, order: Order) {
-    for number in (first..how_many(36, count)).step_by(4) {
-        let from = Shape {
-            axes: axes(number, 36),
-            count,
-        };
-        assert!(rt;
-            are_answered::<IxDyn>(alloc, from, order),
-            "{count} {number}"
-        );
+/// All reshapes of the layouts of so many axes, read in an order, answer what they are to.
+fn hold_all(rt: &impl Abort, alloc: Global, count: usize, order: Order) {
+    for number in 0..how_many(36, count) {
+        let axes = axes(number, 36);
+        let hold = are_answered::<IxDyn>(alloc, Shape { axes, count }, order);
+        assert!(rt; hold, "{count} {number}");
     }
 }
 
-/// The same of up to three axes, in both orders.
-fn hold_from(rt: &impl Abort, alloc: Global, first: usize) {
+#[test]
+fn all_small_layouts(rt: HostRuntime) {
     for count in 0..4 {
-        hold_all(rt, alloc, count, first, RowMajor);
-        hold_all(rt, alloc, count, first, ColumnMajor);
+        hold_all(&rt, rt.alloc(), count, RowMajor);
+        hold_all(&rt, rt.alloc(), count, ColumnMajor);
     }
-}
-
-#[test]
-fn layouts_from_a_length_of_one(rt: HostRuntime) {
-    hold_from(&rt, rt.alloc(), 0);
-}
-
-#[test]
-fn layouts_from_a_length_of_two(rt: HostRuntime) {
-    hold_from(&rt, rt.alloc(), 1);
-}
-
-#[test]
-fn layouts_from_a_length_of_three(rt: HostRuntime) {
-    hold_from(&rt, rt.alloc(), 2);
-}
-
-#[test]
-fn layouts_from_a_length_of_four(rt: HostRuntime) {
-    hold_from(&rt, rt.alloc(), 3);
 }
