@@ -1,5 +1,6 @@
 -- Faults of lists of writes, and what holds of each of them, one write after another.
-use Rattle.std.proofs.Common.{◌≡◌, ℕ, zero, suc, ◌+◌, ◌-◌, ◌<◌, ◌≤◌, Bool, true, false, ◌&&◌, cond, Option, Some, None, Result, Ok, Err, List, [], ◌∷◌, ◌++◌, length, get_or, map, take, drop, refl, sym, ap, subst, ◌∙◌, zero-add, arith}
+use Rattle.std.proofs.Common.{◌≡◌, ℕ, zero, suc, ◌+◌, ◌-◌, ◌<◌, ◌≤◌, Bool, true, false, ◌&&◌, cond, Option, Some, None, Result, Ok, Err}
+use Rattle.std.proofs.Common.{List, [], ◌∷◌, ◌++◌, length, get_or, map, take, drop, refl, sym, ap, subst, ◌∙◌, zero-add, arith}
 use Rattle.std.specs.List.{All, AllPairs, drop-map, list_all}
 use Rattle.std.specs.Prelude.{IsSomeAnd, MatchOption, slice_get}
 use Rattle.std.specs.Option.{option_or, option_map}
@@ -24,31 +25,37 @@ within : {X Y : Type 0} (f : X → Y) (xs : List X) (i : ℕ) → i < length xs 
 within f xs i below = omega (arith, length-map xs f)
 
 -- the item is what the function makes of the item of the first list
-pub this : {X Y : Type 0} (f : X → Y) (xs : List X) (i : ℕ) (x : X) → i < length xs → x ≡ get_or xs i x → f x ≡ get_or (map f xs) i (f x)
-this f xs i x below is = ap f is ∙ sym (get_or-map f xs i x (f x) below)
+pub this : {X Y : Type 0} (f : X → Y) (xs : List X) (i : ℕ) {x : X} → i < length xs → x ≡ get_or xs i x → f x ≡ get_or (map f xs) i (f x)
+this f xs i {x} below is = ap f is ∙ sym (get_or-map f xs i x (f x) below)
 
-pub this_got : {X Y : Type 0} (f : X → Y) (xs : List X) (i : ℕ) (x : X) → i < length xs → x ≡ get_or xs i x → slice_get (map f xs) i ≡ Some (f x)
-this_got f xs i x below is = slice_get-map f xs i ∙ ap (option_map f) (slice_get-get_or xs i x below ∙ ap Some (sym is))
+pub this_got : {X Y : Type 0} (f : X → Y) (xs : List X) (i : ℕ) {x : X} → i < length xs → x ≡ get_or xs i x
+    → slice_get (map f xs) i ≡ Some (f x)
+this_got f xs i {x} below is = slice_get-map f xs i ∙ ap (option_map f) (slice_get-get_or xs i x below ∙ ap Some (sym is))
 
 -- what is left from it on
-pub next : {X Y : Type 0} (f : X → Y) (xs : List X) (i : ℕ) (x : X) → i < length xs → x ≡ get_or xs i x → drop i (map f xs) ≡ f x ∷ drop (i + 1) (map f xs)
-next f xs i x below is = drop_more (map f xs) i (f x) (within f xs i below) ∙ ap (λ y. y ∷ drop (i + 1) (map f xs)) (sym (this f xs i x below is))
+pub next : {X Y : Type 0} (f : X → Y) (xs : List X) (i : ℕ) {x : X} → i < length xs → x ≡ get_or xs i x
+    → drop i (map f xs) ≡ f x ∷ drop (i + 1) (map f xs)
+next f xs i {x} below is = drop_more (map f xs) i (f x) (within f xs i below) ∙ ap (λ y. y ∷ drop (i + 1) (map f xs))
+    (sym (this f xs i below is))
 
 -- what is left after it, where that was cut off before
 pub rest : {X Y : Type 0} (f : X → Y) (xs : List X) (i : ℕ) → map f (take (length xs - (i + 1)) (drop (i + 1) xs)) ≡ drop (i + 1) (map f xs)
-rest f xs i = ap (map f) (take_all (length xs - (i + 1)) (drop (i + 1) xs) (omega (arith, length-drop (i + 1) xs))) ∙ sym (drop-map f (i + 1) xs)
+rest f xs i = ap (map f) (take_all (length xs - (i + 1)) (drop (i + 1) xs) (omega (arith, length-drop (i + 1) xs)))
+    ∙ sym (drop-map f (i + 1) xs)
 
 -- at the end nothing is left
 pub ended : {X Y : Type 0} (f : X → Y) (xs : List X) (i : ℕ) → length xs ≤ i → drop i (map f xs) ≡ []
 ended f xs i end = drop_all i (map f xs) (omega (arith, length-map xs f))
 
 -- what holds of each item holds of it
-pub of_this : {X Y : Type 0} (P : Y → Type 0) (f : X → Y) (xs : List X) (i : ℕ) (x : X) → i < length xs → x ≡ get_or xs i x → All P (map f xs) → P (f x)
-of_this P f xs i x below is all = subst P (sym (this f xs i x below is)) (all i (f x) (within f xs i below))
+pub of_this : {X Y : Type 0} (P : Y → Type 0) (f : X → Y) (xs : List X) (i : ℕ) {x : X} → i < length xs → x ≡ get_or xs i x
+    → All P (map f xs) → P (f x)
+of_this P f xs i {x} below is all = subst P (sym (this f xs i below is)) (all i (f x) (within f xs i below))
 
 -- one more item of a list
-pub all_pushed : {A : Type 0} (P : A → Type 0) (old new : List A) (x : A) → new ≡ old ++ x ∷ [] → All P old → P x → All P new
-all_pushed P old new x pushed all this = subst (All P) (sym pushed) (All-append P old (x ∷ []) all (All-cons P x [] this (λ k d below. absurd (omega arith))))
+pub all_pushed : {A : Type 0} (P : A → Type 0) (old : List A) {new : List A} (x : A) → new ≡ old ++ x ∷ [] → All P old → P x → All P new
+all_pushed P old x pushed all this = subst (All P) (sym pushed)
+    (All-append P old (x ∷ []) all (All-cons P x [] this (λ k d below. absurd (omega arith))))
 
 -- ---- slices that fit
 pub both_none : (first second : Option ErrorKind) → option_or first second ≡ None → (first ≡ None) × (second ≡ None)
@@ -56,31 +63,35 @@ both_none None second none = (refl, none)
 both_none (Some fault) second none = absurd (cc)
 
 -- where those so far do, the fault is that of the next, and then that of those after it
-pub next_fault : {T X : Type 0} (f : X → Write T) (shape : List ℕ) (xs : List X) (i : ℕ) (x : X) → i < length xs → x ≡ get_or xs i x
+pub next_fault : {T X : Type 0} (f : X → Write T) (shape : List ℕ) (xs : List X) (i : ℕ) {x : X} → i < length xs → x ≡ get_or xs i x
     → slices_fault shape (map f xs) ≡ slices_fault shape (drop i (map f xs))
     → slices_fault shape (map f xs) ≡ option_or (argument_fault Strict shape (f x).slice) (slices_fault shape (drop (i + 1) (map f xs)))
-next_fault f shape xs i x below is before = before ∙ ap (slices_fault shape) (next f xs i x below is)
+next_fault f shape xs i below is before = before ∙ ap (slices_fault shape) (next f xs i below is)
 
 -- where all do that are left, the next does, and all after it
-pub next_fits : {T X : Type 0} (f : X → Write T) (shape : List ℕ) (xs : List X) (i : ℕ) (x : X) → i < length xs → x ≡ get_or xs i x
-    → slices_fault shape (drop i (map f xs)) ≡ None → (argument_fault Strict shape (f x).slice ≡ None) × (slices_fault shape (drop (i + 1) (map f xs)) ≡ None)
-next_fits f shape xs i x below is none =
-    both_none (argument_fault Strict shape (f x).slice) (slices_fault shape (drop (i + 1) (map f xs))) (sym (ap (slices_fault shape) (next f xs i x below is)) ∙ none)
+pub next_fits : {T X : Type 0} (f : X → Write T) (shape : List ℕ) (xs : List X) (i : ℕ) {x : X} → i < length xs → x ≡ get_or xs i x
+    → slices_fault shape (drop i (map f xs)) ≡ None
+    → (argument_fault Strict shape (f x).slice ≡ None) × (slices_fault shape (drop (i + 1) (map f xs)) ≡ None)
+next_fits f shape xs i {x} below is none =
+    both_none (argument_fault Strict shape (f x).slice) (slices_fault shape (drop (i + 1) (map f xs)))
+    (sym (ap (slices_fault shape) (next f xs i below is)) ∙ none)
 
 -- an error without the fault of a shape that is handed on has none either
-pub handed_on : {X : Type 0} (Y : Type 0) (result : Result X LayoutError) (error : LayoutError) → IsErrAnd result (λ e. e ≡ error) → shape_fault {X = Y} (Err error) ≡ None → shape_fault result ≡ None
+pub handed_on : {X : Type 0} (Y : Type 0) (result : Result X LayoutError) (error : LayoutError) → IsErrAnd result (λ e. e ≡ error)
+    → shape_fault {X = Y} (Err error) ≡ None → shape_fault result ≡ None
 handed_on Y (Ok x) error is none = refl
 handed_on Y (Err (Memory e)) error is none = refl
 handed_on Y (Err (Shape kind)) error is none = subst (λ e. shape_fault {X = Y} (Err e) ≡ None) (sym is) none
 
 -- ---- counts of items
 -- whether there are as many items for each, by those so far and the next
-pub next_count : {T X : Type 0} (f : X → Write T) (shape : List ℕ) (xs : List X) (i : ℕ) (x : X) (have this : Bool) → i < length xs → x ≡ get_or xs i x → has_count shape (f x) ≡ this
+pub next_count : {T X : Type 0} (f : X → Write T) (shape : List ℕ) (xs : List X) (i : ℕ) {x : X} (have : Bool) {this : Bool} → i < length xs
+    → x ≡ get_or xs i x → has_count shape (f x) ≡ this
     → list_all (has_count shape) (map f xs) ≡ (have && list_all (has_count shape) (drop i (map f xs)))
     → list_all (has_count shape) (map f xs) ≡ (have && (this && list_all (has_count shape) (drop (i + 1) (map f xs))))
-next_count f shape xs i x have this below is counts before =
+next_count f shape xs i have below is counts before =
     before
-    ∙ ap (λ ys. have && list_all (has_count shape) ys) (next f xs i x below is)
+    ∙ ap (λ ys. have && list_all (has_count shape) ys) (next f xs i below is)
     ∙ ap (λ b. have && (b && list_all (has_count shape) (drop (i + 1) (map f xs)))) counts
 
 pub none_more : (have after : Bool) → (have && (false && after)) ≡ false
@@ -88,17 +99,20 @@ none_more true after = refl
 none_more false after = refl
 
 -- ---- facts of each item, or of each two, by what is left
-pub all_more : {X : Type 0} (P : X → Type 0) (xs left after : List X) (x : X) → left ≡ x ∷ after → P x → (All P left → All P xs) → All P after → All P xs
-all_more P xs left after x e this before all = before (subst (All P) (sym e) (All-cons P x after this all))
+pub all_more : {X : Type 0} (P : X → Type 0) (xs : List X) {left after : List X} {x : X} → left ≡ x ∷ after → P x → (All P left → All P xs)
+    → All P after → All P xs
+all_more P xs {after} {x} e this before all = before (subst (All P) (sym e) (All-cons P x after this all))
 
-pub all_ended : {X : Type 0} (P : X → Type 0) (xs left : List X) → left ≡ [] → (All P left → All P xs) → All P xs
-all_ended P xs left e before = before (subst (All P) (sym e) (λ k d below. absurd (omega arith)))
+pub all_ended : {X : Type 0} (P : X → Type 0) (xs : List X) {left : List X} → left ≡ [] → (All P left → All P xs) → All P xs
+all_ended P xs e before = before (subst (All P) (sym e) (λ k d below. absurd (omega arith)))
 
-pub pairs_more : {X : Type 0} (R : X → X → Type 0) (xs left after : List X) (x : X) → left ≡ x ∷ after → All (R x) after → (AllPairs R left → AllPairs R xs) → AllPairs R after → AllPairs R xs
-pairs_more R xs left after x e this before all = before (subst (AllPairs R) (sym e) (AllPairs-cons R x after this all))
+pub pairs_more : {X : Type 0} (R : X → X → Type 0) (xs : List X) {left after : List X} {x : X} → left ≡ x ∷ after → All (R x) after
+    → (AllPairs R left → AllPairs R xs) → AllPairs R after → AllPairs R xs
+pairs_more R xs {after} {x} e this before all = before (subst (AllPairs R) (sym e) (AllPairs-cons R x after this all))
 
-pub pairs_ended : {X : Type 0} (R : X → X → Type 0) (xs left : List X) → left ≡ [] → (AllPairs R left → AllPairs R xs) → AllPairs R xs
-pairs_ended R xs left e before = before (subst (AllPairs R) (sym e) (λ i j d earlier below. absurd (omega arith)))
+pub pairs_ended : {X : Type 0} (R : X → X → Type 0) (xs : List X) {left : List X} → left ≡ [] → (AllPairs R left → AllPairs R xs)
+    → AllPairs R xs
+pairs_ended R xs e before = before (subst (AllPairs R) (sym e) (λ i j d earlier below. absurd (omega arith)))
 
 -- ---- slices that share an index
 got_later : {X : Type 0} (n : ℕ) (xs : List X) (k : ℕ) → slice_get (drop n xs) k ≡ slice_get xs (n + k)
@@ -107,7 +121,8 @@ got_later (suc n) [] k = refl
 got_later (suc n) (x ∷ xs) k = let e : suc n + k ≡ suc (n + k) = omega arith in rw e (got_later n xs k)
 
 -- one that shares an index with a slice after it is one of two that do
-pub of_two : {T : Type 0} (shape : List ℕ) (writes after : List (Write T)) (i : ℕ) (write : Write T) (kind : ErrorKind) → slice_get writes i ≡ Some write → after ≡ drop (i + 1) writes
+pub of_two : {T : Type 0} (shape : List ℕ) (writes after : List (Write T)) (i : ℕ) (write : Write T) (kind : ErrorKind)
+    → slice_get writes i ≡ Some write → after ≡ drop (i + 1) writes
     → IsIntersectionFaultOf shape write after (Some kind) → IsIntersectionFault shape writes (Some kind)
 of_two {T = T} shape writes after i write kind here e (is, at, shared) =
     let meets = λ (one : Write T). λ (other : Write T). Meet Strict shape one.slice other.slice in
@@ -137,5 +152,7 @@ have_counts shape writes none =
     by false is = absurd (cc)
 
 -- writes without an error
-pub no_fault : {T : Type 0} (shape : List ℕ) (writes : List (Write T)) → counts_fault shape writes ≡ None → IsIntersectionFault shape writes None → IsFaultOfWrites shape writes None
-no_fault shape writes none apart = subst (λ fault. MatchOption fault (IsIntersectionFault shape writes None) (λ kind. None ≡ Some kind)) (sym none) apart
+pub no_fault : {T : Type 0} (shape : List ℕ) (writes : List (Write T)) → counts_fault shape writes ≡ None
+    → IsIntersectionFault shape writes None → IsFaultOfWrites shape writes None
+no_fault shape writes none apart = subst (λ fault. MatchOption fault (IsIntersectionFault shape writes None) (λ kind. None ≡ Some kind))
+    (sym none) apart

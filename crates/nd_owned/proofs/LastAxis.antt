@@ -1,5 +1,6 @@
 -- What taking the first entry of the last axis leaves of a view: where its rows begin.
-use Rattle.std.proofs.Common.{◌≡◌, ℕ, zero, suc, ◌*◌, ◌<◌, ◌^◌, ℤ, pos, negsuc, ◌≤ℤ◌, cond, Result, Ok, Err, Some, None, List, [], ◌∷◌, length, get_or, set, map, nat_lt, refl, sym, ap, ◌∙◌, arith}
+use Rattle.std.proofs.Common.{◌≡◌, ℕ, zero, suc, ◌*◌, ◌<◌, ◌^◌, ℤ, pos, negsuc, ◌≤ℤ◌, cond, Result, Ok, Err, Some, None, List, [], ◌∷◌}
+use Rattle.std.proofs.Common.{length, get_or, set, map, nat_lt, refl, sym, ap, ◌∙◌, arith}
 use Rattle.std.specs.List.{flat_map}
 use Rattle.std.specs.Prelude.{OnErr, OnOk, ◌&&◌}
 use Rattle.std.specs.Result.{result_err}
@@ -46,18 +47,21 @@ no_entry shape axis below refused = by (get_or shape axis 0) refused
         ∙ ap (λ here. cond here None (Some OutOfBounds)) (lt-ltb 0 (suc len) (omega arith))))
 
 -- what is left, by whether there was an entry
-pub rows_left : (view left : View) (axis : ℕ) (stride : ℤ) (len : ℕ) (taken : Result (Unit {0}) ShapeError) → IsView view → IsLastAxis view axis stride len
-    → result_err taken ≡ collapse_fault view.shape axis 0 → OnErr taken (left ≡ view) → OnOk taken (left ≡ collapse_of axis 0 view)
-    → (starts : List ℕ) → map pos starts ≡ view_places RowMajor left → flat_map (λ start. row_places start stride len) starts ≡ view_places RowMajor view
-rows_left view left axis stride len (Ok u) v last fault stays collapsed starts same =
+pub rows_left : {view : View} (left : View) {axis : ℕ} {stride : ℤ} {len : ℕ} (taken : Result (Unit {0}) ShapeError) → IsView view
+    → IsLastAxis view axis stride len → result_err taken ≡ collapse_fault view.shape axis 0 → OnErr taken (left ≡ view)
+    → OnOk taken (left ≡ collapse_of axis 0 view) → (starts : List ℕ) → map pos starts ≡ view_places RowMajor left
+    → flat_map (λ start. row_places start stride len) starts ≡ view_places RowMajor view
+rows_left {view} left {axis} {len} (Ok u) v last fault stays collapsed starts same =
     let rows = λ (s : ℤ) (n : ℕ). flat_map (λ start. row_places start s n) starts in
     ap (λ s. rows s len) last.is_stride
     ∙ ap (λ n. rows (get_or view.strides axis (pos 0)) n) last.is_len
-    ∙ sym (places-collapse_of_last view axis starts last.last (sym v.valid.same_count ∙ last.last) (same ∙ ap (view_places RowMajor) collapsed))
-rows_left view left axis stride len (Err e) v last fault stays collapsed starts same =
+    ∙ sym (places-collapse_of_last view axis starts last.last (sym v.valid.same_count ∙ last.last)
+    (same ∙ ap (view_places RowMajor) collapsed))
+rows_left {view} left {axis} {stride} (Err e) v last fault stays collapsed starts same =
     let none = no_entry view.shape axis (omega (arith, last.last)) (λ no. some_none (fault ∙ no)) in
     let zero : 0 * size (set view.shape axis 1) ≡ 0 = omega arith in
-    let empty : size view.shape ≡ 0 = size_by_axis view.shape axis (omega (arith, last.last)) ∙ ap (λ n. n * size (set view.shape axis 1)) none ∙ zero in
+    let empty : size view.shape ≡ 0 = size_by_axis view.shape axis (omega (arith, last.last)) ∙ ap (λ n. n * size (set view.shape axis 1))
+    none ∙ zero in
     ap (λ n. flat_map (λ start. row_places start stride n) starts) (last.is_len ∙ none)
     ∙ rows_of_none stride starts
     ∙ sym (no_places RowMajor view empty)
@@ -65,21 +69,23 @@ rows_left view left axis stride len (Err e) v last fault stays collapsed starts 
     some_none : {X : Type 0} {x : X} → Some x ≡ None → ⊥
     some_none same = absurd (cc)
 
-pub none_left : (view left : View) (axis : ℕ) (stride : ℤ) (len : ℕ) (taken : Result (Unit {0}) ShapeError) → IsLastAxis view axis stride len
-    → result_err taken ≡ collapse_fault view.shape axis 0 → OnErr taken (left ≡ view) → OnOk taken (left ≡ collapse_of axis 0 view) → size view.shape ≡ 0 → size left.shape ≡ 0
-none_left view left axis stride len (Ok u) last fault stays collapsed none =
+pub none_left : {view : View} (left : View) {axis : ℕ} {stride : ℤ} {len : ℕ} (taken : Result (Unit {0}) ShapeError)
+    → IsLastAxis view axis stride len → result_err taken ≡ collapse_fault view.shape axis 0 → OnErr taken (left ≡ view)
+    → OnOk taken (left ≡ collapse_of axis 0 view) → size view.shape ≡ 0 → size left.shape ≡ 0
+none_left {view} left {axis} (Ok u) last fault stays collapsed none =
     let entry = entry_of_no_fault view.shape axis 0 (sym fault) in
     ap (λ v. size v.shape) collapsed
     ∙ none_of_product (get_or view.shape axis 0) (size (set view.shape axis 1)) entry.1 (sym (size_by_axis view.shape axis entry.0) ∙ none)
-none_left view left axis stride len (Err e) last fault stays collapsed none = ap (λ v. size v.shape) stays ∙ none
+none_left left (Err e) last fault stays collapsed none = ap (λ v. size v.shape) stays ∙ none
 
 -- ---- where the places of a view lie
 below_limit : (z : ℤ) → pos 0 ≤ℤ z → z ≤ℤ pos limit → IsInside (2 ^ 63) z
 below_limit (pos n) low high = omega (arith, ints)
 below_limit (negsuc n) low high = absurd (omega (arith, ints))
 
-pub places_inside : (len : ℕ) (view : View) → IsView view → LiesWithin len view → AreInside len (view_places RowMajor view)
-places_inside len view v within = record {
+pub places_inside : {len : ℕ} {view : View} → IsView view → LiesWithin len view → AreInside len (view_places RowMajor view)
+places_inside {len} {view} v within = record {
   within = places_lie_within len RowMajor view within;
-  fit = places_lie_within (2 ^ 63) RowMajor view (λ index is. (let here = view_place index v is in below_limit (place_at view index) here.low here.high));
+  fit = places_lie_within (2 ^ 63) RowMajor view (λ index is. (let here = view_place index v is in below_limit (place_at view index)
+      here.low here.high));
 }

@@ -1,5 +1,7 @@
--- Slices of a view whose places are distinct: no place is listed twice by slices of which no two share an index, and what writes there leave.
-use Rattle.std.proofs.Common.{◌≡◌, ◌≢◌, ℕ, suc, ◌<◌, ℤ, pos, true, false, Bool, Some, None, inl, inr, List, [], ◌∷◌, ◌++◌, length, get_or, map, take, refl, sym, ap, subst, ◌∙◌, arith, ◌&&◌}
+-- Slices of a view whose places are distinct: no place is listed twice by slices of which no two share an index, and what writes
+-- there leave.
+use Rattle.std.proofs.Common.{◌≡◌, ◌≢◌, ℕ, suc, ◌<◌, ℤ, pos, true, false, Bool, Some, None, inl, inr, List, [], ◌∷◌, ◌++◌, length, get_or}
+use Rattle.std.proofs.Common.{map, take, refl, sym, ap, subst, ◌∙◌, arith, ◌&&◌}
 use Rattle.std.specs.List.{All, AllPairs, Contains, flat_map, list_all}
 use Rattle.std.proofs.lemmas.Bool.{eqb-true}
 use Rattle.std.proofs.lemmas.List.{append_cancel_left, get_or-map, length-map, map-append, take_at}
@@ -42,7 +44,8 @@ pairs_tail : {X : Type 0} (R : X → X → Type 0) (x : X) (xs : List X) → All
 pairs_tail R x xs pairs = λ i j d earlier below. pairs (suc i) (suc j) d (omega arith) (omega arith)
 
 -- two lists without a number twice, of which none is in both
-pairs_append : {X : Type 0} (xs ys : List X) → AllPairs (λ one other. one ≢ other) xs → AllPairs (λ one other. one ≢ other) ys → All (λ x. Contains ys x → ⊥) xs
+pairs_append : {X : Type 0} (xs ys : List X) → AllPairs (λ one other. one ≢ other) xs → AllPairs (λ one other. one ≢ other) ys
+    → All (λ x. Contains ys x → ⊥) xs
     → AllPairs (λ one other. one ≢ other) (xs ++ ys)
 pairs_append [] ys first second apart = second
 pairs_append (x ∷ xs) ys first second apart =
@@ -70,14 +73,20 @@ distinct_places order view distinct = λ i j d earlier below same.
     (sym (get_or-map (place_at view) indices i [] d early) ∙ same ∙ get_or-map (place_at view) indices j [] d late))
 
 -- a place that is listed is that of an index
-listed : (order : Order) (view : View) (place : ℤ) → Contains (view_places order view) place → (index : List ℕ) × (is_index view.shape index ≡ true) × (place_at view index ≡ place)
+listed : (order : Order) (view : View) (place : ℤ) → Contains (view_places order view) place
+    → (index : List ℕ) × (is_index view.shape index ≡ true) × (place_at view index ≡ place)
 listed order view place here =
     let indices = indices_in order view.shape in
-    let below : here.0 < length indices = omega (arith, length-map indices (place_at view), here.1) in
-    (get_or indices here.0 [], All-indices_in order view.shape here.0 [] below, sym (get_or-map (place_at view) indices here.0 [] place below) ∙ here.2)
+    let below : here.0 < length indices = omega (arith, length-map indices (place_at view), here.1) in (
+      get_or indices here.0 [],
+      All-indices_in order view.shape here.0 [] below,
+      sym (get_or-map (place_at view) indices here.0 [] place
+          below) ∙ here.2,
+    )
 
 -- ---- what holds of each of the writes
-pub each_fits : {T : Type 0} (shape : List ℕ) (writes : List (Write T)) → slices_fault shape writes ≡ None → All (λ write. argument_fault Strict shape write.slice ≡ None) writes
+pub each_fits : {T : Type 0} (shape : List ℕ) (writes : List (Write T)) → slices_fault shape writes ≡ None
+    → All (λ write. argument_fault Strict shape write.slice ≡ None) writes
 each_fits shape [] none = λ k d below. absurd (omega arith)
 each_fits shape (write ∷ writes) none =
     let parts = both_none (argument_fault Strict shape write.slice) (slices_fault shape writes) none in
@@ -88,28 +97,34 @@ both_true true second both = (refl, both)
 both_true false second both = absurd (cc)
 
 -- as many items as places
-pub each_count : {T : Type 0} (view : View) (writes : List (Write T)) → list_all (has_count view.shape) writes ≡ true → All (λ write. length (write_places view write) ≡ length write.items) writes
+pub each_count : {T : Type 0} (view : View) (writes : List (Write T)) → list_all (has_count view.shape) writes ≡ true
+    → All (λ write. length (write_places view write) ≡ length write.items) writes
 each_count view [] all = λ k d below. absurd (omega arith)
 each_count view (write ∷ writes) all =
     let parts = both_true (has_count view.shape write) (list_all (has_count view.shape) writes) all in
     All-cons (λ one. length (write_places view one) ≡ length one.items) write writes
-    (length-view_places RowMajor (slice_of Strict write.slice view) ∙ sym (eqb-true (length write.items) (size (sliced_shape Strict write.slice view.shape)) parts.0))
+    (length-view_places RowMajor (slice_of Strict write.slice view)
+    ∙ sym (eqb-true (length write.items) (size (sliced_shape Strict write.slice view.shape)) parts.0))
     (each_count view writes parts.1)
 
 -- ---- the places of all of them
 -- those of slices that share no index have none in common
-no_shared_place : {T : Type 0} (view : View) (one other : Write T) (place : ℤ) → IsView view → HasDistinctPlaces view → argument_fault Strict view.shape one.slice ≡ None
-    → argument_fault Strict view.shape other.slice ≡ None → AreApart view.shape one other → Contains (write_places view one) place → Contains (write_places view other) place → ⊥
-no_shared_place view one other place v distinct fits also apart here there =
+no_shared_place : {T : Type 0} {view : View} (one other : Write T) (place : ℤ) → IsView view → HasDistinctPlaces view
+    → argument_fault Strict view.shape one.slice ≡ None → argument_fault Strict view.shape other.slice ≡ None
+    → AreApart view.shape one other → Contains (write_places view one) place → Contains (write_places view other) place → ⊥
+no_shared_place {view} one other place v distinct fits also apart here there =
     let first = listed RowMajor (slice_of Strict one.slice view) place here in
     let second = listed RowMajor (slice_of Strict other.slice view) place there in
-    apart (meet_of_shared_place Strict one.slice other.slice v fits also distinct (first.0, first.1, (second.0, second.1, first.2 ∙ sym second.2)))
+    apart (meet_of_shared_place Strict one.slice other.slice v fits also distinct
+    (first.0, first.1, (second.0, second.1, first.2 ∙ sym second.2)))
 
-pub all_distinct : {T : Type 0} (view : View) (writes : List (Write T)) → IsView view → HasDistinctPlaces view → slices_fault view.shape writes ≡ None → AllPairs (AreApart view.shape) writes
+pub all_distinct : {T : Type 0} (view : View) (writes : List (Write T)) → IsView view → HasDistinctPlaces view
+    → slices_fault view.shape writes ≡ None → AllPairs (AreApart view.shape) writes
     → AllPairs (λ one other. one ≢ other) (flat_map (write_places view) writes)
 all_distinct {T = T} view writes v distinct none apart = by writes (each_fits view.shape writes none) apart
   where
-    by : (writes : List (Write T)) → All (λ write. argument_fault Strict view.shape write.slice ≡ None) writes → AllPairs (AreApart view.shape) writes
+    by : (writes : List (Write T)) → All (λ write. argument_fault Strict view.shape write.slice ≡ None) writes
+        → AllPairs (AreApart view.shape) writes
         → AllPairs (λ one other. one ≢ other) (flat_map (write_places view) writes)
     by [] fit apart = λ i j d earlier below. absurd (omega arith)
     by (write ∷ writes) fit apart =
@@ -120,35 +135,43 @@ all_distinct {T = T} view writes v distinct none apart = by writes (each_fits vi
         (distinct_places RowMajor (slice_of Strict write.slice view) ((Descends-slice_of Strict write.slice view v fits).distinct distinct))
         (by writes others (pairs_tail (AreApart view.shape) write writes apart))
         (λ k d below. none_of_all (write_places view) writes (get_or (write_places view write) k d) (λ j other there here.
-        no_shared_place view write (get_or writes j other) (get_or (write_places view write) k d) v distinct fits (others j other there) (alone j other there)
+        no_shared_place write (get_or writes j other) (get_or (write_places view write) k d) v distinct fits (others j other there)
+        (alone j other there)
         (Contains-get_or (write_places view write) k d below) here))
 
 -- ---- what is left
 -- what is written at the places of parts, where these are the places of the writes
-pub at_places : {A T : Type 0} (f : A → List ℤ) (h : A → List T) (view : View) (writes : List (Write T)) (given parts : List A) (old new : List T) → given ≡ parts
-    → flat_map f parts ≡ flat_map (write_places view) writes → flat_map h parts ≡ flat_map (λ write. write.items) writes
-    → (AllPairs (λ one other. one ≢ other) (flat_map f given) → HasWritten (flat_map f given) (flat_map h given) old new)
-    → AllPairs (λ one other. one ≢ other) (flat_map (write_places view) writes) → HasWritten (flat_map (write_places view) writes) (flat_map (λ write. write.items) writes) old new
-at_places f h view writes given parts old new same places items left =
-    subst (λ zs. AllPairs (λ one other. one ≢ other) zs → HasWritten zs (flat_map (λ write. write.items) writes) old new) (ap (flat_map f) same ∙ places)
-    (subst (λ xs. AllPairs (λ one other. one ≢ other) (flat_map f given) → HasWritten (flat_map f given) xs old new) (ap (flat_map h) same ∙ items) left)
+pub at_places : {A T : Type 0} (f : A → List ℤ) (h : A → List T) (view : View) (writes : List (Write T)) {given parts : List A}
+    {old new : List T} → given ≡ parts → flat_map f parts ≡ flat_map (write_places view) writes → flat_map h parts
+    ≡ flat_map (λ write. write.items) writes → (AllPairs (λ one other. one ≢ other) (flat_map f given) → HasWritten (flat_map f given)
+    (flat_map h given) old new) → AllPairs (λ one other. one ≢ other) (flat_map (write_places view) writes)
+    → HasWritten (flat_map (write_places view) writes) (flat_map (λ write. write.items) writes) old new
+at_places f h view writes {given} {old} {new} same places items left =
+    subst (λ zs. AllPairs (λ one other. one ≢ other) zs → HasWritten zs (flat_map (λ write. write.items) writes) old new)
+    (ap (flat_map f) same ∙ places)
+    (subst (λ xs. AllPairs (λ one other. one ≢ other) (flat_map f given) → HasWritten (flat_map f given) xs old new) (ap (flat_map h) same
+    ∙ items) left)
 
 pub all_written : {T : Type 0} (view : View) (writes : List (Write T)) (old new : List T) → list_all (has_count view.shape) writes ≡ true
     → HasWritten (flat_map (write_places view) writes) (flat_map (λ write. write.items) writes) old new → All (IsWritten view new) writes
 all_written {T = T} view writes old new counts left = by writes (each_count view writes counts) left.written
   where
     by : (writes : List (Write T)) → All (λ write. length (write_places view write) ≡ length write.items) writes
-        → map (item_at_place new) (flat_map (write_places view) writes) ≡ map Some (flat_map (λ write. write.items) writes) → All (IsWritten view new) writes
+        → map (item_at_place new) (flat_map (write_places view) writes) ≡ map Some (flat_map (λ write. write.items) writes)
+        → All (IsWritten view new) writes
     by [] counts same = λ k d below. absurd (omega arith)
     by (write ∷ writes) counts same =
         let places = write_places view write in
         let more = flat_map (write_places view) writes in
         let items = flat_map (λ one. one.items) writes in
         let long : length (map (item_at_place new) places) ≡ length (map Some write.items) =
-        length-map places (item_at_place new) ∙ All-head (λ one. length (write_places view one) ≡ length one.items) write writes counts ∙ sym (length-map write.items Some) in
+        length-map places (item_at_place new) ∙ All-head (λ one. length (write_places view one) ≡ length one.items) write writes counts
+        ∙ sym (length-map write.items Some) in
         let parts = same_parts (map (item_at_place new) places) (map Some write.items) (map (item_at_place new) more) (map Some items) long
         (sym (map-append (item_at_place new) places more) ∙ same ∙ map-append Some write.items items) in
-        All-cons (IsWritten view new) write writes parts.0 (by writes (All-tail (λ one. length (write_places view one) ≡ length one.items) write writes counts) parts.1)
+        All-cons (IsWritten view new) write writes parts.0
+        (by writes (All-tail (λ one. length (write_places view one) ≡ length one.items) write writes counts) parts.1)
 
-pub others_kept : {T : Type 0} (view : View) (writes : List (Write T)) (items old new : List T) → HasWritten (flat_map (write_places view) writes) items old new → KeepsOthers view writes old new
-others_kept view writes items old new left = λ place spared. left.kept place (none_of_all (write_places view) writes (pos place) spared)
+pub others_kept : {T : Type 0} (view : View) (writes : List (Write T)) {items old new : List T}
+    → HasWritten (flat_map (write_places view) writes) items old new → KeepsOthers view writes old new
+others_kept view writes left = λ place spared. left.kept place (none_of_all (write_places view) writes (pos place) spared)

@@ -64,8 +64,10 @@ impl<T: Copy, D: Lengths> OwnedArray<T, D> {
         items: Vec<T>,
     ) -> Result<Self, (LayoutError, Vec<T>)>
         ensures fault { shape_fault_of result ≡
-            acceptance_by_strides D.list 1 (vec_len items) OwnedMutable (D.list shape.dim) shape.strides }
-        ensures given { shape_fault_of result ≡ None → IsSome (custom_strides shape.strides) → IsOk result }
+            acceptance_by_strides D.list 1 (vec_len items) OwnedMutable
+            (D.list shape.dim) shape.strides }
+        ensures given { shape_fault_of result ≡ None → IsSome (custom_strides shape.strides) →
+            IsOk result }
         ensures memory { shape_fault_of result ≡ None →
             NeedsNoMemory D.NDIM (length (D.list shape.dim)) → IsOk result }
         ensures stored { IfOk result (λ a. a.items ≡ items.items) }
@@ -99,7 +101,8 @@ impl<T: Copy, D: Lengths> OwnedArray<T, D> {
     ///
     /// `[2]` with the stride `[-1]` over 7 8 9: (0) is 8, and (2) is `None`. ndarray's `get`.
     pub fn get<I: NdIndex<D>>(&self, index: &I) -> Option<T>
-        ensures found { IsSome result ↔ IsTrue (is_index self.now.view.shape (I.index_list index.now)) }
+        ensures found { IsSome result ↔
+            IsTrue (is_index self.now.view.shape (I.index_list index.now)) }
         ensures item { result ≡ item_at self.now (I.index_list index.now) }
     {
         let place = self.view.place(index)?;
@@ -133,7 +136,8 @@ impl<T: Copy, D: Lengths> OwnedArray<T, D> {
     ///
     /// `..;-1,1..` of `[2,3]` over 0 1 2 3 4 5: 4 5 1 2. The project's own.
     pub fn items<S: SliceElems>(&self, alloc: Global, slices: &S) -> Result<Vec<T>, LayoutError>
-        ensures fault { shape_fault result ≡ argument_fault Strict self.now.view.shape (S.list slices.now) }
+        ensures fault { shape_fault result ≡
+            argument_fault Strict self.now.view.shape (S.list slices.now) }
         ensures items { IfOk result (λ v. map Some v.items ≡ map (item_at_place self.now.items)
             (view_places RowMajor (slice_of Strict (S.list slices.now) self.now.view))) }
         ensures memory { IsOfNone self.now.view.shape (S.list slices.now) → IsOk result }
@@ -163,13 +167,17 @@ impl<T: Copy, D: Lengths> OwnedArray<T, D> {
         alloc: Global,
         writes: &[(Vec<SliceInfoElem>, Vec<T>)],
     ) -> Result<(), LayoutError>
-        ensures fault { IsFaultOfWrites self.old.view.shape (map write_of writes.now) (shape_fault result) }
-        ensures memory { shape_fault result ≡ None → HaveNoItems (map write_of writes.now) → IsOk result }
+        ensures fault { IsFaultOfWrites self.old.view.shape (map write_of writes.now)
+            (shape_fault result) }
+        ensures memory { shape_fault result ≡ None → HaveNoItems (map write_of writes.now) →
+            IsOk result }
         ensures unchanged { OnErr result (self.new ≡ self.old) }
         ensures view { self.new.view ≡ self.old.view }
         ensures count { length self.new.items ≡ length self.old.items }
-        ensures written { OnOk result (All (IsWritten self.old.view self.new.items) (map write_of writes.now)) }
-        ensures kept { OnOk result (KeepsOthers self.old.view (map write_of writes.now) self.old.items self.new.items) }
+        ensures written { OnOk result (All (IsWritten self.old.view self.new.items)
+            (map write_of writes.now)) }
+        ensures kept { OnOk result (KeepsOthers self.old.view
+            (map write_of writes.now) self.old.items self.new.items) }
     {
         check_counts(&self.view, writes)?;
         check_apart(&self.view, writes)?;

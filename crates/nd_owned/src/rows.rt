@@ -34,7 +34,8 @@ pub(crate) fn rows_of<D: Lengths, S: SliceElems>(
     ensures fault { shape_fault result ≡ argument_fault Strict view.now.shape (S.list slice.now) }
     ensures places { IfOk result (λ rows. rows_places rows
         ≡ view_places RowMajor (slice_of Strict (S.list slice.now) view.now)) }
-    ensures inside { IfOk result (λ rows. (len : ℕ) → LiesWithin len view.now → AreInside len (rows_places rows)) }
+    ensures inside { IfOk result (λ rows.
+        (len : ℕ) → LiesWithin len view.now → AreInside len (rows_places rows)) }
     ensures fits { IfOk result (λ rows. vec_len rows.starts * rows.len < 2 ^ 64) }
     ensures memory { IsOfNone view.now.shape (S.list slice.now) → IsOk result }
 {
@@ -45,7 +46,8 @@ pub(crate) fn rows_of<D: Lengths, S: SliceElems>(
 /// The rows of a view: its last axis gives their places, and its other axes where they begin.
 fn rows_of_view<D: Lengths>(alloc: Global, mut view: Strided<D>) -> Result<Rows, AllocError>
     ensures places { IfOk result (λ rows. rows_places rows ≡ view_places RowMajor view) }
-    ensures inside { IfOk result (λ rows. (len : ℕ) → LiesWithin len view → AreInside len (rows_places rows)) }
+    ensures inside { IfOk result (λ rows.
+        (len : ℕ) → LiesWithin len view → AreInside len (rows_places rows)) }
     ensures fits { IfOk result (λ rows. vec_len rows.starts * rows.len < 2 ^ 64) }
     ensures memory { size view.shape ≡ 0 → IsOk result }
 {
@@ -63,7 +65,8 @@ fn rows_of_view<D: Lengths>(alloc: Global, mut view: Strided<D>) -> Result<Rows,
 fn take_last_axis<D: Lengths>(view: &mut Strided<D>) -> (usize, usize)
     ensures is_view { IsView view.old }
     ensures places { (starts : List ℕ) → map pos starts ≡ view_places RowMajor view.new →
-        flat_map (λ start. row_places start (signed result.0) result.1) starts ≡ view_places RowMajor view.old }
+        flat_map (λ start. row_places start (signed result.0) result.1) starts ≡
+        view_places RowMajor view.old }
     ensures none { size view.old.shape ≡ 0 → size view.new.shape ≡ 0 }
 {
     let Some((axis, stride, len)) = last_axis(view) else {
@@ -76,7 +79,8 @@ fn take_last_axis<D: Lengths>(view: &mut Strided<D>) -> (usize, usize)
 
 /// The last axis of a view, with its stride and its length.
 fn last_axis<D: Lengths>(view: &Strided<D>) -> Option<(Axis, usize, usize)>
-    ensures last { MatchOption result (length view.now.shape ≡ 0) (λ last. IsLastAxis view.now last.0.0 (signed last.1) last.2) }
+    ensures last { MatchOption result (length view.now.shape ≡ 0) (λ last.
+        IsLastAxis view.now last.0.0 (signed last.1) last.2) }
     ensures is_view { IsView view.now }
 {
     let (len, others) = view.dim().slice().split_last()?;
@@ -89,7 +93,8 @@ impl Rows {
     pub(crate) fn read<T: Copy>(&self, alloc: Global, stored: &[T]) -> Result<Vec<T>, AllocError>
         requires inside { AreInside (length stored.now) (rows_places self.now) }
         requires fits { vec_len self.now.starts * self.now.len < 2 ^ 64 }
-        ensures items { IfOk result (λ v. map Some v.items ≡ map (item_at_place stored.now) (rows_places self.now)) }
+        ensures items { IfOk result (λ v.
+            map Some v.items ≡ map (item_at_place stored.now) (rows_places self.now)) }
         ensures memory { length (rows_places self.now) ≡ 0 → IsOk result }
     {
         let mut items = Vec::with_capacity(alloc, self.starts.len() * self.len)?;
@@ -170,8 +175,10 @@ fn read_row<T: Copy>(
 /// Writes items at the places of a row, one after another.
 fn write_row<T: Copy>(stored: &mut [T], start: usize, stride: usize, items: &[T])
     requires { AreInside (length stored.old) (row_places start (signed stride) (length items.now)) }
-    ensures { AllPairs (λ one other. one ≢ other) (row_places start (signed stride) (length items.now)) →
-        HasWritten (row_places start (signed stride) (length items.now)) items.now stored.old stored.new }
+    ensures { AllPairs (λ one other. one ≢ other)
+        (row_places start (signed stride) (length items.now)) →
+        HasWritten (row_places start (signed stride) (length items.now))
+        items.now stored.old stored.new }
 {
     let Some((first, others)) = items.split_first() else {
         return;

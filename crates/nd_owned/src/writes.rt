@@ -33,7 +33,8 @@ fn have_counts<T: Copy, D: Lengths>(
     writes: &[SliceItems<T>],
 ) -> Result<bool, ShapeError>
     ensures fault { result_err result ≡ slices_fault view.now.shape (map write_of writes.now) }
-    ensures counts { IfOk result (λ have. have ≡ list_all (has_count view.now.shape) (map write_of writes.now)) }
+    ensures counts { IfOk result (λ have.
+        have ≡ list_all (has_count view.now.shape) (map write_of writes.now)) }
 {
     let mut have = true;
     for (slice, items) in writes {
@@ -66,7 +67,8 @@ fn check_apart_from<T: Copy, D: Lengths>(
 ) -> Result<(), ShapeError>
     requires fits { argument_fault Strict view.now.shape (write_of one.now).slice ≡ None }
     requires others_fit { slices_fault view.now.shape (map write_of others.now) ≡ None }
-    ensures { IsIntersectionFaultOf view.now.shape (write_of one.now) (map write_of others.now) (result_err result) }
+    ensures { IsIntersectionFaultOf view.now.shape (write_of one.now) (map write_of others.now)
+        (result_err result) }
 {
     for (other, _) in others {
         if view.meets(&one.0, other, Fit::Strict)? {
@@ -103,7 +105,8 @@ pub(crate) fn rows_of_each<'a, T: Copy, D: Lengths>(
         ≡ flat_map (write_places view.now) (map write_of writes.now)) }
     ensures items { IfOk result (λ v. flat_map (λ one. one.items.now) v.items
         ≡ flat_map (λ write. write.items) (map write_of writes.now)) }
-    ensures counts { IfOk result (λ v. All (λ one. length (rows_places one.rows) ≡ length one.items.now) v.items) }
+    ensures counts { IfOk result (λ v.
+        All (λ one. length (rows_places one.rows) ≡ length one.items.now) v.items) }
     ensures inside { IfOk result (λ v. (len : ℕ) → LiesWithin len view.now →
         All (λ one. AreInside len (rows_places one.rows)) v.items) }
 {
@@ -123,7 +126,8 @@ pub(crate) fn rows_of_each<'a, T: Copy, D: Lengths>(
 pub(crate) fn write_all<T: Copy>(stored: &mut [T], writes: &[RowItems<'_, T>])
     requires inside { All (λ one. AreInside (length stored.old) (rows_places one.rows)) writes.now }
     requires counts { All (λ one. length (rows_places one.rows) ≡ length one.items.now) writes.now }
-    ensures { AllPairs (λ one other. one ≢ other) (flat_map (λ one. rows_places one.rows) writes.now) →
+    ensures { AllPairs (λ one other. one ≢ other)
+        (flat_map (λ one. rows_places one.rows) writes.now) →
         HasWritten (flat_map (λ one. rows_places one.rows) writes.now)
         (flat_map (λ one. one.items.now) writes.now) stored.old stored.new }
 {

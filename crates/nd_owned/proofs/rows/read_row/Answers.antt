@@ -1,5 +1,6 @@
 -- A row of neighbours is one copy, for which there is room; else it is one more item at each turn.
-use Rattle.std.proofs.Common.{rules, ◌≡◌, ◌+◌, ◌-◌, ◌≤◌, ◌<◌, ◌++◌, ◌^◌, pos, ◌+ℤ◌, ◌*ℤ◌, Some, length, map, take, drop, sym, ap, subst, ◌∙◌, arith}
+use Rattle.std.proofs.Common.{rules, ◌≡◌, ◌+◌, ◌-◌, ◌≤◌, ◌<◌, ◌++◌, ◌^◌, pos, ◌+ℤ◌, ◌*ℤ◌, Some, length, map, take, drop, sym, ap, subst}
+use Rattle.std.proofs.Common.{◌∙◌, arith}
 use Rattle.std.specs.List.{All}
 use Rattle.std.proofs.lemmas.List.{append-nil, map-append}
 use Rattle.ndarray_layout.specs.Inside.{IsInside}
@@ -47,7 +48,8 @@ returns-then-is_copied-clause-items g c =
     ∙ ap (λ stride. map Some items ++ map (item_at_place stored) (row_places start stride len)) (sym one)
 
 pub bounds-stored-start : goal.bounds-stored-start
-bounds-stored-start g c = begins (length c.args.stored.now) c.args.start (signed c.args.stride) c.args.len c.requires.inside.within (omega arith)
+bounds-stored-start g c = begins (length c.args.stored.now) c.args.start (signed c.args.stride) c.args.len c.requires.inside.within
+    (omega arith)
 
 pub push_reserved-requires : goal.push_reserved-requires
 push_reserved-requires g c = omega (arith, c.requires.room)
@@ -59,9 +61,10 @@ loop-entry-init g c =
     let stride = signed c.args.stride in
     record {
       small = begins (2 ^ 63) start stride c.args.len c.requires.inside.fit (omega arith);
-      next = next_there start 0 start stride (start_there start stride);
-      items = read_more stored start stride 0 start c.args.items.items c.args.items.items c.push_reserved.new.self.items c.index-stored-start.result
-          (begins (length stored) start stride c.args.len c.requires.inside.within (omega arith)) c.index-stored-start.is (start_there start stride) c.push_reserved.ensures.items
+      next = next_there start 0 stride (start_there stride);
+      items = read_more stored start stride 0 c.args.items.items c.args.items.items
+          (begins (length stored) start stride c.args.len c.requires.inside.within (omega arith)) c.index-stored-start.is
+          (start_there stride) c.push_reserved.ensures.items
           (sym (append-nil (map Some c.args.items.items)));
       len = c.push_reserved.ensures.len;
       capacity = c.push_reserved.ensures.capacity;
@@ -84,7 +87,13 @@ offset_bounds-stored-place g c =
     search rules
 
 pub push_reserved-requires-in-loop-entry : goal.push_reserved-requires-in-loop-entry
-push_reserved-requires-in-loop-entry g c = omega (arith, c.requires.room, c.loop-entry.invariant.len, c.loop-entry.invariant.capacity, c.loop-entry-test.true)
+push_reserved-requires-in-loop-entry g c = omega (
+  arith,
+  c.requires.room,
+  c.loop-entry.invariant.len,
+  c.loop-entry.invariant.capacity,
+  c.loop-entry-test.true,
+)
 
 pub loop-entry-preserved : goal.loop-entry-preserved
 loop-entry-preserved g c =
@@ -95,10 +104,12 @@ loop-entry-preserved g c =
     let place = c.place_after-place.result in
     let here : pos place ≡ pos start +ℤ (pos i *ℤ stride) = c.place_after-place.ensures ∙ c.loop-entry.invariant.next in
     record {
-      small = subst (IsInside (2 ^ 63)) (sym here) (entry_inside (2 ^ 63) start stride c.args.len i c.requires.inside.fit c.loop-entry-test.true);
-      next = next_there start i place stride here;
-      items = read_more stored start stride i place c.args.items.items c.loop-entry.items.items c.push_reserved-in-loop-entry.new.self.items c.index-stored-place.result
-          (subst (IsInside (length stored)) (sym here) (entry_inside (length stored) start stride c.args.len i c.requires.inside.within c.loop-entry-test.true))
+      small = subst (IsInside (2 ^ 63)) (sym here) (entry_inside (2 ^ 63) start stride c.args.len i c.requires.inside.fit
+          c.loop-entry-test.true);
+      next = next_there start i stride here;
+      items = read_more stored start stride i c.args.items.items c.loop-entry.items.items
+          (subst (IsInside (length stored)) (sym here) (entry_inside (length stored) start stride c.args.len i c.requires.inside.within
+          c.loop-entry-test.true))
           c.index-stored-place.is here c.push_reserved-in-loop-entry.ensures.items c.loop-entry.invariant.items;
       len = omega (arith, c.push_reserved-in-loop-entry.ensures.len, c.loop-entry.invariant.len);
       capacity = c.push_reserved-in-loop-entry.ensures.capacity ∙ c.loop-entry.invariant.capacity;

@@ -9,7 +9,8 @@ abbrev pub invariant-loop-entry : goal.invariant-loop-entry
 invariant-loop-entry g l = record {
   small : l.place < 2 ^ 63;
   next : pos l.place +ℤ signed l.stride ≡ pos l.start +ℤ (pos l._entry *ℤ signed l.stride);
-  items : map Some l.items.items ≡ map Some l.fn.items.items ++ map (item_at_place l.stored) (row_places l.start (signed l.stride) l._entry);
+  items : map Some l.items.items ≡ map Some l.fn.items.items ++ map (item_at_place l.stored)
+      (row_places l.start (signed l.stride) l._entry);
   len : vec_len l.items ≡ vec_len l.fn.items + l._entry;
   capacity : vec_capacity l.items ≡ vec_capacity l.fn.items;
 }

@@ -11,7 +11,7 @@ use Rattle.nd_owned.proofs.rows.rows_of_view.Goals as goal
 pub returns-clause-inside : goal.returns-clause-inside
 returns-clause-inside g c = λ len within.
     subst (AreInside len) (sym (c.take_last_axis-stride.ensures.places c.in_ok-starts.starts.items c.in_ok-starts.ensures.items))
-    (places_inside len c.args.view c.take_last_axis-stride.ensures.is_view within)
+    (places_inside c.take_last_axis-stride.ensures.is_view within)
 
 pub returns-clause-fits : goal.returns-clause-fits
 returns-clause-fits g c =

@@ -1,12 +1,14 @@
 -- A row of neighbours is one copy; else it is one more item at each turn.
-use Rattle.std.proofs.Common.{rules, ◌≡◌, ◌+◌, ◌-◌, ◌≤◌, ◌<◌, ◌++◌, ◌^◌, pos, ◌+ℤ◌, ◌*ℤ◌, length, get_or, length-set, take, drop, sym, ap, subst, ◌∙◌, arith}
+use Rattle.std.proofs.Common.{rules, ◌≡◌, ◌+◌, ◌-◌, ◌≤◌, ◌<◌, ◌++◌, ◌^◌, pos, ◌+ℤ◌, ◌*ℤ◌, length, get_or, length-set, take, drop, sym, ap}
+use Rattle.std.proofs.Common.{subst, ◌∙◌, arith}
 use Rattle.std.specs.List.{All}
 use Rattle.std.proofs.lemmas.List.{take_all}
 use Rattle.ndarray_layout.specs.Inside.{IsInside}
 use Rattle.ndarray_layout.specs.Signed.{signed}
 use Rattle.nd_owned.specs.private.Rows.{HasWritten, row_places}
 use Rattle.nd_owned.proofs.Placed.{none_written}
-use Rattle.nd_owned.proofs.RowPlaces.{after_first, begins, entry_inside, neighbours_within, next_there, start_there, write_more, write_neighbours}
+use Rattle.nd_owned.proofs.RowPlaces.{after_first, begins, entry_inside, neighbours_within, next_there, start_there, write_more}
+use Rattle.nd_owned.proofs.RowPlaces.{write_neighbours}
 use Rattle.nd_owned.proofs.rows.write_row.Goals as goal
 
 pub overflow_add-start : goal.overflow_add-start
@@ -31,7 +33,8 @@ slice_bounds-copy_from_slice-end g c =
 pub offset_bounds-stored-start : goal.offset_bounds-stored-start
 offset_bounds-stored-start g c =
     let under : c.args.start < length c.args.stored.now =
-    begins (length c.args.stored.now) c.args.start (signed c.args.stride) (length c.args.items.now) c.requires.within (omega (arith, c.in-Some.ensures.cases.1)) in
+    begins (length c.args.stored.now) c.args.start (signed c.args.stride) (length c.args.items.now) c.requires.within
+    (omega (arith, c.in-Some.ensures.cases.1)) in
     search rules
 
 pub returns-then-is_copied : goal.returns-then-is_copied
@@ -45,14 +48,18 @@ returns-then-is_copied g c =
     neighbours_within count start (length items) (omega (arith, c.in-Some.ensures.cases.1))
     (subst (λ stride. All (IsInside count) (row_places start stride (length items))) one c.requires.within) in
     let same : start + length items - start ≡ length items = omega arith in
-    λ distinct. subst (λ stride. HasWritten (row_places start stride (length items)) items old (take start old ++ (c.copy_from_slice.new.self ++ drop (start + length items - start) (drop start old)))) (sym one)
-    (subst (λ n. HasWritten (row_places start (pos 1) (length items)) items old (take start old ++ (c.copy_from_slice.new.self ++ drop n (drop start old)))) (sym same)
-    (subst (λ new. HasWritten (row_places start (pos 1) (length items)) items old (take start old ++ (new ++ drop (length items) (drop start old)))) (sym c.copy_from_slice.ensures.after)
-    (write_neighbours old items start within)))
+    λ distinct. subst (λ stride. HasWritten (row_places start stride (length items)) items old
+    (take start old ++ (c.copy_from_slice.new.self ++ drop (start + length items - start) (drop start old)))) (sym one)
+    (subst (λ n. HasWritten (row_places start (pos 1) (length items)) items old
+    (take start old ++ (c.copy_from_slice.new.self ++ drop n (drop start old)))) (sym same)
+    (subst (λ new. HasWritten (row_places start (pos 1) (length items)) items old
+    (take start old ++ (new ++ drop (length items) (drop start old)))) (sym c.copy_from_slice.ensures.after)
+    (write_neighbours start within)))
 
 pub bounds-stored-start : goal.bounds-stored-start
 bounds-stored-start g c =
-    begins (length c.args.stored.now) c.args.start (signed c.args.stride) (length c.args.items.now) c.requires.within (omega (arith, c.in-Some.ensures.cases.1))
+    begins (length c.args.stored.now) c.args.start (signed c.args.stride) (length c.args.items.now) c.requires.within
+    (omega (arith, c.in-Some.ensures.cases.1))
 
 pub offset_bounds-stored-start-2 : goal.offset_bounds-stored-start-2
 offset_bounds-stored-start-2 g c =
@@ -69,10 +76,11 @@ loop-item-init g c =
     let some : 0 < length items = omega (arith, c.in-Some.ensures.cases.1) in
     record {
       small = begins (2 ^ 63) start stride (length items) c.requires.fit some;
-      next = next_there start 0 start stride (start_there start stride);
-      written = λ distinct. write_more (length stored) start stride 0 start items stored stored first c.requires.within distinct some
-          (sym (ap (λ xs. get_or xs 0 first) c.in-Some.ensures.cases.0)) (begins (length stored) start stride (length items) c.requires.within some) (start_there start stride)
-          (none_written stored);
+      next = next_there start 0 stride (start_there stride);
+      written = λ distinct. write_more (length stored) start stride 0 items c.requires.within distinct some
+          (sym (ap (λ xs. get_or xs 0 first) c.in-Some.ensures.cases.0)) (begins (length stored) start stride (length items)
+          c.requires.within some) (start_there stride)
+          (none_written);
     }
 
 pub place_after-place-requires-clause-inside : goal.place_after-place-requires-clause-inside
@@ -108,15 +116,21 @@ loop-item-preserved g c =
     let within : place < length c.loop-item.stored = bounds-stored-place g c in
     record {
       small = subst (IsInside (2 ^ 63)) (sym here) (entry_inside (2 ^ 63) start stride (length items) (i + 1) c.requires.fit below);
-      next = next_there start (i + 1) place stride here;
-      written = λ distinct. write_more (length stored) start stride (i + 1) place items stored c.loop-item.stored c.item-item.result c.requires.within distinct below
-          (after_first items c.in-Some.others.now c.in-Some.first.now c.item-item.result i c.in-Some.ensures.cases.0 c.item-item.is) within here (c.loop-item.invariant.written distinct);
+      next = next_there start (i + 1) stride here;
+      written = λ distinct. write_more (length stored) start stride (i + 1) items c.requires.within distinct below
+          (after_first i c.in-Some.ensures.cases.0 c.item-item.is) within here (c.loop-item.invariant.written distinct);
     }
 
 pub returns : goal.returns
 returns g c =
     let places = row_places c.args.start (signed c.args.stride) in
     let items = c.args.items.now in
-    let all : c.loop-item.item-index + 1 ≡ length items = omega (arith, c.loop-item-test.false, c.loop-item.auto.item-index-end, c.in-Some.ensures.cases.1) in
-    λ distinct. subst (λ done. HasWritten (places (length items)) done c.args.stored.now c.loop-item.stored) (take_all (length items) items (omega arith))
+    let all : c.loop-item.item-index + 1 ≡ length items = omega (
+      arith,
+      c.loop-item-test.false,
+      c.loop-item.auto.item-index-end,
+      c.in-Some.ensures.cases.1,
+    ) in
+    λ distinct. subst (λ done. HasWritten (places (length items)) done c.args.stored.now c.loop-item.stored)
+    (take_all (length items) items (omega arith))
     (subst (λ n. HasWritten (places n) (take n items) c.args.stored.now c.loop-item.stored) all (c.loop-item.invariant.written distinct))

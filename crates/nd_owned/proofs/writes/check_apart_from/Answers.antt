@@ -13,7 +13,8 @@ pub returns-in_err-meets : goal.returns-in_err-meets
 returns-in_err-meets g c =
     let item = c.loop-other-item.result in
     let shape = c.args.view.now.shape in
-    let fits = next_fits write_of shape c.args.others.now c.loop-other.other-index item c.loop-other-test.true c.loop-other-item.is c.loop-other.invariant.fit in
+    let fits = next_fits write_of shape c.args.others.now c.loop-other.other-index c.loop-other-test.true c.loop-other-item.is
+    c.loop-other.invariant.fit in
     let none : Some c.in_err-meets.field-0.0 ≡ None =
     c.in_err-meets.ensures.fault ∙ ap (λ first. option_or first (argument_fault Strict shape item.0.items)) c.requires.fits ∙ fits.0 in
     absurd (cc)
@@ -24,7 +25,8 @@ returns-then-branch g c =
       c.from_kind.ensures,
       i,
       subst (λ other. IsSomeAnd other (λ w. Meet Strict c.args.view.now.shape (write_of c.args.one.now).slice w.slice))
-          (sym (this_got write_of c.args.others.now i c.loop-other-item.result c.loop-other-test.true c.loop-other-item.is)) (c.in_ok-meets.ensures.meet.0 c.if-branch.true),
+          (sym (this_got write_of c.args.others.now i c.loop-other-test.true c.loop-other-item.is))
+          (c.in_ok-meets.ensures.meet.0 c.if-branch.true),
     )
 
 pub loop-other-preserved : goal.loop-other-preserved
@@ -34,15 +36,15 @@ loop-other-preserved g c =
     let shape = c.args.view.now.shape in
     let others = map write_of c.args.others.now in
     record {
-      apart = all_more (AreApart shape (write_of c.args.one.now)) others (drop i others) (drop (i + 1) others) (write_of item)
-          (next write_of c.args.others.now i item c.loop-other-test.true c.loop-other-item.is)
+      apart = all_more (AreApart shape (write_of c.args.one.now)) others
+          (next write_of c.args.others.now i c.loop-other-test.true c.loop-other-item.is)
           (λ meet. false≢true (sym c.if-branch.false ∙ c.in_ok-meets.ensures.meet.1 meet)) c.loop-other.invariant.apart;
-      fit = (next_fits write_of shape c.args.others.now i item c.loop-other-test.true c.loop-other-item.is c.loop-other.invariant.fit).1;
+      fit = (next_fits write_of shape c.args.others.now i c.loop-other-test.true c.loop-other-item.is c.loop-other.invariant.fit).1;
     }
 
 pub returns : goal.returns
 returns g c =
     let i = c.loop-other.other-index in
     let others = map write_of c.args.others.now in
-    all_ended (AreApart c.args.view.now.shape (write_of c.args.one.now)) others (drop i others)
+    all_ended (AreApart c.args.view.now.shape (write_of c.args.one.now)) others
     (ended write_of c.args.others.now i c.loop-other-test.false) c.loop-other.invariant.apart

@@ -6,6 +6,7 @@ use Rattle.nd_owned.proofs.writes.check_apart_from.Given as goal
 
 abbrev pub invariant-loop-other : goal.invariant-loop-other
 invariant-loop-other g l = record {
-  apart : All (AreApart l.view.shape (write_of l.one)) (drop l.other-index (map write_of l.others)) → All (AreApart l.view.shape (write_of l.one)) (map write_of l.others);
+  apart : All (AreApart l.view.shape (write_of l.one)) (drop l.other-index (map write_of l.others))
+      → All (AreApart l.view.shape (write_of l.one)) (map write_of l.others);
   fit : slices_fault l.view.shape (drop l.other-index (map write_of l.others)) ≡ None;
 }

@@ -15,8 +15,9 @@ returns-in_err-picked-clause-fault g c =
     let shape = c.args.view.now.shape in
     let kind = c.in_err-picked.field-0.0 in
     let same : result_err c.from_residual.result ≡ Some kind = search rules in
-    same ∙ sym (next_fault write_of shape c.args.writes.now i c.loop-slice-item.result c.loop-slice-test.true c.loop-slice-item.is c.loop-slice.invariant.fault
-    ∙ ap (λ first. option_or first (slices_fault shape (drop (i + 1) (map write_of c.args.writes.now)))) (sym c.in_err-picked.ensures.fault))
+    same ∙ sym (next_fault write_of shape c.args.writes.now i c.loop-slice-test.true c.loop-slice-item.is c.loop-slice.invariant.fault
+    ∙ ap (λ first. option_or first (slices_fault shape (drop (i + 1) (map write_of c.args.writes.now))))
+    (sym c.in_err-picked.ensures.fault))
 
 pub loop-slice-preserved : goal.loop-slice-preserved
 loop-slice-preserved g c =
@@ -28,15 +29,17 @@ loop-slice-preserved g c =
     let after = list_all (has_count shape) (drop (i + 1) (map write_of writes)) in
     record {
       fault =
-          next_fault write_of shape writes i item c.loop-slice-test.true c.loop-slice-item.is c.loop-slice.invariant.fault
+          next_fault write_of shape writes i c.loop-slice-test.true c.loop-slice-item.is c.loop-slice.invariant.fault
           ∙ ap (λ first. option_or first (slices_fault shape (drop (i + 1) (map write_of writes)))) (sym c.in_ok-picked.ensures.fault);
       counts = elim c.if-branch-len.branch [
-        | then-branch-len w ↦ next_count write_of shape writes i item have false c.loop-slice-test.true c.loop-slice-item.is
-            (ne_eqb (length item.1.items) _ (λ same. w.if-branch-len.true (c.in_ok-picked.ensures.size ∙ sym same ∙ sym item.1.ok.0 ∙ sym c.len.ensures))) c.loop-slice.invariant.counts
+        | then-branch-len w ↦ next_count write_of shape writes i have c.loop-slice-test.true c.loop-slice-item.is
+            (ne_eqb (length item.1.items) _ (λ same. w.if-branch-len.true (c.in_ok-picked.ensures.size ∙ sym same ∙ sym item.1.ok.0
+            ∙ sym c.len.ensures))) c.loop-slice.invariant.counts
             ∙ none_more have after
             ∙ ap (λ b. b && after) (sym w.have-is)
-        | else-branch-len w ↦ next_count write_of shape writes i item have true c.loop-slice-test.true c.loop-slice-item.is
-            (eq-eqb (length item.1.items) _ (sym item.1.ok.0 ∙ sym c.len.ensures ∙ sym w.if-branch-len.false ∙ c.in_ok-picked.ensures.size)) c.loop-slice.invariant.counts
+        | else-branch-len w ↦ next_count write_of shape writes i have c.loop-slice-test.true c.loop-slice-item.is
+            (eq-eqb (length item.1.items) _ (sym item.1.ok.0 ∙ sym c.len.ensures ∙ sym w.if-branch-len.false ∙ c.in_ok-picked.ensures.size))
+            c.loop-slice.invariant.counts
             ∙ ap (λ b. b && after) (sym w.have-is)
       ];
     }

@@ -7,5 +7,6 @@ use Rattle.nd_owned.proofs.writes.have_counts.Given as goal
 abbrev pub invariant-loop-slice : goal.invariant-loop-slice
 invariant-loop-slice g l = record {
   fault : slices_fault l.view.shape (map write_of l.writes) ≡ slices_fault l.view.shape (drop l.slice-index (map write_of l.writes));
-  counts : list_all (has_count l.view.shape) (map write_of l.writes) ≡ (l.have && list_all (has_count l.view.shape) (drop l.slice-index (map write_of l.writes)));
+  counts : list_all (has_count l.view.shape) (map write_of l.writes)
+      ≡ (l.have && list_all (has_count l.view.shape) (drop l.slice-index (map write_of l.writes)));
 }

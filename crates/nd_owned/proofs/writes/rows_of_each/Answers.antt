@@ -19,13 +19,14 @@ loop-slice-preserved-then-is_empty g c =
     let view = c.args.view.now in
     let writes = map write_of c.args.writes.now in
     let below : i < length writes = omega (arith, length-map c.args.writes.now write_of, c.loop-slice-test.true) in
-    let here = this write_of c.args.writes.now i item c.loop-slice-test.true c.loop-slice-item.is in
+    let here = this write_of c.args.writes.now i c.loop-slice-test.true c.loop-slice-item.is in
     let none : length item.1.items ≡ 0 = sym item.1.ok.0 ∙ eqb-true item.1.len 0 (sym c.is_empty.ensures ∙ c.if-is_empty.true) in
-    let as_many = of_this (λ write. length (write_places view write) ≡ length write.items) write_of c.args.writes.now i item c.loop-slice-test.true c.loop-slice-item.is
+    let as_many = of_this (λ write. length (write_places view write) ≡ length write.items) write_of c.args.writes.now i
+    c.loop-slice-test.true c.loop-slice-item.is
     (each_count view writes (have_counts view.shape writes c.requires).counts) in
     record {
-      places = c.loop-slice.invariant.places ∙ sym (parts_skipped (write_places view) writes i (write_of item) below here (as_many ∙ none));
-      items = c.loop-slice.invariant.items ∙ sym (parts_skipped (λ write. write.items) writes i (write_of item) below here none);
+      places = c.loop-slice.invariant.places ∙ sym (parts_skipped (write_places view) writes i below here (as_many ∙ none));
+      items = c.loop-slice.invariant.items ∙ sym (parts_skipped (λ write. write.items) writes i below here none);
       counts = c.loop-slice.invariant.counts;
       inside = c.loop-slice.invariant.inside;
     }
@@ -34,7 +35,8 @@ pub returns-in_err-rows-clause-fault : goal.returns-in_err-rows-clause-fault
 returns-in_err-rows-clause-fault g c =
     let view = c.args.view.now in
     let writes = map write_of c.args.writes.now in
-    let fits = of_this (λ write. argument_fault Strict view.shape write.slice ≡ None) write_of c.args.writes.now c.loop-slice.slice-index c.loop-slice-item.result c.loop-slice-test.true
+    let fits = of_this (λ write. argument_fault Strict view.shape write.slice ≡ None) write_of c.args.writes.now c.loop-slice.slice-index
+    c.loop-slice-test.true
     c.loop-slice-item.is (each_fits view.shape writes (have_counts view.shape writes c.requires).fit) in
     handed_on Rows c.from_residual.result c.in_err-rows.field-0.0 c.from_residual.ensures.1 (c.in_err-rows.ensures.fault ∙ fits)
 
@@ -42,14 +44,16 @@ pub returns-in_err-rows-clause-memory : goal.returns-in_err-rows-clause-memory
 returns-in_err-rows-clause-memory g c = λ none.
     let item = c.loop-slice-item.result in
     let empty : length item.1.items ≡ 0 =
-    of_this (λ write. length write.items ≡ 0) write_of c.args.writes.now c.loop-slice.slice-index item c.loop-slice-test.true c.loop-slice-item.is none in
+    of_this (λ write. length write.items ≡ 0) write_of c.args.writes.now c.loop-slice.slice-index c.loop-slice-test.true
+    c.loop-slice-item.is none in
     absurd (false≢true (sym c.if-is_empty.false ∙ c.is_empty.ensures ∙ eq-eqb item.1.len 0 (item.1.ok.0 ∙ empty)))
 
 pub returns-in_err-push-clause-memory : goal.returns-in_err-push-clause-memory
 returns-in_err-push-clause-memory g c = λ none.
     let item = c.loop-slice-item.result in
     let empty : length item.1.items ≡ 0 =
-    of_this (λ write. length write.items ≡ 0) write_of c.args.writes.now c.loop-slice.slice-index item c.loop-slice-test.true c.loop-slice-item.is none in
+    of_this (λ write. length write.items ≡ 0) write_of c.args.writes.now c.loop-slice.slice-index c.loop-slice-test.true
+    c.loop-slice-item.is none in
     absurd (false≢true (sym c.if-is_empty.false ∙ c.is_empty.ensures ∙ eq-eqb item.1.len 0 (item.1.ok.0 ∙ empty)))
 
 pub loop-slice-preserved : goal.loop-slice-preserved
@@ -62,13 +66,17 @@ loop-slice-preserved g c =
     let new = c.push.new.self.items in
     let pushed = c.in_ok-push.ensures.items in
     let below : i < length writes = omega (arith, length-map c.args.writes.now write_of, c.loop-slice-test.true) in
-    let here = this write_of c.args.writes.now i item c.loop-slice-test.true c.loop-slice-item.is in
-    let as_many = of_this (λ write. length (write_places view write) ≡ length write.items) write_of c.args.writes.now i item c.loop-slice-test.true c.loop-slice-item.is
+    let here = this write_of c.args.writes.now i c.loop-slice-test.true c.loop-slice-item.is in
+    let as_many = of_this (λ write. length (write_places view write) ≡ length write.items) write_of c.args.writes.now i
+    c.loop-slice-test.true c.loop-slice-item.is
     (each_count view writes (have_counts view.shape writes c.requires).counts) in
     record {
-      places = parts_pushed (λ one. rows_places one.rows) (write_places view) old new _ writes i (write_of item) pushed below here c.in_ok-rows.ensures.places c.loop-slice.invariant.places;
-      items = parts_pushed (λ one. one.items.now) (λ write. write.items) old new _ writes i (write_of item) pushed below here c.as_slice-items.ensures.value c.loop-slice.invariant.items;
-      counts = all_pushed (λ one. length (rows_places one.rows) ≡ length one.items.now) old new _ pushed c.loop-slice.invariant.counts
+      places = parts_pushed (λ one. rows_places one.rows) (write_places view) old _ writes i pushed below here c.in_ok-rows.ensures.places
+          c.loop-slice.invariant.places;
+      items = parts_pushed (λ one. one.items.now) (λ write. write.items) old _ writes i pushed below here c.as_slice-items.ensures.value
+          c.loop-slice.invariant.items;
+      counts = all_pushed (λ one. length (rows_places one.rows) ≡ length one.items.now) old _ pushed c.loop-slice.invariant.counts
           (ap length c.in_ok-rows.ensures.places ∙ as_many ∙ sym (ap length c.as_slice-items.ensures.value));
-      inside = λ len within. all_pushed (λ one. AreInside len (rows_places one.rows)) old new _ pushed (c.loop-slice.invariant.inside len within) (c.in_ok-rows.ensures.inside len within);
+      inside = λ len within. all_pushed (λ one. AreInside len (rows_places one.rows)) old _ pushed
+          (c.loop-slice.invariant.inside len within) (c.in_ok-rows.ensures.inside len within);
     }

@@ -8,7 +8,8 @@ use Rattle.nd_owned.proofs.writes.rows_of_each.Given as goal
 
 abbrev pub invariant-loop-slice : goal.invariant-loop-slice
 invariant-loop-slice g l = record {
-  places : flat_map (λ one. rows_places one.rows) l.row_items.items ≡ flat_map (write_places l.view) (take l.slice-index (map write_of l.writes));
+  places : flat_map (λ one. rows_places one.rows) l.row_items.items ≡ flat_map (write_places l.view)
+      (take l.slice-index (map write_of l.writes));
   items : flat_map (λ one. one.items.now) l.row_items.items ≡ flat_map (λ write. write.items) (take l.slice-index (map write_of l.writes));
   counts : All (λ one. length (rows_places one.rows) ≡ length one.items.now) l.row_items.items;
   inside : (len : ℕ) → LiesWithin len l.view → All (λ one. AreInside len (rows_places one.rows)) l.row_items.items;

@@ -9,7 +9,8 @@ use Rattle.nd_owned.proofs.writes.write_all.Goals as goal
 pub write-requires-clause-inside : goal.write-requires-clause-inside
 write-requires-clause-inside g c =
     subst (λ count. AreInside count (rows_places c.write-item.result.rows)) (sym c.loop-write.auto.stored)
-    (subst (λ one. AreInside (length c.args.stored.now) (rows_places one.rows)) (sym c.write-item.is) (c.requires.inside c.loop-write.write-index c.write-item.result c.loop-write-test.true))
+    (subst (λ one. AreInside (length c.args.stored.now) (rows_places one.rows)) (sym c.write-item.is)
+    (c.requires.inside c.loop-write.write-index c.write-item.result c.loop-write-test.true))
 
 pub loop-write-preserved : goal.loop-write-preserved
 loop-write-preserved g c =
@@ -19,8 +20,10 @@ loop-write-preserved g c =
     let count = length c.args.stored.now in
     let below = c.loop-write-test.true in
     let here = c.write-item.is in
-    λ distinct. subst (λ items. HasWritten (flat_map (λ one. rows_places one.rows) (take (i + 1) writes)) items c.args.stored.now c.write.new.stored)
-    (sym (parts_more (λ one. one.items.now) writes i write below here))
-    (one_more_written count (λ one. rows_places one.rows) writes i write (flat_map (λ one. one.items.now) (take i writes)) write.items.now c.args.stored.now c.loop-write.stored c.write.new.stored below here
-    (all_together (IsInside count) (λ one. rows_places one.rows) writes (λ k d under. (c.requires.inside k d under).within)) distinct (c.loop-write.invariant distinct)
-    (c.write.ensures (pairs_of_part (λ one other. one ≢ other) (λ one. rows_places one.rows) writes i write below here distinct)))
+    λ distinct. subst (λ items. HasWritten (flat_map (λ one. rows_places one.rows) (take (i + 1) writes)) items c.args.stored.now
+    c.write.new.stored)
+    (sym (parts_more (λ one. one.items.now) writes i below here))
+    (one_more_written count (λ one. rows_places one.rows) writes i below here
+    (all_together (IsInside count) (λ one. rows_places one.rows) writes (λ k d under. (c.requires.inside k d under).within)) distinct
+    (c.loop-write.invariant distinct)
+    (c.write.ensures (pairs_of_part (λ one other. one ≢ other) (λ one. rows_places one.rows) writes i below here distinct)))

@@ -12,7 +12,8 @@ use Rattle.nd_owned.specs.private.Rows.{rows_places}
 use Rattle.nd_owned.proofs.owned.OwnedArray.items.Goals as goal
 
 pub read-requires-clause-inside : goal.read-requires-clause-inside
-read-requires-clause-inside g c = rw (c.as_slice.ensures.value) (c.in_ok-rows.ensures.inside (length c.self.inside.items.items) c.self.invariant.within)
+read-requires-clause-inside g c = rw (c.as_slice.ensures.value) (c.in_ok-rows.ensures.inside (length c.self.inside.items.items)
+    c.self.invariant.within)
 
 pub returns-clause-items : goal.returns-clause-items
 returns-clause-items g c =

@@ -23,8 +23,8 @@ read_row-items-requires-clause-inside g c =
     let starts = rows.starts.items in
     let i = c.loop-start.start-index in
     let start = get_or c.deref-start-items.result.now i 0 in
-    let turn = number_of_turn c.deref-start-items.result.now starts i c.deref-start-items.ensures.value c.loop-start-test.true in
-    inside_of_part (length c.args.stored.now) (λ begin. row_places begin (signed rows.stride) rows.len) starts i start turn.0 turn.1 c.requires.inside
+    let turn = number_of_turn i c.deref-start-items.ensures.value c.loop-start-test.true in
+    inside_of_part (λ begin. row_places begin (signed rows.stride) rows.len) starts i turn.0 turn.1 c.requires.inside
 
 pub loop-start-preserved : goal.loop-start-preserved
 loop-start-preserved g c =
@@ -32,7 +32,7 @@ loop-start-preserved g c =
     let starts = rows.starts.items in
     let i = c.loop-start.start-index in
     let start = get_or c.deref-start-items.result.now i 0 in
-    let turn = number_of_turn c.deref-start-items.result.now starts i c.deref-start-items.ensures.value c.loop-start-test.true in
+    let turn = number_of_turn i c.deref-start-items.ensures.value c.loop-start-test.true in
     let row = λ (begin : ℕ). row_places begin (signed rows.stride) rows.len in
     let got = item_at_place c.args.stored.now in
     record {
@@ -40,7 +40,7 @@ loop-start-preserved g c =
           c.read_row-items.ensures.items
           ∙ ap (λ xs. xs ++ map got (row start)) c.loop-start.invariant.items
           ∙ sym (map-append got (flat_map row (take i starts)) (row start))
-          ∙ ap (map got) (sym (parts_more row starts i start turn.0 turn.1));
+          ∙ ap (map got) (sym (parts_more row starts i turn.0 turn.1));
       len = omega (arith, c.read_row-items.ensures.len, c.loop-start.invariant.len);
       capacity = omega (arith, c.read_row-items.ensures.capacity, c.loop-start.invariant.capacity);
     }
