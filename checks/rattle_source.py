@@ -1,7 +1,10 @@
 """Reads what a crate of Rattle offers from its sources, as `rt fmt` lays them out: items with their docs, signatures and
-clauses, and the names that it makes public. For checks/api, checks/reach and checks/refused_calls.
+clauses, and the names that it makes public. And what the checks of texts share: files of the repository, and what was found.
 """
-import dataclasses, os, re
+import dataclasses, os, re, sys
+
+TOP = os.path.dirname(os.path.dirname(os.path.abspath(__file__)))
+sys.path.insert(0, f"{TOP}/tools")
 
 STRINGS = re.compile(r'"(?:\\.|[^"\\])*"|\'(?:\\.|[^\'\\])\'|//.*')
 CLAUSE = re.compile(r"\s*(?:(?://.*)\n\s*)*(requires|ensures)(\*?)\s*(\w*)\s*\{")
@@ -12,6 +15,26 @@ KIND = re.compile(
 
 FIELD = re.compile(r"(?P<pub>pub |)(?:pub\(\w+\) )?(?P<name>\w+)")  # a field, or a variant
 WHOLE = ("const", "field", "ghost", "ghost use", "use", "mod", "type")
+
+
+def read(path):
+    """The text of a file of the repository, empty where there is none."""
+    if not os.path.exists(f"{TOP}/{path}"):
+        return ""
+    with open(f"{TOP}/{path}", encoding="utf-8") as file:
+        return file.read()
+
+
+def write(path, text):
+    """Writes a file of the repository."""
+    with open(f"{TOP}/{path}", "w", encoding="utf-8") as file:
+        file.write(text)
+
+
+def status_of(found):
+    """Prints what a check has found, and returns its exit status: 1 where that is anything."""
+    print(*found, sep="\n", end="\n" if found else "")
+    return 1 if found else 0
 
 
 @dataclasses.dataclass

@@ -3,6 +3,12 @@
 #![tactic(auto)]
 
 #[cfg(test)]
+mod arrays;
+#[cfg(test)]
 mod callers;
 #[cfg(test)]
+mod numbers;
+#[cfg(test)]
 mod tiles;
+#[cfg(test)]
+mod views;

@@ -1,11 +1,10 @@
-//! Runs over devices that move a few bytes at a time, and whose calls go wrong.
-use crate::fakes::{FakeReader, FakeWriter, Fault, FaultyCall};
-use crate::session::status_of;
+//! Sessions over devices that move a few bytes at a time, and whose calls go wrong; and calls of a watched device.
+use crate::fakes::{Fake, Fault, FaultyCall};
+use crate::sessions::{status_of, written_out};
 use ndl_session::{Watched, session};
 use std::alloc::Global;
-use std::io::ErrorKind;
-use std::process::Abort;
-use std::test::Fail;
+use std::io::{ErrorKind, Write};
+use test_tables::{Asked, Row, hold};
 
 /// An input, and the text of its answer.
 #[derive(Clone, Copy)]
@@ -56,19 +55,19 @@ fn calls(bytes: usize, most: usize) -> usize {
 }
 
 /// Whether a run over these devices ends so, and uses neither late.
-fn ends(alloc: Global, reader: FakeReader, writer: FakeWriter, due: Ended) -> bool {
+fn ends(alloc: Global, reader: Fake<&[u8]>, writer: Fake<Vec<u8>>, due: Ended) -> bool {
     let mut reader = Watched::new(reader);
     let mut writer = Watched::new(writer);
     let status = session(alloc, &mut reader, &mut writer);
     let on_time = !reader.used_late() && !writer.used_late();
     let (reader, writer) = (reader.into_inner(), writer.into_inner());
-    on_time && (status, reader.calls, writer.calls, writer.taken.as_slice()) == due
+    on_time && (status, reader.calls, writer.calls, writer.bytes.as_slice()) == due
 }
 
 /// Whether a run over such devices leaves what is due of it.
 fn holds(alloc: Global, case: Case, devices: Devices) -> bool {
-    let reader = FakeReader::new(case.input, devices.most, devices.read);
-    let writer = FakeWriter::new(alloc, devices.most, devices.write);
+    let reader = Fake::new(case.input, devices.most, devices.read);
+    let writer = Fake::new(Vec::new(alloc), devices.most, devices.write);
     ends(alloc, reader, writer, due(case, devices))
 }
 
@@ -105,41 +104,54 @@ fn reads_hold(alloc: Global, case: Case, most: usize) -> bool {
     true
 }
 
-/// Scripts and their answers.
+/// Whether the runs of a row's script hold over devices that move 1 byte, 7, or all at a time.
+struct OverDevices;
+
+impl Asked for OverDevices {
+    fn holds(&self, alloc: Global, row: &Row<'_>) -> Option<bool> {
+        let input = written_out(alloc, row.given)?;
+        let text = written_out(alloc, row.answer)?;
+        let (input, text) = (input.as_bytes(), text.as_str());
+        for most in [1, 7, usize::MAX] {
+            if !reads_hold(alloc, Case { input, text }, most) {
+                return Some(false);
+            }
+        }
+        Some(true)
+    }
+}
+
 const SCRIPTS: &str = "\
-data 4 owned 4 1|slice 1..;-2| => shape 2|strides -2|places 3 1|
-data 6 owned 2,3 3,1|collapse 0 1|merge 0 1|broadcast 2,2,3| => shape 2,2,3|strides 0,0,1|places 3 4 5 3 4 5 3 4 5 3 4 5|
-data 6 owned 2,3 3,1|reshape F 3,2| => step 1: ShapeError/IncompatibleLayout: incompatible memory layout|
-data 4 owned 4 1|slice 1..||slise ..| => line 4: unreadable|
- => line 1: unreadable|
-";
+session data 4 owned 4 1|slice 1..;-2| => shape 2|strides -2|places 3 1|
+session data 6 owned 2,3 3,1|reshape F 3,2| => step 1: ShapeError/IncompatibleLayout: incompatible memory layout|
+session data 4 owned 4 1|slice 1..||slise ..| => line 4: unreadable|
+session  => line 1: unreadable|";
 
-/// Asserts the runs of a script over devices that move 1 byte, 7, or all at a time.
-fn assert_runs(rt: &impl Abort, alloc: Global, row: &str) -> Result<(), Fail> {
-    let row = row.replace(alloc, "|", "\n")?;
-    let (input, text) = row.as_str().split_once(" => ").expect(rt, "an answer");
-    let input = input.as_bytes();
-    for most in [1, 7, usize::MAX] {
-        assert!(rt;
-            reads_hold(alloc, Case { input, text }, most),
-            "{most} bytes, {text}"
-        );
-    }
-    Ok(())
+#[test]
+fn r13_devices(rt: HostRuntime) {
+    hold(&rt, rt.alloc(), SCRIPTS, &OverDevices);
 }
 
 #[test]
-fn r13_devices(rt: HostRuntime) -> Result<(), Fail> {
-    for row in SCRIPTS.lines() {
-        assert_runs(&rt, rt.alloc(), row)?;
-    }
-    Ok(())
-}
-
-#[test]
-fn r13_devices_end_once(rt: HostRuntime) {
-    let reader = FakeReader::new(b"data 4 owned 4 1\n", 1, Some((2, Fault::Nothing)));
-    let writer = FakeWriter::new(rt.alloc(), 100, None);
+fn an_input_ends_once(rt: HostRuntime) {
+    let input = b"data 4 owned 4 1\n".as_slice();
+    let reader = Fake::new(input, 1, Some((2, Fault::Nothing)));
+    let writer = Fake::new(Vec::new(rt.alloc()), 100, None);
     let due = (2, 3, 1, b"line 1: unreadable\n".as_slice());
     assert!(rt; ends(rt.alloc(), reader, writer, due));
+}
+
+#[test]
+fn an_empty_piece_is_handed_on(rt: HostRuntime) {
+    let fake = Fake::new(Vec::new(rt.alloc()), 1, Some((0, INTERRUPTED)));
+    let mut writer = Watched::new(fake);
+    let is_refused = writer.write(b"").is_err();
+    assert!(rt; is_refused && writer.failed());
+}
+
+#[test]
+fn a_flush_is_handed_on_and_is_no_failure(rt: HostRuntime) {
+    let mut writer = Watched::new(Fake::new(Vec::new(rt.alloc()), 1, None));
+    let is_refused = writer.flush().is_err();
+    assert!(rt; is_refused && !writer.failed() && writer.into_inner().calls == 1);
 }

@@ -1,7 +1,6 @@
 //! A reader and a writer for tests, over bytes in memory, with one call that goes wrong.
 ghost use Rattle.std.specs.Prelude.{◌≡◌, IfOk};
 
-use std::alloc::Global;
 use std::io;
 use std::io::{ErrorKind, Read, Write};
 
@@ -28,75 +27,57 @@ impl Fault {
 /// The call that goes wrong, counted from 0, and how it does.
 pub(crate) type FaultyCall = Option<(usize, Fault)>;
 
-/// Gives `most` bytes a call at the most, but for the call that goes wrong.
+/// Bytes that are left to read, or that were written. It moves `most` bytes a call at the most, but for the call that goes wrong.
 #[derive(Drop)]
-pub(crate) struct FakeReader<'a> {
-    pub(crate) left: &'a [u8],
-    pub(crate) most: usize,
+pub(crate) struct Fake<T> {
+    pub(crate) bytes: T,
+    most: usize,
     pub(crate) calls: usize,
-    pub(crate) fault: FaultyCall,
+    fault: FaultyCall,
 }
 
-impl<'a> FakeReader<'a> {
-    /// Gives these bytes.
-    pub(crate) fn new(left: &'a [u8], most: usize, fault: FaultyCall) -> Self {
-        FakeReader {
-            left,
+impl<T> Fake<T> {
+    /// Over these bytes, with no call so far.
+    pub(crate) fn new(bytes: T, most: usize, fault: FaultyCall) -> Self {
+        Fake {
+            bytes,
             most,
             calls: 0,
             fault,
         }
     }
-}
 
-impl<'a> Read for FakeReader<'a> {
-    fn read(&mut self, buf: &mut [u8]) -> io::Result<usize> {
+    /// Counts a call, and answers how it goes wrong, if it does.
+    fn next_fault(&mut self) -> Option<Fault> {
         let call = self.calls;
         self.calls = call.saturating_add(1);
         match self.fault {
-            Some((at, fault)) if at == call => return fault.outcome(),
-            _ => {}
+            Some((at, fault)) if at == call => Some(fault),
+            _ => None,
+        }
+    }
+}
+
+impl Read for Fake<&[u8]> {
+    fn read(&mut self, buf: &mut [u8]) -> io::Result<usize> {
+        if let Some(fault) = self.next_fault() {
+            return fault.outcome();
         }
         let most = self.most.min(buf.len());
-        self.left.read(&mut buf[..most])
+        self.bytes.read(&mut buf[..most])
     }
 }
 
-/// Takes `most` bytes a call at the most, but for the call that goes wrong. Its `flush` is a call
-/// too, and always answers an error.
-#[derive(Drop)]
-pub(crate) struct FakeWriter {
-    pub(crate) taken: Vec<u8>,
-    pub(crate) most: usize,
-    pub(crate) calls: usize,
-    pub(crate) fault: FaultyCall,
-}
-
-impl FakeWriter {
-    /// Has taken nothing so far.
-    pub(crate) fn new(alloc: Global, most: usize, fault: FaultyCall) -> Self {
-        FakeWriter {
-            taken: Vec::new(alloc),
-            most,
-            calls: 0,
-            fault,
-        }
-    }
-}
-
-impl Write for FakeWriter {
+impl Write for Fake<Vec<u8>> {
     fn write(&mut self, buf: &[u8]) -> io::Result<usize> {
-        let call = self.calls;
-        self.calls = call.saturating_add(1);
-        match self.fault {
-            Some((at, fault)) if at == call => fault.outcome(),
-            _ => {
-                let most = self.most.min(buf.len());
-                self.taken.write(&buf[..most])
-            }
+        if let Some(fault) = self.next_fault() {
+            return fault.outcome();
         }
+        let most = self.most.min(buf.len());
+        self.bytes.write(&buf[..most])
     }
 
+    /// A call too, which always answers an error.
     fn flush(&mut self) -> io::Result<()> {
         self.calls = self.calls.saturating_add(1);
         Err(io::Error::from(ErrorKind::BrokenPipe))

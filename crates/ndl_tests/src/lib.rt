@@ -1,4 +1,4 @@
-//! Tests of the program's session and of what it stands on: scripts and watched devices.
+//! Tests of sessions: rows of scripts with their answers, scripts that are cut, and devices that fail.
 #![tactic(auto)]
 
 #[cfg(test)]
@@ -8,16 +8,6 @@ mod devices;
 #[cfg(test)]
 mod fakes;
 #[cfg(test)]
-mod long_scripts;
+mod rows;
 #[cfg(test)]
-mod reshapes;
-#[cfg(test)]
-mod script;
-#[cfg(test)]
-mod session;
-#[cfg(test)]
-mod slices;
-#[cfg(test)]
-mod steps;
-#[cfg(test)]
-mod watched;
+mod sessions;

@@ -1,182 +1,154 @@
-//! Calls of `nd_base`, `nd_dim` and `nd_shape` at a dimension type: the first list is a value of it, the second one an axis.
+//! Calls of a value of any number of axes: the first list is the value, the second one an axis.
 ghost use Rattle.std.specs.Prelude.{◌^◌, ◌<◌};
+ghost use Rattle.ndarray_layout.specs.Dim.{lengths};
 ghost use Rattle.ndarray_layout.specs.Size.{size};
 
-use crate::answer::{Answer, Fault, MEMORY, listed, made_list};
-use crate::call::Call;
-use crate::names::{Named, OfAxis, OfBuilder, OfDimension, OfGiven, OfIfAny, OfLengths};
+use crate::answer::{Answer, listed, made_list, memory};
+use crate::line::Call;
 use ndarray_layout::{
-    Axis, Dimension, IntoDimension, IxDyn, Lengths, Order, RemoveAxis, Shape, ShapeArg,
-    ShapeBuilder, StrideShape, Strides, co_broadcast, default_strides, fortran_strides, new_dim,
-    new_ixdyn,
+    Axis, Dimension, IntoDimension, Ix6, IxDyn, Lengths, Order, RemoveAxis, Shape, ShapeArg,
+    ShapeBuilder, StrideShape, Strides, default_strides, fortran_strides, new_dim, new_ixdyn,
 };
 use std::alloc::{AllocError, Global};
 use test_tables::made;
 
-/// What a call that is lent a value answers.
-pub fn answer<D: RemoveAxis>(alloc: Global, call: &Call<'_>) -> Option<Answer> {
-    let dim: D = made(alloc, call.lists.first.as_slice())?;
-    dim.size_checked()?;
-    of_lent(alloc, call, &dim)
+/// What a call answers.
+pub fn answer(alloc: Global, call: &Call<'_>) -> Option<Answer> {
+    let lens = call.lists.first.as_slice();
+    let (group, name) = call.name.split_once("::").unwrap_or(("", call.name));
+    match group {
+        "ShapeBuilder" => of_builder(alloc, name, lens),
+        "IntoDimension" => handed_on(alloc, name, new_ixdyn(alloc, lens).ok()?),
+        "Axis" => of_axis(alloc, name, lens, call.lists.second.at(0)),
+        _ => of_lent(alloc, group, name, lens),
+    }
 }
 
-/// The same of the value.
-fn of_lent<D: RemoveAxis>(alloc: Global, call: &Call<'_>, dim: &D) -> Option<Answer>
-    requires { size (D.list dim.now) < 2 ^ 64 }
+/// What a call answers that is lent a value.
+fn of_lent(alloc: Global, group: &str, name: &str, lens: &[usize]) -> Option<Answer> {
+    let dim = new_ixdyn(alloc, lens).ok()?;
+    dim.size_checked()?;
+    match group {
+        "Dimension" => of_dimension(alloc, name, &dim),
+        _ => of_lengths(alloc, name, &dim),
+    }
+}
+
+/// What a call of any value of lengths answers.
+fn of_lengths(alloc: Global, name: &str, dim: &IxDyn) -> Option<Answer>
+    requires { size (lengths dim.now) < 2 ^ 64 }
 {
-    match call.named {
-        Named::Lengths(named) => Some(made_list(of_lengths(alloc, named, dim))),
-        Named::Dimension(named) => Some(made_list(another(alloc, named, dim))),
-        Named::IfAny(named) => Some(if_any(alloc, named, dim)),
-        Named::Axis(named) => of_axis(alloc, named, dim, Axis(call.lists.second.at(0))),
-        Named::Common => common(alloc, dim, dim),
+    match name {
+        "zeros" => made_list(IxDyn::zeros(alloc, dim.ndim())),
+        "duplicate" => made_list(dim.duplicate(alloc)),
+        "default_strides" => made_list(default_strides(alloc, dim)),
+        "fortran_strides" => made_list(fortran_strides(alloc, dim)),
+        "strides_for_dim" => made_list(Strides::F.strides_for_dim(alloc, dim)),
         _ => None,
     }
 }
 
-/// What a call that takes a value answers.
-pub fn of_given<D: Dimension + IntoDimension<Dim = D>>(
-    alloc: Global,
-    named: &OfGiven,
-    call: &Call<'_>,
-) -> Option<Answer> {
-    Some(handed_on::<D>(alloc, named, made(alloc, call.lists.first.as_slice())?))
-}
-
-/// What a call of a builder answers that is a value.
-pub fn of_builder<D: IntoDimension<Dim = D> + Lengths>(
-    alloc: Global,
-    named: &OfBuilder,
-    call: &Call<'_>,
-) -> Option<Answer> {
-    let lens = call.lists.first.as_slice();
-    let builder: D = made(alloc, lens)?;
-    Some(built(alloc, named, builder, made(alloc, lens)?))
-}
-
-/// The shape that two shapes have in common.
-pub fn common<D: Lengths>(alloc: Global, dim: &D, other: &D) -> Option<Answer> {
-    let (ndim, other_ndim) = (dim.ndim(), other.ndim());
-    let count = if ndim < other_ndim { other_ndim } else { ndim };
-    if D::NDIM.unwrap_or(count) != count {
-        return None;
-    }
-    match co_broadcast::<D, D, D>(alloc, dim, other) {
-        Ok(common) => Some(listed(common.slice())),
-        Err(fault) => Some(Answer::Refused(Fault::of(&fault))),
-    }
-}
-
-/// What a call of any value of lengths makes.
-fn of_lengths<D: Lengths>(alloc: Global, named: &OfLengths, dim: &D) -> Result<D, AllocError>
-    requires { size (D.list dim.now) < 2 ^ 64 }
+/// What a call of a dimension answers.
+fn of_dimension(alloc: Global, name: &str, dim: &IxDyn) -> Option<Answer>
+    requires { size (lengths dim.now) < 2 ^ 64 }
 {
-    match named {
-        OfLengths::Zeros => D::zeros(alloc, dim.ndim()),
-        OfLengths::Duplicate => dim.duplicate(alloc),
-        OfLengths::DefaultStrides => default_strides(alloc, dim),
-        OfLengths::FortranStrides => fortran_strides(alloc, dim),
-        OfLengths::StridesForDim => Strides::F.strides_for_dim(alloc, dim),
-    }
-}
-
-/// What a call of a dimension makes.
-fn another<D: Dimension>(alloc: Global, named: &OfDimension, dim: &D) -> Result<D, AllocError>
-    requires { size (D.list dim.now) < 2 ^ 64 }
-{
-    match named {
-        OfDimension::DefaultStrides => dim.default_strides(alloc),
-        OfDimension::FortranStrides => dim.fortran_strides(alloc),
-        OfDimension::DefaultIn => D::default_in(alloc),
-        OfDimension::StrideOrder => dim._fastest_varying_stride_order(alloc),
-    }
-}
-
-/// What a call that may have nothing to make answers.
-fn if_any<D: Dimension>(alloc: Global, named: &OfIfAny, dim: &D) -> Answer {
-    match named {
-        OfIfAny::FirstIndex => made_if_any(dim.first_index(alloc)),
-        OfIfAny::FromDimension => made_if_any(D::from_dimension(alloc, dim)),
-        OfIfAny::FromDimensionOfAny => made_if_any(IxDyn::from_dimension(alloc, dim)),
+    match name {
+        "default_strides" => made_list(dim.default_strides(alloc)),
+        "fortran_strides" => made_list(dim.fortran_strides(alloc)),
+        "default_in" => made_list(IxDyn::default_in(alloc)),
+        "_fastest_varying_stride_order" => made_list(dim._fastest_varying_stride_order(alloc)),
+        "first_index" => made_if_any(dim.first_index(alloc)),
+        "from_dimension" => made_if_any(IxDyn::from_dimension(alloc, dim)),
+        _ => None,
     }
 }
 
 /// The list of a value that may be made.
-fn made_if_any<D: Lengths>(made: Result<Option<D>, AllocError>) -> Answer {
+fn made_if_any(made: Result<Option<IxDyn>, AllocError>) -> Option<Answer> {
     match made {
         Ok(Some(dim)) => listed(dim.slice()),
-        Ok(None) => Answer::Refused(Fault::Nothing),
-        Err(_) => MEMORY,
+        Ok(None) => Answer::of("none"),
+        Err(_) => memory(),
     }
 }
 
-/// What the call that makes a value of a type of one of any number of axes answers.
-pub fn from_any<D: Dimension>(alloc: Global, call: &Call<'_>) -> Option<Answer> {
-    let any = new_ixdyn(alloc, call.lists.first.as_slice()).ok()?;
-    Some(made_if_any(D::from_dimension(alloc, &any)))
-}
-
 /// What a call that adds or removes an axis answers; nothing where there is no such axis.
-fn of_axis<D: RemoveAxis>(alloc: Global, named: &OfAxis, dim: &D, axis: Axis) -> Option<Answer> {
-    let (place, ndim) = (axis.index(), dim.ndim());
-    match named {
-        OfAxis::Insert if place <= ndim => Some(made_list(dim.insert_axis(alloc, axis))),
-        OfAxis::TryRemove if place < ndim => Some(made_list(dim.try_remove_axis(alloc, axis))),
-        OfAxis::Remove if place < ndim => Some(made_list(dim.remove_axis(alloc, axis))),
+fn of_axis(alloc: Global, name: &str, lens: &[usize], place: usize) -> Option<Answer> {
+    let dim = new_ixdyn(alloc, lens).ok()?;
+    let (ndim, axis) = (dim.ndim(), Axis(place));
+    match name {
+        "insert_axis" if place <= ndim => made_list(dim.insert_axis(alloc, axis)),
+        "try_remove_axis" if place < ndim => made_list(dim.try_remove_axis(alloc, axis)),
+        "remove_axis" if place < ndim => made_list(dim.remove_axis(alloc, axis)),
         _ => None,
     }
 }
 
 /// What a call answers that is given this value.
-fn handed_on<D: Dimension + IntoDimension<Dim = D>>(
-    alloc: Global,
-    named: &OfGiven,
-    dim: D,
-) -> Answer {
-    match named {
-        OfGiven::IntoDimension => made_list(dim.into_dimension(alloc)),
-        OfGiven::NewDim => made_list(new_dim(alloc, dim)),
-        OfGiven::IntoDyn => made_list(dim.into_dyn(alloc)),
-        OfGiven::IntoShapeAndOrder => made_shape_and_order(dim.into_shape_and_order(alloc)),
+fn handed_on(alloc: Global, name: &str, dim: IxDyn) -> Option<Answer> {
+    match name {
+        "into_dimension" => made_list(dim.into_dimension(alloc)),
+        "new_dim" => made_list(new_dim(alloc, dim)),
+        "into_dyn" => made_list(dim.into_dyn(alloc)),
+        "into_shape_and_order" => made_shape_and_order(dim.into_shape_and_order(alloc)),
+        _ => None,
     }
 }
 
 /// The shape that a call makes.
-pub fn made_shape_and_order<D: Lengths>(made: Result<(D, Option<Order>), AllocError>) -> Answer {
+pub fn made_shape_and_order(made: Result<(IxDyn, Option<Order>), AllocError>) -> Option<Answer> {
     match made {
         Ok((shape, _)) => listed(shape.slice()),
-        Err(_) => MEMORY,
+        Err(_) => memory(),
     }
 }
 
 /// The shape that a builder makes.
-fn made_shape<D: Lengths>(made: Result<Shape<D>, AllocError>) -> Answer {
+fn made_shape(made: Result<Shape<IxDyn>, AllocError>) -> Option<Answer> {
     match made {
         Ok(shape) => listed(shape.raw_dim().slice()),
-        Err(_) => MEMORY,
+        Err(_) => memory(),
     }
 }
 
 /// The shape with strides that a builder makes.
-fn made_stride_shape<D: Lengths>(made: Result<StrideShape<D>, AllocError>) -> Answer {
+fn made_stride_shape(made: Result<StrideShape<IxDyn>, AllocError>) -> Option<Answer> {
     match made {
         Ok(shape) => listed(shape.dim.slice()),
-        Err(_) => MEMORY,
+        Err(_) => memory(),
     }
 }
 
+/// What a call of a builder answers that is a value.
+fn of_builder(alloc: Global, name: &str, lens: &[usize]) -> Option<Answer> {
+    let builder = new_ixdyn(alloc, lens).ok()?;
+    built(alloc, name, builder, new_ixdyn(alloc, lens).ok()?)
+}
+
 /// What a call of a builder answers.
-pub fn built<D: Lengths, T: ShapeBuilder<Dim = D, Strides = T> + Drop>(
+pub fn built<T: ShapeBuilder<Dim = IxDyn, Strides = T> + Drop>(
     alloc: Global,
-    named: &OfBuilder,
+    name: &str,
     builder: T,
     strides: T,
-) -> Answer {
-    match named {
-        OfBuilder::IntoShapeWithOrder => made_shape(builder.into_shape_with_order(alloc)),
-        OfBuilder::F => made_shape(builder.f(alloc)),
-        OfBuilder::SetF => made_shape(builder.set_f(alloc, true)),
-        OfBuilder::Strides => made_stride_shape(builder.strides(alloc, strides)),
-        OfBuilder::FromBuilder => made_stride_shape(StrideShape::from_builder(alloc, builder)),
+) -> Option<Answer> {
+    match name {
+        "into_shape_with_order" => made_shape(builder.into_shape_with_order(alloc)),
+        "f" => made_shape(builder.f(alloc)),
+        "set_f" => made_shape(builder.set_f(alloc, true)),
+        "strides" => made_stride_shape(builder.strides(alloc, strides)),
+        "from_builder" => made_stride_shape(StrideShape::from_builder(alloc, builder)),
+        _ => None,
+    }
+}
+
+/// What a call of a value of six axes answers whose type fixes them, and that of its answer doesn't.
+pub fn of_six(alloc: Global, call: &Call<'_>) -> Option<Answer> {
+    let dim: Ix6 = made(alloc, call.lists.first.as_slice())?;
+    match call.name {
+        "Dimension::from_dimension" => made_if_any(IxDyn::from_dimension(alloc, &dim)),
+        "IntoDimension::into_dyn" => made_list(dim.into_dyn(alloc)),
+        "Axis::insert_axis" => made_list(dim.insert_axis(alloc, Axis(6))),
+        _ => None,
     }
 }

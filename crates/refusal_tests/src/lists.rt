@@ -1,100 +1,108 @@
-//! Calls that make a value of any number of axes of a list.
+//! Calls that make a value of any number of axes of a list: the second list is a place in it, or the lengths of another shape.
 ghost use Rattle.std.specs.Prelude.{◌^◌, ◌<◌};
 ghost use Rattle.ndarray_layout.specs.Dim.{lengths};
 ghost use Rattle.ndarray_layout.specs.Size.{size};
 
-use crate::answer::{Answer, MEMORY, listed, made_list};
-use crate::call::Call;
-use crate::dimensions::{built, common, made_shape_and_order};
-use crate::names::{Named, OfEntries, OfSlice, OfVector, OfWalk};
+use crate::answer::{Answer, listed, made_list, memory, refused};
+use crate::dimensions::{built, made_shape_and_order};
+use crate::line::Call;
 use ndarray_layout::{
-    Dimension, IndexCursor, IndexCursorF, IntoDimension, IxDyn, IxDynImpl, Lengths, ShapeArg,
-    all_indices, indices_iter_f, new_dim, new_ixdyn,
+    Dimension, IndexCursor, IndexCursorF, IntoDimension, IxDyn, IxDynImpl, LayoutError, Lengths,
+    ShapeArg, all_indices, co_broadcast, indices_iter_f, new_dim, new_ixdyn,
 };
 use std::alloc::{AllocError, Global};
 
 /// What a call answers.
 pub fn answer(alloc: Global, call: &Call<'_>) -> Option<Answer> {
-    let (lens, place) = (call.lists.first.as_slice(), call.lists.second.at(0));
-    match call.named {
-        Named::Entries(named) => of_entries(alloc, named, lens, place),
-        Named::Vector(named) => of_vector(alloc, named, lens),
-        Named::Builder(named) => Some(built(alloc, named, lens, lens)),
-        Named::Walk(named) => walked(alloc, named, lens),
-        Named::Shapes => shared(alloc, lens, call.lists.second.as_slice()),
-        Named::Slice(named) => Some(of_slice(alloc, named, lens)),
+    let lens = call.lists.first.as_slice();
+    let (group, name) = call.name.split_once("::").unwrap_or(("", call.name));
+    match group {
+        "ShapeBuilder" => built(alloc, name, lens, lens),
+        "IxDynImpl" => of_entries(alloc, name, lens, call.lists.second.at(0)),
+        "Vec" => of_vector(alloc, name, lens),
+        "walk" => walked(alloc, name, lens),
+        _ => of_slice(alloc, name, lens, call.lists.second.as_slice()),
+    }
+}
+
+/// What a call of a slice answers.
+fn of_slice(alloc: Global, name: &str, lens: &[usize], others: &[usize]) -> Option<Answer> {
+    match name {
+        "new_ixdyn" => made_list(new_ixdyn(alloc, lens)),
+        "new_dim" => made_list(new_dim(alloc, lens)),
+        "into_dimension" => made_list(lens.into_dimension(alloc)),
+        "into_shape_and_order" => made_shape_and_order(lens.into_shape_and_order(alloc)),
+        "zeros" => made_list(IxDyn::zeros(alloc, lens.len())),
+        "copy_from" => made_entries(IxDynImpl::copy_from(alloc, lens)),
+        "co_broadcast" => common(alloc, lens, others),
         _ => None,
     }
 }
 
 /// The shape that two shapes have in common.
-fn shared(alloc: Global, lens: &[usize], others: &[usize]) -> Option<Answer> {
+fn common(alloc: Global, lens: &[usize], others: &[usize]) -> Option<Answer> {
     let first = new_ixdyn(alloc, lens).ok()?;
     let second = new_ixdyn(alloc, others).ok()?;
-    common(alloc, &first, &second)
+    made_common(co_broadcast(alloc, &first, &second))
 }
 
-/// What a call of a slice answers.
-fn of_slice(alloc: Global, named: &OfSlice, lens: &[usize]) -> Answer {
-    match named {
-        OfSlice::NewIxdyn => made_list(new_ixdyn(alloc, lens)),
-        OfSlice::NewDim => made_list(new_dim(alloc, lens)),
-        OfSlice::IntoDimension => made_list(lens.into_dimension(alloc)),
-        OfSlice::IntoShapeAndOrder => made_shape_and_order(lens.into_shape_and_order(alloc)),
-        OfSlice::Zeros => made_list(IxDyn::zeros(alloc, lens.len())),
-        OfSlice::CopyFrom => made_entries(IxDynImpl::copy_from(alloc, lens)),
+/// The list of a shape that two shapes have in common.
+fn made_common(made: Result<IxDyn, LayoutError>) -> Option<Answer> {
+    match made {
+        Ok(common) => listed(common.slice()),
+        Err(fault) => refused(&fault),
     }
 }
 
 /// The list that a call makes.
-fn made_entries(made: Result<IxDynImpl, AllocError>) -> Answer {
+fn made_entries(made: Result<IxDynImpl, AllocError>) -> Option<Answer> {
     match made {
         Ok(entries) => listed(entries.as_slice()),
-        Err(_) => MEMORY,
+        Err(_) => memory(),
     }
 }
 
 /// What a call of a list answers; nothing where there is no such place.
-fn of_entries(alloc: Global, named: &OfEntries, lens: &[usize], place: usize) -> Option<Answer> {
+fn of_entries(alloc: Global, name: &str, lens: &[usize], place: usize) -> Option<Answer> {
     let entries = IxDynImpl::copy_from(alloc, lens).ok()?;
-    match named {
-        OfEntries::Insert if place <= lens.len() => {
-            Some(made_entries(entries.insert(alloc, place)))
-        },
-        OfEntries::Remove if place < lens.len() => Some(made_entries(entries.remove(alloc, place))),
-        OfEntries::IntoDimension => Some(made_list(entries.into_dimension(alloc))),
+    match name {
+        "insert" if place <= lens.len() => made_entries(entries.insert(alloc, place)),
+        "remove" if place < lens.len() => made_entries(entries.remove(alloc, place)),
+        "into_dimension" => made_list(entries.into_dimension(alloc)),
         _ => None,
     }
 }
 
 /// What a call of a vector answers.
-fn of_vector(alloc: Global, named: &OfVector, lens: &[usize]) -> Option<Answer> {
+fn of_vector(alloc: Global, name: &str, lens: &[usize]) -> Option<Answer> {
     let items = lens.to_vec(alloc).ok()?;
-    Some(match named {
-        OfVector::FromVec => made_entries(IxDynImpl::from_vec(alloc, items)),
-        OfVector::IntoDimension => made_list(items.into_dimension(alloc)),
-    })
+    match name {
+        "from_vec" => made_entries(IxDynImpl::from_vec(alloc, items)),
+        "into_dimension" => made_list(items.into_dimension(alloc)),
+        _ => None,
+    }
 }
 
 /// What a call that begins a walk answers: how many indices that is over.
-fn walked(alloc: Global, named: &OfWalk, lens: &[usize]) -> Option<Answer> {
+fn walked(alloc: Global, name: &str, lens: &[usize]) -> Option<Answer> {
     let dim = new_ixdyn(alloc, lens).ok()?;
     let count = dim.size_checked()?;
-    Some(if begins(alloc, named, dim) {
+    if begins(alloc, name, dim)? {
         listed(&[count])
     } else {
-        MEMORY
-    })
+        memory()
+    }
 }
 
 /// Whether a walk over the indices of a shape is begun.
-fn begins(alloc: Global, named: &OfWalk, dim: IxDyn) -> bool
+fn begins(alloc: Global, name: &str, dim: IxDyn) -> Option<bool>
     requires { size (lengths dim) < 2 ^ 64 }
 {
-    match named {
-        OfWalk::Cursor => IndexCursor::new(alloc, dim).is_ok(),
-        OfWalk::CursorF => IndexCursorF::new(alloc, dim).is_ok(),
-        OfWalk::AllIndices => all_indices(alloc, dim).is_ok(),
-        OfWalk::IndicesIterF => indices_iter_f(alloc, dim).is_ok(),
+    match name {
+        "IndexCursor::new" => Some(IndexCursor::new(alloc, dim).is_ok()),
+        "IndexCursorF::new" => Some(IndexCursorF::new(alloc, dim).is_ok()),
+        "all_indices" => Some(all_indices(alloc, dim).is_ok()),
+        "indices_iter_f" => Some(indices_iter_f(alloc, dim).is_ok()),
+        _ => None,
     }
 }

@@ -1,17 +1,18 @@
-//! Calls that may need memory, as lines of input say: which of a call's requests is refused, the run decides
-//! (`rt try --fail-alloc`), and how many small requests are made first (`checks/refused_calls`).
+//! Calls that may need memory, as input says: which of a call's requests is refused, the run decides (`rt try --fail-alloc`), and
+//! how many small requests are made first (`checks/refused_calls`).
 #![tactic(auto)]
 
 mod answer;
-mod call;
 mod dimensions;
+mod line;
 mod lists;
-mod names;
 mod owned;
 mod runs;
+mod sessions;
 mod views;
 
-use call::{granted, told};
+use line::{answer, ask, granted};
+use sessions::of_session;
 use std::io::{self, Read};
 use std::str;
 
@@ -30,15 +31,24 @@ fn read_all(reader: &mut impl Read, bytes: &mut [u8]) -> io::Result<usize> {
     Ok(len)
 }
 
+/// Calls, one a line; or how many small requests are made before all others, the word `session`, and from the next line on its script.
 fn main(rt: HostRuntime) -> io::Result<()> {
-    let mut bytes = [0; 1024];
+    let mut bytes = [0; 2048];
     let len = read_all(&mut rt.stdin(), &mut bytes)?;
-    let text = str::from_utf8(bytes.get(..len).unwrap_or(&[]));
-    for line in text.unwrap_or("").lines() {
-        let told = told(rt.alloc(), line);
+    let text = str::from_utf8(bytes.get(..len).unwrap_or(&[])).unwrap_or("");
+    if let Some((earlier, script)) = text.split_once(" session\n") {
+        let asked = ask(rt.alloc(), earlier);
+        let (status, reads) = of_session(rt.alloc(), script, rt.stdout());
         let granted = granted(rt.alloc());
-        match told {
-            Some(told) => println!(rt; "{told} then {granted}")?,
+        let earlier = if asked.is_some() { "" } else { "unreadable " };
+        println!(rt; "{earlier}status {status}, {reads} reads then {granted}")?;
+        return Ok(());
+    }
+    for line in text.lines() {
+        let answer = answer(rt.alloc(), line);
+        let granted = granted(rt.alloc());
+        match answer {
+            Some(answer) => println!(rt; "{} then {granted}", answer.as_str())?,
             None => println!(rt; "unreadable")?,
         }
     }

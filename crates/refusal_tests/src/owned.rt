@@ -1,19 +1,20 @@
 //! Calls of an array of numbers, 0 and so on: the lists are its shape, its strides, how many items it has, and the items that are
 //! written to each of the first two entries of its first axis.
-use crate::answer::{Answer, Fault, left, listed};
-use crate::call::Call;
-use crate::names::OfArray;
+use crate::answer::{Answer, left, listed, refused};
+use crate::line::Call;
 use crate::views::REVERSED;
 use nd_owned::OwnedArray;
 use ndarray_layout::{IxDyn, SliceInfoElem, StrideShape, Strides, new_ixdyn};
 use std::alloc::Global;
+use test_tables::layout_fault_name;
 
 /// What a call answers.
-pub fn answer(alloc: Global, call: &Call<'_>, named: &OfArray) -> Option<Answer> {
-    match named {
-        OfArray::FromShapeVec => by_columns(alloc, call),
-        OfArray::Items => items(alloc, call),
-        OfArray::MultiSet => written(alloc, call),
+pub fn answer(alloc: Global, call: &Call<'_>) -> Option<Answer> {
+    match call.name {
+        "OwnedArray::from_shape_vec" => by_columns(alloc, call),
+        "OwnedArray::items" => items(alloc, call),
+        "OwnedArray::multi_set" => written(alloc, call),
+        _ => None,
     }
 }
 
@@ -37,8 +38,8 @@ fn by_columns(alloc: Global, call: &Call<'_>) -> Option<Answer> {
 fn over_items(alloc: Global, dim: IxDyn, items: Vec<usize>) -> Option<Answer> {
     let strides = Strides::F;
     match OwnedArray::from_shape_vec(alloc, StrideShape { dim, strides }, items) {
-        Ok(array) => left(None, array.stored()),
-        Err((fault, items)) => left(Some(Fault::of(&fault)), items.as_slice()),
+        Ok(array) => left("Ok", array.stored()),
+        Err((fault, items)) => left(layout_fault_name(&fault), items.as_slice()),
     }
 }
 
@@ -61,8 +62,8 @@ fn items(alloc: Global, call: &Call<'_>) -> Option<Answer> {
     let slice = all.get(..call.lists.first.as_slice().len())?;
     let array = array(alloc, call)?;
     match array.items(alloc, &slice) {
-        Ok(items) => Some(listed(items.as_slice())),
-        Err(fault) => Some(Answer::Refused(Fault::of(&fault))),
+        Ok(items) => listed(items.as_slice()),
+        Err(fault) => refused(&fault),
     }
 }
 
@@ -94,7 +95,7 @@ fn written(alloc: Global, call: &Call<'_>) -> Option<Answer> {
 fn of_writes(array: OwnedArray<usize, IxDyn>, alloc: Global, writes: &[Write]) -> Option<Answer> {
     let mut array = array;
     match array.multi_set(alloc, writes) {
-        Ok(()) => left(None, array.stored()),
-        Err(fault) => left(Some(Fault::of(&fault)), array.stored()),
+        Ok(()) => left("Ok", array.stored()),
+        Err(fault) => left(layout_fault_name(&fault), array.stored()),
     }
 }

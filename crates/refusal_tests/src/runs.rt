@@ -1,15 +1,20 @@
 //! A run of a step of each kind: the lists are the shape and the strides of the view that it begins with, and the shapes of the
 //! reshape and of the broadcast.
-use crate::answer::{Answer, Fault, layout_of};
-use crate::call::Call;
+use crate::answer::{Answer, made_view};
+use crate::line::Call;
 use crate::views::{REVERSED, view_of};
 use Fit::Strict;
 use Order::RowMajor;
 use ndarray_layout::{Axis, Fit, IxDyn, Order, Step, Stopped, Strided, new_ixdyn, run};
 use std::alloc::Global;
+use std::fmt::Write;
+use test_tables::layout_fault_name;
 
 /// What the run answers: the view, or how many steps were taken and the view that they left.
 pub fn answer(alloc: Global, call: &Call<'_>) -> Option<Answer> {
+    if call.name != "run" {
+        return None;
+    }
     let steps = steps(alloc, call)?;
     of_run(alloc, call, &steps)
 }
@@ -18,7 +23,7 @@ pub fn answer(alloc: Global, call: &Call<'_>) -> Option<Answer> {
 fn of_run(alloc: Global, call: &Call<'_>, steps: &[Step]) -> Option<Answer> {
     let view = begun(alloc, call)?;
     match run(alloc, view, steps) {
-        Ok(view) => Some(Answer::View(layout_of(&view)?)),
+        Ok(view) => made_view(Ok(view)),
         Err(stopped) => of_stopped(&stopped),
     }
 }
@@ -62,6 +67,7 @@ fn shapes(alloc: Global, call: &Call<'_>) -> Option<(IxDyn, IxDyn)> {
 
 /// What a run that ended early answers.
 fn of_stopped(stopped: &Stopped) -> Option<Answer> {
-    let left = layout_of(&stopped.view)?;
-    Some(Answer::Stopped(stopped.at, Fault::of(&stopped.fault), left))
+    let mut answer = Answer::of(layout_fault_name(&stopped.fault))?;
+    write!(answer, " {} ", stopped.at).ok()?;
+    answer.and_view(&stopped.view)
 }

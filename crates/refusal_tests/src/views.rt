@@ -1,7 +1,6 @@
 //! Calls of a view: the lists are its shape and its strides, and another shape.
-use crate::answer::{Answer, Fault, MEMORY, Told, layout_of, listed, made_list, made_view};
-use crate::call::Call;
-use crate::names::OfView;
+use crate::answer::{Answer, listed, made_view, memory, refused};
+use crate::line::Call;
 use CanIndexCheckMode::ReadOnly;
 use Fit::Strict;
 use Order::RowMajor;
@@ -10,6 +9,7 @@ use ndarray_layout::{
     Strides, max_abs_offset_check_overflow, reshape_dim, size_of_shape_checked,
 };
 use std::alloc::Global;
+use std::fmt::Write;
 use test_tables::made;
 
 /// The whole of an axis, from the last entry back.
@@ -30,23 +30,22 @@ fn lent<D: Lengths>(alloc: Global, call: &Call<'_>) -> Option<Strided<D>> {
     view_of(dim, made(alloc, call.lists.second.as_slice())?)
 }
 
-/// What a call answers.
-pub fn told<D: Lengths>(alloc: Global, call: &Call<'_>, named: &OfView) -> Option<Told> {
+/// What a call answers, and the view that it was lent.
+pub fn answer<D: Lengths>(alloc: Global, call: &Call<'_>) -> Option<Answer> {
     let to: D = made(alloc, call.lists.third.as_slice())?;
     let view: Strided<D> = lent(alloc, call)?;
-    Some(Told {
-        answer: answer(alloc, named, &view, to)?,
-        lent: layout_of(&view),
-    })
+    let mut answer = answer_of(alloc, call.name, &view, to)?;
+    answer.write_str(" of ").ok()?;
+    answer.and_view(&view)
 }
 
 /// The same of the view and of another shape.
-fn answer<D: Lengths>(alloc: Global, named: &OfView, view: &Strided<D>, to: D) -> Option<Answer> {
-    match named {
-        OfView::FromShape => shaped(alloc, to),
-        OfView::Places => Some(places(alloc, view)),
-        OfView::ReshapeDim => reshaped(alloc, view.dim(), view.strides(), &to),
-        _ => made_view(another(alloc, named, view, &to)?),
+fn answer_of<D: Lengths>(alloc: Global, name: &str, view: &Strided<D>, to: D) -> Option<Answer> {
+    match name {
+        "Strided::from_shape" => shaped(alloc, to),
+        "Strided::places" => places(alloc, view),
+        "reshape_dim" => reshaped(alloc, view.dim(), view.strides(), &to),
+        _ => made_view(another(alloc, name, view, &to)?),
     }
 }
 
@@ -77,24 +76,24 @@ fn reversed<D: Lengths>(
 /// The view that a call makes of another, if a call has this name.
 fn another<D: Lengths>(
     alloc: Global,
-    named: &OfView,
+    name: &str,
     view: &Strided<D>,
     to: &D,
 ) -> Option<Result<Strided<D>, LayoutError>> {
-    match named {
-        OfView::Duplicate => Some(duplicated(alloc, view)),
-        OfView::Slice => reversed(alloc, view),
-        OfView::Reshape => Some(view.reshape(alloc, to, RowMajor)),
-        OfView::Broadcast => Some(view.broadcast(alloc, to)),
+    match name {
+        "Strided::duplicate" => Some(duplicated(alloc, view)),
+        "Strided::slice" => reversed(alloc, view),
+        "Strided::reshape" => Some(view.reshape(alloc, to, RowMajor)),
+        "Strided::broadcast" => Some(view.broadcast(alloc, to)),
         _ => None,
     }
 }
 
 /// The places of a view in row-major order.
-fn places<D: Lengths>(alloc: Global, view: &Strided<D>) -> Answer {
+fn places<D: Lengths>(alloc: Global, view: &Strided<D>) -> Option<Answer> {
     match view.places(alloc, RowMajor) {
         Ok(places) => listed(places.as_slice()),
-        Err(_) => MEMORY,
+        Err(_) => memory(),
     }
 }
 
@@ -106,7 +105,7 @@ fn reshaped<D: Lengths>(alloc: Global, from: &D, strides: &D, to: &D) -> Option<
     size_of_shape_checked(to).ok()?;
     max_abs_offset_check_overflow(1, from, strides).ok()?;
     match reshape_dim(alloc, from, strides, to, RowMajor) {
-        Ok(others) => Some(listed(others.slice())),
-        Err(fault) => Some(Answer::Refused(Fault::of(&fault))),
+        Ok(others) => listed(others.slice()),
+        Err(fault) => refused(&fault),
     }
 }
