@@ -128,8 +128,8 @@ fn goes_with_any<D: Dimension>(alloc: Global, asked: &Question<'_, OfDim>, dim: 
     }
 }
 
-/// Whether a call answers this of the lengths and of one or two lists of as many axes. An index of another count is none of a type
-/// that fixes its count.
+/// Whether a call answers this of the lengths and of one or two lists of as many axes. An index of another count is
+/// none of a type that fixes its count.
 fn goes_with<D: Dimension>(alloc: Global, asked: &Question<'_, OfDim>, dim: &D) -> bool {
     let Some(other) = made::<D>(alloc, asked.lists.second.as_slice()) else {
         return false;
@@ -167,7 +167,8 @@ fn has_offset<D: Dimension>(dim: &D, strides: &D, index: &D, answer: &str) -> bo
         }
 }
 
-/// Whether the index after one in an order is this one, or there is none. By columns zeros are left where there is none.
+/// Whether the index after one in an order is this one, or there is none. By columns zeros are left where there is
+/// none.
 fn is_next<D: Dimension>(order: Order, dim: &D, mut index: D, answer: &str) -> bool {
     if !is_index(dim.slice(), index.slice()) {
         return false;

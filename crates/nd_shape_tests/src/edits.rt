@@ -18,7 +18,8 @@ fn is_copied<D: Lengths>(alloc: Global, dim: &D, answer: &str) -> bool {
     }
 }
 
-/// Whether a value is made of this list by what it is made into: its pattern, itself, and a dimension of any number of axes.
+/// Whether a value is made of this list by what it is made into: its pattern, itself, and a dimension of any number of
+/// axes.
 fn is_handed_on<D: Dimension + IntoDimension<Dim = D>>(
     alloc: Global,
     into: Into,

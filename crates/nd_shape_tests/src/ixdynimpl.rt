@@ -56,7 +56,7 @@ fn comes_of_vector(alloc: Global, lens: &[usize]) -> bool {
     ) && are_one(others.into_dimension(alloc), new_ixdyn(alloc, lens))
 }
 
-// An `IxDyn` from a slice and one from a vector of the same list are equal, and hash alike.
+// Of one list, a slice and a vector make one value, with one hash.
 #[test]
 fn r2_rows(rt: HostRuntime) {
     let alloc = rt.alloc();

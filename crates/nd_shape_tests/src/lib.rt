@@ -1,8 +1,10 @@
-//! Tests of `nd_base`, `nd_dim` and `nd_shape`, by their public calls. They stand in one crate, since each dimension type is
-//! then named in one place (`calls`), and a crate of tests costs the check some 20 seconds before its first test.
+//! Tests of `nd_base`, `nd_dim` and `nd_shape`, by their public calls. They stand in one crate, since each dimension
+//! type is then named in one place (`calls`), and a crate of tests costs the check some 20 seconds before its first
+//! test.
 //!
-//! A row is a call, what it takes as lists, and its answer: `calls` reads it, `rows` has the worked rows, and `ndarray` a sample
-//! of what that crate answers. The other files have what no row can say: values, builders, indices, whole ranges, memory.
+//! A row is a call, what it takes as lists, and its answer: `calls` reads it, `rows` has the worked rows, and
+//! `ndarray` a sample of what that crate answers. The other files have what no row can say: values, builders, indices,
+//! whole ranges, memory.
 #![tactic(auto)]
 
 #[cfg(test)]

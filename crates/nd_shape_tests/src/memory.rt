@@ -1,5 +1,5 @@
-//! Calls with ample memory: what has more than four lengths needs some, and much where it has 1,100, which take more than 8,192
-//! bytes. What calls answer where memory is refused, `refusal_tests` shows.
+//! Calls with ample memory: what has more than four lengths needs some, and much where it has 1,100, which take more
+//! than 8,192 bytes. What calls answer where memory is refused, `refusal_tests` shows.
 use crate::ixdynimpl::{inserts, leaves};
 use crate::layouts::common_of;
 use crate::shapes::{Built, builds};

@@ -1,10 +1,10 @@
 //! A sample of what ndarray 0.17.2 answers of a dimension and of its strides.
 //!
-//! Lists of no axes up to six, chosen by hand: lengths of 0 and 1 among others, products at the ends of 64 bits, strides back, of
-//! equal magnitude or 0. That crate's own dimension files were built by themselves, with overflow checks and debug assertions, and
-//! each row was asked of them at `IxDyn`, with strides read and written as signed numbers. Left out is what this layer answers
-//! otherwise on purpose: strides of `isize::MIN` where the crate takes their magnitude, axes of at most one entry with the least
-//! stride, and sizes that overflow before a length of 0.
+//! Lists of no axes up to six, chosen by hand: lengths of 0 and 1 among others, products at the ends of 64 bits,
+//! strides back, of equal magnitude or 0. That crate's own dimension files were built by themselves, with overflow
+//! checks and debug assertions, and each row was asked of them at `IxDyn`, with strides read and written as signed
+//! numbers. Left out is what this layer answers otherwise on purpose: strides of `isize::MIN` where the crate takes
+//! their magnitude, axes of at most one entry with the least stride, and sizes that overflow before a length of 0.
 use crate::calls::Calls;
 use test_tables::hold;
 

@@ -1,5 +1,5 @@
-//! All shapes of up to three axes with lengths from 0 to 3: by their own strides they are accepted over the same data as along
-//! these strides where they are given.
+//! All shapes of up to three axes with lengths from 0 to 3: by their own strides they are accepted over the same data
+//! as along these strides where they are given.
 use CanIndexCheckMode::OwnedMutable;
 use nd_dim::{Lengths, default_strides, fortran_strides};
 use nd_shape::{

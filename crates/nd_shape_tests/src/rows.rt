@@ -1,7 +1,8 @@
 //! The worked rows.
 //!
-//! Strides are written with their sign. `can_index_slice` and `max_abs_offset_check_overflow` take a shape, strides, and then the
-//! size of an element, with the count of elements where the call takes one; where nothing is refused the answer is `none`.
+//! Strides are written with their sign. `can_index_slice` and `max_abs_offset_check_overflow` take a shape, strides,
+//! and then the size of an element, with the count of elements where the call takes one; where nothing is refused the
+//! answer is `none`.
 use crate::calls::Calls;
 use test_tables::hold;
 
@@ -11,6 +12,7 @@ can_index_slice_owned 0,2 2,1 1,0 => OutOfBounds
 can_index_slice_owned 0,2 2,1 1,1 => none
 can_index_slice_owned 3,2 2,3 1,8 => Unsupported
 can_index_slice_read 3,2 2,3 1,8 => none
+can_index_slice_owned 1,2 -9223372036854775808,1 1,2 => none
 dim_stride_overlap 3,2 2,3 => true";
 
 #[test]

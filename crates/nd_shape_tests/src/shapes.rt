@@ -6,7 +6,7 @@ ghost use Rattle.nd_base.specs.ValidLayout.{IsValidLayout};
 ghost use Rattle.nd_shape.specs.ShapeBuilder.{strides_list};
 
 use crate::layouts::{common_of, is_common};
-use nd_dim::{IntoDimension, Ix2, Ix3, IxDyn, Lengths, new_ix2, new_ix3};
+use nd_dim::{Ix2, Ix3, IxDyn, Lengths, new_ix2, new_ix3};
 use nd_shape::{
     CanIndexCheckMode, Shape, ShapeBuilder, StrideShape, Strides, can_index_slice_with_strides,
     size_of_shape_checked,
@@ -14,8 +14,8 @@ use nd_shape::{
 use std::alloc::{AllocError, Global};
 use std::fmt::Debug;
 
-/// What a builder builds: lengths, their product, their own strides in its order, whether that is by rows, and strides that are
-/// given.
+/// What a builder builds: lengths, their product, their own strides in its order, whether that is by rows, and strides
+/// that are given.
 #[derive(Clone, Copy)]
 pub(crate) struct Built<'a> {
     pub(crate) lens: &'a [usize],
@@ -50,8 +50,8 @@ fn are_strides<D: Lengths>(alloc: Global, dim: &D, kept: Strides<D>, strides: &[
     }
 }
 
-/// Whether a shape has these lengths and these strides, which data of as many elements as it has indices may be read in; and they
-/// are its own, or are given.
+/// Whether a shape has these lengths and these strides, which data of as many elements as it has indices may be read
+/// in; and they are its own, or are given.
 fn is_stride_shape<D: Lengths>(
     alloc: Global,
     shape: Result<StrideShape<D>, AllocError>,
@@ -140,7 +140,13 @@ fn builders_of_any_number_of_axes(rt: HostRuntime) {
         is_c: true,
         given: &[1, 2, 9, 6, 12],
     };
-    assert!(rt; builds(rt.alloc(), built.lens, built.given, built));
+    let alloc = rt.alloc();
+    assert!(rt; builds(alloc, built.lens, built.given, built));
+    let columns = match built.lens.f(alloc) {
+        Ok(shape) => StrideShape::from_builder(alloc, shape),
+        Err(refused) => Err(refused),
+    };
+    assert!(rt; is_stride_shape(alloc, columns, built, &[1, 2, 6, 6, 12], false));
 }
 
 // A shape with strides is copied where its dimension is, and hands on its parts.

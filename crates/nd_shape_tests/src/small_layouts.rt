@@ -112,7 +112,8 @@ impl Small {
     }
 }
 
-/// Whether it is answered of a layout at a dimension type that it is contiguous, or isn't, and that it overlaps, or doesn't.
+/// Whether it is answered of a layout at a dimension type that it is contiguous, or isn't, and that it overlaps, or
+/// doesn't.
 fn is_answered_at<D: Dimension>(
     alloc: Global,
     lens: &[usize],
@@ -133,8 +134,8 @@ fn is_answered_at<D: Dimension>(
     }
 }
 
-/// Whether the answers are right for a layout without its first axes, so many of them: at the type of three axes, where there are
-/// three, and at that of any number. Where no overlap is answered, all places are distinct.
+/// Whether the answers are right for a layout without its first axes, so many of them: at the type of three axes,
+/// where there are three, and at that of any number. Where no overlap is answered, all places are distinct.
 fn is_answered_rightly(alloc: Global, layout: Small, skipped: usize) -> bool {
     let (are_distinct, are_consecutive) = layout.shown();
     let answers = (are_consecutive, layout.breaks_owned_rule());

@@ -1,5 +1,5 @@
-//! What is printed, and that it is: no clause says that printing succeeds, nor what a width, a precision or the alternate form
-//! does. None of them does anything.
+//! What is printed, and that it is: no clause says that printing succeeds, nor what a width, a precision or the
+//! alternate form does. None of them does anything.
 use ErrorKind::{
     IncompatibleLayout, IncompatibleShape, OutOfBounds, Overflow, RangeLimited, Unsupported,
 };

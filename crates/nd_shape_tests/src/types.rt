@@ -53,8 +53,8 @@ fn at_fixed(alloc: Global, question: &Question<'_, OfDim>, count: usize) -> Opti
     }
 }
 
-/// Whether a row holds at each type of as many axes as its first list has: the one that fixes them, if there is one, and that of
-/// any number.
+/// Whether a row holds at each type of as many axes as its first list has: the one that fixes them, if there is one,
+/// and that of any number.
 pub(crate) fn at_each_dimension(alloc: Global, question: &Question<'_, OfDim>) -> Option<bool> {
     let count = question.lists.first.as_slice().len();
     Some(at_fixed(alloc, question, count)? && at_some::<IxDyn>(alloc, question)?)

@@ -1,7 +1,7 @@
 //! Walks over all indices of a shape, in either order.
 //!
-//! A row says how many indices a shape has, and the first ones: all, where there are no more words than that. Of folds it says how
-//! many are left when none, one and two are gone.
+//! A row says how many indices a shape has, and the first ones: all, where there are no more words than that. Of folds
+//! it says how many are left when none, one and two are gone.
 ghost use Rattle.std.specs.Iterator.{IsFinite};
 ghost use Rattle.std.specs.Prelude.{◌<◌, ◌^◌, IfOk};
 ghost use Rattle.nd_base.specs.Dim.{lengths};
@@ -105,8 +105,8 @@ fn is_end<T: IntoDimension>(alloc: Global, item: Option<T>) -> bool {
     }
 }
 
-/// Whether an iterator has so many items and the first ones are these, while its length falls by ones; and none follow where these
-/// are all.
+/// Whether an iterator has so many items and the first ones are these, while its length falls by ones; and none follow
+/// where these are all.
 fn yields<T: IntoDimension, W: ExactSizeIterator<Item = T> + Drop>(
     alloc: Global,
     mut items: W,
