@@ -4,9 +4,8 @@ use Rattle.std.proofs.Math.Nat.{mul-le-mul_right}
 use Rattle.std.proofs.lemmas.List.Elements.{All-from_get_or}
 use Rattle.std.specs.Prelude.{◌<ℤ◌, ◌≤ℤ◌}
 use Rattle.std.proofs.lemmas.Int.{ints}
-use Rattle.nd_base.specs.Signed.{magnitude}
+use Rattle.nd_slice.proofs.Definitions.{between, magnitude}
 use Rattle.nd_base.proofs.laws.Lists.{Contains-at}
-use Rattle.nd_slice.specs.Picks.{between}
 use Rattle.nd_slice.proofs.laws.Between.{between_within, pick_up, pick_down, some_between}
 use Rattle.nd_slice.proofs.laws.PickSequences.{AreEnds}
 

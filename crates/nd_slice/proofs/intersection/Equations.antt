@@ -1,5 +1,6 @@
 -- Equations in whole numbers, by the multiples of one magnitude that a rest completes to multiples of the other.
-use Rattle.std.proofs.Common.{◌≡◌, ℕ, zero, suc, ◌+◌, ◌-◌, ◌*◌, ◌/◌, ◌%◌, ◌<◌, true, not, arith, ap, sym, ◌∙◌, refl, subst, div-add-mod', inl, inr, ℤ, pos, negsuc, ◌+ℤ◌, ◌*ℤ◌}
+use Rattle.std.proofs.Common.{◌≡◌, ℕ, zero, suc, ◌+◌, ◌-◌, ◌*◌, ◌/◌, ◌%◌, ◌<◌, true, not, arith, ap, sym, ◌∙◌, refl, subst}
+use Rattle.std.proofs.Common.{div-add-mod', inl, inr, ℤ, pos, negsuc, ◌+ℤ◌, ◌*ℤ◌}
 use Rattle.std.proofs.Math.Bool.{beq}
 use Rattle.std.proofs.Math.IntN.{pos-*ℤ-pos}
 use Rattle.std.proofs.Math.Nat.{mul_comm, div-mul_cancel, dvd-mul_left, dvd-mul_right, dvd-add_iff_left, dvd-add_iff_right}
@@ -9,8 +10,7 @@ use Rattle.std.proofs.lemmas.Nat.Gcd.{dvd_refl, dvd_trans}
 use Rattle.std.proofs.lemmas.Int.{ints, unsigned_abs-mul}
 use Rattle.std.specs.Prelude.{◌≤ℤ◌, ◌↔◌, neg_ℤ}
 use Rattle.std.specs.Int.{◌∣◌, int_rem_euclid}
-use Rattle.nd_base.specs.Signed.{magnitude}
-use Rattle.nd_slice.specs.Equation.{with_sign_of, Solves, IsLeastSolution, IsLeastMultiplier, added_of}
+use Rattle.nd_slice.proofs.Definitions.{IsLeastMultiplier, IsLeastSolution, Solves, added_of, magnitude, with_sign_of}
 use Rattle.nd_slice.proofs.intersection.Signs.{sign_of, product, second_way, magnitude-with_sign_of}
 use lib.Signed.{lt_z}
 

@@ -7,8 +7,7 @@ use Rattle.std.proofs.lemmas.Int.{ints}
 use Rattle.std.proofs.Math.IntN.{ℤ, pos, negsuc, ◌+ℤ◌, ◌*ℤ◌, zero-*ℤ, +ℤ_idr}
 use Rattle.std.proofs.Math.Nat.{eq_of_mul-eq-mul_right}
 use Rattle.std.specs.Int.{div_ceil}
-use Rattle.nd_base.specs.Signed.{magnitude}
-use Rattle.nd_slice.specs.Picks.{directed, range, between}
+use Rattle.nd_slice.proofs.Definitions.{between, directed, magnitude, range}
 use Rattle.nd_slice.proofs.Every.{one_of_zero}
 use Rattle.nd_slice.proofs.Times.{times_up, times_down}
 use Rattle.nd_slice.proofs.EveryItems.{length-every, get-every, every_within}
@@ -43,7 +42,8 @@ module _ (k start end : ℕ) where
       let p : 0 < suc k = omega arith in
       let inside : j * suc k < end - start = between_within (negsuc k) start end j p below in
       let count : length entries ≡ end - start = length-range_with_len start (end - start) in
-      let at : get_or (between (negsuc k) start end) j 0 ≡ get_or (reverse entries) (j * suc k) 0 = get-every (suc k) (reverse entries) j p in
+      let at : get_or (between (negsuc k) start end) j 0 ≡ get_or (reverse entries) (j * suc k) 0 =
+      get-every (suc k) (reverse entries) j p in
       let turned : get_or (reverse entries) (j * suc k) 0 ≡ get_or entries place 0 = get_or-reverse entries (j * suc k) 0 (omega arith) in
       let item : get_or entries place 0 ≡ start + place = get_or-range_with_len start (end - start) place 0 (omega arith) in
       omega arith

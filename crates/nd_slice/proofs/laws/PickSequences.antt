@@ -1,5 +1,6 @@
 -- The picks of a slice are the numbers from the least to the greatest that lie a step apart.
-use Rattle.std.proofs.Common.{◌≡◌, ℕ, suc, ◌+◌, ◌-◌, ◌*◌, ◌/◌, ◌<◌, ◌≤◌, arith, ap, sym, ◌∙◌, subst, ℤ, pos, negsuc, ◌-ℤ◌, List, [], length, get_or, refl}
+use Rattle.std.proofs.Common.{◌≡◌, ℕ, suc, ◌+◌, ◌-◌, ◌*◌, ◌/◌, ◌<◌, ◌≤◌, arith, ap, sym, ◌∙◌, subst, ℤ, pos, negsuc, ◌-ℤ◌, List}
+use Rattle.std.proofs.Common.{length, get_or, refl}
 use Rattle.std.proofs.Math.Nat.{dvd-mul_left, div-mul_cancel, le_of_mul-le-mul_right}
 use Rattle.std.proofs.lemmas.Grind.{get_or_default_zero}
 use Rattle.std.proofs.lemmas.Int.{ints}
@@ -7,16 +8,10 @@ use Rattle.std.proofs.lemmas.List.Elements.{All-contains}
 use Rattle.std.specs.Prelude.{◌↔◌}
 use Rattle.std.specs.List.{All, Contains}
 use Rattle.std.specs.Int.{◌∣◌}
-use Rattle.nd_base.specs.Signed.{magnitude}
-use Rattle.nd_slice.specs.declared.fit.Fit.{Fit}
-use Rattle.nd_slice.specs.declared.slice.Slice.{Slice}
-use Rattle.nd_slice.specs.Picks.{between, picks}
-use Rattle.nd_slice.specs.SliceFault.{SliceFits}
+use Rattle.nd_slice.proofs.Definitions.{Fit, InSequence, PicksMeet, SequencesMeet, Slice, SliceFits, between, magnitude, picks}
 use Rattle.nd_base.proofs.laws.Lists.{Contains-at}
 use Rattle.nd_slice.proofs.laws.Picks.{pick_below}
 use Rattle.nd_slice.proofs.laws.Between.{pick_up, pick_down}
-use Rattle.nd_slice.specs.Sequence.{InSequence, SequencesMeet}
-use Rattle.nd_slice.specs.PicksMeet.{PicksMeet}
 
 -- both are among the picks, and every pick lies between them
 abbrev pub AreEnds : List ℕ → ℕ → ℕ → Type 0
@@ -49,7 +44,8 @@ module _ (k start end : ℕ) where
       rw (← far) (dvd-mul_left k (j - i))
 
   -- a number so many steps from the least pick, and not after the greatest, is a pick
-  on_up : {i j least greatest : ℕ} (times : ℕ) → 0 < k → IsAt (between (pos k) start end) i least → IsAt (between (pos k) start end) j greatest
+  on_up : {i j least greatest : ℕ} (times : ℕ) → 0 < k → IsAt (between (pos k) start end) i least
+      → IsAt (between (pos k) start end) j greatest
       → least + times * k ≤ greatest → Contains (between (pos k) start end) (least + times * k)
   on_up {i = i} {j = j} {least = least} {greatest = greatest} times moves p q within =
       let first : least ≡ start + i * k = sym p.at ∙ pick_up k start end i moves p.below in
@@ -82,7 +78,8 @@ module _ (k start end : ℕ) where
       let moves : 0 < suc k = omega arith in
       let before : times ≤ i = le_of_mul-le-mul_right (omega arith) moves in
       let below : i - times < length xs = omega (arith, p.below) in
-      let here = fewer_steps i (i - times) (suc k) least (get_or xs (i - times) 0) end first (pick_down k start end (i - times) below) (omega arith) in
+      let here = fewer_steps i (i - times) (suc k) least (get_or xs (i - times) 0) end first (pick_down k start end (i - times) below)
+      (omega arith) in
       let back : i - (i - times) ≡ times = omega arith in
       Contains-at xs (i - times) 0 below (here ∙ ap (λ n. least + n * suc k) back)
 
@@ -146,5 +143,6 @@ picks_meet {one = one} {other = other} {a = a} {b = b} {c = c} {d = d} p q = (
 )
 
 -- a pick is an entry of the axis
-pub contained_below : (fit : Fit) (len : ℕ) (slice : Slice) (pick : ℕ) → SliceFits fit len slice → Contains (picks fit len slice) pick → pick < len
+pub contained_below : (fit : Fit) (len : ℕ) (slice : Slice) (pick : ℕ) → SliceFits fit len slice → Contains (picks fit len slice) pick
+    → pick < len
 contained_below fit len slice pick fits h = omega (arith, (placed h).at, pick_below fit len slice h.0 fits h.1)

@@ -4,11 +4,7 @@ use Rattle.std.proofs.lemmas.Bool.{cases_lt}
 use Rattle.std.proofs.Math.Nat.{le-mul_of_pos_right}
 use Rattle.std.specs.Prelude.{◌≡◌, ℕ, ◌<◌, ◌≤◌, ℤ, pos, ◌+ℤ◌, ◌*ℤ◌, length, slice_index}
 use Rattle.std.specs.Int.{div_ceil}
-use Rattle.nd_base.specs.Signed.{magnitude}
-use Rattle.nd_slice.specs.declared.fit.Fit.{Fit}
-use Rattle.nd_slice.specs.declared.slice.Slice.{Slice}
-use Rattle.nd_slice.specs.Picks.{start_meaning, end_meaning, picks}
-use Rattle.nd_slice.specs.SliceFault.{SliceFits}
+use Rattle.nd_slice.proofs.Definitions.{Fit, Slice, SliceFits, end_meaning, magnitude, picks, start_meaning}
 use Rattle.nd_slice.proofs.laws.Between.{length-between, between_within, between_below, between_steps, between_apart, between_once}
 use Rattle.nd_slice.proofs.laws.SliceFault.{step_moves, end_below}
 

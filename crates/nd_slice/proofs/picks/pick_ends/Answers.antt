@@ -24,5 +24,5 @@ returns-then-step-lt0 c =
 pub returns-else-step-lt0 : goal.returns-else-step-lt0
 returns-else-step-lt0 c =
     let ends = ends_on c.args.start c.args.end c.requires.order c.args.step
-        (omega (arith, ints, c.if-step-lt0.false)) c.requires.moves (far c.before) in
+    (omega (arith, ints, c.if-step-lt0.false)) c.requires.moves (far c.before) in
     record { least = ends.0; greatest = ends.1; between = ends.2 }

@@ -1,8 +1,7 @@
 use Rattle.std.proofs.Common.{◌≡◌, ◌-◌, ◌*◌, length, ap, ◌∙◌, arith}
 use Rattle.std.specs.Int.{w64}
 use Rattle.std.proofs.lemmas.Int.{to_z-of_z}
-use Rattle.nd_base.specs.Signed.{magnitude}
-use Rattle.nd_slice.specs.Picks.{between}
+use Rattle.nd_slice.proofs.Definitions.{between, magnitude}
 use Rattle.nd_slice.proofs.laws.Between.{some_between}
 use Rattle.nd_slice.proofs.Ends.{IsExtent, extent_of}
 use Rattle.nd_slice.proofs.picks.pick_extent.Goals as goal
@@ -16,7 +15,8 @@ far c =
     let distance : c.unsigned_abs.result ≡ magnitude c.args.step =
     c.unsigned_abs.ensures.value ∙ ap magnitude (to_z-of_z w64 c.args.step c.ranges.step) in
     extent_of c.args.step c.args.start c.args.end c.requires.moves c.requires.order
-    (ap (λ k. (c.pick_count.result - 1) * k) distance ∙ ap (λ n. (n - 1) * magnitude c.args.step) (count ((goal.at.After-unsigned_abs c).After-pick_count)))
+    (ap (λ k. (c.pick_count.result - 1) * k) distance
+    ∙ ap (λ n. (n - 1) * magnitude c.args.step) (count ((goal.at.After-unsigned_abs c).After-pick_count)))
 
 pub overflow_sub-result : goal.overflow_sub-result
 overflow_sub-result c =

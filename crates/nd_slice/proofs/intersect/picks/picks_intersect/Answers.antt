@@ -3,10 +3,8 @@ use Rattle.std.specs.List.{Contains}
 use Rattle.std.specs.Prelude.{◌↔◌}
 use Rattle.std.specs.Int.{w64}
 use Rattle.std.proofs.lemmas.Int.{ints, to_z-of_z, to_z_pos}
-use Rattle.nd_base.specs.Signed.{magnitude}
-use Rattle.nd_slice.specs.Picks.{picks, start_meaning, end_meaning}
+use Rattle.nd_slice.proofs.Definitions.{SequencesMeet, end_meaning, magnitude, picks, start_meaning}
 use Rattle.nd_slice.proofs.laws.SliceFault.{step_moves}
-use Rattle.nd_slice.specs.Sequence.{SequencesMeet}
 use Rattle.nd_slice.proofs.laws.PickSequences.{ArePicks, picks_meet, contained_below}
 use Rattle.nd_slice.proofs.intersect.picks.picks_intersect.Goals as goal
 use Rattle.nd_slice.proofs.intersect.picks.picks_intersect.Goals.{In-Some-Some}
@@ -70,6 +68,6 @@ returns-in-Some-Some c =
     let first_step : to_z w64 (of_z w64 one.step) ≡ one.step = to_z-of_z w64 one.step (search rules) in
     let second_step : to_z w64 (of_z w64 other.step) ≡ other.step = to_z-of_z w64 other.step (search rules) in
     let known : (c.arith_seq_intersect.result ≡ true)
-        ↔ SequencesMeet (pos x.first_least, pos x.first_greatest, one.step) (pos x.second_least, pos x.second_greatest, other.step) =
+    ↔ SequencesMeet (pos x.first_least, pos x.first_greatest, one.step) (pos x.second_least, pos x.second_greatest, other.step) =
     rw (first_least, first_greatest, second_least, second_greatest, first_step, second_step) at c.arith_seq_intersect.ensures in
     (λ is. meet.0 (known.0 is), λ both. known.1 (meet.1 both))

@@ -1,9 +1,8 @@
-use Rattle.std.proofs.Common.{rules, ◌≡◌, arith, ap, ◌∙◌, true, ◌-ℤ◌, to_z, of_z}
-use Rattle.std.specs.Prelude.{◌≤ℤ◌, ◌<ℤ◌, ◌↔◌}
+use Rattle.std.proofs.Common.{rules, ◌≡◌, arith, ap, ◌∙◌, true, to_z, of_z}
+use Rattle.std.specs.Prelude.{◌≤ℤ◌, ◌<ℤ◌}
 use Rattle.std.specs.Int.{w64}
 use Rattle.std.proofs.lemmas.Int.{ints, to_z-of_z}
-use Rattle.nd_base.specs.Signed.{magnitude}
-use Rattle.nd_slice.specs.Sequence.{MeetsWithin}
+use Rattle.nd_slice.proofs.Definitions.{magnitude}
 use Rattle.nd_slice.proofs.intersection.Sequences.{IsShared, IsMeasured, meets_on, meets_back, meets_none}
 use Rattle.nd_slice.proofs.intersect.sequence.arith_seq_intersect.Goals as goal
 use Rattle.nd_slice.proofs.intersect.sequence.arith_seq_intersect.Goals.{After-min-greatest, After-abs_diff-ahead}
