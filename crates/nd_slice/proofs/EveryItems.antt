@@ -1,7 +1,7 @@
 -- What `picks` gives, entry by entry.
 use Rattle.std.proofs.Common.{◌≡◌, ℕ, zero, suc, ◌+◌, ◌-◌, ◌*◌, ◌<◌, ◌≤◌, List, [], ◌∷◌, length, get_or, arith, refl, ap, ◌∙◌, inl, inr}
+use Rattle.std.proofs.Common.{mul-le-mul_right}
 use Rattle.std.proofs.lemmas.Bool.{cases_lt}
-use Rattle.std.proofs.Math.Nat.{mul-le-mul_right}
 use Rattle.std.specs.Int.{div_ceil}
 use Rattle.std.proofs.lemmas.Grind.{div_ceil_times}
 use Rattle.nd_slice.proofs.Definitions.{every}
@@ -32,7 +32,7 @@ ceil_le k {c = c} {d = d} above below = elim (cases_lt c d) [
 -- so many of the items, rounded up
 pub length-every : (k : ℕ) (xs : List ℕ) → 0 < k → length (every k xs) ≡ div_ceil (length xs) k
 length-every k xs p =
-    let same : length (every k xs) ≡ length (every_after k 0 xs) = ap length (every_is k xs p) in
+    let same = ap length (every_is k xs p) in
     let h = count_every_after k 0 xs p in
     let g : IsCeil (length xs) k (div_ceil (length xs) k) = div_ceil_times (length xs) k p in
     let up : length (every_after k 0 xs) ≤ div_ceil (length xs) k = ceil_le k g.0 (omega (arith, h.1)) in
@@ -42,7 +42,7 @@ length-every k xs p =
 -- a pick is within the items
 pub every_within : (k : ℕ) (xs : List ℕ) (j : ℕ) → 0 < k → j < length (every k xs) → j * k < length xs
 every_within k xs j p below =
-    let same : length (every k xs) ≡ length (every_after k 0 xs) = ap length (every_is k xs p) in
+    let same = ap length (every_is k xs p) in
     let h = count_every_after k 0 xs p in
     let below_after : suc j ≤ length (every_after k 0 xs) = omega arith in
     omega (arith, mul-le-mul_right k below_after)

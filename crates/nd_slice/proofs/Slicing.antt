@@ -1,11 +1,10 @@
 -- Facts for one axis that is sliced between two bounds.
 use Rattle.std.proofs.Common.{◌≡◌, ℕ, ◌-◌, ◌*◌, ◌<◌, ◌≤◌, max, List, [], ◌∷◌, length, get_or, arith, refl, sym, ap, ◌∙◌, inl, inr, None}
+use Rattle.std.proofs.Common.{ℤ, pos, ◌+ℤ◌, ◌*ℤ◌, FitsSigned, if◌then◌else◌, w64}
 use Rattle.std.proofs.lemmas.Bool.{cases_lt, le-leb, lt-leb}
 use Rattle.std.proofs.lemmas.Int.{ints, fits_signed_mul}
-use Rattle.std.proofs.Math.IntN.{ℤ, pos, ◌+ℤ◌, ◌*ℤ◌, *ℤ-zero}
-use Rattle.std.specs.Prelude.{FitsSigned, if◌then◌else◌}
+use Rattle.std.proofs.Math.IntN.{*ℤ-zero}
 use Rattle.std.specs.List.{range_with_len}
-use Rattle.std.specs.Int.{w64}
 use Rattle.nd_slice.proofs.Definitions.{Fit, Slice, between, directed, end_meaning, every, first_offset, limit, magnitude, picked_stride}
 use Rattle.nd_slice.proofs.Definitions.{picks, reach, slice_fault, start_meaning}
 use Rattle.nd_slice.proofs.laws.SliceFault.{fits_of_no_fault, step_moves}

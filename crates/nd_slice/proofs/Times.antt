@@ -1,6 +1,6 @@
 -- Where a position lies so many steps on, or back.
-use Rattle.std.proofs.Common.{◌≡◌, ℕ, suc, ◌+◌, ◌*◌, ap, sym, ◌∙◌}
-use Rattle.std.proofs.Math.IntN.{ℤ, pos, negsuc, neg_ℤ, ◌+ℤ◌, ◌*ℤ◌, *ℤ-negsuc, +ℤ-neg_ℤ_cancel, *ℤ_comm}
+use Rattle.std.proofs.Common.{◌≡◌, ℕ, suc, ◌+◌, ◌*◌, ap, sym, ◌∙◌, ℤ, pos, negsuc, neg_ℤ, ◌+ℤ◌, ◌*ℤ◌}
+use Rattle.std.proofs.Math.IntN.{*ℤ-negsuc, +ℤ-neg_ℤ_cancel, *ℤ_comm}
 use Rattle.nd_base.proofs.laws.Times.{times_neg, times_sum, times_times}
 
 -- so many steps on

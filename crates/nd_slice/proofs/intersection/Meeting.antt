@@ -1,9 +1,8 @@
 -- A walk along the axes of a shape, with a place among the elements of each of two slice arguments.
-use Rattle.std.proofs.Common.{suc, ◌+◌, refl, ap, sym, ◌∙◌, subst, arith, drop, get_or, inl, inr}
-use Rattle.std.proofs.Math.Seq.{drop-cons}
+use Rattle.std.proofs.Common.{suc, ◌+◌, refl, ap, sym, ◌∙◌, subst, arith, drop, get_or, inl, inr, drop-cons, ◌≡◌, ℕ, ◌<◌, ◌↔◌, None, List}
+use Rattle.std.proofs.Common.{[], ◌∷◌, length}
 use Rattle.std.proofs.lemmas.Bool.{cases_lt}
 use Rattle.std.proofs.lemmas.List.{drop_all}
-use Rattle.std.specs.Prelude.{◌≡◌, ℕ, ◌<◌, ◌↔◌, None, List, [], ◌∷◌, length}
 use Rattle.std.specs.List.{AllZip}
 use Rattle.nd_slice.proofs.Definitions.{ElemFits, Fit, IndexFitsIn, PicksMeet, SliceInfoElem, axis_picks, elem_picks, first_fault}
 use Rattle.nd_slice.proofs.Definitions.{in_count, slice_with, without_new_axes}

@@ -1,9 +1,9 @@
 -- When two lists of numbers that lie a step apart share a number.
 use Rattle.std.proofs.Common.{◌≡◌, ℕ, ◌+◌, ◌*◌, ◌/◌, ◌<◌, ◌≤◌, true, arith, ap, sym, ◌∙◌, refl, subst, ℤ, pos, ◌+ℤ◌, ◌-ℤ◌}
-use Rattle.std.proofs.Math.Nat.{div-mul_cancel, dvd-mul_right, le-div_iff_mul-le, mul-le-mul_right}
+use Rattle.std.proofs.Common.{le-div_iff_mul-le, mul-le-mul_right, ◌≤ℤ◌, ◌<ℤ◌, ◌↔◌, nat_le}
+use Rattle.std.proofs.Math.Nat.{div-mul_cancel, dvd-mul_right}
 use Rattle.std.proofs.lemmas.Bool.{leb-true, le-leb}
 use Rattle.std.proofs.lemmas.Int.{ints, clamps}
-use Rattle.std.specs.Prelude.{◌≤ℤ◌, ◌<ℤ◌, ◌↔◌, nat_le}
 use Rattle.std.specs.Int.{◌∣◌, int_max, int_min}
 use Rattle.nd_slice.proofs.Definitions.{InSequence, IsLeastMultiplier, MeetsWithin, SequencesMeet, magnitude}
 use Rattle.nd_slice.proofs.intersection.Signs.{of_non_negative, of_non_positive}

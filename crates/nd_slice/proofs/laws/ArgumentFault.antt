@@ -1,7 +1,6 @@
 -- What no fault of a slice argument means: an element for each axis, of which each fits.
-use Rattle.std.proofs.Common.{true, false, refl}
+use Rattle.std.proofs.Common.{true, false, refl, ◌≡◌, ℕ, ℤ, Bool, ◌==◌, if◌then◌else◌, Option, Some, None, List, ◌∷◌, length}
 use Rattle.std.proofs.lemmas.Bool.{eqb-true}
-use Rattle.std.specs.Prelude.{◌≡◌, ℕ, ℤ, Bool, ◌==◌, if◌then◌else◌, Option, Some, None, List, ◌∷◌, length}
 use Rattle.nd_base.specs.declared.error.ErrorKind.{ErrorKind}
 use Rattle.nd_base.specs.declared.error.ErrorKind.TheVariants.{IncompatibleShape}
 use Rattle.nd_slice.proofs.Definitions.{Fit, IndexFits, Slice, SliceFits, SliceInfoElem, argument_fault, first_fault, in_count}

@@ -91,13 +91,14 @@ between_apart (pos (suc k)) start end j below = omega (arith, ints, up_from_firs
 between_apart (negsuc k) start end j below = omega (arith, ints, down_from_first k start end j below)
 
 -- no entry is picked twice
-pub between_once : (step : ℤ) (start end i j : ℕ) → i < length (between step start end) → j < length (between step start end)
-    → get_or (between step start end) i 0 ≡ get_or (between step start end) j 0 → i ≡ j
-between_once (pos zero) start end i j p q e = omega (arith, still_first start end i p, still_first start end j q)
-between_once (pos (suc k)) start end i j p q e =
-    eq_of_mul-eq-mul_right (suc k) (omega arith) i j (omega (arith, up_from_first k start end i p, up_from_first k start end j q))
-between_once (negsuc k) start end i j p q e =
-    eq_of_mul-eq-mul_right (suc k) (omega arith) i j (omega (arith, down_from_first k start end i p, down_from_first k start end j q))
+module _ (start end i j : ℕ) where
+  pub between_once : (step : ℤ) → i < length (between step start end) → j < length (between step start end)
+      → get_or (between step start end) i 0 ≡ get_or (between step start end) j 0 → i ≡ j
+  between_once (pos zero) p q e = omega (arith, still_first start end i p, still_first start end j q)
+  between_once (pos (suc k)) p q e =
+      eq_of_mul-eq-mul_right (suc k) (omega arith) i j (omega (arith, up_from_first k start end i p, up_from_first k start end j q))
+  between_once (negsuc k) p q e =
+      eq_of_mul-eq-mul_right (suc k) (omega arith) i j (omega (arith, down_from_first k start end i p, down_from_first k start end j q))
 
 -- a count rounded up
 count_of_some : (n k c : ℕ) → n ≤ c * k → 0 < n → 0 < c

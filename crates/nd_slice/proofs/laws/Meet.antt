@@ -1,9 +1,9 @@
 -- Two slice arguments meet exactly where they share an entry on every axis, and exactly where an index of each slice stands for one
 -- index of the shape.
-use Rattle.std.proofs.Common.{refl, ap, sym, ◌∙◌, subst, arith, get_or}
+use Rattle.std.proofs.Common.{refl, ap, sym, ◌∙◌, subst, arith, get_or, ◌≡◌, ℕ, zero, suc, ℤ, ◌<◌, ◌↔◌, IsTrue, nat_lt, None, List, []}
+use Rattle.std.proofs.Common.{◌∷◌, length, Contains}
 use Rattle.std.proofs.lemmas.Bool.{and_parts, and_from, lt-ltb}
-use Rattle.std.specs.Prelude.{◌≡◌, ℕ, zero, suc, ℤ, ◌<◌, ◌↔◌, IsTrue, nat_lt, None, List, [], ◌∷◌, length}
-use Rattle.std.specs.List.{AllZip, Contains}
+use Rattle.std.specs.List.{AllZip}
 use Rattle.nd_slice.proofs.Definitions.{Fit, IndexFits, Meet, PicksMeet, SliceInfoElem, argument_fault, axis_picks, first_fault, in_count}
 use Rattle.nd_slice.proofs.Definitions.{is_index, magnitude, meaning, selected, slice_with}
 use Rattle.nd_slice.proofs.laws.PickSequences.{contained_below}
@@ -103,9 +103,10 @@ not_picked (xs ∷ lists) [] axis below nothing all = all
 not_picked (xs ∷ lists) (i ∷ index) zero below nothing all = omega (arith, (all.0).1, ap (λ ys. length ys) nothing)
 not_picked (xs ∷ lists) (i ∷ index) (suc axis) below nothing all = not_picked lists index axis (omega (arith, below)) nothing all.1
 
-pub meet_empty : (fit : Fit) (shape : List ℕ) (one other : List SliceInfoElem) (axis : ℕ) → axis < length (axis_picks fit shape one)
-    → get_or (axis_picks fit shape one) axis [] ≡ [] → Meet fit shape one other → ⊥
-meet_empty fit shape one other axis below nothing meet = not_picked (axis_picks fit shape one) meet.0 axis below nothing meet.2
+module _ (fit : Fit) (shape : List ℕ) (one other : List SliceInfoElem) where
+  pub meet_empty : (axis : ℕ) → axis < length (axis_picks fit shape one) → get_or (axis_picks fit shape one) axis [] ≡ []
+      → Meet fit shape one other → ⊥
+  meet_empty axis below nothing meet = not_picked (axis_picks fit shape one) meet.0 axis below nothing meet.2
 
 -- an index of each slice stands for one index of the shape
 pub record ShareSource (fit : Fit) (shape : List ℕ) (one other : List SliceInfoElem) : Type 0 where

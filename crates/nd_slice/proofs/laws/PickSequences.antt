@@ -1,12 +1,10 @@
 -- The picks of a slice are the numbers from the least to the greatest that lie a step apart.
-use Rattle.std.proofs.Common.{◌≡◌, ℕ, suc, ◌+◌, ◌-◌, ◌*◌, ◌/◌, ◌<◌, ◌≤◌, arith, ap, sym, ◌∙◌, subst, ℤ, pos, negsuc, ◌-ℤ◌, List}
-use Rattle.std.proofs.Common.{length, get_or, refl}
-use Rattle.std.proofs.Math.Nat.{dvd-mul_left, div-mul_cancel, le_of_mul-le-mul_right}
+use Rattle.std.proofs.Common.{◌≡◌, ℕ, suc, ◌+◌, ◌-◌, ◌*◌, ◌/◌, ◌<◌, ◌≤◌, arith, ap, sym, ◌∙◌, subst, ℤ, pos, negsuc, ◌-ℤ◌, List, length}
+use Rattle.std.proofs.Common.{get_or, refl, le_of_mul-le-mul_right, ◌↔◌, All, Contains}
+use Rattle.std.proofs.Math.Nat.{dvd-mul_left, div-mul_cancel}
 use Rattle.std.proofs.lemmas.Grind.{get_or_default_zero}
 use Rattle.std.proofs.lemmas.Int.{ints}
 use Rattle.std.proofs.lemmas.List.Elements.{All-contains}
-use Rattle.std.specs.Prelude.{◌↔◌}
-use Rattle.std.specs.List.{All, Contains}
 use Rattle.std.specs.Int.{◌∣◌}
 use Rattle.nd_slice.proofs.Definitions.{Fit, InSequence, PicksMeet, SequencesMeet, Slice, SliceFits, between, magnitude, picks}
 use Rattle.nd_base.proofs.laws.Lists.{Contains-at}
@@ -26,10 +24,11 @@ placed : {picks : List ℕ} {pick : ℕ} (h : Contains picks pick) → IsAt pick
 placed {picks = picks} {pick = pick} h = record { below = h.1; at = sym (get_or_default_zero picks h.0 pick h.1) ∙ h.2 }
 
 -- so many steps less reach so much less far
-fewer_steps : (i j k low high end : ℕ) → low + i * k + 1 ≡ end → high + j * k + 1 ≡ end → j ≤ i → high ≡ low + (i - j) * k
-fewer_steps i j k low high end p q order =
-    let more : (j + (i - j)) * k ≡ i * k = ap (λ n. n * k) (omega arith) in
-    omega arith
+module _ (k end : ℕ) where
+  fewer_steps : (i j low high : ℕ) → low + i * k + 1 ≡ end → high + j * k + 1 ≡ end → j ≤ i → high ≡ low + (i - j) * k
+  fewer_steps i j low high p q order =
+      let more : (j + (i - j)) * k ≡ i * k = ap (λ n. n * k) (omega arith) in
+      omega arith
 
 module _ (k start end : ℕ) where
   -- upward: picks are so many steps apart
@@ -65,7 +64,7 @@ module _ (k start end : ℕ) where
       let last : high + j * suc k + 1 ≡ end = last_down q in
       let moves : 0 < suc k = omega arith in
       let before : j ≤ i = le_of_mul-le-mul_right (omega arith) moves in
-      let far : (i - j) * suc k ≡ high - low = omega (arith, fewer_steps i j (suc k) low high end first last before) in
+      let far : (i - j) * suc k ≡ high - low = omega (arith, fewer_steps (suc k) end i j low high first last before) in
       rw (← far) (dvd-mul_left (suc k) (i - j))
 
   on_down : {i j least greatest : ℕ} (times : ℕ) → IsAt (between (negsuc k) start end) i least
@@ -78,7 +77,7 @@ module _ (k start end : ℕ) where
       let moves : 0 < suc k = omega arith in
       let before : times ≤ i = le_of_mul-le-mul_right (omega arith) moves in
       let below : i - times < length xs = omega (arith, p.below) in
-      let here = fewer_steps i (i - times) (suc k) least (get_or xs (i - times) 0) end first (pick_down k start end (i - times) below)
+      let here = fewer_steps (suc k) end i (i - times) least (get_or xs (i - times) 0) first (pick_down k start end (i - times) below)
       (omega arith) in
       let back : i - (i - times) ≡ times = omega arith in
       Contains-at xs (i - times) 0 below (here ∙ ap (λ n. least + n * suc k) back)

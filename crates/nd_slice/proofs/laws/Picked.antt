@@ -1,5 +1,5 @@
 -- Where the picks of a slice lie.
-use Rattle.std.specs.Prelude.{◌≡◌, ℕ, ◌<◌, ℤ, pos, ◌+ℤ◌, ◌*ℤ◌, length, slice_index}
+use Rattle.std.proofs.Common.{◌≡◌, ℕ, ◌<◌, ℤ, pos, ◌+ℤ◌, ◌*ℤ◌, length, slice_index}
 use Rattle.nd_slice.proofs.Definitions.{Fit, Slice, end_meaning, first_offset, magnitude, picked_stride, picks, start_meaning}
 use Rattle.nd_slice.proofs.Slicing.{picked_steps}
 

@@ -1,8 +1,6 @@
 -- The picks of a slice: entries of the axis, a step apart, none of them twice.
-use Rattle.std.proofs.Common.{◌-◌, ◌*◌, inl, inr, arith}
+use Rattle.std.proofs.Common.{◌-◌, ◌*◌, inl, inr, arith, le-mul_of_pos_right, ◌≡◌, ℕ, ◌<◌, ◌≤◌, ℤ, pos, ◌+ℤ◌, ◌*ℤ◌, length, slice_index}
 use Rattle.std.proofs.lemmas.Bool.{cases_lt}
-use Rattle.std.proofs.Math.Nat.{le-mul_of_pos_right}
-use Rattle.std.specs.Prelude.{◌≡◌, ℕ, ◌<◌, ◌≤◌, ℤ, pos, ◌+ℤ◌, ◌*ℤ◌, length, slice_index}
 use Rattle.std.specs.Int.{div_ceil}
 use Rattle.nd_slice.proofs.Definitions.{Fit, Slice, SliceFits, end_meaning, magnitude, picks, start_meaning}
 use Rattle.nd_slice.proofs.laws.Between.{length-between, between_within, between_below, between_steps, between_apart, between_once}
@@ -53,4 +51,4 @@ module _ (fit : Fit) (len : ℕ) (slice : Slice) where
   -- no entry is picked twice
   pub picks_injective : (i j : ℕ) → i < length (picks fit len slice) → j < length (picks fit len slice)
       → slice_index (picks fit len slice) i ≡ slice_index (picks fit len slice) j → i ≡ j
-  picks_injective i j p q same = between_once slice.step start end i j p q same
+  picks_injective i j p q same = between_once start end i j slice.step p q same

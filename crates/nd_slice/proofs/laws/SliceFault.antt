@@ -1,7 +1,7 @@
 -- What no fault means: a slice that fits, and an index that is an entry.
-use Rattle.std.proofs.Common.{◌<◌, ◌≤◌, pos, negsuc, true, false, refl, pos_of_ne-zero}
+use Rattle.std.proofs.Common.{◌<◌, ◌≤◌, pos, negsuc, true, false, refl, pos_of_ne-zero, ◌≡◌, ℕ, ℤ, IsTrue, Bool, ◌==◌, not, if◌then◌else◌}
+use Rattle.std.proofs.Common.{Some, None}
 use Rattle.std.proofs.lemmas.Bool.{and_parts, eqb-false, leb-true, ltb-true}
-use Rattle.std.specs.Prelude.{◌≡◌, ℕ, ℤ, IsTrue, Bool, ◌==◌, not, if◌then◌else◌, Some, None}
 use Rattle.nd_base.specs.declared.error.ErrorKind.TheVariants.{OutOfBounds, Unsupported}
 use Rattle.nd_slice.proofs.Definitions.{Fit, IndexFits, Slice, SliceFits, end_meaning, index_fault, is_bound, is_entry, is_within}
 use Rattle.nd_slice.proofs.Definitions.{magnitude, meaning, slice_fault, start_meaning}

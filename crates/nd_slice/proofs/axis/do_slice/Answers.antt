@@ -1,5 +1,4 @@
-use Rattle.std.proofs.Common.{rules, ◌≡◌, ◌<◌, arith, ap, sym, ◌∙◌, length, get_or, pos, ℤ, ◌+ℤ◌, ◌*ℤ◌, to_z, of_z}
-use Rattle.std.specs.Int.{w64}
+use Rattle.std.proofs.Common.{rules, ◌≡◌, ◌<◌, arith, ap, sym, ◌∙◌, length, get_or, pos, ℤ, ◌+ℤ◌, ◌*ℤ◌, to_z, of_z, w64}
 use Rattle.std.proofs.lemmas.Int.{to_z-of_z}
 use Rattle.nd_slice.proofs.Definitions.{between, first_offset, magnitude, picked_stride, picks, signed}
 use Rattle.nd_slice.proofs.laws.Between.{between_below, some_between, none_between}

@@ -1,9 +1,7 @@
 -- An entry of an axis of a valid layout lies no farther than the span.
-use Rattle.std.proofs.Common.{◌≡◌, pos, get_or, ap, arith}
+use Rattle.std.proofs.Common.{◌≡◌, pos, get_or, ap, arith, w64, ◌-◌, ◌≤◌}
 use Rattle.std.proofs.lemmas.Int.{fits_signed_mul}
 use Rattle.std.proofs.lemmas.List.{get_or-map, length-map}
-use Rattle.std.specs.Int.{w64}
-use Rattle.std.specs.Prelude.{◌-◌, ◌≤◌}
 use Rattle.nd_slice.proofs.Definitions.{all_signed, limit, magnitude, reach, signed}
 use Rattle.nd_base.proofs.laws.NonzeroSize.{length_le_nonzero_size}
 use Rattle.nd_base.proofs.laws.Span.{sum_and_others}

@@ -1,7 +1,6 @@
-use Rattle.std.proofs.Common.{◌≡◌, ◌+◌, ℕ, List, suc, true, refl, arith, ap, ◌∙◌, subst, get_or, drop, pos, [], ◌∷◌, drop-cons}
+use Rattle.std.proofs.Common.{◌≡◌, ◌+◌, ℕ, List, suc, true, refl, arith, ap, ◌∙◌, subst, get_or, drop, pos, [], ◌∷◌, drop-cons, ◌↔◌, None}
 use Rattle.std.proofs.lemmas.Bool.{both_ways}
 use Rattle.std.proofs.lemmas.List.{drop_all}
-use Rattle.std.specs.Prelude.{◌↔◌, None}
 use Rattle.nd_slice.proofs.Definitions.{PicksMeet, SliceInfoElem, elem_picks}
 use Rattle.nd_slice.specs.declared.elem.SliceInfoElem.TheVariants as elem
 use Rattle.nd_slice.proofs.laws.Meet.{meet_by_axis}
@@ -67,13 +66,13 @@ picks_intersect-requires-clause-second_fits c =
     c.slice_of-second_slice.ensures.fits c.args.fit (next_at (second_place at) none).fits
 
 -- the answer for the axis
+abbrev picks_of : After-picks_intersect → SliceInfoElem → List ℕ
+picks_of c e = elem_picks c.args.fit (get_or c.args.shape.now c.loop-len.len-index 0) e
+
 on_axis : (c : After-picks_intersect) → (c.picks_intersect.result ≡ true) ↔ PicksMeet
-    (elem_picks c.args.fit (get_or c.args.shape.now c.loop-len.len-index 0)
-    (get_or c.args.first.now c.next_for_axis-first_place.result none))
-    (elem_picks c.args.fit (get_or c.args.shape.now c.loop-len.len-index 0)
-    (get_or c.args.second.now c.next_for_axis-second_place.result none))
-on_axis c = rw (c.slice_of-first_slice.ensures.picks c.args.fit, c.slice_of-second_slice.ensures.picks c.args.fit) at
-    c.picks_intersect.ensures
+    (picks_of c (get_or c.args.first.now c.next_for_axis-first_place.result none))
+    (picks_of c (get_or c.args.second.now c.next_for_axis-second_place.result none))
+on_axis c = rw (c.slice_of-first_slice.ensures.picks c.args.fit, c.slice_of-second_slice.ensures.picks c.args.fit) at c.picks_intersect.ensures
 
 pub returns-then-not-picks_intersect : goal.returns-then-not-picks_intersect
 returns-then-not-picks_intersect c =

@@ -1,6 +1,6 @@
-use Rattle.std.proofs.Common.{◌≡◌, ◌-◌, sym, ap, ◌∙◌}
-use Rattle.std.specs.Int.{w64, div_ceil}
+use Rattle.std.proofs.Common.{◌≡◌, ◌-◌, sym, ap, ◌∙◌, w64}
 use Rattle.std.proofs.lemmas.Int.{to_z-of_z}
+use Rattle.std.specs.Int.{div_ceil}
 use Rattle.nd_slice.proofs.Definitions.{magnitude}
 use Rattle.nd_slice.proofs.laws.Between.{length-between}
 use Rattle.nd_slice.proofs.picks.pick_count.Goals as goal

@@ -1,6 +1,5 @@
 -- The last pick lies as many steps from the first as there are other picks.
-use Rattle.std.proofs.Common.{arith}
-use Rattle.std.specs.Int.{w64}
+use Rattle.std.proofs.Common.{arith, w64}
 use Rattle.std.proofs.lemmas.Int.{ints, to_z-of_z}
 use Rattle.nd_slice.proofs.laws.Between.{some_between}
 use Rattle.nd_slice.proofs.Ends.{IsExtent, ends_back, ends_on}

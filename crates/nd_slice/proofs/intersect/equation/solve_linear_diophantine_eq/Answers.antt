@@ -1,7 +1,6 @@
-use Rattle.std.proofs.Common.{rules, ◌≡◌, arith, ap, sym, ◌∙◌, refl, subst, pos, to_z, of_z}
-use Rattle.std.specs.Prelude.{◌≤ℤ◌}
+use Rattle.std.proofs.Common.{rules, ◌≡◌, arith, ap, sym, ◌∙◌, refl, subst, pos, to_z, of_z, ◌≤ℤ◌}
 use Rattle.std.specs.Int.{w128, int_rem_euclid}
-use Rattle.std.proofs.lemmas.Int.{ints, to_z-of_z, to_z_pos}
+use Rattle.std.proofs.lemmas.Int.{ints, to_z_pos, to_z-of_z}
 use Rattle.nd_slice.proofs.Definitions.{IsLeastSolution, added_of, magnitude}
 use Rattle.nd_slice.proofs.intersection.Signs.{of_non_negative}
 use Rattle.nd_slice.proofs.intersection.Equations.{IsRest, least_solution, rest_divisors}

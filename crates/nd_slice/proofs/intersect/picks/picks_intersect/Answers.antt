@@ -1,8 +1,5 @@
-use Rattle.std.proofs.Common.{rules, ◌≡◌, ◌<◌, ℕ, true, arith, pos, to_z, of_z}
-use Rattle.std.specs.List.{Contains}
-use Rattle.std.specs.Prelude.{◌↔◌}
-use Rattle.std.specs.Int.{w64}
-use Rattle.std.proofs.lemmas.Int.{ints, to_z-of_z, to_z_pos}
+use Rattle.std.proofs.Common.{rules, ◌≡◌, ◌<◌, ℕ, true, arith, pos, to_z, of_z, Contains, ◌↔◌, w64}
+use Rattle.std.proofs.lemmas.Int.{ints, to_z_pos, to_z-of_z}
 use Rattle.nd_slice.proofs.Definitions.{SequencesMeet, end_meaning, magnitude, picks, start_meaning}
 use Rattle.nd_slice.proofs.laws.SliceFault.{step_moves}
 use Rattle.nd_slice.proofs.laws.PickSequences.{ArePicks, picks_meet, contained_below}
