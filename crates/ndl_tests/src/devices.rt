@@ -55,13 +55,14 @@ fn calls(bytes: usize, most: usize) -> usize {
     if most == 0 { 0 } else { bytes.div_ceil(most) }
 }
 
-/// Whether a run over these devices ends so.
+/// Whether a run over these devices ends so, and uses neither late.
 fn ends(alloc: Global, reader: FakeReader, writer: FakeWriter, due: Ended) -> bool {
     let mut reader = Watched::new(reader);
     let mut writer = Watched::new(writer);
     let status = session(alloc, &mut reader, &mut writer);
+    let on_time = !reader.used_late() && !writer.used_late();
     let (reader, writer) = (reader.into_inner(), writer.into_inner());
-    (status, reader.calls, writer.calls, writer.taken.as_slice()) == due
+    on_time && (status, reader.calls, writer.calls, writer.taken.as_slice()) == due
 }
 
 /// Whether a run over such devices leaves what is due of it.

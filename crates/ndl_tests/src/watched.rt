@@ -1,6 +1,7 @@
-//! Each rule of what a failure is, by an example.
+//! Each rule of what a failure is, of where an input ends, and of which calls come late, by an example.
 use crate::fakes::{FakeReader, FakeWriter, Fault};
 use ndl_session::Watched;
+use std::alloc::Global;
 use std::io::{ErrorKind, Read, Write};
 use std::process::Abort;
 
@@ -90,5 +91,41 @@ fn an_error_at_an_empty_piece_is_a_failure(rt: HostRuntime) {
 fn a_flush_is_handed_on_and_is_no_failure(rt: HostRuntime) {
     let mut writer = Watched::new(FakeWriter::new(rt.alloc(), 1, None));
     let is_refused = writer.flush().is_err();
-    assert!(rt; is_refused && !writer.failed() && writer.into_inner().calls == 1);
+    assert!(rt; is_refused && !writer.failed() && !writer.used_late());
+    assert!(rt; writer.into_inner().calls == 1);
+}
+
+#[test]
+fn a_read_after_a_failure_comes_late(rt: HostRuntime) {
+    let mut reader = Watched::new(FakeReader::new(b"abc", 1, Some((1, BROKEN))));
+    let _given = outcome_of_read(&mut reader);
+    assert!(rt; outcome_of_read(&mut reader) == (None, true) && !reader.used_late());
+    assert!(rt; outcome_of_read(&mut reader) == (Some(1), true) && reader.used_late());
+    assert!(rt; !reader.ended());
+}
+
+#[test]
+fn a_read_after_the_end_comes_late(rt: HostRuntime) {
+    let mut reader = Watched::new(b"a".as_slice());
+    assert!(rt; reader.read(&mut []).ok() == Some(0) && !reader.ended());
+    assert!(rt; outcome_of_read(&mut reader) == (Some(1), false) && !reader.ended());
+    assert!(rt; outcome_of_read(&mut reader) == (Some(0), false) && reader.ended());
+    assert!(rt; !reader.used_late());
+    assert!(rt; outcome_of_read(&mut reader) == (Some(0), false) && reader.used_late());
+}
+
+/// A writer whose first write has failed.
+fn failed_writer(alloc: Global) -> Watched<FakeWriter> {
+    let mut writer = Watched::new(FakeWriter::new(alloc, 1, Some((0, BROKEN))));
+    let _moved = outcome_of_write(&mut writer, b"a");
+    writer
+}
+
+#[test]
+fn a_write_and_a_flush_after_a_failure_come_late(rt: HostRuntime) {
+    let mut writer = failed_writer(rt.alloc());
+    assert!(rt; writer.failed() && !writer.used_late());
+    assert!(rt; outcome_of_write(&mut writer, b"a") == (Some(1), true) && writer.used_late());
+    let mut flushed = failed_writer(rt.alloc());
+    assert!(rt; flushed.flush().is_err() && flushed.used_late());
 }

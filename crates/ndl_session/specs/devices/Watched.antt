@@ -1,5 +1,5 @@
--- What a clause reads of a watched device, and which writes fail.
-use Rattle.std.specs.Prelude.{◌≡◌, ℕ, Bool, true, false, not, ◌==◌, ◌&&◌, List, [], length, Ok, Err, Result, codes, refl}
+-- What a clause reads of a watched device, which writes fail, which reads find the end, and which calls come late.
+use Rattle.std.specs.Prelude.{◌≡◌, ℕ, Bool, true, false, not, ◌==◌, ◌&&◌, ◌||◌, List, [], length, Ok, Err, Result, codes, refl}
 use Rattle.ndl_session.specs.declared.devices.watched.Watched.{Watched}
 
 -- the device that is watched
@@ -10,6 +10,27 @@ device w = w.inner
 abbrev pub has_failed : {T : Type 0} → Watched T → Bool
 has_failed w = w.failed
 
+-- whether a read of the device has found the end of its input so far
+abbrev pub has_ended : {T : Type 0} → Watched T → Bool
+has_ended w = w.ended
+
+-- whether a call of the device came late so far
+abbrev pub was_used_late : {T : Type 0} → Watched T → Bool
+was_used_late w = w.used_late
+
+-- a read comes late after a failure, and after the end of the input
+abbrev pub is_late_read : {T : Type 0} → Watched T → Bool
+is_late_read w = has_failed w || has_ended w
+
+-- a write, and a flush, come late after a failure
+abbrev pub is_late_write : {T : Type 0} → Watched T → Bool
+is_late_write w = has_failed w
+
+-- a read finds the end of the input where it gives no byte to a buffer that has room
+abbrev pub is_end : {E : Type 0} → Result ℕ E → List ℕ → Bool
+is_end (Ok given) buffer = (given == 0) && not (length buffer == 0)
+is_end (Err e) buffer = false
+
 -- a write fails where it answers an error, and where it takes no byte of a piece that has some
 abbrev pub is_failed_write : {E : Type 0} → Result ℕ E → List ℕ → Bool
 is_failed_write (Ok taken) piece = (taken == 0) && not (length piece == 0)
@@ -17,13 +38,43 @@ is_failed_write (Err e) piece = true
 
 -- examples, where a number stands for a device and for an error
 abbrev after_failure : Watched ℕ
-after_failure = record { inner = 7; failed = true }
+after_failure = record { inner = 7; failed = true; ended = false; used_late = false }
+
+abbrev after_end : Watched ℕ
+after_end = record { inner = 7; failed = false; ended = true; used_late = false }
 
 device_seven : device after_failure ≡ 7
 device_seven = refl
 
 failure_is_kept : has_failed after_failure ≡ true
 failure_is_kept = refl
+
+end_is_kept : has_ended after_end ≡ true
+end_is_kept = refl
+
+not_used_late_yet : was_used_late after_end ≡ false
+not_used_late_yet = refl
+
+read_after_failure : is_late_read after_failure ≡ true
+read_after_failure = refl
+
+write_after_failure : is_late_write after_failure ≡ true
+write_after_failure = refl
+
+read_after_end : is_late_read after_end ≡ true
+read_after_end = refl
+
+write_after_end : is_late_write after_end ≡ false
+write_after_end = refl
+
+no_byte_given : is_end {E = ℕ} (Ok 0) (codes "ab") ≡ true
+no_byte_given = refl
+
+no_byte_to_no_room : is_end {E = ℕ} (Ok 0) [] ≡ false
+no_byte_to_no_room = refl
+
+error_is_no_end : is_end {E = ℕ} (Err 5) (codes "ab") ≡ false
+error_is_no_end = refl
 
 one_byte_taken : is_failed_write {E = ℕ} (Ok 1) (codes "ab") ≡ false
 one_byte_taken = refl

@@ -2,12 +2,13 @@
 //!
 //! `Read` and `Write` are not in scope here: devices are read and written by `read_whole` and
 //! `write_whole` alone, which require that no call before them failed.
-ghost use Rattle.std.specs.Prelude.{◌≡◌, ◌≢◌, ◌≤◌, ◌↔◌, ◌⊎◌, true, false, Err, IfOk, IfSome, IsTrue, OnOk};
+ghost use Rattle.std.specs.Prelude.{◌≡◌, ◌≢◌, ◌≤◌, ◌↔◌, ◌⊎◌, ℕ, List, true, false, Err, IfOk, IsTrue, OnOk};
 ghost use Rattle.std.specs.Io.KnownBytes.{Appends, IsAtEnd};
 ghost use Rattle.ndl_session.specs.Answer.{answer_of, IsReply};
 ghost use Rattle.ndl_session.specs.devices.Whole.{AppendsBeginning};
-ghost use Rattle.ndl_session.specs.devices.Session.{input_failed_text, out_of_memory_text, AppendsAnswerBeginning};
-ghost use Rattle.ndl_session.specs.devices.Watched.{device, has_failed};
+ghost use Rattle.ndl_session.specs.devices.Session.{AppendsAnswer, AppendsAnswerBeginning, IsInput};
+ghost use Rattle.ndl_session.specs.devices.Session.{input_failed_text, out_of_memory_text};
+ghost use Rattle.ndl_session.specs.devices.Watched.{device, has_ended, has_failed, was_used_late};
 
 use crate::answer::{Answer, answer_to};
 use crate::devices::watched::Watched;
@@ -37,6 +38,9 @@ const DEVICE_FAILED: u8 = 4;
 /// read fails and an allocation does, for the input or for the answer, the whole text is `out of
 /// memory` and a line feed, and the status is 3. Where a write fails or takes no byte, a beginning of
 /// that text has gone out, nothing more is written, and the status is 4.
+///
+/// Nothing is read after a failed read or after the end of the input, and nothing is written or flushed
+/// after a failed write. Of a reader that tells no bytes, the answer is that to some input.
 pub fn session<R: io::Read, W: io::Write>(
     alloc: Global,
     reader: &mut Watched<R>,
@@ -50,13 +54,18 @@ pub fn session<R: io::Read, W: io::Write>(
     ensures failed { (result ≡ 4)
         ↔ (IsTrue (has_failed reader.new) ⊎ IsTrue (has_failed writer.new)) }
 
+    // Neither device is used late.
+    ensures reader_late { has_ended reader.old ≡ false
+        → was_used_late reader.new ≡ was_used_late reader.old }
+    ensures writer_late { was_used_late writer.new ≡ was_used_late writer.old }
+
     // Where nothing fails.
     ensures answered { result ≢ 3 → result ≢ 4
-        → IfSome (R.remaining (device reader.old)) (λ input.
-        Appends (W.contents (device writer.old)) (W.contents (device writer.new))
-        (answer_of input).text × (result ≡ (answer_of input).status)) }
+        → AppendsAnswer (W.contents (device writer.old)) (W.contents (device writer.new))
+        (R.remaining (device reader.old)) result }
     ensures read { result ≢ 3 → result ≢ 4
         → IsAtEnd (R.remaining (device reader.new)) }
+    ensures ended { result ≢ 3 → result ≢ 4 → has_ended reader.new ≡ true }
 
     // Where an allocation or a read fails, and no write does.
     ensures memory { result ≡ 3 → Appends (W.contents (device writer.old))
@@ -94,11 +103,14 @@ pub fn session<R: io::Read, W: io::Write>(
 /// The answer to all the bytes that are left to read.
 fn answer_input<R: io::Read>(alloc: Global, reader: &mut Watched<R>) -> Result<Answer, InputError>
     requires { has_failed reader.old ≡ false }
-    ensures answer { IfOk result (λ answer. IfSome (R.remaining (device reader.old)) (λ input.
-        IsReply answer (answer_of input))) }
+    ensures answer { IfOk result (λ answer. (input : List ℕ)
+        × IsInput (R.remaining (device reader.old)) input × IsReply answer (answer_of input)) }
     ensures small { IfOk result (λ answer. answer.status ≤ 2) }
     ensures end { OnOk result (IsAtEnd (R.remaining (device reader.new))) }
     ensures failed { IsTrue (has_failed reader.new) ↔ (result ≡ Err InputError.ReadFailed) }
+    ensures ended { OnOk result (has_ended reader.new ≡ true) }
+    ensures late { has_ended reader.old ≡ false
+        → was_used_late reader.new ≡ was_used_late reader.old }
 {
     let input = read_whole(alloc, reader)?;
     Ok(answer_to(alloc, &input)?)

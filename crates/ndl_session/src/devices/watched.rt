@@ -1,4 +1,4 @@
-//! A reader or a writer that remembers whether one of its calls has failed.
+//! A reader or a writer that remembers whether one of its calls has failed, found the end, or came late.
 ghost use Rattle.std.specs.Prelude.{◌≡◌, ◌||◌, false, is_err};
 ghost use Rattle.std.specs.Io.{ReadsAtMost, WritesAtMost};
 ghost use Rattle.std.specs.Io.KnownBytes.{Keeps, ReadConsumes, WriteAppends};
@@ -11,23 +11,32 @@ use std::io::{Read, Write};
 /// It has failed from the first `read` or `write` that returned an error, an interrupted one too,
 /// or the first `write` that took no byte of a piece that has some, and from nothing else: a `read`
 /// of 0 bytes is the end of the input, and `flush` only calls the device's. Once failed it stays failed.
+///
+/// Its input has ended from the first `read` that gave 0 bytes to a buffer that has room. It was used late
+/// where it was read after a failure or after that end, or written or flushed after a failure.
 #[derive(Debug, Drop)]
 pub struct Watched<T> {
     inner: T,
     failed: bool,
+    ended: bool,
+    used_late: bool,
 }
 
 impl<T> Watched<T> {
-    ghost use Rattle.ndl_session.specs.devices.Watched.{device, has_failed};
+    ghost use Rattle.ndl_session.specs.devices.Watched.{device, has_failed, has_ended, was_used_late};
 
-    /// The device, none of whose calls counts as failed yet.
+    /// The device, none of whose calls counts as failed yet, as the end of the input, or as late.
     pub fn new(inner: T) -> Self
         ensures device { device result ≡ inner }
         ensures failed { has_failed result ≡ false }
+        ensures ended { has_ended result ≡ false }
+        ensures late { was_used_late result ≡ false }
     {
         Watched {
             inner,
             failed: false,
+            ended: false,
+            used_late: false,
         }
     }
 
@@ -36,6 +45,21 @@ impl<T> Watched<T> {
         ensures { result ≡ has_failed self.now }
     {
         self.failed
+    }
+
+    /// Whether one of the reads so far has found the end of the input.
+    pub fn ended(&self) -> bool
+        ensures { result ≡ has_ended self.now }
+    {
+        self.ended
+    }
+
+    /// Whether one of the calls so far came late: a read after a failure or after the end of the
+    /// input, a write or a flush after a failure.
+    pub fn used_late(&self) -> bool
+        ensures { result ≡ was_used_late self.now }
+    {
+        self.used_late
     }
 
     /// The device, as its last call left it.
@@ -47,7 +71,7 @@ impl<T> Watched<T> {
 }
 
 impl<R: Read> Watched<R> {
-    ghost use Rattle.ndl_session.specs.devices.Watched.{device, has_failed};
+    ghost use Rattle.ndl_session.specs.devices.Watched.{device, has_failed, has_ended, is_end, was_used_late};
 
     /// Reads as the device does. The caller ensures that no read or write of it has failed before.
     ///
@@ -58,13 +82,15 @@ impl<R: Read> Watched<R> {
         ensures bytes { ReadConsumes (R.remaining (device self.old))
             (R.remaining (device self.new)) result buf.new }
         ensures failed { has_failed self.new ≡ is_err result }
+        ensures ended { has_ended self.new ≡ (has_ended self.old || is_end result buf.new) }
+        ensures late { has_ended self.old ≡ false → was_used_late self.new ≡ was_used_late self.old }
     {
         self.read(buf)
     }
 }
 
 impl<W: Write> Watched<W> {
-    ghost use Rattle.ndl_session.specs.devices.Watched.{device, has_failed, is_failed_write};
+    ghost use Rattle.ndl_session.specs.devices.Watched.{device, has_failed, is_failed_write, was_used_late};
 
     /// Writes as the device does. The caller ensures that no read or write of it has failed before.
     ///
@@ -76,13 +102,15 @@ impl<W: Write> Watched<W> {
         ensures bytes { WriteAppends (W.contents (device self.old))
             (W.contents (device self.new)) result buf.now }
         ensures failed { has_failed self.new ≡ is_failed_write result buf.now }
+        ensures late { was_used_late self.new ≡ was_used_late self.old }
     {
         self.write(buf)
     }
 }
 
 impl<R: Read> Read for Watched<R> {
-    ghost use Rattle.ndl_session.specs.devices.Watched.{device, has_failed};
+    ghost use Rattle.ndl_session.specs.devices.Watched.{device, has_failed, has_ended, was_used_late};
+    ghost use Rattle.ndl_session.specs.devices.Watched.{is_end, is_late_read};
 
     ghost remaining = { λ w. R.remaining (device w) };
 
@@ -91,15 +119,24 @@ impl<R: Read> Read for Watched<R> {
         ensures bytes { ReadConsumes (R.remaining (device self.old))
             (R.remaining (device self.new)) result buf.new }
         ensures failed { has_failed self.new ≡ (has_failed self.old || is_err result) }
+        ensures ended { has_ended self.new ≡ (has_ended self.old || is_end result buf.new) }
+        ensures late { was_used_late self.new ≡ (was_used_late self.old || is_late_read self.old) }
     {
+        self.used_late = self.used_late || self.failed || self.ended;
         let outcome = self.inner.read(buf);
+        let is_end = match &outcome {
+            Ok(given) => *given == 0 && !buf.is_empty(),
+            Err(_) => false,
+        };
         self.failed = self.failed || outcome.is_err();
+        self.ended = self.ended || is_end;
         outcome
     }
 }
 
 impl<W: Write> Write for Watched<W> {
-    ghost use Rattle.ndl_session.specs.devices.Watched.{device, has_failed, is_failed_write};
+    ghost use Rattle.ndl_session.specs.devices.Watched.{device, has_failed, has_ended, was_used_late};
+    ghost use Rattle.ndl_session.specs.devices.Watched.{is_failed_write, is_late_write};
 
     ghost contents = { λ w. W.contents (device w) };
 
@@ -109,7 +146,10 @@ impl<W: Write> Write for Watched<W> {
             (W.contents (device self.new)) result buf.now }
         ensures failed { has_failed self.new
             ≡ (has_failed self.old || is_failed_write result buf.now) }
+        ensures ended { has_ended self.new ≡ has_ended self.old }
+        ensures late { was_used_late self.new ≡ (was_used_late self.old || is_late_write self.old) }
     {
+        self.used_late = self.used_late || self.failed;
         let outcome = self.inner.write(buf);
         let is_failed = match &outcome {
             Ok(taken) => *taken == 0 && !buf.is_empty(),
@@ -122,7 +162,10 @@ impl<W: Write> Write for Watched<W> {
     fn flush(&mut self) -> io::Result<()>
         ensures bytes { Keeps (W.contents (device self.old)) (W.contents (device self.new)) }
         ensures failed { has_failed self.new ≡ has_failed self.old }
+        ensures ended { has_ended self.new ≡ has_ended self.old }
+        ensures late { was_used_late self.new ≡ (was_used_late self.old || is_late_write self.old) }
     {
+        self.used_late = self.used_late || self.failed;
         self.inner.flush()
     }
 }

@@ -5,7 +5,7 @@
 ghost use Rattle.std.specs.Prelude.{◌≡◌, ◌↔◌, true, false, Err, IfOk, IfSome, IsTrue, OnOk};
 ghost use Rattle.std.specs.Io.KnownBytes.{Appends, IsAtEnd};
 ghost use Rattle.ndl_session.specs.devices.Whole.{AppendsBeginning};
-ghost use Rattle.ndl_session.specs.devices.Watched.{device, has_failed};
+ghost use Rattle.ndl_session.specs.devices.Watched.{device, has_ended, has_failed, was_used_late};
 ghost use Rattle.ndl_session.specs.declared.devices.whole.InputError.TheVariants.{ReadFailed, OutOfMemory};
 
 use crate::devices::watched::Watched;
@@ -45,7 +45,7 @@ const PIECE_LEN: usize = 8192;
 /// The caller ensures that no read or write of the device has failed before.
 ///
 /// Errors: `ReadFailed` at the first read that fails, an interrupted one too; `OutOfMemory` where the
-/// bytes read so far do not fit into memory. Nothing more is read then.
+/// bytes read so far do not fit into memory. Nothing more is read then, nor after the end.
 pub(super) fn read_whole<R: io::Read>(
     alloc: Global,
     reader: &mut Watched<R>,
@@ -55,6 +55,9 @@ pub(super) fn read_whole<R: io::Read>(
         (λ all. bytes.items ≡ all)) }
     ensures end { OnOk result (IsAtEnd (R.remaining (device reader.new))) }
     ensures failed { IsTrue (has_failed reader.new) ↔ (result ≡ Err InputError.ReadFailed) }
+    ensures ended { OnOk result (has_ended reader.new ≡ true) }
+    ensures late { has_ended reader.old ≡ false
+        → was_used_late reader.new ≡ was_used_late reader.old }
 {
     let mut bytes = Vec::new(alloc);
     let mut piece = [0u8; PIECE_LEN];
@@ -78,6 +81,7 @@ pub(super) fn write_whole<W: io::Write>(writer: &mut Watched<W>, text: &[u8])
         (W.contents (device writer.new)) text.now }
     ensures cut { has_failed writer.new ≡ true → AppendsBeginning
         (W.contents (device writer.old)) (W.contents (device writer.new)) text.now }
+    ensures late { was_used_late writer.new ≡ was_used_late writer.old }
 {
     let mut written = 0;
     while written < text.len() {
