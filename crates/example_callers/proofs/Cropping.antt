@@ -6,7 +6,7 @@ use Rattle.ndarray_layout.specs.declared.LayoutError.{LayoutError}
 use Rattle.ndarray_layout.specs.declared.SliceInfoElem.{SliceInfoElem}
 use Rattle.ndarray_layout.specs.ArgumentFault.{in_count}
 use Rattle.ndarray_layout.specs.Indices.{is_index}
-use Rattle.ndarray_layout.specs.KeepsPlaces.{KeepsPlaces}
+use Rattle.ndarray_layout.specs.Descends.{Descends}
 use Rattle.ndarray_layout.specs.Picks.{picks, slice_with}
 use Rattle.ndarray_layout.specs.Selected.{selected}
 use Rattle.ndarray_layout.specs.ShapeFault.{shape_fault}
@@ -18,14 +18,14 @@ use Rattle.ndarray_layout.proofs.laws.SlicedView.{fits_of_no_refusal}
 use Rattle.ndarray_layout.proofs.laws.UnitStep.{length-picks_by_one, ranges, selected_by_ranges}
 
 pub place_in_crop : (view : View) (elems : List SliceInfoElem) (top left : ℕ) (bottom right : Option ℤ) (made : Result View LayoutError) → elems ≡ ranges (top ∷ left ∷ []) (bottom ∷ right ∷ [])
-    → IfOk made (λ crop. crop ≡ slice_of Strict elems view) → IfOk made (λ crop. KeepsPlaces (selected Strict elems view.shape) view crop)
+    → IfOk made (λ crop. crop ≡ slice_of Strict elems view) → IfOk made (λ crop. Descends (selected Strict elems view.shape) view crop)
     → IfOk made (λ crop. (i j : ℕ) → IsTrue (is_index crop.shape (i ∷ j ∷ [])) → place_at crop (i ∷ j ∷ []) ≡ place_at view ((top + i) ∷ (left + j) ∷ []))
-place_in_crop view elems top left bottom right (Ok crop) are is keeps = λ i j here.
+place_in_crop view elems top left bottom right (Ok crop) are is kept = λ i j here.
     let of_slice = rw (is, are) at here in
-    (keeps (i ∷ j ∷ []) here).1
+    (kept.places (i ∷ j ∷ []) here).1
     ∙ ap (λ all. place_at view (selected Strict all view.shape (i ∷ j ∷ []))) are
     ∙ ap (place_at view) (selected_by_ranges Strict (top ∷ left ∷ []) (bottom ∷ right ∷ []) view.shape (i ∷ j ∷ []) of_slice)
-place_in_crop view elems top left bottom right (Err e) are is keeps = tt
+place_in_crop view elems top left bottom right (Err e) are is kept = tt
 
 -- two elements for two axes
 sizes : (top bottom left right : ℕ) (shape : List ℕ) → 2 ≡ length shape → sliced_shape Strict (ranges (top ∷ left ∷ []) (Some (pos bottom) ∷ Some (pos right) ∷ [])) shape ≡ (bottom - top) ∷ (right - left) ∷ []

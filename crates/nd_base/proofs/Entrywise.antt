@@ -42,8 +42,7 @@ module _ (R : ℕ → ℕ → Type 0) (f : ℕ → ℕ → ℕ) (xs ys zs : List
   pub combined_read : n < length ys → R (get_or zs n 0) (get_or ys n 0)
   combined_read h =
       let long : length xs ≡ length ys = length_all_zip R xs ys r in
-      let same : get_or zs n 0 ≡ get_or xs n 0 =
-      ap (λ l. get_or l n 0) e ∙ next_of_combined f n xs ys 0 in
+      let same = ap (λ l. get_or l n 0) e ∙ next_of_combined f n xs ys 0 in
       subst (λ x. R x (get_or ys n 0)) (sym same) (AllZip-get_or R xs ys n 0 0 r (omega arith))
 
   -- a turn of the loop

@@ -1,5 +1,6 @@
 -- Facts about the offsets of indices: which lists are indices, how far they lie, and a sum of offsets from an axis on.
-use Rattle.std.proofs.Common.{inl, inr, min, ◌≡◌, ℕ, suc, ◌+◌, ◌-◌, ◌*◌, ◌<◌, ◌≤◌, ℤ, pos, negsuc, neg_ℤ, ◌+ℤ◌, ◌*ℤ◌, ◌≤ℤ◌, false, Option, Some, None, List, [], ◌∷◌, length, drop, get_or, refl, ap, ◌∙◌, arith, add-one, drop-cons}
+use Rattle.std.proofs.Common.{inl, inr, min, ◌≡◌, ℕ, suc, ◌+◌, ◌-◌, ◌*◌, ◌<◌, ◌≤◌, ℤ, pos, negsuc, neg_ℤ, ◌+ℤ◌, ◌*ℤ◌, ◌≤ℤ◌, false}
+use Rattle.std.proofs.Common.{Option, Some, None, List, [], ◌∷◌, length, drop, get_or, refl, ap, ◌∙◌, arith, add-one, drop-cons}
 use Rattle.std.specs.Prelude.{nat_lt}
 use Rattle.std.proofs.lemmas.Bool.{and_right, cases_Bool, cases_lt}
 use Rattle.std.proofs.lemmas.Int.{ints}
@@ -23,10 +24,12 @@ pub is_index_of_count : (shape index : List ℕ) → (length shape ≡ length in
 is_index_of_count [] [] ne = absurd (ne refl)
 is_index_of_count [] (i ∷ index) ne = refl
 is_index_of_count (len ∷ shape) [] ne = refl
-is_index_of_count (len ∷ shape) (i ∷ index) ne = and_right (nat_lt i len) (is_index shape index) (is_index_of_count shape index (λ e. ne (omega arith)))
+is_index_of_count (len ∷ shape) (i ∷ index) ne =
+    and_right (nat_lt i len) (is_index shape index) (is_index_of_count shape index (λ e. ne (omega arith)))
 
 -- nor is one with an entry past the end of its axis
-pub is_index_of_entry : (shape index : List ℕ) (axis : ℕ) → axis < length shape → get_or shape axis 0 ≤ get_or index axis 0 → is_index shape index ≡ false
+pub is_index_of_entry : (shape index : List ℕ) (axis : ℕ) → axis < length shape → get_or shape axis 0 ≤ get_or index axis 0
+    → is_index shape index ≡ false
 is_index_of_entry shape index axis l past = elim (cases_Bool (is_index shape index)) [
   | inl here ↦ absurd (omega (arith, entry_of_index shape index axis here l))
   | inr none ↦ none
@@ -37,7 +40,8 @@ abbrev pub entry_offset : ℕ → ℤ → ℕ
 entry_offset entry stride = entry * magnitude stride
 
 -- an entry's offset is that far on one side or the other
-pub entry_offset_bounds : (entry : ℕ) (stride : ℤ) → (neg_ℤ (pos (entry_offset entry stride)) ≤ℤ (pos entry *ℤ stride)) × ((pos entry *ℤ stride) ≤ℤ pos (entry_offset entry stride))
+pub entry_offset_bounds : (entry : ℕ) (stride : ℤ)
+    → (neg_ℤ (pos (entry_offset entry stride)) ≤ℤ (pos entry *ℤ stride)) × ((pos entry *ℤ stride) ≤ℤ pos (entry_offset entry stride))
 entry_offset_bounds entry (pos s) = (omega (arith, ints), omega (arith, ints))
 entry_offset_bounds entry (negsuc s) = (omega (arith, ints), omega (arith, ints))
 
@@ -49,7 +53,8 @@ entry_offset_le len entry stride h = mul-le entry (magnitude stride) (len - 1) (
 abbrev pub offset_from : List ℕ → List ℕ → ℕ → ℤ
 offset_from strides index k = offset_of (all_signed (drop k strides)) (drop k index)
 
-pub offset_from_step : (strides index : List ℕ) (k : ℕ) → k < length index → k < length strides → offset_from strides index k ≡ (pos (get_or index k 0) *ℤ signed (get_or strides k 0)) +ℤ offset_from strides index (k + 1)
+pub offset_from_step : (strides index : List ℕ) (k : ℕ) → k < length index → k < length strides
+    → offset_from strides index k ≡ (pos (get_or index k 0) *ℤ signed (get_or strides k 0)) +ℤ offset_from strides index (k + 1)
 offset_from_step strides index k h g =
     rw add-one (
     ap (λ s. offset_of (all_signed (drop k strides)) s) (drop-cons index k 0 h)
@@ -89,7 +94,8 @@ module _
 
   -- how far that entry lies, and how far those after it can
   pub far_at_turn : (p : Bor ℕ × Bor ℕ) → r ≡ Some p → zips fronts fronts t r u
-      → sum_from entry_offset index strides (length xs) ≡ entry_offset p.0.now (signed p.1.now) + sum_from entry_offset index strides (length xs + 1)
+      → sum_from entry_offset index strides (length xs)
+      ≡ entry_offset p.0.now (signed p.1.now) + sum_from entry_offset index strides (length xs + 1)
   far_at_turn p e h =
       let turn = zip_turn index strides xs s t u r first second y p e h in
       let step = sum_from_step entry_offset index strides (length xs) turn.0 turn.1 in

@@ -17,7 +17,8 @@ pub trait Arithmetic: Lengths
     + SubAssign
     + MulAssign {
     // Lists of one count are added where the sums fit,
-    ghost can_add_fitting: { (d e : Self) → SumsFit (Self.list d) (Self.list e) → Self.can_add d e };
+    ghost can_add_fitting: { (d e : Self) → SumsFit (Self.list d) (Self.list e)
+        → Self.can_add d e };
 
     // and the result is the list of sums.
     ghost add_gives_sums: { (d e r : Self) → Self.add_gives d e r

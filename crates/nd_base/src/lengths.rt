@@ -40,7 +40,8 @@ pub trait Lengths: FixedCount + Eq + Debug + IndexMut<usize, Output = usize> + D
 
     /// The lengths, to be written; their count stays. ndarray's `slice_mut`.
     fn slice_mut(&mut self) -> &mut [usize]
-        ensures* writes_back { sem 𝓛 (Lends Self.row (Array word 0) self.entry result (with_list self.old)) }
+        ensures* writes_back { sem 𝓛
+            (Lends Self.row (Array word 0) self.entry result (with_list self.old)) }
         ensures list { result.now ≡ list self.old };
 
     /// Whether both stand for one list. ndarray's `equal`.
@@ -70,11 +71,13 @@ pub trait Lengths: FixedCount + Eq + Debug + IndexMut<usize, Output = usize> + D
     ghost eq_of_lists: { (d e : Self) → Decides (Self.PartialEq.eq d e) (list d ≡ list e) };
 
     // Lists of one count replace one another.
-    ghost list_of_with_list: { (d : Self) (xs : List ℕ) → length xs ≡ length (list d) → list (with_list d xs) ≡ xs };
+    ghost list_of_with_list: { (d : Self) (xs : List ℕ) → length xs ≡ length (list d)
+        → list (with_list d xs) ≡ xs };
 
     // Each axis can be indexed,
     ghost can_index_below: { (d : Self) (i : ℕ) → i < length (list d) → Self.can_index d i };
 
     // and shows its length.
-    ghost index_is: { (d : Self) (i v : ℕ) → Self.index_gives d i v → slice_get (list d) i ≡ Some v };
+    ghost index_is: { (d : Self) (i v : ℕ) → Self.index_gives d i v
+        → slice_get (list d) i ≡ Some v };
 }

@@ -61,7 +61,8 @@ impl<I: Numbers> Add for Dim<I> {
 }
 
 impl<I: Numbers> SubAssign<&Dim<I>> for Dim<I> {
-    ghost can_sub_assign = { λ dim others. DifferencesFit (I.list (kept dim)) (I.list (kept others.now)) };
+    ghost can_sub_assign = { λ dim others.
+        DifferencesFit (I.list (kept dim)) (I.list (kept others.now)) };
 
     ghost sub_assign_gives = { λ dim others result.
         I.list (kept result) ≡ differences (I.list (kept dim)) (I.list (kept others.now)) };
@@ -72,7 +73,8 @@ impl<I: Numbers> SubAssign<&Dim<I>> for Dim<I> {
 }
 
 impl<I: Numbers> SubAssign for Dim<I> {
-    ghost can_sub_assign = { λ dim others. DifferencesFit (I.list (kept dim)) (I.list (kept others)) };
+    ghost can_sub_assign = { λ dim others.
+        DifferencesFit (I.list (kept dim)) (I.list (kept others)) };
 
     ghost sub_assign_gives = { λ dim others result.
         I.list (kept result) ≡ differences (I.list (kept dim)) (I.list (kept others)) };
@@ -97,7 +99,8 @@ impl<I: Numbers> Sub for Dim<I> {
 }
 
 impl<I: Numbers> MulAssign<&Dim<I>> for Dim<I> {
-    ghost can_mul_assign = { λ dim others. ProductsFit (I.list (kept dim)) (I.list (kept others.now)) };
+    ghost can_mul_assign = { λ dim others.
+        ProductsFit (I.list (kept dim)) (I.list (kept others.now)) };
 
     ghost mul_assign_gives = { λ dim others result.
         I.list (kept result) ≡ products (I.list (kept dim)) (I.list (kept others.now)) };

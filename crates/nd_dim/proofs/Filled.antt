@@ -1,5 +1,6 @@
 -- Layouts that lie at the distances 0, 1 and so on below their size, whatever the signs of the strides.
-use Rattle.std.proofs.Common.{◌≡◌, ◌⊎◌, ℕ, zero, suc, ◌+◌, ◌*◌, ◌/◌, ◌%◌, ◌<◌, ℤ, true, List, [], ◌∷◌, length, get_or, set, replicate, refl, sym, ap, ◌∙◌, arith, get_or-set_same, inl, inr, subst}
+use Rattle.std.proofs.Common.{◌≡◌, ◌⊎◌, ℕ, zero, suc, ◌+◌, ◌*◌, ◌/◌, ◌%◌, ◌<◌, ℤ, true, List, [], ◌∷◌, length, get_or, set, replicate}
+use Rattle.std.proofs.Common.{refl, sym, ap, ◌∙◌, arith, get_or-set_same, inl, inr, subst}
 use Rattle.std.proofs.lemmas.List.{ext_get_or, get_or-replicate, length-replicate, length-set, set-get_or, set-set}
 use Rattle.std.proofs.lemmas.Nat.{div_below, div-add-mod', div-mul-add, mod_below, mod-mul-add, mul-add-lt}
 use Rattle.nd_base.proofs.laws.Definitions.{is_index, farthest_offset, size}
@@ -11,7 +12,8 @@ use Rattle.nd_dim.specs.AxisOrder.{magnitude_at}
 -- each number below the size is how far one index lies, and no other
 pub record ReachesEach (shape : List ℕ) (strides : List ℤ) : Type 0 where
   pub filled : (k : ℕ) → k < size shape → (index : List ℕ) × (is_index shape index ≡ true) × (farthest_offset strides index ≡ k)
-  pub distinct : (index other : List ℕ) → is_index shape index ≡ true → is_index shape other ≡ true → farthest_offset strides index ≡ farthest_offset strides other → index ≡ other
+  pub distinct : (index other : List ℕ) → is_index shape index ≡ true → is_index shape other ≡ true
+      → farthest_offset strides index ≡ farthest_offset strides other → index ≡ other
 
 -- and no index lies farther
 pub record Fills (shape : List ℕ) (strides : List ℤ) : Type 0 where
@@ -21,11 +23,11 @@ pub record Fills (shape : List ℕ) (strides : List ℤ) : Type 0 where
 -- ---- axes of one entry
 ones_index : (n : ℕ) (index : List ℕ) → is_index (replicate n 1) index ≡ true → index ≡ replicate n 0
 ones_index n index h =
-    let count : length index ≡ n = length_of_index (replicate n 1) index h ∙ length-replicate {A = ℕ} n 1 in
+    let count = length_of_index (replicate n 1) index h ∙ length-replicate {A = ℕ} n 1 in
     ext_get_or 0 index (replicate n 0) (count ∙ sym (length-replicate {A = ℕ} n 0)) (λ k l.
     let inside : k < length (replicate n 1) = omega (arith, length-replicate {A = ℕ} n 1) in
     let entry = entry_of_index (replicate n 1) index k h inside in
-    let one : get_or (replicate n 1) k 0 ≡ 1 = get_or-replicate {A = ℕ} n k 1 0 (omega arith) in
+    let one = get_or-replicate {A = ℕ} n k 1 0 (omega arith) in
     let none : get_or index k 0 ≡ 0 = omega arith in
     none ∙ sym (get_or-replicate {A = ℕ} n k 0 0 (omega arith)))
 
@@ -49,7 +51,7 @@ fills_ones n strides = record {
     distinct = λ index other h g e. ones_index n index h ∙ sym (ones_index n other g);
   };
   below = λ index h.
-      let here : farthest_offset strides index ≡ 0 = ap (farthest_offset strides) (ones_index n index h) ∙ farthest_offset-zeros strides n in
+      let here = ap (farthest_offset strides) (ones_index n index h) ∙ farthest_offset-zeros strides n in
       omega (arith, ones_size n);
 }
 
@@ -74,9 +76,10 @@ module _ {shape : List ℕ} {strides : List ℤ} {axis len : ℕ} (n : IsNext sh
       let longer = set shape axis len in
       let inside : axis < length shape = n.inside in
       let within : axis < length longer = omega (arith, n.inside, length-set shape axis len) in
-      let count : length index ≡ length shape = length_of_index longer index h ∙ length-set shape axis len in
-      let back : set longer axis 1 ≡ shape = set-set shape axis len 1 ∙ ap (set shape axis) (sym n.one) ∙ set-get_or shape axis 0 in
-      let moved = rw n.packed at (farthest_offset-set strides index axis 0 (omega (arith, count, n.count)) (omega (arith, count, n.inside))) in
+      let count = length_of_index longer index h ∙ length-set shape axis len in
+      let back = set-set shape axis len 1 ∙ ap (set shape axis) (sym n.one) ∙ set-get_or shape axis 0 in
+      let moved = rw n.packed at
+      (farthest_offset-set strides index axis 0 (omega (arith, count, n.count)) (omega (arith, count, n.inside))) in
       record {
         rest = ap (λ s. is_index s (set index axis 0)) (sym back) ∙ is_index-set longer index h axis 1 0 within (omega arith);
         entry = rw get_or-set_same at (entry_of_index longer index axis h within);
@@ -88,7 +91,8 @@ module _ {shape : List ℕ} {strides : List ℤ} {axis len : ℕ} (n : IsNext sh
   next_below index h =
       let parts = split index h in
       let least = set index axis 0 in
-      let room = mul-add-lt (get_or index axis 0) (size shape) (farthest_offset strides least) len parts.entry (n.fills.below least parts.rest) in
+      let room = mul-add-lt (get_or index axis 0) (size shape) (farthest_offset strides least) len parts.entry
+      (n.fills.below least parts.rest) in
       omega (arith, parts.sum, room, size-set shape axis len n.inside n.one)
 
   next_filled : 0 < size shape → (k : ℕ) → k < size (set shape axis len)
@@ -96,9 +100,9 @@ module _ {shape : List ℕ} {strides : List ℤ} {axis len : ℕ} (n : IsNext sh
   next_filled some k h =
       let within : k < len * size shape = omega (arith, h, size-set shape axis len n.inside n.one) in
       let q = k / size shape in
-      let whole : q * size shape + k % size shape ≡ k = div-add-mod' k (size shape) in
+      let whole = div-add-mod' k (size shape) in
       let found = n.fills.each.filled (k % size shape) (mod_below k (size shape) some) in
-      let same : length found.0 ≡ length shape = length_of_index shape found.0 found.1 in
+      let same = length_of_index shape found.0 found.1 in
       let none : get_or found.0 axis 0 ≡ 0 = omega (arith, n.one, entry_of_index shape found.0 axis found.1 n.inside) in
       let moved = rw (none, n.packed) at (farthest_offset-set strides found.0 axis q (same ∙ n.count) (omega (arith, same, n.inside))) in
       let entry : q < len = div_below k (size shape) len some within in
@@ -117,8 +121,8 @@ module _ {shape : List ℕ} {strides : List ℤ} {axis len : ℕ} (n : IsNext sh
       let low : a < p = n.fills.below (set index axis 0) one.rest in
       let near : b < p = n.fills.below (set other axis 0) two.rest in
       let sums : i * p + a ≡ j * p + b = omega (arith, one.sum, two.sum, e) in
-      let entries : i ≡ j = sym (div-mul-add i p a low) ∙ ap (λ z. z / p) sums ∙ div-mul-add j p b near in
-      let rests : a ≡ b = sym (mod-mul-add i p a low) ∙ ap (λ z. z % p) sums ∙ mod-mul-add j p b near in
+      let entries = sym (div-mul-add i p a low) ∙ ap (λ z. z / p) sums ∙ div-mul-add j p b near in
+      let rests = sym (mod-mul-add i p a low) ∙ ap (λ z. z % p) sums ∙ mod-mul-add j p b near in
       let same : set index axis 0 ≡ set other axis 0 = n.fills.each.distinct _ _ one.rest two.rest rests in
       sym (set-get_or index axis 0)
       ∙ sym (set-set index axis 0 i)
@@ -128,9 +132,11 @@ module _ {shape : List ℕ} {strides : List ℤ} {axis len : ℕ} (n : IsNext sh
       ∙ set-get_or other axis 0
 
 -- the stride of an axis is the size of the others, or it gets one entry: so the layout fills the new size
-pub fills_next : {shape : List ℕ} {strides : List ℤ} (axis : ℕ) {len : ℕ} → length shape ≡ length strides → axis < length shape → get_or shape axis 0 ≡ 1 → 0 < size shape → (len ≡ 1) ⊎ (magnitude_at strides axis ≡ size shape) → Fills shape strides → Fills (set shape axis len) strides
+pub fills_next : {shape : List ℕ} {strides : List ℤ} (axis : ℕ) {len : ℕ} → length shape ≡ length strides → axis < length shape
+    → get_or shape axis 0 ≡ 1 → 0 < size shape → (len ≡ 1) ⊎ (magnitude_at strides axis ≡ size shape) → Fills shape strides
+    → Fills (set shape axis len) strides
 fills_next {shape = shape} {strides = strides} axis {len = len} count inside one some (inl alone) fills =
-    let same : set shape axis len ≡ shape = ap (set shape axis) (alone ∙ sym one) ∙ set-get_or shape axis 0 in
+    let same = ap (set shape axis) (alone ∙ sym one) ∙ set-get_or shape axis 0 in
     let P : List ℕ → Type 0 = λ s. Fills s strides in
     subst P (sym same) fills
 fills_next {shape = shape} {strides = strides} axis {len = len} count inside one some (inr packed) fills =

@@ -1,5 +1,6 @@
 -- Tests of layouts, axis by axis.
-use Rattle.std.proofs.Common.{Fits, w64, ◌≡◌, ◌<◌, ◌≤◌, ◌^◌, ◌+◌, ◌*◌, ◌↔◌, ℕ, pos, Bool, true, false, List, [], ◌∷◌, ◌++◌, length, get_or, map, cond, refl, ap, sym, ◌∙◌, arith, mul-one}
+use Rattle.std.proofs.Common.{Fits, w64, ◌≡◌, ◌<◌, ◌≤◌, ◌^◌, ◌+◌, ◌*◌, ◌↔◌, ℕ, pos, Bool, true, false, List, [], ◌∷◌, ◌++◌, length}
+use Rattle.std.proofs.Common.{get_or, map, cond, refl, ap, sym, ◌∙◌, arith, mul-one}
 use Rattle.std.specs.List.{list_all, filter, slice_index}
 use Rattle.std.specs.Cmp.Rules.{signed_items}
 use Rattle.std.specs.Prelude.{IsTrue}
@@ -22,19 +23,20 @@ pub all_below : (p : ℕ → Bool) (n : ℕ) → ((k : ℕ) → k < n → p k �
 all_below p n h =
     list_all-from_AllPass p (below n) (λ k d g.
     let last : k < n = omega (arith, length-range_with_len 0 n) in
-    let same : get_or (below n) k d ≡ k = get_or-range_with_len 0 n k d last ∙ omega arith in
+    let same = get_or-range_with_len 0 n k d last ∙ omega arith in
     rw same (h k last))
 
 pub not_all_below : (p : ℕ → Bool) (n k : ℕ) → k < n → p k ≡ false → list_all p (below n) ≡ false
 not_all_below p n k h fails =
     false_from_ne_true (list_all p (below n)) (λ all.
     let within : k < length (below n) = omega (arith, length-range_with_len 0 n) in
-    let same : get_or (below n) k 0 ≡ k = get_or-range_with_len 0 n k 0 h ∙ omega arith in
+    let same = get_or-range_with_len 0 n k 0 h ∙ omega arith in
     let passes : p k ≡ true = rw same at (AllPass-from_list_all p (below n) all k 0 within) in
     both_ways (p k) fails passes)
 
 numbers_more : (n : ℕ) → below (n + 1) ≡ below n ++ n ∷ []
-numbers_more n = sym (map-id (below (n + 1))) ∙ map-range_with_len_more (λ k. k) 0 n n (omega arith) ∙ ap (λ xs. xs ++ n ∷ []) (map-id (below n))
+numbers_more n = sym (map-id (below (n + 1))) ∙ map-range_with_len_more (λ k. k) 0 n n (omega arith)
+    ∙ ap (λ xs. xs ++ n ∷ []) (map-id (below n))
 
 one_chosen : (b : Bool) (f : ℕ → ℕ) (n : ℕ) → size (map f (cond b (n ∷ []) [])) ≡ cond b (f n) 1
 one_chosen true f n = mul-one (f n)
@@ -42,7 +44,8 @@ one_chosen false f n = refl
 
 module _ (p : ℕ → Bool) (lens : List ℕ) (n : ℕ) where
   -- one number more: the chosen lengths gain that of its axis, or not
-  pub chosen_more : size (map (slice_index lens) (filter p (below (n + 1)))) ≡ size (map (slice_index lens) (filter p (below n))) * cond (p n) (get_or lens n 0) 1
+  pub chosen_more : size (map (slice_index lens) (filter p (below (n + 1))))
+      ≡ size (map (slice_index lens) (filter p (below n))) * cond (p n) (get_or lens n 0) 1
   chosen_more =
       ap (λ xs. size (map (slice_index lens) (filter p xs))) (numbers_more n)
       ∙ ap (λ xs. size (map (slice_index lens) xs)) (filter-append p (below n) (n ∷ []))
@@ -50,13 +53,19 @@ module _ (p : ℕ → Bool) (lens : List ℕ) (n : ℕ) where
       ∙ size-append (map (slice_index lens) (filter p (below n))) (map (slice_index lens) (cond (p n) (n ∷ []) []))
       ∙ ap (λ m. size (map (slice_index lens) (filter p (below n))) * m) (one_chosen (p n) (slice_index lens) n)
 
-  pub chosen_taken : (whole : ℕ) → p n ≡ true → whole ≡ size (map (slice_index lens) (filter p (below n))) → whole * get_or lens n 0 ≡ size (map (slice_index lens) (filter p (below (n + 1))))
+  pub chosen_taken : (whole : ℕ) → p n ≡ true → whole ≡ size (map (slice_index lens) (filter p (below n)))
+      → whole * get_or lens n 0 ≡ size (map (slice_index lens) (filter p (below (n + 1))))
   chosen_taken whole chosen e =
-      ap (λ w. w * get_or lens n 0) e ∙ ap (λ m. size (map (slice_index lens) (filter p (below n))) * m) (sym (cond-true (p n) (get_or lens n 0) 1 chosen)) ∙ sym (chosen_more)
+      ap (λ w. w * get_or lens n 0) e
+      ∙ ap (λ m. size (map (slice_index lens) (filter p (below n))) * m) (sym (cond-true (p n) (get_or lens n 0) 1 chosen))
+      ∙ sym chosen_more
 
-  pub chosen_left : (whole : ℕ) → p n ≡ false → whole ≡ size (map (slice_index lens) (filter p (below n))) → whole ≡ size (map (slice_index lens) (filter p (below (n + 1))))
+  pub chosen_left : (whole : ℕ) → p n ≡ false → whole ≡ size (map (slice_index lens) (filter p (below n)))
+      → whole ≡ size (map (slice_index lens) (filter p (below (n + 1))))
   chosen_left whole passed e =
-      e ∙ sym (mul-one (size (map (slice_index lens) (filter p (below n))))) ∙ ap (λ m. size (map (slice_index lens) (filter p (below n))) * m) (sym (cond-false (p n) (get_or lens n 0) 1 passed)) ∙ sym (chosen_more)
+      e ∙ sym (mul-one (size (map (slice_index lens) (filter p (below n)))))
+      ∙ ap (λ m. size (map (slice_index lens) (filter p (below n))) * m) (sym (cond-false (p n) (get_or lens n 0) 1 passed))
+      ∙ sym chosen_more
 
 small_from_signed : (m n : ℕ) → m < 2 ^ 64 → signed m ≡ pos n → m ≡ n
 small_from_signed m n h e = sym (of_z-to_z w64 m h) ∙ ap unsigned e
@@ -67,15 +76,19 @@ module _ (lens strides : List ℕ) where
       ap all_signed e
       ∙ all_signed_small (default_strides lens) (λ k h. default_small lens k top (omega (arith, default_count lens)))
 
-  defaults_from_signed : ((k : ℕ) → Fits w64 (get_or strides k 0)) → all_signed strides ≡ map pos (default_strides lens) → strides ≡ default_strides lens
+  defaults_from_signed : ((k : ℕ) → Fits w64 (get_or strides k 0)) → all_signed strides ≡ map pos (default_strides lens)
+      → strides ≡ default_strides lens
   defaults_from_signed fit e =
-      let count : length strides ≡ length (default_strides lens) = sym (length-map strides signed) ∙ ap length e ∙ length-map (default_strides lens) pos in
+      let count = sym (length-map strides signed) ∙ ap length e ∙ length-map (default_strides lens) pos in
       ext_get_or 0 strides (default_strides lens) count (λ k h.
-      let same : signed (get_or strides k 0) ≡ pos (get_or (default_strides lens) k 0) = sym (get_or-map signed strides k 0 (pos 0) h) ∙ ap (λ xs. get_or xs k (pos 0)) e ∙ get_or-map pos (default_strides lens) k 0 (pos 0) (omega arith) in
+      let same = sym (get_or-map signed strides k 0 (pos 0) h) ∙ ap (λ xs. get_or xs k (pos 0)) e
+      ∙ get_or-map pos (default_strides lens) k 0 (pos 0) (omega arith) in
       small_from_signed (get_or strides k 0) (get_or (default_strides lens) k 0) (fit k).fits same)
 
   -- the test of the definition answers what the code's does
-  pub default_test : (r : Bool) → ((k : ℕ) → Fits w64 (get_or strides k 0)) → nonzero_size lens ≤ limit → (IsTrue r ↔ (strides ≡ default_strides lens)) → has_default_strides lens (all_signed strides) ≡ r
+  pub default_test : (r : Bool) → ((k : ℕ) → Fits w64 (get_or strides k 0)) → nonzero_size lens ≤ limit
+      → (IsTrue r ↔ (strides ≡ default_strides lens)) → has_default_strides lens (all_signed strides) ≡ r
   default_test r fit top h =
-      same_from_decides (has_default_strides lens (all_signed strides)) r (signed_items (all_signed strides) (map pos (default_strides lens)))
+      same_from_decides (has_default_strides lens (all_signed strides)) r
+      (signed_items (all_signed strides) (map pos (default_strides lens)))
       (λ t. signed_defaults top (h.0 t), λ e. h.1 (defaults_from_signed fit e))

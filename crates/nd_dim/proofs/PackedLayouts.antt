@@ -1,17 +1,20 @@
 -- Every axis is packed exactly where the layout lies at each distance below its size once.
-use Rattle.std.proofs.Common.{◌≡◌, ◌⊎◌, ℕ, zero, suc, ◌+◌, ◌*◌, ◌<◌, ◌≤◌, ℤ, true, false, List, [], ◌∷◌, length, get_or, get_or-set_same, set, replicate, refl, sym, ap, ◌∙◌, arith, inl, inr, subst, mul-pos}
+use Rattle.std.proofs.Common.{◌≡◌, ◌⊎◌, ℕ, zero, suc, ◌+◌, ◌*◌, ◌<◌, ◌≤◌, ℤ, true, false, List, [], ◌∷◌, length, get_or}
+use Rattle.std.proofs.Common.{get_or-set_same, set, replicate, refl, sym, ap, ◌∙◌, arith, inl, inr, subst, mul-pos}
 use Rattle.std.proofs.Math.Nat.{mul-le-mul_left, mul-le-mul_right}
 use Rattle.std.proofs.lemmas.Bool.{cases_lt, cases_order}
 use Rattle.std.proofs.lemmas.List.{get_or-replicate, length-replicate, set-get_or}
 use Rattle.nd_base.proofs.laws.Definitions.{is_index, farthest_offset, is_empty, size}
-use Rattle.nd_base.proofs.laws.Entries.{farthest_offset-set, farthest_offset_ge_entry, index_or_entry, is_index-set, is_index_of_larger, size-set, size_le}
+use Rattle.nd_base.proofs.laws.Entries.{farthest_offset-set, farthest_offset_ge_entry, index_or_entry, is_index-set, is_index_of_larger}
+use Rattle.nd_base.proofs.laws.Entries.{size-set, size_le}
 use Rattle.nd_base.proofs.laws.IsIndex.{entry_of_index, is_index-zeros, length_of_index}
 use Rattle.nd_base.proofs.laws.Reach.{farthest_offset-zeros}
 use Rattle.nd_base.proofs.laws.Size.{length_pos}
 use Rattle.nd_dim.specs.AxisOrder.{magnitude_at}
 use Rattle.nd_dim.specs.Contiguous.{lens_before}
 use Rattle.nd_dim.proofs.Filled.{ReachesEach, Fills, fills_next, fills_ones}
-use Rattle.nd_dim.proofs.FirstAxes.{first_axes, first_all, first_count, first_kept, first_left, first_more, first_none, first_same, size_before}
+use Rattle.nd_dim.proofs.FirstAxes.{first_axes, first_all, first_count, first_kept, first_left, first_more, first_none, first_same}
+use Rattle.nd_dim.proofs.FirstAxes.{size_before}
 use Rattle.nd_dim.proofs.StridePlaces.{axis_at_place, longer_at_later_place, past_all, stride_place}
 
 -- ---- lengths above 0
@@ -29,7 +32,8 @@ first_above lens strides place some =
     ])
 
 -- and no axis is longer among the first
-first_no_longer : (lens : List ℕ) (strides : List ℤ) (place axis : ℕ) → is_empty lens ≡ false → axis < length (first_axes lens strides place) → get_or (first_axes lens strides place) axis 0 ≤ get_or lens axis 0
+first_no_longer : (lens : List ℕ) (strides : List ℤ) (place axis : ℕ) → is_empty lens ≡ false
+    → axis < length (first_axes lens strides place) → get_or (first_axes lens strides place) axis 0 ≤ get_or lens axis 0
 first_no_longer lens strides place axis some l =
     let inside : axis < length lens = omega (arith, first_count lens strides place) in
     elim (cases_lt (stride_place strides (length lens) axis) place) [
@@ -48,7 +52,8 @@ fills_no_axes lens strides =
     subst P (sym (first_none lens strides)) (fills_ones (length lens) strides)
 
 module _ (lens : List ℕ) (strides : List ℤ) (count : length lens ≡ length strides) (some : is_empty lens ≡ false) where
-  fills_from_axis : (place axis : ℕ) → axis < length lens → stride_place strides (length lens) axis ≡ place → IsPackedAt lens strides axis → Fills (first_axes lens strides place) strides → Fills (first_axes lens strides (place + 1)) strides
+  fills_from_axis : (place axis : ℕ) → axis < length lens → stride_place strides (length lens) axis ≡ place → IsPackedAt lens strides axis
+      → Fills (first_axes lens strides place) strides → Fills (first_axes lens strides (place + 1)) strides
   fills_from_axis place axis h e packed fills =
       let first = first_axes lens strides place in
       let many : length first ≡ length lens = first_count lens strides place in
@@ -57,12 +62,14 @@ module _ (lens : List ℕ) (strides : List ℤ) (count : length lens ≡ length 
         | inr fits ↦ inr (fits ∙ size_before lens strides axis h ∙ ap (λ k. size (first_axes lens strides k)) e)
       ] in
       let next : Fills (set first axis (get_or lens axis 0)) strides =
-      fills_next axis (many ∙ count) (omega arith) (first_left lens strides place axis h (omega arith)) (first_above lens strides place some) at fills in
+      fills_next axis (many ∙ count) (omega arith) (first_left lens strides place axis h (omega arith))
+      (first_above lens strides place some) at fills in
       let P : List ℕ → Type 0 = λ s. Fills s strides in
       subst P (sym (first_more lens strides place axis h e)) next
 
   -- one place on, where the axis there is packed
-  fills_more : (place : ℕ) → ((axis : ℕ) → axis < length lens → stride_place strides (length lens) axis ≡ place → IsPackedAt lens strides axis) → Fills (first_axes lens strides place) strides → Fills (first_axes lens strides (place + 1)) strides
+  fills_more : (place : ℕ) → ((axis : ℕ) → axis < length lens → stride_place strides (length lens) axis ≡ place
+      → IsPackedAt lens strides axis) → Fills (first_axes lens strides place) strides → Fills (first_axes lens strides (place + 1)) strides
   fills_more place packed fills = elim (axis_at_place (stride_place strides (length lens)) (length lens) place) [
     | inl found ↦ fills_from_axis place found.0 found.1 found.2 (packed found.0 found.1 found.2) fills
     | inr none ↦
@@ -70,7 +77,8 @@ module _ (lens : List ℕ) (strides : List ℤ) (count : length lens ≡ length 
         subst P (sym (first_same lens strides place none)) fills
   ]
 
-  fills_first : (place : ℕ) → ((axis : ℕ) → axis < length lens → IsPackedAt lens strides axis) → Fills (first_axes lens strides place) strides
+  fills_first : (place : ℕ) → ((axis : ℕ) → axis < length lens → IsPackedAt lens strides axis)
+      → Fills (first_axes lens strides place) strides
   fills_first zero packed = fills_no_axes lens strides
   fills_first (suc place) packed =
       let next : place + 1 ≡ suc place = omega arith in
@@ -89,17 +97,24 @@ module _ (lens : List ℕ) (strides : List ℤ) (count : length lens ≡ length 
 abbrev step_along : List ℕ → ℕ → List ℕ
 step_along lens axis = set (replicate (length lens) 0) axis 1
 
-step_is_index : (lens : List ℕ) (axis : ℕ) → is_empty lens ≡ false → axis < length lens → 1 < get_or lens axis 0 → is_index lens (step_along lens axis) ≡ true
+step_is_index : (lens : List ℕ) (axis : ℕ) → is_empty lens ≡ false → axis < length lens → 1 < get_or lens axis 0
+    → is_index lens (step_along lens axis) ≡ true
 step_is_index lens axis some h long =
-    ap (λ s. is_index s (step_along lens axis)) (sym (set-get_or lens axis 0)) ∙ is_index-set lens (replicate (length lens) 0) (is_index-zeros lens some) axis (get_or lens axis 0) 1 h long
+    ap (λ s. is_index s (step_along lens axis)) (sym (set-get_or lens axis 0))
+    ∙ is_index-set lens (replicate (length lens) 0) (is_index-zeros lens some) axis (get_or lens axis 0) 1 h long
 
-step_lies : (lens : List ℕ) (strides : List ℤ) (axis : ℕ) → length lens ≡ length strides → axis < length lens → farthest_offset strides (step_along lens axis) ≡ magnitude_at strides axis
+step_lies : (lens : List ℕ) (strides : List ℤ) (axis : ℕ) → length lens ≡ length strides → axis < length lens
+    → farthest_offset strides (step_along lens axis) ≡ magnitude_at strides axis
 step_lies lens strides axis count h =
     let zeros = replicate {A = ℕ} (length lens) 0 in
     let many : length zeros ≡ length lens = length-replicate {A = ℕ} (length lens) 0 in
     let none : get_or zeros axis 0 ≡ 0 = get_or-replicate {A = ℕ} (length lens) axis 0 0 h in
-    let moved : farthest_offset strides (step_along lens axis) + get_or zeros axis 0 * magnitude_at strides axis ≡ farthest_offset strides zeros + 1 * magnitude_at strides axis = farthest_offset-set strides zeros axis 1 (many ∙ count) (omega arith) in
-    let from : farthest_offset strides (step_along lens axis) + 0 * magnitude_at strides axis ≡ farthest_offset strides zeros + 1 * magnitude_at strides axis = ap (λ j. farthest_offset strides (step_along lens axis) + j * magnitude_at strides axis) (sym none) ∙ moved in
+    let moved : farthest_offset strides (step_along lens axis) + get_or zeros axis 0 * magnitude_at strides axis
+    ≡ farthest_offset strides zeros + 1 * magnitude_at strides axis =
+    farthest_offset-set strides zeros axis 1 (many ∙ count) (omega arith) in
+    let from : farthest_offset strides (step_along lens axis) + 0 * magnitude_at strides axis
+    ≡ farthest_offset strides zeros + 1 * magnitude_at strides axis =
+    ap (λ j. farthest_offset strides (step_along lens axis) + j * magnitude_at strides axis) (sym none) ∙ moved in
     omega (arith, from, farthest_offset-zeros strides (length lens))
 
 -- a layout that lies at each distance once, the first of whose axes fill a stretch; then comes an axis of several entries
@@ -120,7 +135,10 @@ module _ {lens : List ℕ} {strides : List ℤ} {place axis : ℕ} (a : IsAtAxis
       let many : length first ≡ length lens = first_count lens strides place in
       let inside : axis < length lens = a.inside in
       let found = a.fills.each.filled (magnitude_at strides axis) less in
-      let same : found.0 ≡ step_along lens axis = a.reaches.distinct found.0 (step_along lens axis) (is_index_of_larger first lens found.0 (sym many) (λ k l. first_no_longer lens strides place k a.some l) found.1) (step_is_index lens axis a.some inside a.long) (found.2 ∙ sym (step_lies lens strides axis a.count inside)) in
+      let same : found.0 ≡ step_along lens axis =
+      a.reaches.distinct found.0 (step_along lens axis)
+      (is_index_of_larger first lens found.0 (sym many) (λ k l. first_no_longer lens strides place k a.some l) found.1)
+      (step_is_index lens axis a.some inside a.long) (found.2 ∙ sym (step_lies lens strides axis a.count inside)) in
       let entry = entry_of_index first found.0 axis found.1 (omega arith) in
       let there : axis < length (replicate {A = ℕ} (length lens) 0) = omega (arith, length-replicate {A = ℕ} (length lens) 0) in
       let one : get_or found.0 axis 0 ≡ 1 = ap (λ xs. get_or xs axis 0) same ∙ get_or-set_same (replicate (length lens) 0) axis 1 0 there in
@@ -134,14 +152,17 @@ module _ {lens : List ℕ} {strides : List ℤ} {place axis : ℕ} (a : IsAtAxis
       let more = first_axes lens strides (place + 1) in
       let many : length first ≡ length lens = first_count lens strides place in
       let inside : axis < length first = let l = a.inside in omega arith in
-      let grown : size more ≡ size first * get_or lens axis 0 = ap size (first_more lens strides place axis a.inside a.here) ∙ size-set first axis (get_or lens axis 0) inside (first_left lens strides place axis a.inside (let e = a.here in omega arith)) in
-      let no_more : size more ≤ size lens = size_le more lens (sym (first_count lens strides (place + 1))) (λ k l. first_no_longer lens strides (place + 1) k a.some l) in
+      let grown : size more ≡ size first * get_or lens axis 0 = ap size (first_more lens strides place axis a.inside a.here)
+      ∙ size-set first axis (get_or lens axis 0) inside (first_left lens strides place axis a.inside (let e = a.here in omega arith)) in
+      let no_more : size more ≤ size lens =
+      size_le more lens (sym (first_count lens strides (place + 1))) (λ k l. first_no_longer lens strides (place + 1) k a.some l) in
       let twice : size first * 2 ≤ size first * get_or lens axis 0 = mul-le-mul_left (size first) (let l = a.long in omega arith) in
       let some = first_above lens strides place a.some in
       omega arith
 
   -- an index that is none of the first axes lies no nearer than the stride of the next
-  lies_past : (index : List ℕ) (other : ℕ) → is_index lens index ≡ true → other < length lens → get_or (first_axes lens strides place) other 0 ≤ get_or index other 0 → magnitude_at strides axis ≤ farthest_offset strides index
+  lies_past : (index : List ℕ) (other : ℕ) → is_index lens index ≡ true → other < length lens
+      → get_or (first_axes lens strides place) other 0 ≤ get_or index other 0 → magnitude_at strides axis ≤ farthest_offset strides index
   lies_past index other h inside past = elim (cases_lt (stride_place strides (length lens) other) place) [
     | inl less ↦
         let kept = first_kept lens strides place other inside less in
@@ -152,9 +173,12 @@ module _ {lens : List ℕ} {strides : List ℤ} {place axis : ℕ} (a : IsAtAxis
         let count : length index ≡ length lens = length_of_index lens index h in
         let here = a.here in
         let all = a.count in
-        let stride : magnitude_at strides axis ≤ magnitude_at strides other = longer_at_later_place strides (length lens) other axis inside (omega arith) in
-        let part : get_or index other 0 * magnitude_at strides other ≤ farthest_offset strides index = farthest_offset_ge_entry strides index other (omega arith) (omega arith) in
-        let once : 1 * magnitude_at strides other ≤ get_or index other 0 * magnitude_at strides other = mul-le-mul_right (magnitude_at strides other) (omega arith) in
+        let stride : magnitude_at strides axis ≤ magnitude_at strides other =
+        longer_at_later_place strides (length lens) other axis inside (omega arith) in
+        let part : get_or index other 0 * magnitude_at strides other ≤ farthest_offset strides index =
+        farthest_offset_ge_entry strides index other (omega arith) (omega arith) in
+        let once : 1 * magnitude_at strides other ≤ get_or index other 0 * magnitude_at strides other =
+        mul-le-mul_right (magnitude_at strides other) (omega arith) in
         omega arith
   ]
 
@@ -162,7 +186,7 @@ module _ {lens : List ℕ} {strides : List ℤ} {place axis : ℕ} (a : IsAtAxis
   not_longer : size (first_axes lens strides place) < magnitude_at strides axis → ⊥
   not_longer more =
       let first = first_axes lens strides place in
-      let found = a.reaches.filled (size first) (first_smaller) in
+      let found = a.reaches.filled (size first) first_smaller in
       let many : length found.0 ≡ length first = length_of_index lens found.0 found.1 ∙ sym (first_count lens strides place) in
       elim (index_or_entry first found.0 many) [
         | inl within ↦ let low = a.fills.below found.0 within in let at = found.2 in omega arith
@@ -174,13 +198,15 @@ module _ {lens : List ℕ} {strides : List ℤ} {place axis : ℕ} (a : IsAtAxis
 
 module _ (lens : List ℕ) (strides : List ℤ) (count : length lens ≡ length strides) (some : is_empty lens ≡ false) where
   -- so the axis at a place is packed, once those before it are
-  packed_at_place : (place axis : ℕ) → ReachesEach lens strides → Fills (first_axes lens strides place) strides → axis < length lens → stride_place strides (length lens) axis ≡ place → IsPackedAt lens strides axis
+  packed_at_place : (place axis : ℕ) → ReachesEach lens strides → Fills (first_axes lens strides place) strides → axis < length lens
+      → stride_place strides (length lens) axis ≡ place → IsPackedAt lens strides axis
   packed_at_place place axis reaches fills inside here = elim (cases_lt 1 (get_or lens axis 0)) [
     | inr short ↦
         let above = length_pos lens axis some inside in
         inl (omega arith)
     | inl long ↦
-        let a : IsAtAxis lens strides place axis = record { count = count; some = some; inside = inside; here = here; long = long; reaches = reaches; fills = fills } in
+        let a : IsAtAxis lens strides place axis =
+        record { count = count; some = some; inside = inside; here = here; long = long; reaches = reaches; fills = fills } in
         elim (cases_order (magnitude_at strides axis) (size (first_axes lens strides place))) [
           | inl same ↦ inr (same ∙ ap (λ k. size (first_axes lens strides k)) (sym here) ∙ sym (size_before lens strides axis inside))
           | inr differ ↦ elim differ [

@@ -1,8 +1,10 @@
 -- The step at one axis: the entries after it are at their ends and become 0.
-use Rattle.std.proofs.Common.{◌≡◌, ℕ, suc, ◌+◌, ◌-◌, ◌*◌, ◌<◌, ◌≤◌, true, List, [], ◌∷◌, ◌++◌, length, get_or, set, take, drop, replicate, reverse, refl, sym, ap, subst, ◌∙◌, arith, append_assoc}
+use Rattle.std.proofs.Common.{◌≡◌, ℕ, suc, ◌+◌, ◌-◌, ◌*◌, ◌<◌, ◌≤◌, true, List, [], ◌∷◌, ◌++◌, length, get_or, set, take, drop}
+use Rattle.std.proofs.Common.{replicate, reverse, refl, sym, ap, subst, ◌∙◌, arith, append_assoc}
 use Rattle.std.specs.Prelude.{nat_lt}
 use Rattle.std.proofs.lemmas.Bool.{and_from, and_parts, lt-ltb}
-use Rattle.std.proofs.lemmas.List.{append-nil, drop_all, drop_more, get_or-take, get_or_append_left, length-drop, length-reverse, length-set}
+use Rattle.std.proofs.lemmas.List.{append-nil, drop_all, drop_more, get_or-take, get_or_append_left, length-drop, length-reverse}
+use Rattle.std.proofs.lemmas.List.{length-set}
 use Rattle.std.proofs.lemmas.List.{length-take-le, reverse-reverse, set_at, take-append-drop, take_all, take_more}
 use Rattle.nd_base.specs.declared.order.Order.TheVariants.{ColumnMajor}
 use Rattle.nd_base.proofs.laws.Definitions.{is_index, index_of_rank, index_of_rank_in, rank, rank_in, size}
@@ -104,7 +106,7 @@ module _ (k : ℕ) {shape old index : List ℕ} (below : k < length shape) (at :
   counted more =
       let counts = length-take-le k old (omega (arith, in_old)) ∙ sym (length-take-le k shape (omega (arith, below))) in
       let By : List ℕ → List ℕ → Type 0 = λ s i. is_index s i ≡ true
-          → IsStepped s i (take k old ++ (get_or old k 0 + 1) ∷ replicate (length (drop (k + 1) shape)) 0) in
+      → IsStepped s i (take k old ++ (get_or old k 0 + 1) ∷ replicate (length (drop (k + 1) shape)) 0) in
       let split : By (take k shape ++ get_or shape k 0 ∷ drop (k + 1) shape) (take k old ++ get_or old k 0 ∷ drop (k + 1) old) =
       stepped (drop (k + 1) shape) (drop (k + 1) old) at.ended _ _ (omega (arith, same, more)) (take k shape) (take k old) counts in
       subst (λ s. By s old) (sym (parts_of shape k below)) (subst (By _) (sym (parts_of old k in_old)) split) at.here
@@ -117,22 +119,24 @@ module _ (k : ℕ) {shape old index : List ℕ} (below : k < length shape) (at :
       ap (λ n. replicate n 0) (sym (length-drop (k + 1) shape)) in
       (next.0, ap (λ n. set index k (n + 1)) same ∙ write _ ∙ ap (λ xs. take k old ++ (get_or old k 0 + 1) ∷ xs) back ∙ next.1)
 
-module _ {axis : ℕ} {shape old index : List ℕ} (some : 0 < axis) (within : axis ≤ length shape) (at : IsTurnedFrom axis shape old index) where
-  before : IsTurnedFrom (axis - 1 + 1) shape old index
-  before = let here : axis ≡ axis - 1 + 1 = omega arith in subst (λ n. IsTurnedFrom n shape old index) here at
+module _ {axis : ℕ} {shape old index : List ℕ} (some : 0 < axis) (within : axis ≤ length shape) (at : IsTurnedFrom axis shape old index)
+  where
+    before : IsTurnedFrom (axis - 1 + 1) shape old index
+    before = let here : axis ≡ axis - 1 + 1 = omega arith in subst (λ n. IsTurnedFrom n shape old index) here at
 
-  -- its entry is below its length
-  pub row_entry : get_or index (axis - 1) 0 < get_or shape (axis - 1) 0
-  row_entry = entry_below (axis - 1) (omega arith) before
+    -- its entry is below its length
+    pub row_entry : get_or index (axis - 1) 0 < get_or shape (axis - 1) 0
+    row_entry = entry_below (axis - 1) (omega arith) before
 
-  -- an entry at its end becomes 0
-  pub row_turn : get_or shape (axis - 1) 0 ≤ get_or index (axis - 1) 0 + 1 → IsTurnedFrom (axis - 1) shape old (set index (axis - 1) 0)
-  row_turn last = turned (axis - 1) (omega arith) before last
+    -- an entry at its end becomes 0
+    pub row_turn : get_or shape (axis - 1) 0 ≤ get_or index (axis - 1) 0 + 1 → IsTurnedFrom (axis - 1) shape old (set index (axis - 1) 0)
+    row_turn last = turned (axis - 1) (omega arith) before last
 
-  -- another one is counted up, to the index of the next rank
-  pub row_step : get_or index (axis - 1) 0 + 1 < get_or shape (axis - 1) 0
-      → (rank shape old + 1 < size shape) × (set index (axis - 1) (get_or index (axis - 1) 0 + 1) ≡ index_of_rank shape (rank shape old + 1))
-  row_step more = step (axis - 1) (omega arith) before more
+    -- another one is counted up, to the index of the next rank
+    pub row_step : get_or index (axis - 1) 0 + 1 < get_or shape (axis - 1) 0
+        → (rank shape old + 1 < size shape)
+        × (set index (axis - 1) (get_or index (axis - 1) 0 + 1) ≡ index_of_rank shape (rank shape old + 1))
+    row_step more = step (axis - 1) (omega arith) before more
 
 -- where all have turned, this was the last index and is the first
 pub row_end : {axis : ℕ} {shape old index : List ℕ} → axis ≡ 0 → IsTurnedFrom axis shape old index
@@ -154,7 +158,7 @@ column_start shape old here =
     record {
       count = length_of_index shape old here;
       turned = subst (λ n. IsTurnedFrom n (reverse shape) (reverse old) (reverse old)) all
-      (row_start (reverse shape) (reverse old) (is_index-reverse shape old ∙ here));
+          (row_start (reverse shape) (reverse old) (is_index-reverse shape old ∙ here));
     }
 
 module _ {axis : ℕ} {shape old index : List ℕ} (below : axis < length shape) (at : IsTurnedTo axis shape old index) where
@@ -198,7 +202,7 @@ module _ {axis : ℕ} {shape old index : List ℕ} (below : axis < length shape)
       let entry = read index at.count in (
         omega (arith, next.0, size-reverse shape),
         sym (reverse-reverse (set index axis (get_or index axis 0 + 1)))
-        ∙ ap reverse (sym (put _) ∙ ap (λ n. set (reverse index) (length shape - axis - 1) (n + 1)) (sym entry) ∙ next.1),
+            ∙ ap reverse (sym (put _) ∙ ap (λ n. set (reverse index) (length shape - axis - 1) (n + 1)) (sym entry) ∙ next.1),
       )
 
 -- where all have turned, this was the last index and is the first
@@ -208,5 +212,5 @@ column_end {shape = shape} {index = index} all at =
     let last = row_end (omega arith) at.turned in (
       last.0 ∙ size-reverse shape,
       sym (reverse-reverse index) ∙ ap reverse last.1 ∙ reverse-replicate (length (reverse shape)) 0
-      ∙ ap (λ n. replicate n 0) (length-reverse shape),
+          ∙ ap (λ n. replicate n 0) (length-reverse shape),
     )

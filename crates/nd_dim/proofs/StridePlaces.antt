@@ -29,7 +29,8 @@ before_by_place m k n a b h g = elim (cases_order m k) [
 
 module _ (strides : List ℤ) (n axis other : ℕ) (h : axis < n) where
   -- an axis comes before another exactly where its place is the lesser
-  pub comes_before_by_place : other < n → comes_before strides axis other ≡ nat_lt (stride_place strides n axis) (stride_place strides n other)
+  pub comes_before_by_place : other < n
+      → comes_before strides axis other ≡ nat_lt (stride_place strides n axis) (stride_place strides n other)
   comes_before_by_place g = before_by_place (magnitude_at strides axis) (magnitude_at strides other) n axis other h g
 
   -- two axes have two places
@@ -38,7 +39,8 @@ module _ (strides : List ℤ) (n axis other : ℕ) (h : axis < n) where
       sym (mod-mul-add (magnitude_at strides axis) n axis h) ∙ ap (λ k. k % n) e ∙ mod-mul-add (magnitude_at strides other) n other g
 
   -- and at no lesser place the stride is no shorter
-  pub longer_at_later_place : stride_place strides n other ≤ stride_place strides n axis → magnitude_at strides other ≤ magnitude_at strides axis
+  pub longer_at_later_place : stride_place strides n other ≤ stride_place strides n axis
+      → magnitude_at strides other ≤ magnitude_at strides axis
   longer_at_later_place l = elim (cases_order (magnitude_at strides axis) (magnitude_at strides other)) [
     | inl same ↦ omega arith
     | inr differ ↦ elim differ [

@@ -62,10 +62,12 @@ pub trait Dimension: Lengths + Arithmetic + Scale {
     }
 
     // The smaller type has one axis less, or none,
-    ghost smaller_count: { (n : ℕ) → IsCount Self.FixedCount.NDIM n → IsCount Self.Smaller.NDIM (n - 1) };
+    ghost smaller_count: { (n : ℕ) → IsCount Self.FixedCount.NDIM n
+        → IsCount Self.Smaller.NDIM (n - 1) };
 
     // and the larger one has one axis more.
-    ghost larger_count: { (n : ℕ) → IsCount Self.FixedCount.NDIM n → IsCount Self.Larger.NDIM (n + 1) };
+    ghost larger_count: { (n : ℕ) → IsCount Self.FixedCount.NDIM n
+        → IsCount Self.Larger.NDIM (n + 1) };
 
     /// The product of all lengths. The caller ensures that it is below 2^64 (`size_checked`).
     /// ndarray's `size`.

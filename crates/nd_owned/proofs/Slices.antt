@@ -17,7 +17,7 @@ use Rattle.ndarray_layout.specs.SlicedView.{slice_of}
 use Rattle.ndarray_layout.specs.View.{View, IsView, place_at, view_places}
 use Rattle.ndarray_layout.proofs.laws.Indices.{All-indices_in, AllPairs-indices_in}
 use Rattle.ndarray_layout.proofs.laws.SharePlace.{meet_of_shared_place}
-use Rattle.ndarray_layout.proofs.laws.SlicedView.{HasDistinctPlaces-slice_of}
+use Rattle.ndarray_layout.proofs.laws.SlicedView.{Descends-slice_of}
 use Rattle.ndarray_layout.proofs.laws.View.{length-view_places}
 use Rattle.nd_owned.specs.Owned.{item_at_place}
 use Rattle.nd_owned.specs.private.Rows.{HasWritten}
@@ -103,7 +103,7 @@ no_shared_place : {T : Type 0} (view : View) (one other : Write T) (place : ℤ)
 no_shared_place view one other place v distinct fits also apart here there =
     let first = listed RowMajor (slice_of Strict one.slice view) place here in
     let second = listed RowMajor (slice_of Strict other.slice view) place there in
-    apart (meet_of_shared_place Strict one.slice other.slice view v fits also distinct (first.0, first.1, (second.0, second.1, first.2 ∙ sym second.2)))
+    apart (meet_of_shared_place Strict one.slice other.slice v fits also distinct (first.0, first.1, (second.0, second.1, first.2 ∙ sym second.2)))
 
 pub all_distinct : {T : Type 0} (view : View) (writes : List (Write T)) → IsView view → HasDistinctPlaces view → slices_fault view.shape writes ≡ None → AllPairs (AreApart view.shape) writes
     → AllPairs (λ one other. one ≢ other) (flat_map (write_places view) writes)
@@ -117,7 +117,7 @@ all_distinct {T = T} view writes v distinct none apart = by writes (each_fits vi
         let others = All-tail (λ one. argument_fault Strict view.shape one.slice ≡ None) write writes fit in
         let alone = pairs_head (AreApart view.shape) write writes apart in
         pairs_append (write_places view write) (flat_map (write_places view) writes)
-        (distinct_places RowMajor (slice_of Strict write.slice view) (HasDistinctPlaces-slice_of Strict write.slice view v fits distinct))
+        (distinct_places RowMajor (slice_of Strict write.slice view) ((Descends-slice_of Strict write.slice view v fits).distinct distinct))
         (by writes others (pairs_tail (AreApart view.shape) write writes apart))
         (λ k d below. none_of_all (write_places view) writes (get_or (write_places view write) k d) (λ j other there here.
         no_shared_place view write (get_or writes j other) (get_or (write_places view write) k d) v distinct fits (others j other there) (alone j other there)

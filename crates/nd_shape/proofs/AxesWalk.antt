@@ -11,10 +11,13 @@ use Rattle.nd_shape.proofs.laws.Axes.{length-axes_from, axes_from-push}
 
 -- as many axes as lengths are left
 pub length-axes_left : (walk : Axes) → length (axes_left walk) ≡ length walk.lens.now
-length-axes_left walk = length-axes_from walk.first walk.lens.now (all_signed walk.strides.now) (omega (arith, walk.same_count, length-map walk.strides.now signed))
+length-axes_left walk = length-axes_from walk.first walk.lens.now (all_signed walk.strides.now)
+    (omega (arith, walk.same_count, length-map walk.strides.now signed))
 
 -- the axis at the back comes off the back of both lists
-pub axes_left-push : (first : ℕ) (lens strides : List ℕ) (len stride : ℕ) → length lens ≡ length strides → axes_from first (lens ++ len ∷ []) (all_signed (strides ++ stride ∷ [])) ≡ axes_from first lens (all_signed strides) ++ description (first + length lens) len (signed stride) ∷ []
+pub axes_left-push : (first : ℕ) (lens strides : List ℕ) (len stride : ℕ) → length lens ≡ length strides
+    → axes_from first (lens ++ len ∷ []) (all_signed (strides ++ stride ∷ []))
+    ≡ axes_from first lens (all_signed strides) ++ description (first + length lens) len (signed stride) ∷ []
 axes_left-push first lens strides len stride e =
     ap (axes_from first (lens ++ len ∷ [])) (map-append signed strides (stride ∷ []))
     ∙ axes_from-push first lens (all_signed strides) len (signed stride) (omega (arith, e, length-map strides signed))

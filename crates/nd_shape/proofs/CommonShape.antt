@@ -1,5 +1,6 @@
 -- The common shape of a list of lengths and one that is no longer, axis by axis.
-use Rattle.std.proofs.Common.{◌≡◌, ℕ, zero, suc, ◌+◌, ◌-◌, ◌<◌, ◌≤◌, max, true, Option, Some, None, is_some, List, [], ◌∷◌, ◌++◌, length, replicate, get_or, inl, inr, refl, sym, ap, ◌∙◌, arith}
+use Rattle.std.proofs.Common.{◌≡◌, ℕ, zero, suc, ◌+◌, ◌-◌, ◌<◌, ◌≤◌, max, true, Option, Some, None, is_some, List, [], ◌∷◌, ◌++◌}
+use Rattle.std.proofs.Common.{length, replicate, get_or, inl, inr, refl, sym, ap, ◌∙◌, arith}
 use Rattle.std.specs.Option.{option_map, option_and_then}
 use Rattle.std.proofs.lemmas.Bool.{cases_lt}
 use Rattle.std.proofs.lemmas.List.{get_or-append-add, get_or_append_left, get_or-replicate, length-replicate}
@@ -8,7 +9,9 @@ use Rattle.nd_shape.proofs.laws.CommonShape.{common_with_one, length-padded}
 
 -- ---- as many lengths on both sides
 -- a list that is common axis by axis is the common one
-some_by_axes : (lens others common : List ℕ) → length lens ≡ length others → length common ≡ length lens → ((k : ℕ) → k < length lens → common_length (get_or lens k 0) (get_or others k 0) ≡ Some (get_or common k 0)) → common_lengths lens others ≡ Some common
+some_by_axes : (lens others common : List ℕ) → length lens ≡ length others → length common ≡ length lens
+    → ((k : ℕ) → k < length lens → common_length (get_or lens k 0) (get_or others k 0) ≡ Some (get_or common k 0))
+    → common_lengths lens others ≡ Some common
 some_by_axes [] others [] e f h = refl
 some_by_axes [] others (c ∷ common) e f h = absurd (omega arith)
 some_by_axes (len ∷ lens) [] common e f h = absurd (omega arith)
@@ -19,28 +22,35 @@ some_by_axes (len ∷ lens) (other ∷ others) (c ∷ common) e f h =
     ∙ ap (option_map (λ s. c ∷ s)) rest
 
 -- there is one where each axis has one
-some_where_all : (lens others : List ℕ) → length lens ≡ length others → ((k : ℕ) → k < length lens → is_some (common_length (get_or lens k 0) (get_or others k 0)) ≡ true) → is_some (common_lengths lens others) ≡ true
+some_where_all : (lens others : List ℕ) → length lens ≡ length others
+    → ((k : ℕ) → k < length lens → is_some (common_length (get_or lens k 0) (get_or others k 0)) ≡ true)
+    → is_some (common_lengths lens others) ≡ true
 some_where_all [] others e h = refl
 some_where_all (len ∷ lens) [] e h = refl
 some_where_all (len ∷ lens) (other ∷ others) e h =
-    by (common_length len other) (common_lengths lens others) (h 0 (omega arith)) (some_where_all lens others (omega arith) (λ k l. h (suc k) (omega arith)))
+    by (common_length len other) (common_lengths lens others) (h 0 (omega arith))
+    (some_where_all lens others (omega arith) (λ k l. h (suc k) (omega arith)))
   where
-    by : (o : Option ℕ) (p : Option (List ℕ)) → is_some o ≡ true → is_some p ≡ true → is_some (option_and_then (λ n. option_map (λ s. n ∷ s) p) o) ≡ true
+    by : (o : Option ℕ) (p : Option (List ℕ)) → is_some o ≡ true → is_some p ≡ true
+        → is_some (option_and_then (λ n. option_map (λ s. n ∷ s) p) o) ≡ true
     by None p g f = absurd (cc)
     by (Some n) None g f = absurd (cc)
     by (Some n) (Some s) g f = refl
 
-both_there : (o : Option ℕ) (p : Option (List ℕ)) → is_some (option_and_then (λ n. option_map (λ s. n ∷ s) p) o) ≡ true → (is_some o ≡ true) × (is_some p ≡ true)
+both_there : (o : Option ℕ) (p : Option (List ℕ)) → is_some (option_and_then (λ n. option_map (λ s. n ∷ s) p) o) ≡ true
+    → (is_some o ≡ true) × (is_some p ≡ true)
 both_there None p g = absurd (cc)
 both_there (Some n) None g = absurd (cc)
 both_there (Some n) (Some s) g = (refl, refl)
 
 -- and then each axis has one
-all_where_some : (lens others : List ℕ) → length lens ≡ length others → is_some (common_lengths lens others) ≡ true → (k : ℕ) → k < length lens → is_some (common_length (get_or lens k 0) (get_or others k 0)) ≡ true
+all_where_some : (lens others : List ℕ) → length lens ≡ length others → is_some (common_lengths lens others) ≡ true → (k : ℕ)
+    → k < length lens → is_some (common_length (get_or lens k 0) (get_or others k 0)) ≡ true
 all_where_some [] others e h k l = absurd (omega arith)
 all_where_some (len ∷ lens) [] e h k l = absurd (omega arith)
 all_where_some (len ∷ lens) (other ∷ others) e h zero l = (both_there (common_length len other) (common_lengths lens others) h).0
-all_where_some (len ∷ lens) (other ∷ others) e h (suc k) l = all_where_some lens others (omega arith) (both_there (common_length len other) (common_lengths lens others) h).1 k (omega arith)
+all_where_some (len ∷ lens) (other ∷ others) e h (suc k) l =
+    all_where_some lens others (omega arith) (both_there (common_length len other) (common_lengths lens others) h).1 k (omega arith)
 
 -- ---- one list of lengths no longer than the other
 module _ (longer shorter : List ℕ) where
@@ -57,7 +67,8 @@ module _ (longer shorter : List ℕ) where
       ap (λ i. get_or (ones ++ shorter) (i + k) 0) (sym count) ∙ get_or-append-add ones shorter k 0
 
   -- only the shorter one has ones in front
-  pub common_shape_of_longer : length shorter ≤ length longer → common_shape longer shorter ≡ common_lengths longer (padded (length longer) shorter)
+  pub common_shape_of_longer : length shorter ≤ length longer
+      → common_shape longer shorter ≡ common_lengths longer (padded (length longer) shorter)
   common_shape_of_longer h =
       let count : max (length longer) (length shorter) ≡ length longer = omega arith in
       let none : length longer - length longer ≡ 0 = omega arith in
@@ -72,14 +83,19 @@ module _ (longer shorter : List ℕ) where
   beside : (k : ℕ) → length shorter ≤ length longer → k < length longer → length longer - length shorter ≤ k → Beside longer shorter k
   beside k h l g = (k - (length longer - length shorter), omega arith, omega arith)
 
-  pub common_shape_by_axes : (common : List ℕ) → length shorter ≤ length longer → length common ≡ length longer → ((k : ℕ) → k < length longer - length shorter → get_or common k 0 ≡ get_or longer k 0) → ((k : ℕ) → k < length shorter → common_length (get_or longer (length longer - length shorter + k) 0) (get_or shorter k 0) ≡ Some (get_or common (length longer - length shorter + k) 0)) → common_shape longer shorter ≡ Some common
+  pub common_shape_by_axes : (common : List ℕ) → length shorter ≤ length longer → length common ≡ length longer
+      → ((k : ℕ) → k < length longer - length shorter → get_or common k 0 ≡ get_or longer k 0)
+      → ((k : ℕ) → k < length shorter
+      → common_length (get_or longer (length longer - length shorter + k) 0) (get_or shorter k 0)
+      ≡ Some (get_or common (length longer - length shorter + k) 0)) → common_shape longer shorter ≡ Some common
   common_shape_by_axes common h e f g =
       let n = length longer - length shorter in
       let other = padded (length longer) shorter in
       common_shape_of_longer longer shorter h
       ∙ some_by_axes longer other common (sym (length-padded (length longer) shorter h)) e (λ k l.
       elim (cases_lt k n) [
-        | inl less ↦ ap (common_length (get_or longer k 0)) (front longer shorter k less) ∙ common_with_one (get_or longer k 0) ∙ ap Some (sym (f k less))
+        | inl less ↦ ap (common_length (get_or longer k 0)) (front longer shorter k less) ∙ common_with_one (get_or longer k 0)
+            ∙ ap Some (sym (f k less))
         | inr more ↦
             let at = beside k h l more in
             ap (λ i. common_length (get_or longer i 0) (get_or other i 0)) at.2
@@ -88,14 +104,18 @@ module _ (longer shorter : List ℕ) where
             ∙ ap (λ i. Some (get_or common i 0)) (sym at.2)
       ])
 
-  pub common_shape_where_all : length shorter ≤ length longer → ((k : ℕ) → k < length shorter → is_some (common_length (get_or longer (length longer - length shorter + k) 0) (get_or shorter k 0)) ≡ true) → is_some (common_shape longer shorter) ≡ true
+  pub common_shape_where_all : length shorter ≤ length longer
+      → ((k : ℕ) → k < length shorter
+      → is_some (common_length (get_or longer (length longer - length shorter + k) 0) (get_or shorter k 0)) ≡ true)
+      → is_some (common_shape longer shorter) ≡ true
   common_shape_where_all h g =
       let n = length longer - length shorter in
       let other = padded (length longer) shorter in
       ap is_some (common_shape_of_longer longer shorter h)
       ∙ some_where_all longer other (sym (length-padded (length longer) shorter h)) (λ k l.
       elim (cases_lt k n) [
-        | inl less ↦ ap (λ o. is_some (common_length (get_or longer k 0) o)) (front longer shorter k less) ∙ ap is_some (common_with_one (get_or longer k 0))
+        | inl less ↦ ap (λ o. is_some (common_length (get_or longer k 0) o)) (front longer shorter k less)
+            ∙ ap is_some (common_with_one (get_or longer k 0))
         | inr more ↦
             let at = beside k h l more in
             ap (λ i. is_some (common_length (get_or longer i 0) (get_or other i 0))) at.2
@@ -103,8 +123,10 @@ module _ (longer shorter : List ℕ) where
             ∙ g at.0 at.1
       ])
 
-  pub all_where_common_shape : length shorter ≤ length longer → is_some (common_shape longer shorter) ≡ true → (k : ℕ) → k < length shorter → is_some (common_length (get_or longer (length longer - length shorter + k) 0) (get_or shorter k 0)) ≡ true
+  pub all_where_common_shape : length shorter ≤ length longer → is_some (common_shape longer shorter) ≡ true → (k : ℕ)
+      → k < length shorter → is_some (common_length (get_or longer (length longer - length shorter + k) 0) (get_or shorter k 0)) ≡ true
   all_where_common_shape h e k l =
       let n = length longer - length shorter in
       sym (ap (λ o. is_some (common_length (get_or longer (n + k) 0) o)) (after_front longer shorter k))
-      ∙ all_where_some longer (padded (length longer) shorter) (sym (length-padded (length longer) shorter h)) (sym (ap is_some (common_shape_of_longer longer shorter h)) ∙ e) (n + k) (omega arith)
+      ∙ all_where_some longer (padded (length longer) shorter) (sym (length-padded (length longer) shorter h))
+      (sym (ap is_some (common_shape_of_longer longer shorter h)) ∙ e) (n + k) (omega arith)

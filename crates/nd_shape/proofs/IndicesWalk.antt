@@ -1,5 +1,6 @@
 -- What a walk over the indices of a shape keeps while it goes on.
-use Rattle.std.proofs.Common.{◌≡◌, ℕ, ◌+◌, ◌-◌, ◌<◌, ◌≤◌, ◌↔◌, Bool, true, false, cond, drop, eqb, eqb-true, not, pos_of_ne-zero, List, [], ◌∷◌, length, replicate, Option, Some, None, refl, sym, ap, subst, ◌∙◌, arith}
+use Rattle.std.proofs.Common.{◌≡◌, ℕ, ◌+◌, ◌-◌, ◌<◌, ◌≤◌, ◌↔◌, Bool, true, false, cond, drop, eqb, eqb-true, not, pos_of_ne-zero, List}
+use Rattle.std.proofs.Common.{[], ◌∷◌, length, replicate, Option, Some, None, refl, sym, ap, subst, ◌∙◌, arith}
 use Rattle.std.specs.List.{slice_get}
 use Rattle.std.specs.Prelude.{nat_lt, IsTrue}
 use Rattle.std.proofs.lemmas.Bool.{eqb-false, ltb-true, ltb-false}
@@ -31,7 +32,8 @@ module _ (order : Order) (shape : List ℕ) where
         within = omega arith;
         first = λ h.
             let is = is_index-zeros shape (nonempty shape (omega arith)) in
-            e h ∙ sym (index_of_rank_in-rank_in order shape zeros is) ∙ ap (index_of_rank_in order shape) (rank_in-zeros order shape ∙ none);
+            e h ∙ sym (index_of_rank_in-rank_in order shape zeros is)
+            ∙ ap (index_of_rank_in order shape) (rank_in-zeros order shape ∙ none);
       }
 
   -- where one is left, the walk stands at an index,
@@ -45,7 +47,8 @@ module _ (order : Order) (shape : List ℕ) where
       ap (rank_in order shape) (s.first h) ∙ rank_in-index_of_rank_in order shape (size shape - n) (omega (arith, s.within))
 
   -- what it gives is the first of those left
-  pub gives : {index item : List ℕ} {n : ℕ} {left : List (List ℕ)} → 0 < n → StandsAt order shape n index → item ≡ index → indices_left order shape n ≡ left → left ≡ item ∷ indices_left order shape (n - 1)
+  pub gives : {index item : List ℕ} {n : ℕ} {left : List (List ℕ)} → 0 < n → StandsAt order shape n index → item ≡ index
+      → indices_left order shape n ≡ left → left ≡ item ∷ indices_left order shape (n - 1)
   gives {n = n} h s e is =
       sym is ∙ indices_left-more order shape n h s.within ∙ ap (λ first. first ∷ indices_left order shape (n - 1)) (sym (e ∙ s.first h))
 
@@ -54,7 +57,9 @@ module _ (order : Order) (shape : List ℕ) where
   gives_none n left z is = sym is ∙ ap (indices_left order shape) z ∙ indices_left-none order shape
 
   -- after it the walk stands at the index of the next rank, if there is one
-  pub goes_on : (index next : List ℕ) (n : ℕ) → 0 < n → StandsAt order shape n index → (rank_in order shape index + 1 < size shape → next ≡ index_of_rank_in order shape (rank_in order shape index + 1)) → StandsAt order shape (n - 1) next
+  pub goes_on : (index next : List ℕ) (n : ℕ) → 0 < n → StandsAt order shape n index
+      → (rank_in order shape index + 1 < size shape → next ≡ index_of_rank_in order shape (rank_in order shape index + 1))
+      → StandsAt order shape (n - 1) next
   goes_on index next n h s e =
       let here = rank_here index n h s in
       record {
@@ -67,7 +72,8 @@ module _ (order : Order) (shape : List ℕ) where
 -- ---- what a walk stands at, if anything
 module _ (order : Order) (shape : List ℕ) where
   -- at first the first index, if a flag says that there is one, or nothing
-  pub starts_at : (index : List ℕ) (n : ℕ) → index ≡ replicate (length shape) 0 → n ≡ size shape → StandsAtFirst order shape n (cond (not (eqb n 0)) (Some index) None)
+  pub starts_at : (index : List ℕ) (n : ℕ) → index ≡ replicate (length shape) 0 → n ≡ size shape
+      → StandsAtFirst order shape n (cond (not (eqb n 0)) (Some index) None)
   starts_at index n e m = by (eqb n 0) refl
     where
       by : (b : Bool) → eqb n 0 ≡ b → StandsAtFirst order shape n (cond (not b) (Some index) None)
@@ -90,7 +96,10 @@ module _ (order : Order) (shape : List ℕ) where
   stands_at index n flag s e = subst (λ b. StandsAtFirst order shape n (cond b (Some index) None)) e s
 
   -- after an index it stands at the one of the next rank, if a step says that there is one
-  pub goes_on_to : {index : List ℕ} (next : List ℕ) {n : ℕ} (more : Bool) → 0 < n → StandsAt order shape n index → (IsTrue more ↔ (rank_in order shape index + 1 < size shape)) → next ≡ cond more (index_of_rank_in order shape (rank_in order shape index + 1)) (replicate (length shape) 0) → StandsAtFirst order shape (n - 1) (cond more (Some next) None)
+  pub goes_on_to : {index : List ℕ} (next : List ℕ) {n : ℕ} (more : Bool) → 0 < n → StandsAt order shape n index
+      → (IsTrue more ↔ (rank_in order shape index + 1 < size shape))
+      → next ≡ cond more (index_of_rank_in order shape (rank_in order shape index + 1)) (replicate (length shape) 0)
+      → StandsAtFirst order shape (n - 1) (cond more (Some next) None)
   goes_on_to {index = index} next {n = n} true h s is e =
       let more : rank_in order shape index + 1 < size shape = is.0 refl in
       (omega (arith, rank_here order shape index n h s), goes_on order shape index next n h s (λ _. e))
@@ -109,22 +118,30 @@ module _ (order : Order) (shape : List ℕ) where
 -- ---- a cursor, which moves on before it lends
 module _ (order : Order) (shape : List ℕ) where
   -- after the index that was lent last it stands at the next one
-  pub moves_on : (index next : List ℕ) (n : ℕ) (more : Bool) → StandsAt order shape (n + 1) index → (IsTrue more ↔ (rank_in order shape index + 1 < size shape)) → next ≡ cond more (index_of_rank_in order shape (rank_in order shape index + 1)) (replicate (length shape) 0) → StandsAt order shape n next
+  pub moves_on : (index next : List ℕ) (n : ℕ) (more : Bool) → StandsAt order shape (n + 1) index
+      → (IsTrue more ↔ (rank_in order shape index + 1 < size shape))
+      → next ≡ cond more (index_of_rank_in order shape (rank_in order shape index + 1)) (replicate (length shape) 0)
+      → StandsAt order shape n next
   moves_on index next n more s is e =
       let same : n + 1 - 1 ≡ n = omega arith in
-      subst (λ m. StandsAt order shape m next) same (goes_on order shape index next (n + 1) (omega arith) s (λ within. taken more (is.1 within) e))
+      subst (λ m. StandsAt order shape m next) same
+      (goes_on order shape index next (n + 1) (omega arith) s (λ within. taken more (is.1 within) e))
     where
-      taken : (b : Bool) → IsTrue b → next ≡ cond b (index_of_rank_in order shape (rank_in order shape index + 1)) (replicate (length shape) 0) → next ≡ index_of_rank_in order shape (rank_in order shape index + 1)
+      taken : (b : Bool) → IsTrue b
+          → next ≡ cond b (index_of_rank_in order shape (rank_in order shape index + 1)) (replicate (length shape) 0)
+          → next ≡ index_of_rank_in order shape (rank_in order shape index + 1)
       taken true t g = g
       taken false t g = absurd (cc)
 
   -- what it lends is the first of those left
-  pub lends : (index : List ℕ) (n : ℕ) (left : List (List ℕ)) → 0 < n → StandsAt order shape n index → indices_left order shape n ≡ left → (indices_left order shape (n - 1) ≡ drop 1 left) × (Some index ≡ slice_get left 0)
+  pub lends : (index : List ℕ) (n : ℕ) (left : List (List ℕ)) → 0 < n → StandsAt order shape n index → indices_left order shape n ≡ left
+      → (indices_left order shape (n - 1) ≡ drop 1 left) × (Some index ≡ slice_get left 0)
   lends index n left h s is =
       let all = gives order shape h s refl is in
       (sym (ap (drop 1) all), sym (ap (λ xs. slice_get xs 0) all))
 
-  pub lends_none : (n : ℕ) (left : List (List ℕ)) → n ≡ 0 → indices_left order shape n ≡ left → (indices_left order shape n ≡ drop 1 left) × (◌≡◌ {A = Option (List ℕ)} None (slice_get left 0))
+  pub lends_none : (n : ℕ) (left : List (List ℕ)) → n ≡ 0 → indices_left order shape n ≡ left
+      → (indices_left order shape n ≡ drop 1 left) × (◌≡◌ {A = Option (List ℕ)} None (slice_get left 0))
   lends_none n left z is =
       let none = gives_none order shape n left z is in
       (is ∙ none ∙ sym (ap (drop 1) none), sym (ap (λ xs. slice_get xs 0) none))
@@ -136,8 +153,7 @@ module _ (order : Order) (shape : List ℕ) where
       → 0 < n → StandsAt order shape n (lengths (rewritten kept next))
   moved_kept {next = next} kept n more s is g h =
       let at = moves_on (lengths kept) next n more s is g in
-      let count : length next ≡ length (lengths kept) =
-      length_of_index shape next (stands_at_index order shape next n h at)
+      let count = length_of_index shape next (stands_at_index order shape next n h at)
       ∙ sym (length_of_index shape (lengths kept) (stands_at_index order shape (lengths kept) (n + 1) (omega arith) s)) in
       subst (λ xs. StandsAt order shape n xs) (sym (lengths_rewritten kept next count)) at
 

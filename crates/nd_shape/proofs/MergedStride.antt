@@ -1,5 +1,6 @@
 -- Which stride has the entries of two axes, and which have one.
-use Rattle.std.proofs.Common.{◌≡◌, ◌≢◌, ℕ, zero, suc, ◌+◌, ◌*◌, ◌<◌, ◌≤◌, ◌/◌, ◌%◌, ℤ, pos, ◌+ℤ◌, ◌*ℤ◌, List, [], ◌∷◌, length, get_or, inl, inr, refl, sym, ap, ◌∙◌, arith, mul-le-mul_left, pos_of_ne-zero, zero-mul}
+use Rattle.std.proofs.Common.{◌≡◌, ◌≢◌, ℕ, zero, suc, ◌+◌, ◌*◌, ◌<◌, ◌≤◌, ◌/◌, ◌%◌, ℤ, pos, ◌+ℤ◌, ◌*ℤ◌, List, [], ◌∷◌, length, get_or}
+use Rattle.std.proofs.Common.{inl, inr, refl, sym, ap, ◌∙◌, arith, mul-le-mul_left, pos_of_ne-zero, zero-mul}
 use Rattle.std.proofs.Math.Nat.{div-add-mod, div-eq_of_lt, div-one, div_self, mod-eq_of_lt, mod-one, mod_self, mul_comm}
 use Rattle.std.proofs.lemmas.Bool.{cases_eq}
 use Rattle.std.proofs.lemmas.Int.{ints}
@@ -9,14 +10,16 @@ use Rattle.nd_base.proofs.laws.Times.{times_sum, times_times}
 use Rattle.nd_shape.specs.Merge.{IsMergedStride, MergeFits}
 
 -- an axis of at most one entry adds nothing to the other
-pub short_taken : (take_len : ℕ) (take_stride : ℤ) (into_len : ℕ) (into_stride : ℤ) → take_len ≤ 1 → IsMergedStride take_len take_stride into_len into_stride into_stride
+pub short_taken : (take_len : ℕ) (take_stride : ℤ) (into_len : ℕ) (into_stride : ℤ) → take_len ≤ 1
+    → IsMergedStride take_len take_stride into_len into_stride into_stride
 short_taken zero take_stride into_len into_stride h j l = absurd (omega (arith, zero-mul into_len))
 short_taken (suc n) take_stride into_len into_stride h j l =
     let one : suc n ≡ 1 = omega arith in
     let less : j < into_len = omega (arith, ap (λ m. m * into_len) one) in
     rw (div-eq_of_lt less, mod-eq_of_lt less) (omega (arith, ints))
 
-pub into_short : (take_len : ℕ) (take_stride : ℤ) (into_len : ℕ) (into_stride : ℤ) → into_len ≤ 1 → IsMergedStride take_len take_stride into_len into_stride take_stride
+pub into_short : (take_len : ℕ) (take_stride : ℤ) (into_len : ℕ) (into_stride : ℤ) → into_len ≤ 1
+    → IsMergedStride take_len take_stride into_len into_stride take_stride
 into_short take_len take_stride zero into_stride h j l = absurd (omega arith)
 into_short take_len take_stride (suc n) into_stride h j l =
     let one : suc n ≡ 1 = omega arith in
@@ -25,7 +28,8 @@ into_short take_len take_stride (suc n) into_stride h j l =
     rw (q, r) (omega (arith, ints))
 
 whole_steps : (q n r : ℕ) (s : ℤ) → pos (n * q + r) *ℤ s ≡ (pos q *ℤ (pos n *ℤ s)) +ℤ (pos r *ℤ s)
-whole_steps q n r s = times_sum (n * q) r s ∙ ap (λ m. (pos m *ℤ s) +ℤ (pos r *ℤ s)) (mul_comm n q) ∙ ap (λ z. z +ℤ (pos r *ℤ s)) (sym (times_times q n s))
+whole_steps q n r s = times_sum (n * q) r s ∙ ap (λ m. (pos m *ℤ s) +ℤ (pos r *ℤ s)) (mul_comm n q)
+    ∙ ap (λ z. z +ℤ (pos r *ℤ s)) (sym (times_times q n s))
 
 module _ (take_len : ℕ) (take_stride : ℤ) (into_len : ℕ) (into_stride : ℤ) where
   -- a stride as long as the other axis' entries goes on where that one ends
@@ -36,7 +40,8 @@ module _ (take_len : ℕ) (take_stride : ℤ) (into_len : ℕ) (into_stride : �
       ∙ sym (ap (λ s. (pos (j / into_len) *ℤ s) +ℤ (pos (j % into_len) *ℤ into_stride)) e)
 
   -- and no other one does, where both axes have more than one entry
-  pub steps_on_from_fit : 1 < take_len → 1 < into_len → MergeFits take_len take_stride into_len into_stride → take_stride ≡ pos into_len *ℤ into_stride
+  pub steps_on_from_fit : 1 < take_len → 1 < into_len → MergeFits take_len take_stride into_len into_stride
+      → take_stride ≡ pos into_len *ℤ into_stride
   steps_on_from_fit h g fits =
       let s = fits.0 in
       let few : into_len * 2 ≤ into_len * take_len = mul-le-mul_left into_len (omega arith) in
@@ -52,7 +57,8 @@ module _ (take_len : ℕ) (take_stride : ℤ) (into_len : ℕ) (into_stride : �
       omega (arith, ints, ap (λ z. pos into_len *ℤ z) same)
 
 -- the lengths of two axes make no greater product than all that aren't 0
-pub two_lengths_le : (shape : List ℕ) (axis other : ℕ) → axis < length shape → other < length shape → axis ≢ other → get_or shape axis 0 * get_or shape other 0 ≤ nonzero_size shape
+pub two_lengths_le : (shape : List ℕ) (axis other : ℕ) → axis < length shape → other < length shape → axis ≢ other
+    → get_or shape axis 0 * get_or shape other 0 ≤ nonzero_size shape
 two_lengths_le [] axis other h g ne = absurd (omega arith)
 two_lengths_le (len ∷ lens) zero zero h g ne = absurd (ne refl)
 two_lengths_le (len ∷ lens) zero (suc other) h g ne =
@@ -72,6 +78,7 @@ two_lengths_le (len ∷ lens) (suc axis) (suc other) h g ne =
     elim (cases_eq len 0) [
       | inl e ↦ rw (nonzero_size_of_zero len lens e) rest
       | inr e ↦
-          let more : 1 * nonzero_size lens ≤ len * nonzero_size lens = omega (arith, mul-le-mul_left (nonzero_size lens) (pos_of_ne-zero e)) in
+          let more : 1 * nonzero_size lens ≤ len * nonzero_size lens =
+          omega (arith, mul-le-mul_left (nonzero_size lens) (pos_of_ne-zero e)) in
           rw (nonzero_size_of_other len lens e) (omega arith)
     ]

@@ -21,7 +21,8 @@ length-walk_order n RowMajor = length-reverse (below n) ∙ length-range_with_le
 length-walk_order n ColumnMajor = length-range_with_len 0 n
 
 -- the axis at a place
-pub walk_order-at : (n : ℕ) (order : Order) (place axis : ℕ) → place < n → (order ≡ RowMajor → axis ≡ n - 1 - place) → (order ≡ ColumnMajor → axis ≡ place) → get_or (walk_order n order) place 0 ≡ axis
+pub walk_order-at : (n : ℕ) (order : Order) (place axis : ℕ) → place < n → (order ≡ RowMajor → axis ≡ n - 1 - place)
+    → (order ≡ ColumnMajor → axis ≡ place) → get_or (walk_order n order) place 0 ≡ axis
 walk_order-at n RowMajor place axis h by_rows by_columns =
     let same = length-range_with_len 0 n in
     let read = get_or-reverse (below n) place 0 (omega (arith, same)) in

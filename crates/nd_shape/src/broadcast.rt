@@ -74,7 +74,7 @@ fn common_of<Output: Lengths>(
 ) -> Result<Output, LayoutError>
     requires shorter { length shorter.now ≤ length longer.now }
     requires count { IsCount Output.NDIM (length longer.now) }
-    ensures refusal { shape_fault result ≡ common_shape_fault longer.now shorter.now }
+    ensures fault { shape_fault result ≡ common_shape_fault longer.now shorter.now }
     ensures common { IfOk result (λ common.
         common_shape longer.now shorter.now ≡ Some (Output.list common)) }
     ensures memory { common_shape_fault longer.now shorter.now ≡ None →
@@ -108,8 +108,9 @@ pub fn co_broadcast<D1: Lengths, D2: Lengths, Output: Lengths>(
     shape1: &D1,
     shape2: &D2,
 ) -> Result<Output, LayoutError>
-    requires { IsCount Output.NDIM (max (length (D1.list shape1.now)) (length (D2.list shape2.now))) }
-    ensures refusal { shape_fault result ≡
+    requires { IsCount Output.NDIM
+        (max (length (D1.list shape1.now)) (length (D2.list shape2.now))) }
+    ensures fault { shape_fault result ≡
         common_shape_fault (D1.list shape1.now) (D2.list shape2.now) }
     ensures common { IfOk result (λ common.
         common_shape (D1.list shape1.now) (D2.list shape2.now) ≡ Some (Output.list common)) }

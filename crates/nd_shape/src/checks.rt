@@ -198,7 +198,8 @@ pub fn can_index_slice_not_custom<D: Lengths>(len: usize, dim: &D) -> Result<(),
     ensures rule { is_empty (D.list dim.now) ≡ false → OnOk result ((order : Order) →
         MeetsOwnedRule (D.list dim.now) (all_signed (standard_strides order (D.list dim.now)))) }
     ensures distinct { OnOk result ((order : Order) →
-        HasDistinctOffsets (D.list dim.now) (all_signed (standard_strides order (D.list dim.now)))) }
+        HasDistinctOffsets (D.list dim.now)
+        (all_signed (standard_strides order (D.list dim.now)))) }
 {
     if len < size_of_shape_checked(dim)? {
         return Err(from_kind(ErrorKind::OutOfBounds));

@@ -38,7 +38,8 @@ pub trait NdIndex<E: Lengths>: Debug {
     fn index_unchecked(&self, strides: &E) -> isize
         requires same_count { length (index_list self.now) ≡ length (E.list strides.now) }
         requires small { All (λ entry. entry ≤ limit) (index_list self.now) }
-        requires fits { farthest_offset (all_signed (E.list strides.now)) (index_list self.now) ≤ limit }
+        requires fits { farthest_offset (all_signed (E.list strides.now)) (index_list self.now)
+            ≤ limit }
         ensures { result ≡
             offset_of (all_signed (E.list strides.now)) (index_list self.now) };
 }

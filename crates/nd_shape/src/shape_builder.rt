@@ -104,7 +104,8 @@ impl<D: Lengths> StrideShape<D> {
         builder: T,
     ) -> Result<Self, AllocError>
         ensures dim { IfOk result (λ shape. D.list shape.dim ≡ T.built_lens builder) }
-        ensures strides { IfOk result (λ shape. shape.strides ≡ strides_in (T.built_order builder)) }
+        ensures strides { IfOk result (λ shape.
+            shape.strides ≡ strides_in (T.built_order builder)) }
         ensures memory { NeedsNoMemory D.NDIM (length (T.built_lens builder)) → IsOk result }
         ensures no_memory { T.build_needs_memory builder ≡ false → IsOk result }
     {
@@ -259,7 +260,8 @@ pub trait ShapeBuilder {
         Self: Sized,
         ensures list { IfOk result (λ shape. Self.Dim.list shape.dim ≡ built_lens self) }
         ensures strides { IfOk result (λ shape.
-            option_map Self.Dim.list (custom_strides shape.strides) ≡ Some (given_strides strides)) }
+            option_map Self.Dim.list (custom_strides shape.strides)
+            ≡ Some (given_strides strides)) }
         ensures memory { NeedsNoMemory Self.Dim.NDIM (length (built_lens self))
             → NeedsNoMemory Self.Dim.NDIM (length (given_strides strides))
             → IsOk result }

@@ -54,7 +54,7 @@ pub fn do_slice(
         ≡ offset +ℤ (pos j *ℤ signed_reading stride.new)) }
     ensures within { OnOk result ((j : ℕ) → j < dim.new →
         slice_index (picks fit dim.old slice) j < dim.old) }
-    ensures refusal { OnErr result ((dim.new ≡ dim.old) × (stride.new ≡ stride.old)) }
+    ensures unchanged { OnErr result ((dim.new ≡ dim.old) × (stride.new ≡ stride.old)) }
 {
     let (start, end, step) = to_abs_slice(*dim, slice, fit)?;
     let offset = if start < end {

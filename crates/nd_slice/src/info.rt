@@ -30,7 +30,8 @@ impl<T: SliceElems, Din: FixedCount, Dout: FixedCount> Model for SliceInfo<T, Di
 
     ghost invariant = { λ info. HasCounts Din.NDIM Dout.NDIM (T.list info.indices) };
 
-    ghost inverse = { λ indices. record { indices = indices; in_dim = record {}; out_dim = record {} } };
+    ghost inverse = { λ indices.
+        record { indices = indices; in_dim = record {}; out_dim = record {} } };
 }
 
 impl<T: SliceElems + Copy, Din: FixedCount, Dout: FixedCount> Clone for SliceInfo<T, Din, Dout> {

@@ -105,9 +105,11 @@ pub fn slices_intersect<D: Lengths, A: SliceElems, B: SliceElems>(
     fit: Fit,
 ) -> Result<bool, ShapeError>
     requires { All (λ len. len < 2 ^ 63) (D.list dim.now) }
-    ensures fault { result_err result ≡ option_or (argument_fault fit (D.list dim.now) (A.list first.now))
+    ensures fault { result_err result ≡ option_or
+        (argument_fault fit (D.list dim.now) (A.list first.now))
         (argument_fault fit (D.list dim.now) (B.list second.now)) }
-    ensures meet { IfOk result (λ meet. IsTrue meet ↔ Meet fit (D.list dim.now) (A.list first.now) (B.list second.now)) }
+    ensures meet { IfOk result (λ meet. IsTrue meet
+        ↔ Meet fit (D.list dim.now) (A.list first.now) (B.list second.now)) }
 {
     check_slice(dim, first, fit)?;
     check_slice(dim, second, fit)?;

@@ -1,39 +1,34 @@
 -- Views of accepted layouts satisfy the no-alias rule: along the strides that a shape has by itself, and in owned mode along any.
-use Rattle.std.proofs.Common.{◌≡◌, ◌⊎◌, ℕ, ◌≤◌, ℤ, true, false, None, List, inl, inr, arith, subst}
+use Rattle.std.proofs.Common.{◌≡◌, ◌⊎◌, ℕ, ℤ, true, false, None, List, inl, inr, arith, subst}
 use Rattle.std.proofs.lemmas.Grind.{common_steps}
-use Rattle.nd_base.specs.declared.order.Order.{Order}
 use Rattle.nd_base.specs.declared.order.Order.TheVariants.{RowMajor, ColumnMajor}
-use Rattle.nd_base.specs.Signed.{all_signed}
-use Rattle.nd_base.specs.Size.{nonzero_size, is_empty, limit}
+use Rattle.nd_base.proofs.laws.Definitions.{all_signed, is_empty}
 use Rattle.nd_shape.specs.Acceptance.{acceptance}
 use Rattle.nd_shape.specs.AcceptanceByStrides.{acceptance_by_strides}
 use Rattle.nd_shape.specs.OwnedRule.{meets_owned_rule, MeetsOwnedRule}
-use Rattle.nd_shape.specs.ShapeBuilder.{custom_strides, standard_strides, strides_list}
+use Rattle.nd_shape.specs.ShapeBuilder.{custom_strides, strides_list}
 use Rattle.nd_shape.specs.declared.checks.CanIndexCheckMode.{CanIndexCheckMode}
 use Rattle.nd_shape.specs.declared.checks.CanIndexCheckMode.TheVariants.{OwnedMutable}
 use Rattle.nd_shape.specs.declared.shape_builder.Strides.{Strides}
 use Rattle.nd_shape.specs.declared.shape_builder.Strides.TheVariants.{C, F, Custom}
 use Rattle.nd_shape.proofs.laws.AcceptanceByStrides.{standard_size}
-use Rattle.nd_shape.proofs.laws.DefaultStrides.{default_strides_meet_rule, fortran_strides_meet_rule}
 use Rattle.nd_shape.proofs.laws.OwnedRule.{rule_holds}
-use Rattle.nd_shape.proofs.laws.StandardStrides.{standard_signed}
-
--- the strides that a shape with an index has by itself
-standard_meets : (order : Order) (shape : List ℕ) → nonzero_size shape ≤ limit → is_empty shape ≡ false → MeetsOwnedRule shape (all_signed (standard_strides order shape))
-standard_meets RowMajor shape top some = rw (standard_signed RowMajor shape top) (default_strides_meet_rule shape some)
-standard_meets ColumnMajor shape top some = rw (standard_signed ColumnMajor shape top) (fortran_strides_meet_rule shape some)
+use Rattle.nd_shape.proofs.laws.StandardStrides.{standard_meets_rule}
 
 -- a layout with an index that is accepted to be owned
-passes : (elem_size len : ℕ) (shape : List ℕ) (strides : List ℤ) → acceptance elem_size len OwnedMutable shape strides ≡ None → is_empty shape ≡ false → meets_owned_rule shape strides ≡ true
+passes : (elem_size len : ℕ) (shape : List ℕ) (strides : List ℤ) → acceptance elem_size len OwnedMutable shape strides ≡ None
+    → is_empty shape ≡ false → meets_owned_rule shape strides ≡ true
 passes elem_size len shape strides h some = grind (arith, common_steps)
 
 -- and a shape by its own strides or by given ones
-pub by_strides_meet : {D : Type 0} (list : D → List ℕ) (elem_size len : ℕ) (mode : CanIndexCheckMode) (shape : List ℕ) (strides : Strides D) → acceptance_by_strides list elem_size len mode shape strides ≡ None
-    → (custom_strides strides ≡ None) ⊎ (mode ≡ OwnedMutable) → is_empty shape ≡ false → MeetsOwnedRule shape (all_signed (strides_list list shape strides))
-by_strides_meet list elem_size len mode shape C h why some = standard_meets RowMajor shape (standard_size len shape h) some
-by_strides_meet list elem_size len mode shape F h why some = standard_meets ColumnMajor shape (standard_size len shape h) some
-by_strides_meet list elem_size len mode shape (Custom strides) h why some =
+pub by_strides_meet : {D : Type 0} (list : D → List ℕ) (elem_size len : ℕ) {mode : CanIndexCheckMode} (shape : List ℕ) (strides : Strides D)
+    → acceptance_by_strides list elem_size len mode shape strides ≡ None → (custom_strides strides ≡ None) ⊎ (mode ≡ OwnedMutable)
+    → is_empty shape ≡ false → MeetsOwnedRule shape (all_signed (strides_list list shape strides))
+by_strides_meet list elem_size len shape C h why some = standard_meets_rule RowMajor shape (standard_size len shape h) some
+by_strides_meet list elem_size len shape F h why some = standard_meets_rule ColumnMajor shape (standard_size len shape h) some
+by_strides_meet list elem_size len shape (Custom strides) h why some =
     elim why [
       | inl none ↦ absurd (cc)
-      | inr owned ↦ rule_holds shape (all_signed (list strides)) (passes elem_size len shape (all_signed (list strides)) (subst (λ m. acceptance elem_size len m shape (all_signed (list strides)) ≡ None) owned h) some)
+      | inr owned ↦ rule_holds shape (all_signed (list strides)) (passes elem_size len shape (all_signed (list strides))
+          (subst (λ m. acceptance elem_size len m shape (all_signed (list strides)) ≡ None) owned h) some)
     ]

@@ -1,14 +1,14 @@
 -- A layout read as one of more or longer axes: it reaches no further, and its indices lie where their sources do.
-use Rattle.std.proofs.Common.{◌≡◌, ◌+◌, ◌⊎◌, ℕ, zero, suc, ◌-◌, ◌<◌, ◌≤◌, ℤ, pos, ◌*ℤ◌, cond, eqb, Bool, List, [], ◌∷◌, ◌++◌, length, get_or, drop, replicate, nat_lt, true, false, inl, inr, refl, sym, ap, ◌∙◌, arith}
+use Rattle.std.proofs.Common.{◌≡◌, ◌+◌, ◌⊎◌, ℕ, zero, suc, ◌-◌, ◌<◌, ◌≤◌, ℤ, pos, ◌*ℤ◌, cond, eqb, Bool, List, [], ◌∷◌, ◌++◌, length}
+use Rattle.std.proofs.Common.{get_or, drop, replicate, nat_lt, true, false, inl, inr, refl, sym, ap, ◌∙◌, arith}
 use Rattle.std.proofs.Math.Nat.{mul-zero}
 use Rattle.std.proofs.lemmas.Bool.{and_parts, and_from, cases_eq, cases_lt, cond-true, cond-false, eq-eqb, ltb-true, lt-ltb, ne_eqb}
 use Rattle.std.proofs.lemmas.Int.{ints}
 use Rattle.std.proofs.Math.ListN.{get_or-map}
-use Rattle.std.proofs.lemmas.List.{ext_get_or, get_or-append-add, get_or_append_left, get_or-drop, get_or-replicate, length-append, length-drop, length-map, length-replicate}
-use Rattle.nd_base.specs.Indices.{is_index}
-use Rattle.nd_base.specs.Offset.{offset_of}
-use Rattle.nd_base.specs.Signed.{signed, all_signed}
-use Rattle.nd_base.specs.Span.{sum_over_axes, reach_down, reach_up, low_span, high_span}
+use Rattle.std.proofs.lemmas.List.{ext_get_or, get_or-append-add, get_or_append_left, get_or-drop, get_or-replicate, length-append}
+use Rattle.std.proofs.lemmas.List.{length-drop, length-map, length-replicate}
+use Rattle.nd_base.proofs.laws.Definitions.{is_index, offset_of, all_signed, signed, high_span, low_span, reach_down, reach_up}
+use Rattle.nd_base.proofs.laws.Definitions.{sum_over_axes}
 use Rattle.nd_base.proofs.laws.IsIndex.{length_of_index}
 use Rattle.nd_shape.proofs.laws.Stretches.{StretchesTo}
 use Rattle.ndarray_layout.specs.BroadcastView.{broadcast_source, broadcast_strides, entries_within, new_axes, stretched_strides}
@@ -18,11 +18,13 @@ use Rattle.ndarray_layout.specs.BroadcastView.{broadcast_source, broadcast_strid
 abbrev Stretched : List ℕ → List ℕ → Type 0
 Stretched lens others = (k : ℕ) → k < length others → (get_or others k 0 ≡ get_or lens k 0) ⊎ (get_or others k 0 ≡ 1)
 
-length-stretched_strides : (lens others : List ℕ) (strides : List ℤ) → length lens ≡ length others → length others ≡ length strides → length (stretched_strides lens others strides) ≡ length strides
+length-stretched_strides : (lens others : List ℕ) (strides : List ℤ) → length lens ≡ length others → length others ≡ length strides
+    → length (stretched_strides lens others strides) ≡ length strides
 length-stretched_strides lens others [] e f = refl
 length-stretched_strides [] others (stride ∷ strides) e f = absurd (omega arith)
 length-stretched_strides (len ∷ lens) [] (stride ∷ strides) e f = absurd (omega arith)
-length-stretched_strides (len ∷ lens) (other ∷ others) (stride ∷ strides) e f = ap suc (length-stretched_strides lens others strides (omega arith) (omega arith))
+length-stretched_strides (len ∷ lens) (other ∷ others) (stride ∷ strides) e f = ap suc (length-stretched_strides lens others strides
+    (omega arith) (omega arith))
 
 -- an axis reaches nowhere along a stride of 0
 record StaysAtZero (f : ℕ → ℤ → ℕ) : Type 0 where
@@ -34,21 +36,23 @@ down = record { at_zero = λ len. refl }
 up : StaysAtZero reach_up
 up = record { at_zero = λ len. mul-zero (len - 1) }
 
-one_stretched : (f : ℕ → ℤ → ℕ) → StaysAtZero f → (len other : ℕ) (stride : ℤ) → f len (cond (eqb len other) stride (pos 0)) ≤ f other stride
-one_stretched f stays len other stride =
+one_stretched : {f : ℕ → ℤ → ℕ} → StaysAtZero f → (len other : ℕ) (stride : ℤ)
+    → f len (cond (eqb len other) stride (pos 0)) ≤ f other stride
+one_stretched stays len other stride =
     elim (cases_eq len other) [
       | inl e ↦ rw (cond-true {A = ℤ} (eqb len other) stride (pos 0) (eq-eqb len other e), e) (omega arith)
       | inr e ↦ rw (cond-false {A = ℤ} (eqb len other) stride (pos 0) (ne_eqb len other e)) (omega (arith, stays.at_zero len))
     ]
 
-sum_stretched : (f : ℕ → ℤ → ℕ) → StaysAtZero f → (lens others : List ℕ) (strides : List ℤ) → length lens ≡ length others → length others ≡ length strides → sum_over_axes f lens (stretched_strides lens others strides) ≤ sum_over_axes f others strides
-sum_stretched f stays [] [] [] e g = omega arith
-sum_stretched f stays [] [] (stride ∷ strides) e g = absurd (omega arith)
-sum_stretched f stays [] (other ∷ others) strides e g = absurd (omega arith)
-sum_stretched f stays (len ∷ lens) [] strides e g = absurd (omega arith)
-sum_stretched f stays (len ∷ lens) (other ∷ others) [] e g = absurd (omega arith)
-sum_stretched f stays (len ∷ lens) (other ∷ others) (stride ∷ strides) e g =
-    omega (arith, one_stretched f stays len other stride, sum_stretched f stays lens others strides (omega arith) (omega arith))
+sum_stretched : {f : ℕ → ℤ → ℕ} → StaysAtZero f → (lens others : List ℕ) (strides : List ℤ) → length lens ≡ length others
+    → length others ≡ length strides → sum_over_axes f lens (stretched_strides lens others strides) ≤ sum_over_axes f others strides
+sum_stretched stays [] [] [] e g = omega arith
+sum_stretched stays [] [] (stride ∷ strides) e g = absurd (omega arith)
+sum_stretched stays [] (other ∷ others) strides e g = absurd (omega arith)
+sum_stretched stays (len ∷ lens) [] strides e g = absurd (omega arith)
+sum_stretched stays (len ∷ lens) (other ∷ others) [] e g = absurd (omega arith)
+sum_stretched stays (len ∷ lens) (other ∷ others) (stride ∷ strides) e g =
+    omega (arith, one_stretched stays len other stride, sum_stretched stays lens others strides (omega arith) (omega arith))
 
 -- an index has its source, at the same offset
 record WithinKept (lens others : List ℕ) (strides : List ℤ) (entries : List ℕ) : Type 0 where
@@ -59,8 +63,8 @@ record OneKept (len other : ℕ) (stride : ℤ) (i : ℕ) : Type 0 where
   pub below : cond (eqb other 1) 0 i < other
   pub offset : pos i *ℤ cond (eqb len other) stride (pos 0) ≡ pos (cond (eqb other 1) 0 i) *ℤ stride
 
-one_kept : (len other : ℕ) (stride : ℤ) (i : ℕ) → i < len → (other ≡ len) ⊎ (other ≡ 1) → OneKept len other stride i
-one_kept len other stride i below stays =
+one_kept : {len other : ℕ} (stride : ℤ) (i : ℕ) → i < len → (other ≡ len) ⊎ (other ≡ 1) → OneKept len other stride i
+one_kept {len} {other} stride i below stays =
     elim (cases_eq other 1) [
       | inl one ↦
           let first : cond (eqb other 1) 0 i ≡ 0 = cond-true {A = ℕ} (eqb other 1) 0 i (eq-eqb other 1 one) in
@@ -85,7 +89,8 @@ one_kept len other stride i below stays =
           }
     ]
 
-within_kept : (lens others : List ℕ) (strides : List ℤ) (entries : List ℕ) → length lens ≡ length others → length others ≡ length strides → Stretched lens others → is_index lens entries ≡ true → WithinKept lens others strides entries
+within_kept : (lens others : List ℕ) (strides : List ℤ) (entries : List ℕ) → length lens ≡ length others → length others ≡ length strides
+    → Stretched lens others → is_index lens entries ≡ true → WithinKept lens others strides entries
 within_kept [] [] [] [] e f h here = record { within = refl; offset = refl }
 within_kept [] [] (stride ∷ strides) entries e f h here = absurd (omega arith)
 within_kept [] [] [] (i ∷ entries) e f h here = absurd (cc)
@@ -95,27 +100,31 @@ within_kept (len ∷ lens) (other ∷ others) [] entries e f h here = absurd (om
 within_kept (len ∷ lens) (other ∷ others) (stride ∷ strides) [] e f h here = absurd (cc)
 within_kept (len ∷ lens) (other ∷ others) (stride ∷ strides) (i ∷ entries) e f h here =
     let parts = and_parts (nat_lt i len) (is_index lens entries) here in
-    let first = one_kept len other stride i (ltb-true i len parts.0) (h 0 (omega arith)) in
+    let first = one_kept stride i (ltb-true i len parts.0) (h 0 (omega arith)) in
     let rest = within_kept lens others strides entries (omega arith) (omega arith) (λ k l. h (suc k) (omega arith)) parts.1 in
     record {
-      within = and_from (nat_lt (cond (eqb other 1) 0 i) other) (is_index others (entries_within others entries)) (lt-ltb (cond (eqb other 1) 0 i) other first.below) rest.within;
+      within = and_from (nat_lt (cond (eqb other 1) 0 i) other) (is_index others (entries_within others entries))
+          (lt-ltb (cond (eqb other 1) 0 i) other first.below) rest.within;
       offset = omega (arith, ints, first.offset, rest.offset);
     }
 
 -- ---- new axes
-sum_after_new : (f : ℕ → ℤ → ℕ) → StaysAtZero f → (n : ℕ) (shape : List ℕ) (strides : List ℤ) → n ≤ length shape → sum_over_axes f shape (replicate n (pos 0) ++ strides) ≡ sum_over_axes f (drop n shape) strides
-sum_after_new f stays zero shape strides h = refl
-sum_after_new f stays (suc n) [] strides h = absurd (omega arith)
-sum_after_new f stays (suc n) (len ∷ shape) strides h = omega (arith, stays.at_zero len, sum_after_new f stays n shape strides (omega arith))
+sum_after_new : {f : ℕ → ℤ → ℕ} → StaysAtZero f → (n : ℕ) (shape : List ℕ) (strides : List ℤ) → n ≤ length shape
+    → sum_over_axes f shape (replicate n (pos 0) ++ strides) ≡ sum_over_axes f (drop n shape) strides
+sum_after_new stays zero shape strides h = refl
+sum_after_new stays (suc n) [] strides h = absurd (omega arith)
+sum_after_new stays (suc n) (len ∷ shape) strides h = omega (arith, stays.at_zero len, sum_after_new stays n shape strides (omega arith))
 
 index_after_new : (n : ℕ) (shape entries : List ℕ) → is_index shape entries ≡ true → is_index (drop n shape) (drop n entries) ≡ true
 index_after_new zero shape entries here = here
 index_after_new (suc n) [] [] here = refl
 index_after_new (suc n) [] (i ∷ entries) here = absurd (cc)
 index_after_new (suc n) (len ∷ shape) [] here = absurd (cc)
-index_after_new (suc n) (len ∷ shape) (i ∷ entries) here = index_after_new n shape entries (and_parts (nat_lt i len) (is_index shape entries) here).1
+index_after_new (suc n) (len ∷ shape) (i ∷ entries) here = index_after_new n shape entries
+    (and_parts (nat_lt i len) (is_index shape entries) here).1
 
-offset_after_new : (n : ℕ) (strides : List ℤ) (entries : List ℕ) → n ≤ length entries → offset_of (replicate n (pos 0) ++ strides) entries ≡ offset_of strides (drop n entries)
+offset_after_new : (n : ℕ) (strides : List ℤ) (entries : List ℕ) → n ≤ length entries
+    → offset_of (replicate n (pos 0) ++ strides) entries ≡ offset_of strides (drop n entries)
 offset_after_new zero strides entries h = refl
 offset_after_new (suc n) strides [] h = absurd (omega arith)
 offset_after_new (suc n) strides (i ∷ entries) h = omega (arith, ints, offset_after_new n strides entries (omega arith))
@@ -127,7 +136,8 @@ pub record Stretches (shape view_shape : List ℕ) (strides : List ℤ) : Type 0
   pub fewer : length view_shape ≤ length shape
   pub stretches : StretchesTo shape view_shape
 
-count_after : (shape view_shape : List ℕ) → length view_shape ≤ length shape → length (drop (new_axes shape view_shape) shape) ≡ length view_shape
+count_after : (shape view_shape : List ℕ) → length view_shape ≤ length shape
+    → length (drop (new_axes shape view_shape) shape) ≡ length view_shape
 count_after shape view_shape h = omega (arith, length-drop (new_axes shape view_shape) shape)
 
 pub record BroadcastKept (shape view_shape : List ℕ) (strides : List ℤ) : Type 0 where
@@ -135,53 +145,73 @@ pub record BroadcastKept (shape view_shape : List ℕ) (strides : List ℤ) : Ty
   pub low : low_span shape (broadcast_strides shape view_shape strides) ≤ low_span view_shape strides
   pub high : high_span shape (broadcast_strides shape view_shape strides) ≤ high_span view_shape strides
 
-sum_broadcast : (f : ℕ → ℤ → ℕ) → StaysAtZero f → (shape view_shape : List ℕ) (strides : List ℤ) → Stretches shape view_shape strides → sum_over_axes f shape (broadcast_strides shape view_shape strides) ≤ sum_over_axes f view_shape strides
-sum_broadcast f stays shape view_shape strides s =
+sum_broadcast : {f : ℕ → ℤ → ℕ} → StaysAtZero f → {shape view_shape : List ℕ} {strides : List ℤ} → Stretches shape view_shape strides
+    → sum_over_axes f shape (broadcast_strides shape view_shape strides) ≤ sum_over_axes f view_shape strides
+sum_broadcast stays {shape} {view_shape} {strides} s =
     let n = new_axes shape view_shape in
     let lens = drop n shape in
-    omega (arith, sum_after_new f stays n shape (stretched_strides lens view_shape strides) (omega arith), sum_stretched f stays lens view_shape strides (count_after shape view_shape s.fewer) s.counts)
+    omega (
+      arith,
+      sum_after_new stays n shape (stretched_strides lens view_shape strides) (omega arith),
+      sum_stretched stays lens view_shape
+          strides (count_after shape view_shape s.fewer) s.counts,
+    )
 
-pub broadcast_kept : (shape view_shape : List ℕ) (strides : List ℤ) → Stretches shape view_shape strides → BroadcastKept shape view_shape strides
-broadcast_kept shape view_shape strides s =
+pub broadcast_kept : {shape view_shape : List ℕ} {strides : List ℤ} → Stretches shape view_shape strides
+    → BroadcastKept shape view_shape strides
+broadcast_kept {shape} {view_shape} {strides} s =
     let n = new_axes shape view_shape in
     let new : List ℤ = replicate n (pos 0) in
     let after = stretched_strides (drop n shape) view_shape strides in
-    let count : length after ≡ length strides = length-stretched_strides (drop n shape) view_shape strides (count_after shape view_shape s.fewer) s.counts in
+    let count : length after ≡ length strides = length-stretched_strides (drop n shape) view_shape strides
+    (count_after shape view_shape s.fewer) s.counts in
     record {
       counts = omega (arith, length-append new after, length-replicate {A = ℤ} n (pos 0), count, s.counts, s.fewer);
-      low = sum_broadcast reach_down down shape view_shape strides s;
-      high = sum_broadcast reach_up up shape view_shape strides s;
+      low = sum_broadcast down s;
+      high = sum_broadcast up s;
     }
 
 pub record BroadcastSourceKept (shape view_shape : List ℕ) (strides : List ℤ) (entries : List ℕ) : Type 0 where
   pub within : is_index view_shape (broadcast_source view_shape entries) ≡ true
   pub offset : offset_of (broadcast_strides shape view_shape strides) entries ≡ offset_of strides (broadcast_source view_shape entries)
 
-pub broadcast_source_kept : (shape view_shape : List ℕ) (strides : List ℤ) (entries : List ℕ) → Stretches shape view_shape strides → is_index shape entries ≡ true → BroadcastSourceKept shape view_shape strides entries
-broadcast_source_kept shape view_shape strides entries s here =
+pub broadcast_source_kept : {shape view_shape : List ℕ} {strides : List ℤ} (entries : List ℕ) → Stretches shape view_shape strides
+    → is_index shape entries ≡ true → BroadcastSourceKept shape view_shape strides entries
+broadcast_source_kept {shape} {view_shape} {strides} entries s here =
     let n = new_axes shape view_shape in
     let lens = drop n shape in
     let count = length_of_index shape entries here in
     let same : new_axes entries view_shape ≡ n = ap (λ m. m - length view_shape) count in
     let stretched : Stretched lens view_shape = λ k l. rw (get_or-drop n shape k 0) (s.stretches k l) in
-    let rest = within_kept lens view_shape strides (drop n entries) (count_after shape view_shape s.fewer) s.counts stretched (index_after_new n shape entries here) in
-    let source : broadcast_source view_shape entries ≡ entries_within view_shape (drop n entries) = ap (λ m. entries_within view_shape (drop m entries)) same in
+    let rest = within_kept lens view_shape strides (drop n entries) (count_after shape view_shape s.fewer) s.counts stretched
+    (index_after_new n shape entries here) in
+    let source : broadcast_source view_shape entries ≡ entries_within view_shape (drop n entries) =
+    ap (λ m. entries_within view_shape (drop m entries)) same in
     record {
       within = ap (is_index view_shape) source ∙ rest.within;
-      offset = offset_after_new n (stretched_strides lens view_shape strides) entries (omega arith) ∙ rest.offset ∙ sym (ap (offset_of strides) source);
+      offset = offset_after_new n (stretched_strides lens view_shape strides) entries (omega arith) ∙ rest.offset
+          ∙ sym (ap (offset_of strides) source);
     }
 
 -- ---- axis by axis
-stretched_at : (lens others : List ℕ) (strides : List ℤ) (k : ℕ) → length lens ≡ length others → length others ≡ length strides → k < length others → get_or (stretched_strides lens others strides) k (pos 0) ≡ cond (eqb (get_or lens k 0) (get_or others k 0)) (get_or strides k (pos 0)) (pos 0)
+stretched_at : (lens others : List ℕ) (strides : List ℤ) (k : ℕ) → length lens ≡ length others → length others ≡ length strides
+    → k < length others
+    → get_or (stretched_strides lens others strides) k (pos 0) ≡ cond (eqb (get_or lens k 0) (get_or others k 0)) (get_or strides k (pos 0))
+    (pos 0)
 stretched_at [] [] strides k e f h = absurd (omega arith)
 stretched_at [] (other ∷ others) strides k e f h = absurd (omega arith)
 stretched_at (len ∷ lens) [] strides k e f h = absurd (omega arith)
 stretched_at (len ∷ lens) (other ∷ others) [] k e f h = absurd (omega arith)
 stretched_at (len ∷ lens) (other ∷ others) (stride ∷ strides) zero e f h = refl
-stretched_at (len ∷ lens) (other ∷ others) (stride ∷ strides) (suc k) e f h = stretched_at lens others strides k (omega arith) (omega arith) (omega arith)
+stretched_at (len ∷ lens) (other ∷ others) (stride ∷ strides) (suc k) e f h = stretched_at lens others strides k (omega arith) (omega arith)
+    (omega arith)
 
 -- a list that is written axis by axis is that of the strides
-pub strides_by_axes : (shape view_shape strides new : List ℕ) → length view_shape ≤ length shape → length view_shape ≡ length strides → length new ≡ length shape → ((k : ℕ) → k < new_axes shape view_shape → get_or new k 0 ≡ 0) → ((k : ℕ) → k < length view_shape → get_or new (new_axes shape view_shape + k) 0 ≡ cond (eqb (get_or shape (new_axes shape view_shape + k) 0) (get_or view_shape k 0)) (get_or strides k 0) 0) → all_signed new ≡ broadcast_strides shape view_shape (all_signed strides)
+pub strides_by_axes : (shape view_shape strides new : List ℕ) → length view_shape ≤ length shape → length view_shape ≡ length strides
+    → length new ≡ length shape → ((k : ℕ) → k < new_axes shape view_shape → get_or new k 0 ≡ 0)
+    → ((k : ℕ) → k < length view_shape → get_or new (new_axes shape view_shape + k) 0
+    ≡ cond (eqb (get_or shape (new_axes shape view_shape + k) 0) (get_or view_shape k 0)) (get_or strides k 0) 0) → all_signed new
+    ≡ broadcast_strides shape view_shape (all_signed strides)
 strides_by_axes shape view_shape strides new fewer counts count front after =
     let n = new_axes shape view_shape in
     let lens = drop n shape in
@@ -191,7 +221,8 @@ strides_by_axes shape view_shape strides new fewer counts count front after =
     let count_new : length (all_signed new) ≡ length new = length-map new signed in
     let count_zeros : length zeros ≡ n = length-replicate {A = ℤ} n (pos 0) in
     let count_lens = count_after shape view_shape fewer in
-    let count_old : length old ≡ length (all_signed strides) = length-stretched_strides lens view_shape (all_signed strides) count_lens (counts ∙ sym count_strides) in
+    let count_old : length old ≡ length (all_signed strides) = length-stretched_strides lens view_shape (all_signed strides) count_lens
+    (counts ∙ sym count_strides) in
     let count_all : length (all_signed new) ≡ length (zeros ++ old) = omega (arith, length-append zeros old) in
     ext_get_or (pos 0) (all_signed new) (zeros ++ old) count_all (λ k l.
     elim (cases_lt k n) [
@@ -205,7 +236,9 @@ strides_by_axes shape view_shape strides new fewer counts count front after =
           let inside : i < length view_shape = omega arith in
           let one = get_or (all_signed strides) i (pos 0) in
           let same = eqb (get_or shape (n + i) 0) (get_or view_shape i 0) in
-          let here : get_or old i (pos 0) ≡ cond same one (pos 0) = stretched_at lens view_shape (all_signed strides) i count_lens (counts ∙ sym count_strides) inside ∙ ap (λ len. cond (eqb len (get_or view_shape i 0)) one (pos 0)) (get_or-drop n shape i 0) in
+          let here : get_or old i (pos 0) ≡ cond same one (pos 0) = stretched_at lens view_shape (all_signed strides) i count_lens
+          (counts ∙ sym count_strides) inside ∙ ap (λ len. cond (eqb len (get_or view_shape i 0)) one (pos 0))
+          (get_or-drop n shape i 0) in
           get_or-map signed new k 0
           ∙ ap (λ j. signed (get_or new j 0)) at
           ∙ ap signed (after i inside)

@@ -1,11 +1,11 @@
 -- The places of a layout, row by row: each row is what its last axis has from one place on.
-use Rattle.std.proofs.Common.{◌≡◌, ℕ, zero, suc, ◌+◌, ℤ, pos, negsuc, ◌+ℤ◌, ◌*ℤ◌, List, [], ◌∷◌, ◌++◌, length, get_or, set, map, refl, sym, ap, ◌∙◌, arith}
+use Rattle.std.proofs.Common.{◌≡◌, ℕ, zero, suc, ◌+◌, ℤ, pos, negsuc, ◌+ℤ◌, ◌*ℤ◌, List, [], ◌∷◌, ◌++◌, length, get_or, set, map, refl, sym}
+use Rattle.std.proofs.Common.{ap, ◌∙◌, arith}
 use Rattle.std.specs.List.{flat_map}
 use Rattle.std.proofs.lemmas.Int.{ints}
 use Rattle.std.proofs.lemmas.Grind.{flat_map-append}
 use Rattle.std.proofs.lemmas.List.{append-nil, map-append}
-use Rattle.nd_base.specs.Indices.{below, indices}
-use Rattle.nd_base.specs.Offset.{offset_of}
+use Rattle.nd_base.proofs.laws.Definitions.{below, indices, offset_of}
 
 -- the places of a row that begins at a place
 abbrev pub row_from : ℤ → ℤ → ℕ → List ℤ
@@ -16,8 +16,10 @@ abbrev pub places_from : ℤ → List ℤ → List (List ℕ) → List ℤ
 places_from place strides xs = map (λ index. place +ℤ offset_of strides index) xs
 
 -- where it holds of each entry of the first axis, it holds of all of them
-by_entries : (f : List ℕ → ℤ) (row : ℤ → List ℤ) (whole cut : List (List ℕ)) → ((i : ℕ) → map f (map (λ index. i ∷ index) whole) ≡ flat_map row (map f (map (λ index. i ∷ index) cut)))
-    → (entries : List ℕ) → map f (flat_map (λ i. map (λ index. i ∷ index) whole) entries) ≡ flat_map row (map f (flat_map (λ i. map (λ index. i ∷ index) cut) entries))
+by_entries : (f : List ℕ → ℤ) (row : ℤ → List ℤ) (whole cut : List (List ℕ))
+    → ((i : ℕ) → map f (map (λ index. i ∷ index) whole) ≡ flat_map row (map f (map (λ index. i ∷ index) cut)))
+    → (entries : List ℕ) → map f (flat_map (λ i. map (λ index. i ∷ index) whole) entries)
+    ≡ flat_map row (map f (flat_map (λ i. map (λ index. i ∷ index) cut) entries))
 by_entries f row whole cut each [] = refl
 by_entries f row whole cut each (i ∷ entries) =
     let more = flat_map (λ i. map (λ index. i ∷ index) whole) entries in
@@ -30,18 +32,20 @@ by_entries f row whole cut each (i ∷ entries) =
     ∙ ap (flat_map row) (sym (map-append f one others))
 
 -- an entry of the first axis moves the place
-moved : (place : ℤ) (i : ℕ) (stride : ℤ) (strides : List ℤ) (xs : List (List ℕ)) → places_from place (stride ∷ strides) (map (λ index. i ∷ index) xs) ≡ places_from (place +ℤ (pos i *ℤ stride)) strides xs
+moved : (place : ℤ) (i : ℕ) (stride : ℤ) (strides : List ℤ) (xs : List (List ℕ))
+    → places_from place (stride ∷ strides) (map (λ index. i ∷ index) xs) ≡ places_from (place +ℤ (pos i *ℤ stride)) strides xs
 moved place i stride strides [] = refl
 moved place i stride strides (x ∷ xs) =
     let here : place +ℤ offset_of (stride ∷ strides) (i ∷ x) ≡ (place +ℤ (pos i *ℤ stride)) +ℤ offset_of strides x = omega (arith, ints) in
     rw (here, moved place i stride strides xs) refl
 
-no_step : (place stride : ℤ) → place +ℤ ((pos 0 *ℤ stride) +ℤ pos 0) ≡ place
-no_step place (pos n) = omega (arith, ints)
-no_step place (negsuc n) = omega (arith, ints)
+no_step : {place : ℤ} (stride : ℤ) → place +ℤ ((pos 0 *ℤ stride) +ℤ pos 0) ≡ place
+no_step (pos n) = omega (arith, ints)
+no_step (negsuc n) = omega (arith, ints)
 
 -- an axis by itself is one row
-one_row : (place stride : ℤ) (entries : List ℕ) → places_from place (stride ∷ []) (flat_map (λ i. (i ∷ []) ∷ []) entries) ≡ map (λ entry. place +ℤ (pos entry *ℤ stride)) entries
+one_row : (place stride : ℤ) (entries : List ℕ)
+    → places_from place (stride ∷ []) (flat_map (λ i. (i ∷ []) ∷ []) entries) ≡ map (λ entry. place +ℤ (pos entry *ℤ stride)) entries
 one_row place stride [] = refl
 one_row place stride (entry ∷ entries) =
     let here : place +ℤ ((pos entry *ℤ stride) +ℤ pos 0) ≡ place +ℤ (pos entry *ℤ stride) = omega (arith, ints) in
@@ -50,12 +54,13 @@ one_row place stride (entry ∷ entries) =
 -- and so each axis before the last one moves whole rows
 pub by_rows : (place : ℤ) (shape : List ℕ) (strides : List ℤ) (last : ℕ) → length shape ≡ last + 1 → length strides ≡ last + 1
     → places_from place strides (indices shape)
-    ≡ flat_map (λ start. row_from start (get_or strides last (pos 0)) (get_or shape last 0)) (places_from place strides (indices (set shape last 1)))
+    ≡ flat_map (λ start. row_from start (get_or strides last (pos 0)) (get_or shape last 0))
+    (places_from place strides (indices (set shape last 1)))
 by_rows place [] strides last long also = absurd (omega arith)
 by_rows place (len ∷ shape) [] last long also = absurd (omega arith)
 by_rows place (len ∷ []) (stride ∷ []) zero long also =
     one_row place stride (below len)
-    ∙ ap (λ start. row_from start stride len) (sym (no_step place stride))
+    ∙ ap (λ start. row_from start stride len) (sym (no_step stride))
     ∙ sym (append-nil (row_from (place +ℤ ((pos 0 *ℤ stride) +ℤ pos 0)) stride len))
 by_rows place (len ∷ (l ∷ shape)) (stride ∷ strides) zero long also = absurd (omega arith)
 by_rows place (len ∷ []) (stride ∷ (s ∷ strides)) zero long also = absurd (omega arith)

@@ -1,11 +1,9 @@
 -- One entry of an axis of a layout: a layout within it, whose indices lie where their sources do.
-use Rattle.std.proofs.Common.{◌≡◌, ℕ, zero, suc, ◌<◌, ◌≤◌, ℤ, pos, negsuc, ◌+◌, ◌+ℤ◌, ◌*ℤ◌, ◌≤ℤ◌, List, [], ◌∷◌, length, get_or, set, drop, nat_lt, true, arith, ap}
+use Rattle.std.proofs.Common.{◌≡◌, ℕ, zero, suc, ◌<◌, ◌≤◌, ℤ, pos, negsuc, ◌+◌, ◌+ℤ◌, ◌*ℤ◌, ◌≤ℤ◌, List, [], ◌∷◌, length, get_or, set, drop}
+use Rattle.std.proofs.Common.{nat_lt, true, arith, ap}
 use Rattle.std.proofs.lemmas.Int.{ints}
 use Rattle.std.proofs.lemmas.Bool.{and_parts, and_from, ltb-true, lt-ltb}
-use Rattle.nd_base.specs.Indices.{is_index}
-use Rattle.nd_base.specs.Offset.{offset_of}
-use Rattle.nd_base.specs.Size.{nonzero_size}
-use Rattle.nd_base.specs.Span.{reach_down, reach_up, low_span, high_span}
+use Rattle.nd_base.proofs.laws.Definitions.{is_index, offset_of, nonzero_size, high_span, low_span, reach_down, reach_up}
 use Rattle.ndarray_layout.proofs.OneAxis.{axis_within}
 use Rattle.ndarray_layout.proofs.Slices.{nonzero_more}
 
@@ -16,15 +14,18 @@ pub record CollapseKept (shape : List ℕ) (strides : List ℤ) (axis index : �
   pub low : pos (low_span (set shape axis 1) strides) ≤ℤ (pos (low_span shape strides) +ℤ (pos index *ℤ get_or strides axis (pos 0)))
   pub high : ((pos index *ℤ get_or strides axis (pos 0)) +ℤ pos (high_span (set shape axis 1) strides)) ≤ℤ pos (high_span shape strides)
 
-one_low : (len : ℕ) (stride : ℤ) (low : ℕ) (z : ℤ) → pos 0 ≤ℤ (pos (reach_down len stride) +ℤ z) → pos (reach_down 1 stride + low) ≤ℤ (pos (reach_down len stride + low) +ℤ z)
+one_low : (len : ℕ) (stride : ℤ) (low : ℕ) (z : ℤ) → pos 0 ≤ℤ (pos (reach_down len stride) +ℤ z)
+    → pos (reach_down 1 stride + low) ≤ℤ (pos (reach_down len stride + low) +ℤ z)
 one_low len (pos s) low z above = omega (arith, ints)
 one_low len (negsuc s) low z above = omega (arith, ints)
 
-one_high : (len : ℕ) (stride : ℤ) (high : ℕ) (z : ℤ) → z ≤ℤ pos (reach_up len stride) → (z +ℤ pos (reach_up 1 stride + high)) ≤ℤ pos (reach_up len stride + high)
+one_high : (len : ℕ) (stride : ℤ) (high : ℕ) (z : ℤ) → z ≤ℤ pos (reach_up len stride)
+    → (z +ℤ pos (reach_up 1 stride + high)) ≤ℤ pos (reach_up len stride + high)
 one_high len (pos s) high z below = omega (arith, ints)
 one_high len (negsuc s) high z below = omega (arith, ints)
 
-pub collapse_kept : (shape : List ℕ) (strides : List ℤ) (axis index : ℕ) → length shape ≡ length strides → axis < length shape → index < get_or shape axis 0 → CollapseKept shape strides axis index
+pub collapse_kept : (shape : List ℕ) (strides : List ℤ) (axis index : ℕ) → length shape ≡ length strides → axis < length shape
+    → index < get_or shape axis 0 → CollapseKept shape strides axis index
 collapse_kept [] strides axis index e there below = absurd (omega arith)
 collapse_kept (len ∷ shape) [] axis index e there below = absurd (omega arith)
 collapse_kept (len ∷ shape) (stride ∷ strides) zero index e there below =
@@ -49,7 +50,9 @@ pub record SourceKept (shape : List ℕ) (strides : List ℤ) (axis index : ℕ)
   pub within : is_index shape (set entries axis index) ≡ true
   pub offset : offset_of strides (set entries axis index) ≡ (pos index *ℤ get_or strides axis (pos 0)) +ℤ offset_of strides entries
 
-pub source_kept : (shape : List ℕ) (strides : List ℤ) (axis index : ℕ) (entries : List ℕ) → length shape ≡ length strides → axis < length shape → index < get_or shape axis 0 → is_index (set shape axis 1) entries ≡ true → SourceKept shape strides axis index entries
+pub source_kept : (shape : List ℕ) (strides : List ℤ) (axis index : ℕ) (entries : List ℕ) → length shape ≡ length strides
+    → axis < length shape → index < get_or shape axis 0 → is_index (set shape axis 1) entries ≡ true
+    → SourceKept shape strides axis index entries
 source_kept [] strides axis index entries e there below here = absurd (omega arith)
 source_kept (len ∷ shape) [] axis index entries e there below here = absurd (omega arith)
 source_kept (len ∷ shape) (stride ∷ strides) zero index [] e there below here = absurd (cc)
@@ -73,7 +76,9 @@ same_head : {x y : ℕ} {xs ys : List ℕ} → (x ∷ xs) ≡ (y ∷ ys) → x �
 same_head same = ap (λ zs. get_or zs 0 0) same
 
 -- indices of one source are one
-pub source_injective : (shape : List ℕ) (axis index : ℕ) (entries others : List ℕ) → axis < length shape → is_index (set shape axis 1) entries ≡ true → is_index (set shape axis 1) others ≡ true → set entries axis index ≡ set others axis index → entries ≡ others
+pub source_injective : (shape : List ℕ) (axis index : ℕ) (entries others : List ℕ) → axis < length shape
+    → is_index (set shape axis 1) entries ≡ true → is_index (set shape axis 1) others ≡ true
+    → set entries axis index ≡ set others axis index → entries ≡ others
 source_injective [] axis index entries others there p q same = absurd (omega arith)
 source_injective (len ∷ shape) zero index [] others there p q same = absurd (cc)
 source_injective (len ∷ shape) zero index (i ∷ entries) [] there p q same = absurd (cc)

@@ -1,19 +1,20 @@
 -- Two axes of a layout as one: a layout within it, whose indices lie where their sources do.
-use Rattle.std.proofs.Common.{◌≡◌, ◌≢◌, ℕ, zero, suc, ◌+◌, ◌-◌, ◌*◌, ◌/◌, ◌%◌, ◌<◌, ◌≤◌, ℤ, pos, negsuc, neg_ℤ, ◌+ℤ◌, ◌*ℤ◌, cond, eqb, List, length, get_or, set, true, inl, inr, refl, sym, ap, ◌∙◌, arith, subst, mul-le-mul_left, pos_of_ne-zero, zero-mul}
+use Rattle.std.proofs.Common.{◌≡◌, ◌≢◌, ℕ, zero, suc, ◌+◌, ◌-◌, ◌*◌, ◌/◌, ◌%◌, ◌<◌, ◌≤◌, ℤ, pos, negsuc, neg_ℤ, ◌+ℤ◌, ◌*ℤ◌, cond, eqb, List}
+use Rattle.std.proofs.Common.{length, get_or, set, true, inl, inr, refl, sym, ap, ◌∙◌, arith, subst, mul-le-mul_left, pos_of_ne-zero}
+use Rattle.std.proofs.Common.{zero-mul}
 use Rattle.std.proofs.Math.IntN.{pos-*ℤ-pos, pos-*ℤ-negsuc}
 use Rattle.std.proofs.Math.Nat.{div-add-mod, div-lt_iff_lt-mul, le_of_mul-le-mul_left, mod-lt, mul-le-mul_right, mul-zero}
 use Rattle.std.proofs.lemmas.Bool.{cases_eq, cond-true, cond-false, eq-eqb, ne_eqb}
 use Rattle.std.proofs.lemmas.Int.{ints}
 use Rattle.std.proofs.lemmas.List.{get_or-set_same, get_or-set_other, length-set, set-get_or}
-use Rattle.nd_base.specs.Indices.{is_index}
-use Rattle.nd_base.specs.Offset.{offset_of}
-use Rattle.nd_base.specs.Size.{nonzero_size}
-use Rattle.nd_base.specs.Span.{sum_over_axes, reach_down, reach_up, low_span, high_span}
+use Rattle.nd_base.proofs.laws.Definitions.{is_index, offset_of, nonzero_size, high_span, low_span, reach_down, reach_up}
+use Rattle.nd_base.proofs.laws.Definitions.{sum_over_axes}
 use Rattle.nd_base.proofs.laws.IsIndex.{entry_of_index, length_of_index}
 use Rattle.nd_shape.specs.Merge.{IsMergedStride, merge_fits, merged_shape, merged_stride}
 use Rattle.nd_shape.proofs.laws.Merge.{how_it_fits}
 use Rattle.ndarray_layout.specs.MergedView.{merge_source}
-use Rattle.ndarray_layout.proofs.Replaced.{sum_replaced, factor, factor_of_zero, factor_of_other, factor_pos, size_replaced, offset_by_stride, offset_by_entry, index_restored, same_with_entry}
+use Rattle.ndarray_layout.proofs.Replaced.{sum_replaced, factor, factor_of_zero, factor_of_other, factor_pos, size_replaced}
+use Rattle.ndarray_layout.proofs.Replaced.{offset_by_stride, offset_by_entry, index_restored, same_with_entry}
 
 -- ---- how far the axes reach
 -- what an axis reaches one way: nowhere with one entry, further with more, and on where another one ends
@@ -58,7 +59,8 @@ more_down : (len other : ℕ) (stride : ℤ) → len ≤ other → reach_down le
 more_down len other (pos s) h = omega arith
 more_down len other (negsuc s) h = more_steps len other (suc s) h
 
-steps_down : (len other : ℕ) (stride : ℤ) → 0 < len → 0 < other → reach_down (len * other) stride ≡ reach_down other (pos len *ℤ stride) + reach_down len stride
+steps_down : (len other : ℕ) (stride : ℤ) → 0 < len → 0 < other
+    → reach_down (len * other) stride ≡ reach_down other (pos len *ℤ stride) + reach_down len stride
 steps_down len other (pos s) h g = sym (ap (λ z. reach_down other z + 0) (pos-*ℤ-pos len s))
 steps_down len other (negsuc s) h g =
     both_steps len other (suc s) h g
@@ -75,7 +77,8 @@ more_up : (len other : ℕ) (stride : ℤ) → len ≤ other → reach_up len st
 more_up len other (pos s) h = more_steps len other s h
 more_up len other (negsuc s) h = omega arith
 
-steps_up : (len other : ℕ) (stride : ℤ) → 0 < len → 0 < other → reach_up (len * other) stride ≡ reach_up other (pos len *ℤ stride) + reach_up len stride
+steps_up : (len other : ℕ) (stride : ℤ) → 0 < len → 0 < other
+    → reach_up (len * other) stride ≡ reach_up other (pos len *ℤ stride) + reach_up len stride
 steps_up len other (pos s) h g =
     both_steps len other s h g
     ∙ sym (ap (λ z. reach_up other z + (len - 1) * s) (pos-*ℤ-pos len s))
@@ -86,8 +89,11 @@ up : Reaches reach_up
 up = record { few = few_up; more = more_up; steps = steps_up }
 
 -- the merged axis, and what is left of the one taken, reach no further than both did
-reach_merged : (f : ℕ → ℤ → ℕ) → Reaches f → (take_len : ℕ) (take_stride : ℤ) (into_len : ℕ) (into_stride : ℤ) (left : ℕ) → left ≤ 1 → merge_fits take_len take_stride into_len into_stride ≡ true → f (into_len * take_len) (merged_stride take_len take_stride into_len into_stride) + f left take_stride ≤ f take_len take_stride + f into_len into_stride
-reach_merged f reaches t ts n is left one h =
+reach_merged : {f : ℕ → ℤ → ℕ} → Reaches f → (take_len : ℕ) (take_stride : ℤ) (into_len : ℕ) (into_stride : ℤ) (left : ℕ) → left ≤ 1
+    → merge_fits take_len take_stride into_len into_stride ≡ true
+    → f (into_len * take_len) (merged_stride take_len take_stride into_len into_stride) + f left take_stride ≤ f take_len take_stride + f
+    into_len into_stride
+reach_merged {f} reaches t ts n is left one h =
     elim (how_it_fits t ts n is h) [
       | inl k ↦
           let less : n * t ≤ n * 1 = mul-le-mul_left n k.few in
@@ -133,8 +139,12 @@ pub record TwoAxes (shape : List ℕ) (strides : List ℤ) (taken into : ℕ) : 
 abbrev whole : List ℕ → ℕ → ℕ → ℕ
 whole shape taken into = get_or shape into 0 * get_or shape taken 0
 
-sum_merged : (f : ℕ → ℤ → ℕ) → Reaches f → (shape : List ℕ) (strides : List ℤ) (taken into : ℕ) (stride : ℤ) → TwoAxes shape strides taken into → merge_fits (get_or shape taken 0) (get_or strides taken (pos 0)) (get_or shape into 0) (get_or strides into (pos 0)) ≡ true → stride ≡ merged_stride (get_or shape taken 0) (get_or strides taken (pos 0)) (get_or shape into 0) (get_or strides into (pos 0)) → sum_over_axes f (merged_shape taken into shape) (set strides into stride) ≤ sum_over_axes f shape strides
-sum_merged f reaches shape strides taken into stride two on is =
+sum_merged : {f : ℕ → ℤ → ℕ} → Reaches f → {shape : List ℕ} {strides : List ℤ} {taken into : ℕ} {stride : ℤ}
+    → TwoAxes shape strides taken into
+    → merge_fits (get_or shape taken 0) (get_or strides taken (pos 0)) (get_or shape into 0) (get_or strides into (pos 0)) ≡ true
+    → stride ≡ merged_stride (get_or shape taken 0) (get_or strides taken (pos 0)) (get_or shape into 0) (get_or strides into (pos 0))
+    → sum_over_axes f (merged_shape taken into shape) (set strides into stride) ≤ sum_over_axes f shape strides
+sum_merged {f} reaches {shape} {strides} {taken} {into} {stride} two on is =
     let m = whole shape taken into in
     let u = left_on m in
     let ts = get_or strides taken (pos 0) in
@@ -146,8 +156,10 @@ sum_merged f reaches shape strides taken into stride two on is =
     let len1 : get_or shape1 taken 0 ≡ get_or shape taken 0 = get_or-set_other shape into taken m 0 two.apart in
     let stride1 : get_or strides1 taken (pos 0) ≡ ts = get_or-set_other strides into taken stride (pos 0) two.apart in
     let same1 : set strides1 taken ts ≡ strides1 = ap (set strides1 taken) (sym stride1) ∙ set-get_or strides1 taken (pos 0) in
-    let second : sum_over_axes f (set shape1 taken u) strides1 + f (get_or shape taken 0) ts ≡ sum_over_axes f shape1 strides1 + f u ts = rw (same1, len1, stride1) at (sum_replaced f shape1 strides1 taken u ts there1 counts1) in
-    let less : f m stride + f u ts ≤ f (get_or shape taken 0) ts + f (get_or shape into 0) (get_or strides into (pos 0)) = rw is (reach_merged f reaches (get_or shape taken 0) ts (get_or shape into 0) (get_or strides into (pos 0)) u (left_le m) on) in
+    let second : sum_over_axes f (set shape1 taken u) strides1 + f (get_or shape taken 0) ts ≡ sum_over_axes f shape1 strides1 + f u ts =
+    rw (same1, len1, stride1) at (sum_replaced f shape1 strides1 taken u ts there1 counts1) in
+    let less : f m stride + f u ts ≤ f (get_or shape taken 0) ts + f (get_or shape into 0) (get_or strides into (pos 0)) =
+    rw is (reach_merged reaches (get_or shape taken 0) ts (get_or shape into 0) (get_or strides into (pos 0)) u (left_le m) on) in
     omega (arith, first, second, less)
 
 -- what is left reaches no further than the layout, and is no larger
@@ -157,7 +169,8 @@ pub record MergeKept (shape : List ℕ) (strides : List ℤ) (taken into : ℕ) 
   pub low : low_span (merged_shape taken into shape) (set strides into stride) ≤ low_span shape strides
   pub high : high_span (merged_shape taken into shape) (set strides into stride) ≤ high_span shape strides
 
-size_merged : (shape : List ℕ) (taken into : ℕ) → taken < length shape → into < length shape → taken ≢ into → nonzero_size (merged_shape taken into shape) ≤ nonzero_size shape
+size_merged : (shape : List ℕ) (taken into : ℕ) → taken < length shape → into < length shape → taken ≢ into
+    → nonzero_size (merged_shape taken into shape) ≤ nonzero_size shape
 size_merged shape taken into there to apart =
     let t = get_or shape taken 0 in
     let n = get_or shape into 0 in
@@ -166,14 +179,15 @@ size_merged shape taken into there to apart =
     let first = size_replaced shape into m to in
     let there1 : taken < length shape1 = omega (arith, length-set shape into m) in
     let len1 : get_or shape1 taken 0 ≡ t = get_or-set_other shape into taken m 0 apart in
-    let second : nonzero_size (merged_shape taken into shape) * factor t ≡ nonzero_size shape1 * 1 = rw (len1, factor_of_left m) at (size_replaced shape1 taken (left_on m) there1) in
+    let second : nonzero_size (merged_shape taken into shape) * factor t ≡ nonzero_size shape1 * 1 =
+    rw (len1, factor_of_left m) at (size_replaced shape1 taken (left_on m) there1) in
     by t n (nonzero_size shape) (nonzero_size shape1) (nonzero_size (merged_shape taken into shape)) first second
   where
     by : (t n a b c : ℕ) → b * factor n ≡ a * factor (n * t) → c * factor t ≡ b * 1 → c ≤ a
     by t n a b c first second =
         elim (cases_eq (n * t) 0) [
           | inl e ↦
-              let last : b * factor n ≡ a * 1 = rw (factor_of_zero (n * t) e) at first in
+              let last : b * factor n ≡ a * 1 = rw (factor_of_zero e) at first in
               let one : b * 1 ≤ b * factor n = mul-le-mul_left b (factor_pos n) in
               let two : c * 1 ≤ c * factor t = mul-le-mul_left c (factor_pos t) in
               omega arith
@@ -186,14 +200,18 @@ size_merged shape taken into there to apart =
               le_of_mul-le-mul_left both (pos_of_ne-zero e)
         ]
 
-pub merge_kept : (shape : List ℕ) (strides : List ℤ) (taken into : ℕ) (stride : ℤ) → TwoAxes shape strides taken into → merge_fits (get_or shape taken 0) (get_or strides taken (pos 0)) (get_or shape into 0) (get_or strides into (pos 0)) ≡ true → stride ≡ merged_stride (get_or shape taken 0) (get_or strides taken (pos 0)) (get_or shape into 0) (get_or strides into (pos 0)) → MergeKept shape strides taken into stride
-merge_kept shape strides taken into stride two on is =
+pub merge_kept : {shape : List ℕ} {strides : List ℤ} {taken into : ℕ} {stride : ℤ} → TwoAxes shape strides taken into
+    → merge_fits (get_or shape taken 0) (get_or strides taken (pos 0)) (get_or shape into 0) (get_or strides into (pos 0)) ≡ true
+    → stride ≡ merged_stride (get_or shape taken 0) (get_or strides taken (pos 0)) (get_or shape into 0) (get_or strides into (pos 0))
+    → MergeKept shape strides taken into stride
+merge_kept {shape} {strides} {taken} {into} {stride} two on is =
     let m = whole shape taken into in
     record {
-      counts = length-set (set shape into m) taken (left_on m) ∙ length-set shape into m ∙ two.counts ∙ sym (length-set strides into stride);
+      counts = length-set (set shape into m) taken (left_on m) ∙ length-set shape into m ∙ two.counts
+          ∙ sym (length-set strides into stride);
       size = size_merged shape taken into two.taken_there two.into_there two.apart;
-      low = sum_merged reach_down down shape strides taken into stride two on is;
-      high = sum_merged reach_up up shape strides taken into stride two on is;
+      low = sum_merged down two on is;
+      high = sum_merged up two on is;
     }
 
 -- ---- its indices
@@ -204,7 +222,8 @@ record EntryForBoth (shape entries : List ℕ) (taken into : ℕ) : Type 0 where
   pub below : get_or entries into 0 < get_or shape taken 0 * get_or shape into 0
   pub some : 0 < get_or shape into 0
 
-entry_for_both : (shape entries : List ℕ) (taken into : ℕ) → taken < length shape → into < length shape → taken ≢ into → is_index (merged_shape taken into shape) entries ≡ true → EntryForBoth shape entries taken into
+entry_for_both : (shape entries : List ℕ) (taken into : ℕ) → taken < length shape → into < length shape → taken ≢ into
+    → is_index (merged_shape taken into shape) entries ≡ true → EntryForBoth shape entries taken into
 entry_for_both shape entries taken into there to apart here =
     let t = get_or shape taken 0 in
     let n = get_or shape into 0 in
@@ -213,7 +232,8 @@ entry_for_both shape entries taken into there to apart here =
     let shape2 = merged_shape taken into shape in
     let count1 : length shape1 ≡ length shape = length-set shape into m in
     let count2 : length shape2 ≡ length shape = length-set shape1 taken (left_on m) ∙ count1 in
-    let on_into : get_or shape2 into 0 ≡ m = get_or-set_other shape1 taken into (left_on m) 0 (λ e. apart (sym e)) ∙ get_or-set_same shape into m 0 to in
+    let on_into : get_or shape2 into 0 ≡ m = get_or-set_other shape1 taken into (left_on m) 0 (λ e. apart (sym e))
+    ∙ get_or-set_same shape into m 0 to in
     let on_taken : get_or shape2 taken 0 ≡ left_on m = get_or-set_same shape1 taken (left_on m) 0 (omega arith) in
     let below : get_or entries into 0 < m = rw on_into at (entry_of_index shape2 entries into here (omega arith)) in
     let one : get_or entries taken 0 < left_on m = rw on_taken at (entry_of_index shape2 entries taken here (omega arith)) in
@@ -232,8 +252,11 @@ pub record MergeSourceKept (shape : List ℕ) (strides : List ℤ) (taken into :
   pub within : is_index shape (merge_source taken into shape entries) ≡ true
   pub offset : offset_of (set strides into stride) entries ≡ offset_of strides (merge_source taken into shape entries)
 
-pub merge_source_kept : (shape : List ℕ) (strides : List ℤ) (taken into : ℕ) (stride : ℤ) (entries : List ℕ) → TwoAxes shape strides taken into → IsMergedStride (get_or shape taken 0) (get_or strides taken (pos 0)) (get_or shape into 0) (get_or strides into (pos 0)) stride → is_index (merged_shape taken into shape) entries ≡ true → MergeSourceKept shape strides taken into stride entries
-merge_source_kept shape strides taken into stride entries two serves here =
+pub merge_source_kept : {shape : List ℕ} {strides : List ℤ} {taken into : ℕ} {stride : ℤ} (entries : List ℕ)
+    → TwoAxes shape strides taken into
+    → IsMergedStride (get_or shape taken 0) (get_or strides taken (pos 0)) (get_or shape into 0) (get_or strides into (pos 0)) stride
+    → is_index (merged_shape taken into shape) entries ≡ true → MergeSourceKept shape strides taken into stride entries
+merge_source_kept {shape} {strides} {taken} {into} {stride} entries two serves here =
     let t = get_or shape taken 0 in
     let n = get_or shape into 0 in
     let ts = get_or strides taken (pos 0) in
@@ -251,10 +274,12 @@ merge_source_kept shape strides taken into stride entries two serves here =
     let inside1 : is_index shape1 middle ≡ true = index_restored shape1 entries taken (left_on m) q here (rw len1 q_below) in
     let count : length strides ≡ length entries = omega (arith, both.count, two.counts) in
     let by_stride = offset_by_stride strides entries into stride (omega (arith, two.into_there, two.counts)) count in
-    let by_taken : offset_of strides middle +ℤ (pos 0 *ℤ ts) ≡ offset_of strides entries +ℤ (pos q *ℤ ts) = rw both.none at (offset_by_entry strides entries taken q (omega (arith, two.taken_there, two.counts)) count) in
+    let by_taken : offset_of strides middle +ℤ (pos 0 *ℤ ts) ≡ offset_of strides entries +ℤ (pos q *ℤ ts) =
+    rw both.none at (offset_by_entry strides entries taken q (omega (arith, two.taken_there, two.counts)) count) in
     let middle_entry : get_or middle into 0 ≡ j = get_or-set_other entries taken into q 0 (λ e. two.apart (sym e)) in
     let count1 : length strides ≡ length middle = count ∙ sym (length-set entries taken q) in
-    let by_into : offset_of strides (set middle into r) +ℤ (pos j *ℤ is) ≡ offset_of strides middle +ℤ (pos r *ℤ is) = rw middle_entry at (offset_by_entry strides middle into r (omega (arith, two.into_there, two.counts)) count1) in
+    let by_into : offset_of strides (set middle into r) +ℤ (pos j *ℤ is) ≡ offset_of strides middle +ℤ (pos r *ℤ is) =
+    rw middle_entry at (offset_by_entry strides middle into r (omega (arith, two.into_there, two.counts)) count1) in
     let one : pos j *ℤ stride ≡ (pos q *ℤ ts) +ℤ (pos r *ℤ is) = serves j both.below in
     record {
       within = index_restored shape middle into m r inside1 r_below;
@@ -262,7 +287,9 @@ merge_source_kept shape strides taken into stride entries two serves here =
     }
 
 -- indices of one source are one
-pub merge_source_injective : (shape : List ℕ) (taken into : ℕ) (entries others : List ℕ) → taken < length shape → into < length shape → taken ≢ into → is_index (merged_shape taken into shape) entries ≡ true → is_index (merged_shape taken into shape) others ≡ true → merge_source taken into shape entries ≡ merge_source taken into shape others → entries ≡ others
+pub merge_source_injective : (shape : List ℕ) (taken into : ℕ) (entries others : List ℕ) → taken < length shape → into < length shape
+    → taken ≢ into → is_index (merged_shape taken into shape) entries ≡ true → is_index (merged_shape taken into shape) others ≡ true
+    → merge_source taken into shape entries ≡ merge_source taken into shape others → entries ≡ others
 merge_source_injective shape taken into entries others there to apart here other_here same =
     let n = get_or shape into 0 in
     let first = entry_for_both shape entries taken into there to apart here in
@@ -271,11 +298,16 @@ merge_source_injective shape taken into entries others there to apart here other
     let k = get_or others into 0 in
     let middle = set entries taken (j / n) in
     let other_middle = set others taken (k / n) in
-    let on_taken = λ (index : List ℕ) (q r : ℕ) (l : taken < length index). get_or-set_other (set index taken q) into taken r 0 apart ∙ get_or-set_same index taken q 0 l in
-    let on_into = λ (index : List ℕ) (q r : ℕ) (l : into < length index). get_or-set_same (set index taken q) into r 0 (subst (λ x. into < x) (sym (length-set index taken q)) l) in
-    let quotients : j / n ≡ k / n = sym (on_taken entries (j / n) (j % n) (omega (arith, first.count))) ∙ ap (λ l. get_or l taken 0) same ∙ on_taken others (k / n) (k % n) (omega (arith, second.count)) in
-    let rests : j % n ≡ k % n = sym (on_into entries (j / n) (j % n) (omega (arith, first.count))) ∙ ap (λ l. get_or l into 0) same ∙ on_into others (k / n) (k % n) (omega (arith, second.count)) in
+    let on_taken = λ (index : List ℕ) (q r : ℕ) (l : taken < length index). get_or-set_other (set index taken q) into taken r 0 apart
+    ∙ get_or-set_same index taken q 0 l in
+    let on_into = λ (index : List ℕ) (q r : ℕ) (l : into < length index). get_or-set_same (set index taken q) into r 0
+    (subst (λ x. into < x) (sym (length-set index taken q)) l) in
+    let quotients : j / n ≡ k / n = sym (on_taken entries (j / n) (j % n) (omega (arith, first.count))) ∙ ap (λ l. get_or l taken 0) same
+    ∙ on_taken others (k / n) (k % n) (omega (arith, second.count)) in
+    let rests : j % n ≡ k % n = sym (on_into entries (j / n) (j % n) (omega (arith, first.count))) ∙ ap (λ l. get_or l into 0) same
+    ∙ on_into others (k / n) (k % n) (omega (arith, second.count)) in
     let entry : j ≡ k = sym (div-add-mod j n) ∙ ap (λ q. n * q + j % n) quotients ∙ ap (λ r. n * (k / n) + r) rests ∙ div-add-mod k n in
     let turned = λ (e : into ≡ taken). apart (sym e) in
-    let middles : middle ≡ other_middle = same_with_entry middle other_middle into (j % n) (k % n) same (get_or-set_other entries taken into (j / n) 0 turned ∙ entry ∙ sym (get_or-set_other others taken into (k / n) 0 turned)) in
-    same_with_entry entries others taken (j / n) (k / n) middles (first.none ∙ sym second.none)
+    let middles : middle ≡ other_middle = same_with_entry into (j % n) (k % n) same (get_or-set_other entries taken into (j / n) 0 turned
+    ∙ entry ∙ sym (get_or-set_other others taken into (k / n) 0 turned)) in
+    same_with_entry taken (j / n) (k / n) middles (first.none ∙ sym second.none)

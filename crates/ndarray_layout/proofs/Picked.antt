@@ -1,5 +1,6 @@
 -- What a slice leaves of one axis: the picks lie within the axis, and apart as their stride says.
-use Rattle.std.proofs.Common.{◌≡◌, ℕ, suc, ◌-◌, ◌*◌, ◌<◌, ◌≤◌, ℤ, pos, negsuc, ◌+ℤ◌, ◌*ℤ◌, ◌≤ℤ◌, List, [], ◌∷◌, length, get_or, nat_le, inl, inr, arith, refl, ap}
+use Rattle.std.proofs.Common.{◌≡◌, ℕ, suc, ◌-◌, ◌*◌, ◌<◌, ◌≤◌, ℤ, pos, negsuc, ◌+ℤ◌, ◌*ℤ◌, ◌≤ℤ◌, List, [], ◌∷◌, length, get_or, nat_le, inl}
+use Rattle.std.proofs.Common.{inr, arith, refl, ap}
 use Rattle.std.proofs.lemmas.Int.{ints}
 use Rattle.std.proofs.lemmas.Bool.{cases_lt, cond-true, cond-false, le-leb, lt-leb}
 use Rattle.nd_base.specs.Span.{reach, reach_down, reach_up}
@@ -11,7 +12,8 @@ use Rattle.ndarray_layout.proofs.OneAxis.{Within, axis_within}
 pub record PicksFit (len : ℕ) (step : ℤ) (picks : List ℕ) : Type 0 where
   pub few : length picks ≤ len
   pub within : (j : ℕ) → j < length picks → get_or picks j 0 < len
-  pub spaced : (j : ℕ) (stride : ℤ) → j < length picks → pos (get_or picks j 0) *ℤ stride ≡ (pos (get_or picks 0 0) *ℤ stride) +ℤ (pos j *ℤ (stride *ℤ step))
+  pub spaced : (j : ℕ) (stride : ℤ) → j < length picks
+      → pos (get_or picks j 0) *ℤ stride ≡ (pos (get_or picks 0 0) *ℤ stride) +ℤ (pos j *ℤ (stride *ℤ step))
 
 -- what is left of an axis reaches no further than the axis
 pub record AxisKept (len : ℕ) (stride : ℤ) (count : ℕ) (new_stride : ℤ) (offset : ℤ) : Type 0 where
@@ -35,8 +37,9 @@ first_of_none [] stride h = refl
 first_of_none (pick ∷ picks) stride h = absurd (omega arith)
 
 -- the pick at j lies j new strides from the first
-pub pick_offset : (len : ℕ) (stride step : ℤ) (picks : List ℕ) (j : ℕ) → PicksFit len step picks → j < length picks → pos (get_or picks j 0) *ℤ stride ≡ first_offset picks stride +ℤ (pos j *ℤ picked_stride (length picks) stride step)
-pick_offset len stride step picks j fit h =
+pub pick_offset : {len : ℕ} (stride : ℤ) {step : ℤ} {picks : List ℕ} (j : ℕ) → PicksFit len step picks → j < length picks
+    → pos (get_or picks j 0) *ℤ stride ≡ first_offset picks stride +ℤ (pos j *ℤ picked_stride (length picks) stride step)
+pick_offset stride {step} {picks} j fit h =
     let first = first_of_some picks stride (omega arith) in
     elim (cases_lt 1 (length picks)) [
       | inl many ↦
@@ -52,21 +55,25 @@ one_less : (n k : ℕ) → (suc n - 1) * k ≡ n * k
 one_less n k = ap (λ m. m * k) (omega arith)
 
 -- bounds on both ends of an axis are bounds on all of it
-ends_low : (low high n : ℕ) (offset stride : ℤ) → Within low high offset → Within low high (offset +ℤ (pos n *ℤ stride)) → pos (reach_down (suc n) stride) ≤ℤ (pos low +ℤ offset)
-ends_low low high n offset (pos s) p q = omega (arith, ints)
-ends_low low high n offset (negsuc s) p q =
+ends_low : {low high : ℕ} (n : ℕ) {offset : ℤ} (stride : ℤ) → Within low high offset → Within low high (offset +ℤ (pos n *ℤ stride))
+    → pos (reach_down (suc n) stride) ≤ℤ (pos low +ℤ offset)
+ends_low n (pos s) p q = omega (arith, ints)
+ends_low n (negsuc s) p q =
     let far : (suc n - 1) * suc s ≡ n * suc s = one_less n (suc s) in
     omega (arith, ints)
 
-ends_high : (low high n : ℕ) (offset stride : ℤ) → Within low high offset → Within low high (offset +ℤ (pos n *ℤ stride)) → (offset +ℤ pos (reach_up (suc n) stride)) ≤ℤ pos high
-ends_high low high n offset (pos s) p q =
+ends_high : {low high : ℕ} (n : ℕ) {offset : ℤ} (stride : ℤ) → Within low high offset → Within low high (offset +ℤ (pos n *ℤ stride))
+    → (offset +ℤ pos (reach_up (suc n) stride)) ≤ℤ pos high
+ends_high n (pos s) p q =
     let far : (suc n - 1) * s ≡ n * s = one_less n s in
     omega (arith, ints)
-ends_high low high n offset (negsuc s) p q = omega (arith, ints)
+ends_high n (negsuc s) p q = omega (arith, ints)
 
 -- the reaches below and above make up the reach
-kept_from : (len : ℕ) (stride : ℤ) (count : ℕ) (new_stride offset : ℤ) → count ≤ len → pos (reach_down count new_stride) ≤ℤ (pos (reach_down len stride) +ℤ offset) → (offset +ℤ pos (reach_up count new_stride)) ≤ℤ pos (reach_up len stride) → AxisKept len stride count new_stride offset
-kept_from len stride count new_stride offset few low high = record {
+kept_from : {len : ℕ} {stride : ℤ} {count : ℕ} {new_stride offset : ℤ} → count ≤ len
+    → pos (reach_down count new_stride) ≤ℤ (pos (reach_down len stride) +ℤ offset)
+    → (offset +ℤ pos (reach_up count new_stride)) ≤ℤ pos (reach_up len stride) → AxisKept len stride count new_stride offset
+kept_from {len} {stride} {count} {new_stride} few low high = record {
   few = few;
   reach = omega (arith, ints, reach_parts len stride, reach_parts count new_stride);
   low = low;
@@ -74,19 +81,23 @@ kept_from len stride count new_stride offset few low high = record {
 }
 
 -- an axis with no entry left
-none_kept : (len : ℕ) (stride : ℤ) → AxisKept len stride 0 (pos 0) (pos 0)
-none_kept len stride = kept_from len stride 0 (pos 0) (pos 0) (omega arith) (omega (arith, ints)) (omega (arith, ints))
+none_kept : {len : ℕ} {stride : ℤ} → AxisKept len stride 0 (pos 0) (pos 0)
+none_kept = kept_from (omega arith) (omega (arith, ints)) (omega (arith, ints))
 
 -- an axis with some entry left
-some_kept : (len : ℕ) (stride : ℤ) (n : ℕ) (new_stride offset : ℤ) → suc n ≤ len → Within (reach_down len stride) (reach_up len stride) offset → Within (reach_down len stride) (reach_up len stride) (offset +ℤ (pos n *ℤ new_stride)) → AxisKept len stride (suc n) new_stride offset
-some_kept len stride n new_stride offset few first last = kept_from len stride (suc n) new_stride offset few (ends_low _ _ n offset new_stride first last) (ends_high _ _ n offset new_stride first last)
+some_kept : {len : ℕ} {stride : ℤ} {n : ℕ} {new_stride offset : ℤ} → suc n ≤ len
+    → Within (reach_down len stride) (reach_up len stride) offset
+    → Within (reach_down len stride) (reach_up len stride) (offset +ℤ (pos n *ℤ new_stride)) → AxisKept len stride (suc n) new_stride offset
+some_kept {n} {new_stride} few first last = kept_from few (ends_low n new_stride first last) (ends_high n new_stride first last)
 
-pub slice_kept : (len : ℕ) (stride step : ℤ) (picks : List ℕ) → PicksFit len step picks → AxisKept len stride (length picks) (picked_stride (length picks) stride step) (first_offset picks stride)
-slice_kept len stride step [] fit = none_kept len stride
-slice_kept len stride step (pick ∷ picks) fit =
+pub slice_kept : {len : ℕ} (stride : ℤ) {step : ℤ} (picks : List ℕ) → PicksFit len step picks
+    → AxisKept len stride (length picks) (picked_stride (length picks) stride step) (first_offset picks stride)
+slice_kept stride [] fit = none_kept
+slice_kept {len} stride {step} (pick ∷ picks) fit =
     let all = pick ∷ picks in
     let n = length picks in
     let new_stride = picked_stride (suc n) stride step in
-    let first : Within (reach_down len stride) (reach_up len stride) (pos pick *ℤ stride) = axis_within len pick stride (fit.within 0 (omega arith)) in
+    let first : Within (reach_down len stride) (reach_up len stride) (pos pick *ℤ stride) = axis_within len pick stride
+    (fit.within 0 (omega arith)) in
     let end = axis_within len (get_or all n 0) stride (fit.within n (omega arith)) in
-    some_kept len stride n new_stride (pos pick *ℤ stride) fit.few first (rw (pick_offset len stride step all n fit (omega arith)) at end)
+    some_kept fit.few first (rw (pick_offset stride n fit (omega arith)) at end)

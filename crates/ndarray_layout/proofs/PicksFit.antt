@@ -8,8 +8,8 @@ use Rattle.nd_slice.proofs.laws.Picks.{length-picks_le, pick_below, pick_steps}
 use Rattle.nd_slice.proofs.laws.SliceFault.{fits_of_no_fault}
 use Rattle.ndarray_layout.proofs.Picked.{PicksFit}
 
-pub picks_fit : (fit : Fit) (len : ℕ) (slice : Slice) → slice_fault fit len slice ≡ None → PicksFit len slice.step (picks fit len slice)
-picks_fit fit len slice none =
+pub picks_fit : (fit : Fit) {len : ℕ} (slice : Slice) → slice_fault fit len slice ≡ None → PicksFit len slice.step (picks fit len slice)
+picks_fit fit {len} slice none =
     let fits = fits_of_no_fault fit len slice none in
     record {
       few = length-picks_le fit len slice fits;

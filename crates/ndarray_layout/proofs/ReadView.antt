@@ -1,12 +1,9 @@
 -- A layout with its axes turned round has the same sums and products, and the places of the turned indices.
-use Rattle.std.proofs.Common.{◌≡◌, ℕ, ℤ, pos, ◌+ℤ◌, List, [], ◌∷◌, length, map, reverse, arith, refl, sym, ap, ◌∙◌}
+use Rattle.std.proofs.Common.{◌≡◌, ℕ, ℤ, pos, ◌+ℤ◌, List, length, reverse, arith, refl, sym, ap, ◌∙◌}
 use Rattle.std.proofs.lemmas.List.{reverse-reverse, length-reverse}
 use Rattle.nd_base.specs.declared.order.Order.{Order}
 use Rattle.nd_base.specs.declared.order.Order.TheVariants.{RowMajor, ColumnMajor}
-use Rattle.nd_base.specs.Indices.{indices}
-use Rattle.nd_base.specs.Offset.{offset_of}
-use Rattle.nd_base.specs.Place.{place, places}
-use Rattle.nd_base.specs.Span.{reach, reach_down, reach_up}
+use Rattle.nd_base.proofs.laws.Definitions.{indices, offset_of, place, places, reach, reach_down, reach_up}
 use Rattle.nd_base.proofs.laws.Indices.{map-indices_in}
 use Rattle.nd_base.proofs.laws.IsIndex.{length_of_index}
 use Rattle.nd_base.proofs.laws.NonzeroSize.{nonzero_size-reverse}
@@ -14,22 +11,27 @@ use Rattle.nd_base.proofs.laws.Offset.{offset_of-reverse}
 use Rattle.nd_base.proofs.laws.Span.{sum_over_axes-reverse}
 use Rattle.ndarray_layout.specs.View.{IsView, view_places}
 use Rattle.ndarray_layout.specs.private.ReadView.{view_as_read}
-
-map_after : {A B C : Type 0} (f : B → C) (g : A → B) (xs : List A) → map f (map g xs) ≡ map (λ x. f (g x)) xs
-map_after f g [] = refl
-map_after f g (x ∷ xs) = ap (λ ys. f (g x) ∷ ys) (map_after f g xs)
+use Rattle.std.proofs.lemmas.Simd.{map-map}
 
 -- the places in an order, with the axes turned where the first moves fastest
-pub places-as_read : (order : Order) (start : ℕ) (shape : List ℕ) (strides : List ℤ) → length shape ≡ length strides → view_places RowMajor (view_as_read order start shape strides) ≡ places order start shape strides
+pub places-as_read : (order : Order) (start : ℕ) (shape : List ℕ) (strides : List ℤ) → length shape ≡ length strides
+    → view_places RowMajor (view_as_read order start shape strides) ≡ places order start shape strides
 places-as_read RowMajor start shape strides e = refl
 places-as_read ColumnMajor start shape strides e =
     let turned = reverse strides in
     map-indices_in RowMajor (place start turned) (λ x. place start strides (reverse x)) (reverse shape) (λ x h.
-    let counts : length turned ≡ length x = omega (arith, length_of_index (reverse shape) x h, length-reverse shape, length-reverse strides) in
+    let counts : length turned ≡ length x = omega (
+      arith,
+      length_of_index (reverse shape) x h,
+      length-reverse shape,
+      length-reverse
+          strides,
+    ) in
     ap (λ z. pos start +ℤ z) (sym (offset_of-reverse turned x counts) ∙ ap (λ s. offset_of s (reverse x)) (reverse-reverse strides)))
-    ∙ sym (map_after (place start strides) reverse (indices (reverse shape)))
+    ∙ sym (map-map (place start strides) reverse (indices (reverse shape)))
 
-pub IsView-as_read : (order : Order) (start : ℕ) (shape : List ℕ) (strides : List ℤ) → IsView (record { start = start; shape = shape; strides = strides }) → IsView (view_as_read order start shape strides)
+pub IsView-as_read : (order : Order) (start : ℕ) (shape : List ℕ) (strides : List ℤ)
+    → IsView (record { start = start; shape = shape; strides = strides }) → IsView (view_as_read order start shape strides)
 IsView-as_read RowMajor start shape strides view = view
 IsView-as_read ColumnMajor start shape strides view =
     let counts = view.valid.same_count in

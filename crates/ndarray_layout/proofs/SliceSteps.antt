@@ -1,5 +1,7 @@
 -- Slicing axis by axis: what is left by the elements so far, and the slice of the rest.
-use Rattle.std.proofs.Common.{◌≡◌, ℕ, zero, suc, ◌+◌, ◌*◌, ◌<◌, ◌≤◌, ℤ, pos, ◌+ℤ◌, ◌*ℤ◌, ◌≤ℤ◌, List, [], ◌∷◌, ◌++◌, length, get_or, take, drop, set, None, Some, arith, refl, ap, sym, ◌∙◌, append_assoc, subst, to_z, of_z, cond, eqb, Bool, true, false, pos_of_ne-zero}
+use Rattle.std.proofs.Common.{◌≡◌, ℕ, ◌+◌, ◌*◌, ◌<◌, ◌≤◌, ℤ, pos, ◌+ℤ◌, ◌*ℤ◌, ◌≤ℤ◌, List, [], ◌∷◌, ◌++◌, length, get_or, take}
+use Rattle.std.proofs.Common.{drop, set, None, Some, arith, refl, ap, sym, ◌∙◌, append_assoc, subst, to_z, of_z, cond, eqb, Bool, true}
+use Rattle.std.proofs.Common.{false, pos_of_ne-zero}
 use Rattle.std.specs.Prelude.{FitsSigned}
 use Rattle.std.specs.Int.{w64}
 use Rattle.std.specs.Option.{option_or}
@@ -7,12 +9,11 @@ use Rattle.std.proofs.lemmas.Int.{ints, to_z-of_z}
 use Rattle.std.proofs.lemmas.Bool.{eqb-true, eqb-false}
 use Rattle.std.proofs.Math.ListN.{get_or-map}
 use Rattle.std.proofs.Math.Nat.{mul-le-mul_left, mul-le-mul_right}
-use Rattle.std.proofs.lemmas.List.{map-append, length-map, length-set, length-drop, append-nil, drop_all, drop_more, take_all, take_more_set}
+use Rattle.std.proofs.lemmas.List.{map-append, length-map, length-set, length-drop, append-nil, drop_all, drop_more, take_all}
+use Rattle.std.proofs.lemmas.List.{take_more_set}
 use Rattle.nd_base.specs.declared.error.ErrorKind.{ErrorKind}
-use Rattle.nd_base.specs.Signed.{magnitude, signed, all_signed}
-use Rattle.nd_base.specs.Size.{limit, nonzero_size}
-use Rattle.nd_base.specs.Span.{reach, reach_down, reach_up, low_span, high_span, span}
-use Rattle.nd_base.specs.ValidLayout.{IsValidLayout}
+use Rattle.nd_base.proofs.laws.Definitions.{all_signed, magnitude, signed, limit, high_span, low_span, reach, reach_down}
+use Rattle.nd_base.proofs.laws.Definitions.{reach_up, IsValidLayout}
 use Rattle.nd_slice.specs.declared.fit.Fit.{Fit}
 use Rattle.nd_slice.specs.declared.slice.Slice.{Slice}
 use Rattle.nd_slice.specs.declared.elem.SliceInfoElem.{SliceInfoElem}
@@ -26,11 +27,13 @@ use Rattle.ndarray_layout.proofs.OneAxis.{Within, axis_within}
 use Rattle.ndarray_layout.proofs.Picked.{slice_kept}
 use Rattle.ndarray_layout.proofs.PicksFit.{picks_fit}
 use Rattle.ndarray_layout.proofs.Slices.{index_entry}
-use Rattle.nd_base.proofs.laws.NonzeroSize.{nonzero_size_pos}
 use Rattle.nd_base.proofs.laws.Span.{low_high_span, reach_parts}
+use Rattle.nd_base.proofs.laws.NonzeroSize.{length_le_nonzero_size}
+use Rattle.nd_base.proofs.laws.Span.{reach_le_span}
 
 -- rest, lens and steps are the elements, the lengths and the strides still to come
-pub record SlicedSoFar (fit : Fit) (elems : List SliceInfoElem) (shape : List ℕ) (strides : List ℤ) (rest : List SliceInfoElem) (lens : List ℕ) (steps : List ℤ) (new : ℕ) (new_shape new_strides : List ℕ) (offset : ℤ) : Type 0 where
+pub record SlicedSoFar (fit : Fit) (elems : List SliceInfoElem) (shape : List ℕ) (strides : List ℤ) (rest : List SliceInfoElem)
+    (lens : List ℕ) (steps : List ℤ) (new : ℕ) (new_shape new_strides : List ℕ) (offset : ℤ) : Type 0 where
   pub same_count : length lens ≡ length steps
   pub counts : in_count rest ≡ length lens
   pub room : new + out_count rest ≡ length new_shape
@@ -43,8 +46,10 @@ pub record SlicedSoFar (fit : Fit) (elems : List SliceInfoElem) (shape : List �
   pub high : (offset +ℤ pos (high_span lens steps)) ≤ℤ pos (high_span shape strides)
 
 -- ---- the first element, and the end
-pub none_sliced : (fit : Fit) (elems : List SliceInfoElem) (shape : List ℕ) (strides : List ℤ) (ns nt : List ℕ) → IsValidLayout shape strides → in_count elems ≡ length shape → length ns ≡ out_count elems → length nt ≡ out_count elems → SlicedSoFar fit elems shape strides elems shape strides 0 ns nt (pos 0)
-none_sliced fit elems shape strides ns nt valid counts room also = record {
+pub none_sliced : {fit : Fit} {elems : List SliceInfoElem} {shape : List ℕ} {strides : List ℤ} {ns nt : List ℕ}
+    → IsValidLayout shape strides → in_count elems ≡ length shape → length ns ≡ out_count elems → length nt ≡ out_count elems
+    → SlicedSoFar fit elems shape strides elems shape strides 0 ns nt (pos 0)
+none_sliced valid counts room also = record {
   same_count = valid.same_count;
   counts = counts;
   room = omega (arith, room);
@@ -57,125 +62,160 @@ none_sliced fit elems shape strides ns nt valid counts room also = record {
   high = omega (arith, ints);
 }
 
-pub record AllSliced (fit : Fit) (elems : List SliceInfoElem) (shape : List ℕ) (strides : List ℤ) (ns nt : List ℕ) (offset : ℤ) : Type 0 where
-  pub fault : None ≡ first_fault fit shape elems
-  pub shape_is : ns ≡ sliced_shape fit elems shape
-  pub strides_is : all_signed nt ≡ sliced_strides fit elems shape strides
-  pub offset_is : offset ≡ sliced_offset fit elems shape strides
+pub record AllSliced (fit : Fit) (elems : List SliceInfoElem) (shape : List ℕ) (strides : List ℤ) (ns nt : List ℕ) (offset : ℤ) : Type 0
+  where
+    pub fault : None ≡ first_fault fit shape elems
+    pub shape_is : ns ≡ sliced_shape fit elems shape
+    pub strides_is : all_signed nt ≡ sliced_strides fit elems shape strides
+    pub offset_is : offset ≡ sliced_offset fit elems shape strides
 
-none_left : (fit : Fit) (elems : List SliceInfoElem) (shape : List ℕ) (strides : List ℤ) (lens : List ℕ) (steps : List ℤ) (new : ℕ) (ns nt : List ℕ) (offset : ℤ) → SlicedSoFar fit elems shape strides [] lens steps new ns nt offset → AllSliced fit elems shape strides ns nt offset
-none_left fit elems shape strides [] steps new ns nt offset s = record {
-  fault = s.fault;
-  shape_is = sym (take_all new ns (omega (arith, s.room))) ∙ sym (append-nil (take new ns)) ∙ s.shape_is;
-  strides_is = ap all_signed (sym (take_all new nt (omega (arith, s.room, s.same_room)))) ∙ sym (append-nil (all_signed (take new nt))) ∙ s.strides_is;
-  offset_is = omega (arith, ints, s.offset_is);
-}
-none_left fit elems shape strides (len ∷ lens) steps new ns nt offset s = absurd (omega (arith, s.counts))
+module _ {fit : Fit} {elems : List SliceInfoElem} {shape : List ℕ} {strides : List ℤ} {ns nt : List ℕ} {offset : ℤ} where
+  none_left : (lens : List ℕ) (steps : List ℤ) (new : ℕ) → SlicedSoFar fit elems shape strides [] lens steps new ns nt offset
+      → AllSliced fit elems shape strides ns nt offset
+  none_left [] steps new s = record {
+    fault = s.fault;
+    shape_is = sym (take_all new ns (omega (arith, s.room))) ∙ sym (append-nil (take new ns)) ∙ s.shape_is;
+    strides_is = ap all_signed (sym (take_all new nt (omega (arith, s.room, s.same_room)))) ∙ sym (append-nil (all_signed (take new nt)))
+        ∙ s.strides_is;
+    offset_is = omega (arith, ints, s.offset_is);
+  }
+  none_left (len ∷ lens) steps new s = absurd (omega (arith, s.counts))
 
-pub all_sliced : (fit : Fit) (elems : List SliceInfoElem) (shape : List ℕ) (strides : List ℤ) (k : ℕ) (lens : List ℕ) (steps : List ℤ) (new : ℕ) (ns nt : List ℕ) (offset : ℤ) → length elems ≤ k → SlicedSoFar fit elems shape strides (drop k elems) lens steps new ns nt offset → AllSliced fit elems shape strides ns nt offset
-all_sliced fit elems shape strides k lens steps new ns nt offset h s =
-    let P = λ (rest : List SliceInfoElem). SlicedSoFar fit elems shape strides rest lens steps new ns nt offset in
-    none_left fit elems shape strides lens steps new ns nt offset (subst P (drop_all k elems h) s)
+  pub all_sliced : (k : ℕ) {lens : List ℕ} {steps : List ℤ} {new : ℕ} → length elems ≤ k
+      → SlicedSoFar fit elems shape strides (drop k elems) lens steps new ns nt offset → AllSliced fit elems shape strides ns nt offset
+  all_sliced k {lens} {steps} {new} h s =
+      let P = λ (rest : List SliceInfoElem). SlicedSoFar fit elems shape strides rest lens steps new ns nt offset in
+      none_left lens steps new (subst P (drop_all k elems h) s)
 
 -- ---- the next element and the next axis
-pub at_elem : (fit : Fit) (elems : List SliceInfoElem) (shape : List ℕ) (strides : List ℤ) (k : ℕ) (lens : List ℕ) (steps : List ℤ) (new : ℕ) (ns nt : List ℕ) (offset : ℤ) (one other : SliceInfoElem) → k < length elems → get_or elems k other ≡ one → SlicedSoFar fit elems shape strides (drop k elems) lens steps new ns nt offset → SlicedSoFar fit elems shape strides (one ∷ drop (k + 1) elems) lens steps new ns nt offset
-at_elem fit elems shape strides k lens steps new ns nt offset one other h e s =
-    let P = λ (rest : List SliceInfoElem). SlicedSoFar fit elems shape strides rest lens steps new ns nt offset in
-    subst P (drop_more elems k other h ∙ ap (λ x. x ∷ drop (k + 1) elems) e) s
+module _ {fit : Fit} {elems : List SliceInfoElem} {shape : List ℕ} {new : ℕ} {ns nt : List ℕ} {offset : ℤ} where
+  pub at_elem : {strides : List ℤ} (k : ℕ) {lens : List ℕ} {steps : List ℤ} {one : SliceInfoElem} (other : SliceInfoElem) → k < length elems
+      → get_or elems k other ≡ one → SlicedSoFar fit elems shape strides (drop k elems) lens steps new ns nt offset
+      → SlicedSoFar fit elems shape strides (one ∷ drop (k + 1) elems) lens steps new ns nt offset
+  at_elem {strides} k {lens} {steps} other h e s =
+      let P = λ (rest : List SliceInfoElem). SlicedSoFar fit elems shape strides rest lens steps new ns nt offset in
+      subst P (drop_more elems k other h ∙ ap (λ x. x ∷ drop (k + 1) elems) e) s
 
-pub axis_below : (fit : Fit) (elems : List SliceInfoElem) (shape : List ℕ) (strides : List ℤ) (rest : List SliceInfoElem) (k : ℕ) (steps : List ℤ) (new : ℕ) (ns nt : List ℕ) (offset : ℤ) → 0 < in_count rest → SlicedSoFar fit elems shape strides rest (drop k shape) steps new ns nt offset → k < length shape
-axis_below fit elems shape strides rest k steps new ns nt offset h s = omega (arith, s.counts, length-drop k shape)
+  pub axis_below : {strides : List ℤ} {rest : List SliceInfoElem} (k : ℕ) {steps : List ℤ} → 0 < in_count rest
+      → SlicedSoFar fit elems shape strides rest (drop k shape) steps new ns nt offset → k < length shape
+  axis_below k h s = omega (arith, s.counts, length-drop k shape)
 
-pub at_axis : (fit : Fit) (elems : List SliceInfoElem) (shape : List ℕ) (strides : List ℤ) (rest : List SliceInfoElem) (k : ℕ) (new : ℕ) (ns nt : List ℕ) (offset : ℤ) → length shape ≡ length strides → 0 < in_count rest → SlicedSoFar fit elems shape strides rest (drop k shape) (drop k strides) new ns nt offset → SlicedSoFar fit elems shape strides rest (get_or shape k 0 ∷ drop (k + 1) shape) (get_or strides k (pos 0) ∷ drop (k + 1) strides) new ns nt offset
-at_axis fit elems shape strides rest k new ns nt offset same h s =
-    let below = axis_below fit elems shape strides rest k (drop k strides) new ns nt offset h s in
-    let P = λ (lens : List ℕ). SlicedSoFar fit elems shape strides rest lens (drop k strides) new ns nt offset in
-    let Q = λ (steps : List ℤ). SlicedSoFar fit elems shape strides rest (get_or shape k 0 ∷ drop (k + 1) shape) steps new ns nt offset in
-    subst Q (drop_more strides k (pos 0) (omega arith)) (subst P (drop_more shape k 0 below) s)
+  pub at_axis : {strides : List ℤ} {rest : List SliceInfoElem} (k : ℕ) → length shape ≡ length strides → 0 < in_count rest
+      → SlicedSoFar fit elems shape strides rest (drop k shape) (drop k strides) new ns nt offset
+      → SlicedSoFar fit elems shape strides rest (get_or shape k 0 ∷ drop (k + 1) shape) (get_or strides k (pos 0) ∷ drop (k + 1) strides)
+      new ns nt offset
+  at_axis {strides} {rest} k same h s =
+      let below = axis_below k h s in
+      let P = λ (lens : List ℕ). SlicedSoFar fit elems shape strides rest lens (drop k strides) new ns nt offset in
+      let Q = λ (steps : List ℤ). SlicedSoFar fit elems shape strides rest (get_or shape k 0 ∷ drop (k + 1) shape) steps new ns nt offset in
+      subst Q (drop_more strides k (pos 0) (omega arith)) (subst P (drop_more shape k 0 below) s)
 
--- an element that is for an axis has one, and one that leaves an axis has room for it
-pub axis_there : (fit : Fit) (elems : List SliceInfoElem) (shape strides : List ℕ) (one other : SliceInfoElem) (k axis : ℕ) (new : ℕ) (ns nt : List ℕ) (offset : ℤ) → IsValidLayout shape (all_signed strides) → k < length elems → get_or elems k other ≡ one → 0 < in_count (one ∷ drop (k + 1) elems) → SlicedSoFar fit elems shape (all_signed strides) (drop k elems) (drop axis shape) (drop axis (all_signed strides)) new ns nt offset → (axis < length shape) × (axis < length strides)
-axis_there fit elems shape strides one other k axis new ns nt offset valid h e some s =
-    let here = at_elem fit elems shape (all_signed strides) k (drop axis shape) (drop axis (all_signed strides)) new ns nt offset one other h e s in
-    let below = axis_below fit elems shape (all_signed strides) (one ∷ drop (k + 1) elems) axis (drop axis (all_signed strides)) new ns nt offset some here in
-    (below, omega (arith, below, valid.same_count, length-map strides signed))
+  -- an element that is for an axis has one, and one that leaves an axis has room for it
+  pub axis_there : (strides : List ℕ) {one : SliceInfoElem} (other : SliceInfoElem) (k axis : ℕ) → IsValidLayout shape (all_signed strides)
+      → k < length elems → get_or elems k other ≡ one → 0 < in_count (one ∷ drop (k + 1) elems)
+      → SlicedSoFar fit elems shape (all_signed strides) (drop k elems) (drop axis shape) (drop axis (all_signed strides)) new ns nt offset
+      → (axis < length shape) × (axis < length strides)
+  axis_there strides other k axis valid h e some s =
+      let here = at_elem k other h e s in
+      let below = axis_below axis some here in
+      (below, omega (arith, below, valid.same_count, length-map strides signed))
 
-pub room_there : (fit : Fit) (elems : List SliceInfoElem) (shape : List ℕ) (strides : List ℤ) (one other : SliceInfoElem) (k : ℕ) (lens : List ℕ) (steps : List ℤ) (new : ℕ) (ns nt : List ℕ) (offset : ℤ) → k < length elems → get_or elems k other ≡ one → 0 < out_count (one ∷ drop (k + 1) elems) → SlicedSoFar fit elems shape strides (drop k elems) lens steps new ns nt offset → (new < length ns) × (new < length nt)
-room_there fit elems shape strides one other k lens steps new ns nt offset h e some s =
-    let here = at_elem fit elems shape strides k lens steps new ns nt offset one other h e s in
-    (omega (arith, here.room), omega (arith, here.room, here.same_room))
+  pub room_there : {strides : List ℤ} {one : SliceInfoElem} (other : SliceInfoElem) (k : ℕ) {lens : List ℕ} {steps : List ℤ}
+      → k < length elems → get_or elems k other ≡ one → 0 < out_count (one ∷ drop (k + 1) elems)
+      → SlicedSoFar fit elems shape strides (drop k elems) lens steps new ns nt offset → (new < length ns) × (new < length nt)
+  room_there other k h e some s =
+      let here = at_elem k other h e s in
+      (omega (arith, here.room), omega (arith, here.room, here.same_room))
 
 -- ---- what is written
-wrote_len : (new v : ℕ) (ns out whole : List ℕ) → new < length ns → take new ns ++ (v ∷ out) ≡ whole → take (new + 1) (set ns new v) ++ out ≡ whole
-wrote_len new v ns out whole h e = ap (λ xs. xs ++ out) (take_more_set ns new v h) ∙ append_assoc (take new ns) (v ∷ []) out ∙ e
+wrote_len : (new v : ℕ) (ns out : List ℕ) {whole : List ℕ} → new < length ns → take new ns ++ (v ∷ out) ≡ whole
+    → take (new + 1) (set ns new v) ++ out ≡ whole
+wrote_len new v ns out h e = ap (λ xs. xs ++ out) (take_more_set ns new v h) ∙ append_assoc (take new ns) (v ∷ []) out ∙ e
 
-wrote_stride : (new v : ℕ) (z : ℤ) (nt : List ℕ) (out whole : List ℤ) → new < length nt → signed v ≡ z → all_signed (take new nt) ++ (z ∷ out) ≡ whole → all_signed (take (new + 1) (set nt new v)) ++ out ≡ whole
-wrote_stride new v z nt out whole h s e =
+wrote_stride : (new v : ℕ) (z : ℤ) (nt : List ℕ) (out : List ℤ) {whole : List ℤ} → new < length nt → signed v ≡ z
+    → all_signed (take new nt) ++ (z ∷ out) ≡ whole → all_signed (take (new + 1) (set nt new v)) ++ out ≡ whole
+wrote_stride new v z nt out h s e =
     ap (λ xs. all_signed xs ++ out) (take_more_set nt new v h)
     ∙ ap (λ xs. xs ++ out) (map-append signed (take new nt) (v ∷ []))
     ∙ append_assoc (all_signed (take new nt)) (signed v ∷ []) out
     ∙ ap (λ x. all_signed (take new nt) ++ (x ∷ out)) s ∙ e
 
 -- ---- the steps
-pub slice_step : (fit : Fit) (elems : List SliceInfoElem) (shape : List ℕ) (strides : List ℤ) (rest : List SliceInfoElem) (lens : List ℕ) (steps : List ℤ) (new : ℕ) (ns nt : List ℕ) (offset : ℤ) (slice : Slice) (len : ℕ) (stride : ℤ) (count kept : ℕ) (moved : ℤ) → count ≡ length (picks fit len slice) → signed kept ≡ picked_stride (length (picks fit len slice)) stride slice.step → moved ≡ first_offset (picks fit len slice) stride → slice_fault fit len slice ≡ None → SlicedSoFar fit elems shape strides (elem.Slice slice.start slice.end slice.step ∷ rest) (len ∷ lens) (stride ∷ steps) new ns nt offset → SlicedSoFar fit elems shape strides rest lens steps (new + 1) (set ns new count) (set nt new kept) (offset +ℤ moved)
-slice_step fit elems shape strides rest lens steps new ns nt offset slice len stride count kept moved n t m none s =
-    let axis = slice_kept len stride slice.step (picks fit len slice) (picks_fit fit len slice none) in
-    let shape_is : take new ns ++ (count ∷ sliced_shape fit rest lens) ≡ sliced_shape fit elems shape = rw n s.shape_is in
-    let strides_is = s.strides_is in
-    record {
-      same_count = omega (arith, s.same_count);
-      counts = omega (arith, s.counts);
-      room = omega (arith, s.room, length-set ns new count);
-      same_room = omega (arith, s.same_room, length-set ns new count, length-set nt new kept);
-      fault = ap (λ fault. option_or fault (first_fault fit lens rest)) (sym none) ∙ s.fault;
-      shape_is = wrote_len new count ns (sliced_shape fit rest lens) (sliced_shape fit elems shape) (omega (arith, s.room)) shape_is;
-      strides_is = wrote_stride new kept _ nt (sliced_strides fit rest lens steps) (sliced_strides fit elems shape strides) (omega (arith, s.room, s.same_room)) t strides_is;
-      offset_is = rw m (omega (arith, ints, s.offset_is));
-      low = rw m (omega (arith, ints, s.low, axis.low));
-      high = rw m (omega (arith, ints, s.high, axis.high));
-    }
+module _ {fit : Fit} {elems : List SliceInfoElem} {shape : List ℕ} {strides : List ℤ} {rest : List SliceInfoElem} {lens : List ℕ}
+    {steps : List ℤ} {new : ℕ} {ns nt : List ℕ} {offset : ℤ} where
+  pub slice_step : (slice : Slice) {len : ℕ} {stride : ℤ} {count : ℕ} (kept : ℕ) {moved : ℤ} → count ≡ length (picks fit len slice)
+      → signed kept ≡ picked_stride (length (picks fit len slice)) stride slice.step → moved ≡ first_offset (picks fit len slice) stride
+      → slice_fault fit len slice ≡ None
+      → SlicedSoFar fit elems shape strides (elem.Slice slice.start slice.end slice.step ∷ rest) (len ∷ lens) (stride ∷ steps) new ns nt
+      offset → SlicedSoFar fit elems shape strides rest lens steps (new + 1) (set ns new count) (set nt new kept) (offset +ℤ moved)
+  slice_step slice {len} {stride} {count} kept n t m none s =
+      let axis = slice_kept stride (picks fit len slice) (picks_fit fit slice none) in
+      let shape_is : take new ns ++ (count ∷ sliced_shape fit rest lens) ≡ sliced_shape fit elems shape = rw n s.shape_is in
+      let strides_is = s.strides_is in
+      record {
+        same_count = omega (arith, s.same_count);
+        counts = omega (arith, s.counts);
+        room = omega (arith, s.room, length-set ns new count);
+        same_room = omega (arith, s.same_room, length-set ns new count, length-set nt new kept);
+        fault = ap (λ fault. option_or fault (first_fault fit lens rest)) (sym none) ∙ s.fault;
+        shape_is = wrote_len new count ns (sliced_shape fit rest lens) (omega (arith, s.room)) shape_is;
+        strides_is = wrote_stride new kept _ nt (sliced_strides fit rest lens steps) (omega (arith, s.room, s.same_room)) t strides_is;
+        offset_is = rw m (omega (arith, ints, s.offset_is));
+        low = rw m (omega (arith, ints, s.low, axis.low));
+        high = rw m (omega (arith, ints, s.high, axis.high));
+      }
 
-pub index_step : (fit : Fit) (elems : List SliceInfoElem) (shape : List ℕ) (strides : List ℤ) (rest : List SliceInfoElem) (lens : List ℕ) (steps : List ℤ) (new : ℕ) (ns nt : List ℕ) (offset : ℤ) (index : ℤ) (len : ℕ) (stride : ℤ) (moved : ℤ) → moved ≡ meaning len index *ℤ stride → index_fault len index ≡ None → SlicedSoFar fit elems shape strides (elem.Index index ∷ rest) (len ∷ lens) (stride ∷ steps) new ns nt offset → SlicedSoFar fit elems shape strides rest lens steps new ns nt (offset +ℤ moved)
-index_step fit elems shape strides rest lens steps new ns nt offset index len stride moved m none s =
-    let entry = index_entry len index none in
-    let axis : Within (reach_down len stride) (reach_up len stride) (meaning len index *ℤ stride) = rw entry.0 (axis_within len (magnitude (meaning len index)) stride entry.1) in
-    record {
-      same_count = omega (arith, s.same_count);
-      counts = omega (arith, s.counts);
-      room = s.room;
-      same_room = s.same_room;
-      fault = ap (λ fault. option_or fault (first_fault fit lens rest)) (sym none) ∙ s.fault;
-      shape_is = s.shape_is;
-      strides_is = s.strides_is;
-      offset_is = rw m (omega (arith, ints, s.offset_is));
-      low = rw m (omega (arith, ints, s.low, axis.above));
-      high = rw m (omega (arith, ints, s.high, axis.below));
-    }
+  pub index_step : (index : ℤ) {len : ℕ} {stride moved : ℤ} → moved ≡ meaning len index *ℤ stride → index_fault len index ≡ None
+      → SlicedSoFar fit elems shape strides (elem.Index index ∷ rest) (len ∷ lens) (stride ∷ steps) new ns nt offset
+      → SlicedSoFar fit elems shape strides rest lens steps new ns nt (offset +ℤ moved)
+  index_step index {len} {stride} m none s =
+      let entry = index_entry len index none in
+      let axis : Within (reach_down len stride) (reach_up len stride) (meaning len index *ℤ stride) = rw entry.0
+      (axis_within len (magnitude (meaning len index)) stride entry.1) in
+      record {
+        same_count = omega (arith, s.same_count);
+        counts = omega (arith, s.counts);
+        room = s.room;
+        same_room = s.same_room;
+        fault = ap (λ fault. option_or fault (first_fault fit lens rest)) (sym none) ∙ s.fault;
+        shape_is = s.shape_is;
+        strides_is = s.strides_is;
+        offset_is = rw m (omega (arith, ints, s.offset_is));
+        low = rw m (omega (arith, ints, s.low, axis.above));
+        high = rw m (omega (arith, ints, s.high, axis.below));
+      }
 
-pub new_axis_step : (fit : Fit) (elems : List SliceInfoElem) (shape : List ℕ) (strides : List ℤ) (rest : List SliceInfoElem) (lens : List ℕ) (steps : List ℤ) (new : ℕ) (ns nt : List ℕ) (offset : ℤ) → SlicedSoFar fit elems shape strides (elem.NewAxis ∷ rest) lens steps new ns nt offset → SlicedSoFar fit elems shape strides rest lens steps (new + 1) (set ns new 1) (set nt new 0) offset
-new_axis_step fit elems shape strides rest lens steps new ns nt offset s = record {
-  same_count = s.same_count;
-  counts = s.counts;
-  room = omega (arith, s.room, length-set ns new 1);
-  same_room = omega (arith, s.same_room, length-set ns new 1, length-set nt new 0);
-  fault = s.fault;
-  shape_is = wrote_len new 1 ns (sliced_shape fit rest lens) (sliced_shape fit elems shape) (omega (arith, s.room)) s.shape_is;
-  strides_is = wrote_stride new 0 (pos 0) nt (sliced_strides fit rest lens steps) (sliced_strides fit elems shape strides) (omega (arith, s.room, s.same_room)) refl s.strides_is;
-  offset_is = s.offset_is;
-  low = s.low;
-  high = s.high;
-}
+  pub new_axis_step : SlicedSoFar fit elems shape strides (elem.NewAxis ∷ rest) lens steps new ns nt offset
+      → SlicedSoFar fit elems shape strides rest lens steps (new + 1) (set ns new 1) (set nt new 0) offset
+  new_axis_step s = record {
+    same_count = s.same_count;
+    counts = s.counts;
+    room = omega (arith, s.room, length-set ns new 1);
+    same_room = omega (arith, s.same_room, length-set ns new 1, length-set nt new 0);
+    fault = s.fault;
+    shape_is = wrote_len new 1 ns (sliced_shape fit rest lens) (omega (arith, s.room)) s.shape_is;
+    strides_is = wrote_stride new 0 (pos 0) nt (sliced_strides fit rest lens steps) (omega (arith, s.room, s.same_room)) refl s.strides_is;
+    offset_is = s.offset_is;
+    low = s.low;
+    high = s.high;
+  }
 
--- an element at fault is the first one
-pub slice_at_fault : (fit : Fit) (elems : List SliceInfoElem) (shape : List ℕ) (strides : List ℤ) (rest : List SliceInfoElem) (lens : List ℕ) (steps : List ℤ) (new : ℕ) (ns nt : List ℕ) (offset : ℤ) (slice : Slice) (len : ℕ) (stride : ℤ) (kind : ErrorKind) → Some kind ≡ slice_fault fit len slice → SlicedSoFar fit elems shape strides (elem.Slice slice.start slice.end slice.step ∷ rest) (len ∷ lens) (stride ∷ steps) new ns nt offset → Some kind ≡ first_fault fit shape elems
-slice_at_fault fit elems shape strides rest lens steps new ns nt offset slice len stride kind at s = ap (λ fault. option_or fault (first_fault fit lens rest)) at ∙ s.fault
+  -- an element at fault is the first one
+  pub slice_at_fault : (slice : Slice) {len : ℕ} {stride : ℤ} {kind : ErrorKind} → Some kind ≡ slice_fault fit len slice
+      → SlicedSoFar fit elems shape strides (elem.Slice slice.start slice.end slice.step ∷ rest) (len ∷ lens) (stride ∷ steps) new ns nt
+      offset → Some kind ≡ first_fault fit shape elems
+  slice_at_fault slice at s = ap (λ fault. option_or fault (first_fault fit lens rest)) at ∙ s.fault
 
-pub index_at_fault : (fit : Fit) (elems : List SliceInfoElem) (shape : List ℕ) (strides : List ℤ) (rest : List SliceInfoElem) (lens : List ℕ) (steps : List ℤ) (new : ℕ) (ns nt : List ℕ) (offset : ℤ) (index : ℤ) (len : ℕ) (stride : ℤ) (kind : ErrorKind) → Some kind ≡ index_fault len index → SlicedSoFar fit elems shape strides (elem.Index index ∷ rest) (len ∷ lens) (stride ∷ steps) new ns nt offset → Some kind ≡ first_fault fit shape elems
-index_at_fault fit elems shape strides rest lens steps new ns nt offset index len stride kind at s = ap (λ fault. option_or fault (first_fault fit lens rest)) at ∙ s.fault
+  pub index_at_fault : (index : ℤ) {len : ℕ} {stride : ℤ} {kind : ErrorKind} → Some kind ≡ index_fault len index
+      → SlicedSoFar fit elems shape strides (elem.Index index ∷ rest) (len ∷ lens) (stride ∷ steps) new ns nt offset
+      → Some kind ≡ first_fault fit shape elems
+  index_at_fault index at s = ap (λ fault. option_or fault (first_fault fit lens rest)) at ∙ s.fault
 
 -- ---- what fits
-pub offset_fits : (fit : Fit) (elems : List SliceInfoElem) (shape : List ℕ) (strides : List ℤ) (rest : List SliceInfoElem) (lens : List ℕ) (steps : List ℤ) (new : ℕ) (ns nt : List ℕ) (offset : ℤ) → IsValidLayout shape strides → SlicedSoFar fit elems shape strides rest lens steps new ns nt offset → FitsSigned w64 offset
-offset_fits fit elems shape strides rest lens steps new ns nt offset valid s = omega (arith, ints, s.low, s.high, low_high_span shape strides, valid.span_fits)
+pub offset_fits : {fit : Fit} {elems : List SliceInfoElem} {shape : List ℕ} {strides : List ℤ} {rest : List SliceInfoElem} {lens : List ℕ}
+    {steps : List ℤ} {new : ℕ} {ns nt : List ℕ} {offset : ℤ} → IsValidLayout shape strides → SlicedSoFar fit elems shape strides rest lens
+    steps new ns nt offset → FitsSigned w64 offset
+offset_fits {shape} {strides} valid s = omega (arith, ints, s.low, s.high, low_high_span shape strides, valid.span_fits)
 
 -- a length is at most the product of those that are not 0
 len_of_product : (len rest : ℕ) → 1 ≤ rest → len ≤ cond (eqb len 0) rest (len * rest)
@@ -194,57 +234,72 @@ rest_of_product len rest = by (eqb len 0) refl
         let some : 1 ≤ len = pos_of_ne-zero (eqb-false len 0 e) in
         omega (arith, mul-le-mul_right rest some)
 
-pub len_small : (shape : List ℕ) (k : ℕ) → get_or shape k 0 ≤ nonzero_size shape
-len_small [] k = omega arith
-len_small (len ∷ lens) zero = len_of_product len (nonzero_size lens) (nonzero_size_pos lens)
-len_small (len ∷ lens) (suc k) = omega (arith, len_small lens k, rest_of_product len (nonzero_size lens))
-
--- a reach is at most the span
-pub reach_small : (shape : List ℕ) (strides : List ℤ) (k : ℕ) → k < length shape → length shape ≡ length strides → reach (get_or shape k 0) (get_or strides k (pos 0)) ≤ span shape strides
-reach_small [] strides k h e = absurd (omega arith)
-reach_small (len ∷ shape) [] k h e = absurd (omega arith)
-reach_small (len ∷ shape) (stride ∷ strides) zero h e = omega arith
-reach_small (len ∷ shape) (stride ∷ strides) (suc k) h e = omega (arith, reach_small shape strides k (omega arith) (omega arith))
-
 -- what is known at an element that is for an axis
-pub record AtAxis (fit : Fit) (elems : List SliceInfoElem) (shape strides : List ℕ) (one : SliceInfoElem) (k axis : ℕ) (new : ℕ) (ns nt : List ℕ) (offset : ℤ) : Type 0 where
-  pub so_far : SlicedSoFar fit elems shape (all_signed strides) (one ∷ drop (k + 1) elems) (get_or shape axis 0 ∷ drop (axis + 1) shape) (signed (get_or strides axis 0) ∷ drop (axis + 1) (all_signed strides)) new ns nt offset
+pub record AtAxis (fit : Fit) (elems : List SliceInfoElem) (shape strides : List ℕ) (one : SliceInfoElem) (k axis : ℕ) (new : ℕ)
+    (ns nt : List ℕ) (offset : ℤ) : Type 0 where
+  pub so_far : SlicedSoFar fit elems shape (all_signed strides) (one ∷ drop (k + 1) elems) (get_or shape axis 0 ∷ drop (axis + 1) shape)
+      (signed (get_or strides axis 0) ∷ drop (axis + 1) (all_signed strides)) new ns nt offset
   pub len_fits : get_or shape axis 0 ≤ limit
   pub reach_fits : reach (get_or shape axis 0) (signed (get_or strides axis 0)) ≤ limit
 
-pub at_both : (fit : Fit) (elems : List SliceInfoElem) (shape strides : List ℕ) (one other : SliceInfoElem) (k axis : ℕ) (new : ℕ) (ns nt : List ℕ) (offset : ℤ) → IsValidLayout shape (all_signed strides) → k < length elems → get_or elems k other ≡ one → 0 < in_count (one ∷ drop (k + 1) elems) → SlicedSoFar fit elems shape (all_signed strides) (drop k elems) (drop axis shape) (drop axis (all_signed strides)) new ns nt offset → AtAxis fit elems shape strides one k axis new ns nt offset
-at_both fit elems shape strides one other k axis new ns nt offset valid h e some s =
+pub at_both : {fit : Fit} {elems : List SliceInfoElem} {shape : List ℕ} (strides : List ℕ) {one : SliceInfoElem} (other : SliceInfoElem)
+    (k axis : ℕ) {new : ℕ} {ns nt : List ℕ} {offset : ℤ} → IsValidLayout shape (all_signed strides) → k < length elems
+    → get_or elems k other ≡ one → 0 < in_count (one ∷ drop (k + 1) elems) → SlicedSoFar fit elems shape (all_signed strides) (drop k elems)
+    (drop axis shape) (drop axis (all_signed strides)) new ns nt offset → AtAxis fit elems shape strides one k axis new ns nt offset
+at_both {fit} {elems} {shape} strides {one} other k axis {new} {ns} {nt} {offset} valid h e some s =
     let rest = one ∷ drop (k + 1) elems in
-    let here = at_elem fit elems shape (all_signed strides) k (drop axis shape) (drop axis (all_signed strides)) new ns nt offset one other h e s in
-    let below = axis_below fit elems shape (all_signed strides) rest axis (drop axis (all_signed strides)) new ns nt offset some here in
-    let there = at_axis fit elems shape (all_signed strides) rest axis new ns nt offset valid.same_count some here in
+    let here = at_elem k other h e s in
+    let below = axis_below axis some here in
+    let there = at_axis axis valid.same_count some here in
     let same : get_or (all_signed strides) axis (pos 0) ≡ signed (get_or strides axis 0) = get_or-map signed strides axis 0 in
     record {
-      so_far = subst (λ (z : ℤ). SlicedSoFar fit elems shape (all_signed strides) rest (get_or shape axis 0 ∷ drop (axis + 1) shape) (z ∷ drop (axis + 1) (all_signed strides)) new ns nt offset) same there;
-      len_fits = omega (arith, len_small shape axis, valid.size_fits);
-      reach_fits = omega (arith, ap (reach (get_or shape axis 0)) same, reach_small shape (all_signed strides) axis below valid.same_count, valid.span_fits);
+      so_far = subst (λ (z : ℤ). SlicedSoFar fit elems shape (all_signed strides) rest (get_or shape axis 0 ∷ drop (axis + 1) shape)
+          (z ∷ drop (axis + 1) (all_signed strides)) new ns nt offset) same there;
+      len_fits = omega (arith, length_le_nonzero_size shape axis, valid.size_fits);
+      reach_fits = omega (
+        arith,
+        ap (reach (get_or shape axis 0)) same,
+        reach_le_span shape (all_signed strides) axis below valid.same_count,
+        valid.span_fits,
+      );
     }
 
 -- ---- the arms of the loop
 -- the state after an element, and that the new offset fits
-pub record Stepped (fit : Fit) (elems : List SliceInfoElem) (shape strides : List ℕ) (k axis new : ℕ) (ns nt : List ℕ) (offset : ℤ) : Type 0 where
-  pub fits : FitsSigned w64 offset
-  pub next : SlicedSoFar fit elems shape (all_signed strides) (drop (k + 1) elems) (drop axis shape) (drop axis (all_signed strides)) new ns nt (to_z w64 (of_z w64 offset))
+pub record Stepped (fit : Fit) (elems : List SliceInfoElem) (shape strides : List ℕ) (k axis new : ℕ) (ns nt : List ℕ) (offset : ℤ) : Type 0
+  where
+    pub fits : FitsSigned w64 offset
+    pub next : SlicedSoFar fit elems shape (all_signed strides) (drop (k + 1) elems) (drop axis shape) (drop axis (all_signed strides)) new
+        ns
+        nt (to_z w64 (of_z w64 offset))
 
-stepped : (fit : Fit) (elems : List SliceInfoElem) (shape strides : List ℕ) (k axis new : ℕ) (ns nt : List ℕ) (offset : ℤ) → IsValidLayout shape (all_signed strides) → SlicedSoFar fit elems shape (all_signed strides) (drop (k + 1) elems) (drop axis shape) (drop axis (all_signed strides)) new ns nt offset → Stepped fit elems shape strides k axis new ns nt offset
-stepped fit elems shape strides k axis new ns nt offset valid s =
-    let f = offset_fits fit elems shape (all_signed strides) (drop (k + 1) elems) (drop axis shape) (drop axis (all_signed strides)) new ns nt offset valid s in
+stepped : {fit : Fit} {elems : List SliceInfoElem} {shape strides : List ℕ} {k axis new : ℕ} {ns nt : List ℕ} {offset : ℤ}
+    → IsValidLayout shape (all_signed strides)
+    → SlicedSoFar fit elems shape (all_signed strides) (drop (k + 1) elems) (drop axis shape) (drop axis (all_signed strides)) new ns nt
+    offset → Stepped fit elems shape strides k axis new ns nt offset
+stepped {offset = offset} valid s =
+    let f = offset_fits valid s in
     record { fits = f; next = rw (to_z-of_z w64 offset f) s }
 
-pub slice_arm : (fit : Fit) (elems : List SliceInfoElem) (shape strides : List ℕ) (slice : Slice) (k axis new : ℕ) (ns nt : List ℕ) (offset : ℤ) (count kept : ℕ) (moved : ℤ) → IsValidLayout shape (all_signed strides) → AtAxis fit elems shape strides (elem.Slice slice.start slice.end slice.step) k axis new ns nt offset → count ≡ length (picks fit (get_or shape axis 0) slice) → signed kept ≡ picked_stride (length (picks fit (get_or shape axis 0) slice)) (signed (get_or strides axis 0)) slice.step → moved ≡ first_offset (picks fit (get_or shape axis 0) slice) (signed (get_or strides axis 0)) → slice_fault fit (get_or shape axis 0) slice ≡ None → Stepped fit elems shape strides k (axis + 1) (new + 1) (set ns new count) (set nt new kept) (offset +ℤ moved)
-slice_arm fit elems shape strides slice k axis new ns nt offset count kept moved valid at n t m none =
-    stepped fit elems shape strides k (axis + 1) (new + 1) (set ns new count) (set nt new kept) (offset +ℤ moved) valid
-    (slice_step fit elems shape (all_signed strides) (drop (k + 1) elems) (drop (axis + 1) shape) (drop (axis + 1) (all_signed strides)) new ns nt offset slice (get_or shape axis 0) (signed (get_or strides axis 0)) count kept moved n t m none at.so_far)
+module _ {fit : Fit} {elems : List SliceInfoElem} {shape strides : List ℕ} {k axis new : ℕ} {ns nt : List ℕ} {offset : ℤ} where
+  pub slice_arm : (slice : Slice) {count : ℕ} (kept : ℕ) {moved : ℤ} → IsValidLayout shape (all_signed strides)
+      → AtAxis fit elems shape strides (elem.Slice slice.start slice.end slice.step) k axis new ns nt offset
+      → count ≡ length (picks fit (get_or shape axis 0) slice)
+      → signed kept ≡ picked_stride (length (picks fit (get_or shape axis 0) slice)) (signed (get_or strides axis 0)) slice.step
+      → moved ≡ first_offset (picks fit (get_or shape axis 0) slice) (signed (get_or strides axis 0))
+      → slice_fault fit (get_or shape axis 0) slice ≡ None
+      → Stepped fit elems shape strides k (axis + 1) (new + 1) (set ns new count) (set nt new kept) (offset +ℤ moved)
+  slice_arm slice kept valid at n t m none =
+      stepped valid
+      (slice_step slice kept n t m none at.so_far)
 
-pub index_arm : (fit : Fit) (elems : List SliceInfoElem) (shape strides : List ℕ) (index : ℤ) (k axis new : ℕ) (ns nt : List ℕ) (offset : ℤ) (moved : ℤ) → IsValidLayout shape (all_signed strides) → AtAxis fit elems shape strides (elem.Index index) k axis new ns nt offset → moved ≡ meaning (get_or shape axis 0) index *ℤ signed (get_or strides axis 0) → index_fault (get_or shape axis 0) index ≡ None → Stepped fit elems shape strides k (axis + 1) new ns nt (offset +ℤ moved)
-index_arm fit elems shape strides index k axis new ns nt offset moved valid at m none =
-    stepped fit elems shape strides k (axis + 1) new ns nt (offset +ℤ moved) valid
-    (index_step fit elems shape (all_signed strides) (drop (k + 1) elems) (drop (axis + 1) shape) (drop (axis + 1) (all_signed strides)) new ns nt offset index (get_or shape axis 0) (signed (get_or strides axis 0)) moved m none at.so_far)
+  pub index_arm : (index : ℤ) {moved : ℤ} → IsValidLayout shape (all_signed strides)
+      → AtAxis fit elems shape strides (elem.Index index) k axis new ns nt offset
+      → moved ≡ meaning (get_or shape axis 0) index *ℤ signed (get_or strides axis 0) → index_fault (get_or shape axis 0) index ≡ None
+      → Stepped fit elems shape strides k (axis + 1) new ns nt (offset +ℤ moved)
+  index_arm index valid at m none =
+      stepped valid
+      (index_step index m none at.so_far)
 
 -- what an index means, and where it lies
 pub record IsEntryAt (len : ℕ) (stride : ℤ) (index : ℤ) : Type 0 where
@@ -252,8 +307,10 @@ pub record IsEntryAt (len : ℕ) (stride : ℤ) (index : ℤ) : Type 0 where
   pub small : (n : ℕ) → pos n ≡ meaning len index → n ≤ limit
   pub offset_fits : (n : ℕ) → pos n ≡ meaning len index → FitsSigned w64 (pos n *ℤ stride)
 
-pub index_within : (fit : Fit) (elems : List SliceInfoElem) (shape strides : List ℕ) (index : ℤ) (k axis new : ℕ) (ns nt : List ℕ) (offset : ℤ) → AtAxis fit elems shape strides (elem.Index index) k axis new ns nt offset → index_fault (get_or shape axis 0) index ≡ None → IsEntryAt (get_or shape axis 0) (signed (get_or strides axis 0)) index
-index_within fit elems shape strides index k axis new ns nt offset at none =
+pub index_within : {fit : Fit} {elems : List SliceInfoElem} {shape strides : List ℕ} {index : ℤ} {k axis new : ℕ} {ns nt : List ℕ}
+    {offset : ℤ} → AtAxis fit elems shape strides (elem.Index index) k axis new ns nt offset → index_fault (get_or shape axis 0) index
+    ≡ None → IsEntryAt (get_or shape axis 0) (signed (get_or strides axis 0)) index
+index_within {shape} {strides} {index} {axis} at none =
     let len = get_or shape axis 0 in
     let stride = signed (get_or strides axis 0) in
     let entry = index_entry len index none in

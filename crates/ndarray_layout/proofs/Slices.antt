@@ -1,16 +1,11 @@
 -- A slice of a layout is a layout within it, and its indices lie where the selected ones do.
-use Rattle.std.proofs.Common.{◌≡◌, ℕ, ◌*◌, ◌<◌, ◌≤◌, ℤ, pos, negsuc, ◌+ℤ◌, ◌*ℤ◌, ◌≤ℤ◌, List, [], ◌∷◌, length, get_or, nat_lt, Bool, true, false, eqb, cond, Option, Some, None, arith, refl, pos_of_ne-zero}
-use Rattle.std.specs.Option.{option_or}
+use Rattle.std.proofs.Common.{◌≡◌, ℕ, ◌*◌, ◌<◌, ◌≤◌, ℤ, pos, negsuc, ◌+ℤ◌, ◌*ℤ◌, ◌≤ℤ◌, List, [], ◌∷◌, length, get_or, nat_lt, Bool, true}
+use Rattle.std.proofs.Common.{false, eqb, cond, Some, None, arith, refl, pos_of_ne-zero}
 use Rattle.std.proofs.lemmas.Int.{ints}
 use Rattle.std.proofs.lemmas.Bool.{and_parts, and_from, ltb-true, lt-ltb, eqb-true, eqb-false}
 use Rattle.std.proofs.Math.Nat.{mul-le-mul, mul-le-mul_right}
-use Rattle.nd_base.specs.declared.error.ErrorKind.{ErrorKind}
 use Rattle.nd_base.specs.declared.error.ErrorKind.TheVariants.{OutOfBounds}
-use Rattle.nd_base.specs.Indices.{is_index}
-use Rattle.nd_base.specs.Offset.{offset_of}
-use Rattle.nd_base.specs.Signed.{magnitude}
-use Rattle.nd_base.specs.Size.{nonzero_size}
-use Rattle.nd_base.specs.Span.{reach_down, reach_up, low_span, high_span}
+use Rattle.nd_base.proofs.laws.Definitions.{is_index, offset_of, magnitude, nonzero_size, high_span, low_span, reach_down, reach_up}
 use Rattle.nd_slice.specs.declared.fit.Fit.{Fit}
 use Rattle.nd_slice.specs.declared.slice.Slice.{Slice}
 use Rattle.nd_slice.specs.declared.elem.SliceInfoElem.{SliceInfoElem}
@@ -23,10 +18,7 @@ use Rattle.nd_slice.specs.Selected.{selected}
 use Rattle.ndarray_layout.proofs.OneAxis.{Within, axis_within}
 use Rattle.ndarray_layout.proofs.Picked.{slice_kept, pick_offset}
 use Rattle.ndarray_layout.proofs.PicksFit.{picks_fit}
-
-pub or_none : (a b : Option ErrorKind) → option_or a b ≡ None → (a ≡ None) × (b ≡ None)
-or_none None b h = (refl, h)
-or_none (Some x) b h = absurd (cc)
+use Rattle.nd_base.proofs.laws.Options.{option_or_none}
 
 -- an index that fits means an entry
 entry_of : (len : ℕ) (z : ℤ) → cond (is_entry len z) None (Some OutOfBounds) ≡ None → (z ≡ pos (magnitude z)) × (magnitude z < len)
@@ -37,7 +29,8 @@ entry_of len (pos n) h = (refl, by (nat_lt n len) refl h)
     by false e g = absurd (cc)
 entry_of len (negsuc n) h = absurd (cc)
 
-pub index_entry : (len : ℕ) (index : ℤ) → index_fault len index ≡ None → (meaning len index ≡ pos (magnitude (meaning len index))) × (magnitude (meaning len index) < len)
+pub index_entry : (len : ℕ) (index : ℤ) → index_fault len index ≡ None
+    → (meaning len index ≡ pos (magnitude (meaning len index))) × (magnitude (meaning len index) < len)
 index_entry len index h = entry_of len (meaning len index) h
 
 -- a factor that is no greater
@@ -56,35 +49,46 @@ nonzero_more a b x y h g = by (eqb a 0) (eqb b 0) refl refl
 pub record SliceKept (fit : Fit) (elems : List SliceInfoElem) (shape : List ℕ) (strides : List ℤ) : Type 0 where
   pub counts : length (sliced_shape fit elems shape) ≡ length (sliced_strides fit elems shape strides)
   pub size : nonzero_size (sliced_shape fit elems shape) ≤ nonzero_size shape
-  pub low : pos (low_span (sliced_shape fit elems shape) (sliced_strides fit elems shape strides)) ≤ℤ (pos (low_span shape strides) +ℤ sliced_offset fit elems shape strides)
-  pub high : (sliced_offset fit elems shape strides +ℤ pos (high_span (sliced_shape fit elems shape) (sliced_strides fit elems shape strides))) ≤ℤ pos (high_span shape strides)
+  pub low : pos (low_span (sliced_shape fit elems shape) (sliced_strides fit elems shape strides)) ≤ℤ
+      (pos (low_span shape strides) +ℤ sliced_offset fit elems shape strides)
+  pub high : (sliced_offset fit elems shape strides +ℤ pos (high_span (sliced_shape fit elems shape)
+      (sliced_strides fit elems shape strides))) ≤ℤ pos (high_span shape strides)
 
-pub slices_kept : (fit : Fit) (elems : List SliceInfoElem) (shape : List ℕ) (strides : List ℤ) → length shape ≡ length strides → in_count elems ≡ length shape → first_fault fit shape elems ≡ None → SliceKept fit elems shape strides
+pub slices_kept : (fit : Fit) (elems : List SliceInfoElem) (shape : List ℕ) (strides : List ℤ) → length shape ≡ length strides
+    → in_count elems ≡ length shape → first_fault fit shape elems ≡ None → SliceKept fit elems shape strides
 slices_kept fit [] [] strides e i f = record { counts = refl; size = omega arith; low = omega (arith, ints); high = omega (arith, ints) }
 slices_kept fit [] (len ∷ shape) strides e i f = absurd (omega arith)
 slices_kept fit (elem.NewAxis ∷ elems) shape strides e i f =
     let rest = slices_kept fit elems shape strides e i f in
-    record { counts = omega (arith, rest.counts); size = omega (arith, rest.size); low = omega (arith, ints, rest.low); high = omega (arith, ints, rest.high) }
+    record {
+      counts = omega (arith, rest.counts);
+      size = omega (arith, rest.size);
+      low = omega (arith, ints, rest.low);
+      high =
+          omega (arith, ints, rest.high);
+    }
 slices_kept fit (elem.Slice start end step ∷ elems) [] strides e i f = absurd (omega arith)
 slices_kept fit (elem.Slice start end step ∷ elems) (len ∷ shape) [] e i f = absurd (omega arith)
 slices_kept fit (elem.Slice start end step ∷ elems) (len ∷ shape) (stride ∷ strides) e i f =
     let slice : Slice = record { start = start; end = end; step = step } in
-    let none = or_none (slice_fault fit len slice) (first_fault fit shape elems) f in
+    let none = option_or_none (slice_fault fit len slice) f in
     let rest = slices_kept fit elems shape strides (omega arith) (omega arith) none.1 in
-    let axis = slice_kept len stride step (picks fit len slice) (picks_fit fit len slice none.0) in
+    let axis = slice_kept stride (picks fit len slice) (picks_fit fit slice none.0) in
     record {
       counts = omega (arith, rest.counts);
-      size = nonzero_more (length (picks fit len slice)) len (nonzero_size (sliced_shape fit elems shape)) (nonzero_size shape) axis.few rest.size;
+      size = nonzero_more (length (picks fit len slice)) len (nonzero_size (sliced_shape fit elems shape)) (nonzero_size shape) axis.few
+          rest.size;
       low = omega (arith, ints, rest.low, axis.low);
       high = omega (arith, ints, rest.high, axis.high);
     }
 slices_kept fit (elem.Index index ∷ elems) [] strides e i f = absurd (omega arith)
 slices_kept fit (elem.Index index ∷ elems) (len ∷ shape) [] e i f = absurd (omega arith)
 slices_kept fit (elem.Index index ∷ elems) (len ∷ shape) (stride ∷ strides) e i f =
-    let none = or_none (index_fault len index) (first_fault fit shape elems) f in
+    let none = option_or_none (index_fault len index) f in
     let rest = slices_kept fit elems shape strides (omega arith) (omega arith) none.1 in
     let entry = index_entry len index none.0 in
-    let axis : Within (reach_down len stride) (reach_up len stride) (meaning len index *ℤ stride) = rw (entry.0) (axis_within len (magnitude (meaning len index)) stride entry.1) in
+    let axis : Within (reach_down len stride) (reach_up len stride) (meaning len index *ℤ stride) = rw (entry.0)
+    (axis_within len (magnitude (meaning len index)) stride entry.1) in
     record {
       counts = rest.counts;
       size = omega (arith, nonzero_more 1 len (nonzero_size (sliced_shape fit elems shape)) (nonzero_size shape) (omega arith) rest.size);
@@ -95,35 +99,40 @@ slices_kept fit (elem.Index index ∷ elems) (len ∷ shape) (stride ∷ strides
 -- the index that an index of the slice stands for is one of the shape, and lies where it does
 pub record PlacesKept (fit : Fit) (elems : List SliceInfoElem) (shape : List ℕ) (strides : List ℤ) (index : List ℕ) : Type 0 where
   pub within : is_index shape (selected fit elems shape index) ≡ true
-  pub offset : offset_of strides (selected fit elems shape index) ≡ sliced_offset fit elems shape strides +ℤ offset_of (sliced_strides fit elems shape strides) index
+  pub offset : offset_of strides (selected fit elems shape index) ≡ sliced_offset fit elems shape strides +ℤ offset_of
+      (sliced_strides fit elems shape strides) index
 
-pub places_kept : (fit : Fit) (elems : List SliceInfoElem) (shape : List ℕ) (strides : List ℤ) (index : List ℕ) → length shape ≡ length strides → in_count elems ≡ length shape → first_fault fit shape elems ≡ None → is_index (sliced_shape fit elems shape) index ≡ true → PlacesKept fit elems shape strides index
+pub places_kept : (fit : Fit) (elems : List SliceInfoElem) (shape : List ℕ) (strides : List ℤ) (index : List ℕ)
+    → length shape ≡ length strides → in_count elems ≡ length shape → first_fault fit shape elems ≡ None
+    → is_index (sliced_shape fit elems shape) index ≡ true → PlacesKept fit elems shape strides index
 places_kept fit [] [] strides [] e i f h = record { within = refl; offset = refl }
 places_kept fit [] [] strides (j ∷ index) e i f h = absurd (cc)
 places_kept fit [] (len ∷ shape) strides index e i f h = absurd (omega arith)
 places_kept fit (elem.NewAxis ∷ elems) shape strides [] e i f h = absurd (cc)
 places_kept fit (elem.NewAxis ∷ elems) shape strides (j ∷ index) e i f h =
-    let rest = places_kept fit elems shape strides index e i f (and_parts (nat_lt j 1) (is_index (sliced_shape fit elems shape) index) h).1 in
+    let rest = places_kept fit elems shape strides index e i f (and_parts (nat_lt j 1) (is_index (sliced_shape fit elems shape) index)
+    h).1 in
     record { within = rest.within; offset = omega (arith, ints, rest.offset) }
 places_kept fit (elem.Slice start end step ∷ elems) [] strides index e i f h = absurd (omega arith)
 places_kept fit (elem.Slice start end step ∷ elems) (len ∷ shape) [] index e i f h = absurd (omega arith)
 places_kept fit (elem.Slice start end step ∷ elems) (len ∷ shape) (stride ∷ strides) [] e i f h = absurd (cc)
 places_kept fit (elem.Slice start end step ∷ elems) (len ∷ shape) (stride ∷ strides) (j ∷ index) e i f h =
     let slice : Slice = record { start = start; end = end; step = step } in
-    let none = or_none (slice_fault fit len slice) (first_fault fit shape elems) f in
-    let inside = picks_fit fit len slice none.0 in
+    let none = option_or_none (slice_fault fit len slice) f in
+    let inside = picks_fit fit {len = len} slice none.0 in
     let parts = and_parts (nat_lt j (length (picks fit len slice))) (is_index (sliced_shape fit elems shape) index) h in
     let below = ltb-true j (length (picks fit len slice)) parts.0 in
     let rest = places_kept fit elems shape strides index (omega arith) (omega arith) none.1 parts.1 in
     let pick = get_or (picks fit len slice) j 0 in
     record {
-      within = and_from (nat_lt pick len) (is_index shape (selected fit elems shape index)) (lt-ltb pick len (inside.within j below)) rest.within;
-      offset = omega (arith, ints, rest.offset, pick_offset len stride step (picks fit len slice) j inside below);
+      within = and_from (nat_lt pick len) (is_index shape (selected fit elems shape index)) (lt-ltb pick len (inside.within j below))
+          rest.within;
+      offset = omega (arith, ints, rest.offset, pick_offset stride j inside below);
     }
 places_kept fit (elem.Index n ∷ elems) [] strides index e i f h = absurd (omega arith)
 places_kept fit (elem.Index n ∷ elems) (len ∷ shape) [] index e i f h = absurd (omega arith)
 places_kept fit (elem.Index n ∷ elems) (len ∷ shape) (stride ∷ strides) index e i f h =
-    let none = or_none (index_fault len n) (first_fault fit shape elems) f in
+    let none = option_or_none (index_fault len n) f in
     let rest = places_kept fit elems shape strides index (omega arith) (omega arith) none.1 h in
     let entry = index_entry len n none.0 in
     let m = magnitude (meaning len n) in

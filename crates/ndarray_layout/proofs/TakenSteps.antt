@@ -1,5 +1,6 @@
 -- Runs of lists of steps from runs of their parts.
-use Rattle.std.proofs.Common.{◌≡◌, ℕ, ◌+◌, ◌<◌, suc, Option, Some, None, Err, List, [], ◌∷◌, ◌++◌, length, take, drop, refl, sym, ap, subst, ◌∙◌, arith, false, nat_lt, IsOk}
+use Rattle.std.proofs.Common.{◌≡◌, ℕ, ◌+◌, ◌<◌, suc, Option, Some, None, Err, List, [], ◌∷◌, ◌++◌, length, get_or, take, drop, refl, sym}
+use Rattle.std.proofs.Common.{ap, subst, ◌∙◌, arith, false, nat_lt, IsOk}
 use Rattle.std.specs.List.{slice_get}
 use Rattle.std.proofs.Math.Seq.{take-suc, drop-cons}
 use Rattle.std.proofs.lemmas.List.{length-take-le, take-append-drop}
@@ -8,63 +9,57 @@ use Rattle.nd_base.specs.declared.error.ErrorKind.{ErrorKind}
 use Rattle.nd_base.specs.declared.lengths.TheConstants.{INLINE_AXES}
 use Rattle.std.proofs.lemmas.Bool.{both_ways, lt-ltb, ltb-true, true_from_ne_false}
 use Rattle.nd_slice.specs.ArgumentFault.{out_count}
-use Rattle.ndarray_layout.specs.Step.{StepValue, SliceBy, CollapseTo, MergeInto, ReshapeTo, BroadcastTo, may_want_memory, step_fault, view_after}
+use Rattle.ndarray_layout.specs.Descends.{IsViewOf}
+use Rattle.ndarray_layout.specs.DistinctPlaces.{HasDistinctPlaces}
+use Rattle.ndarray_layout.specs.Step.{StepValue, SliceBy, CollapseTo, MergeInto, ReshapeTo, BroadcastTo, may_want_memory, step_fault}
+use Rattle.ndarray_layout.specs.Step.{view_after}
 use Rattle.ndarray_layout.specs.StepFits.{MayRefuseMemory}
-use Rattle.ndarray_layout.proofs.laws.Step.{IsView-view_after}
+use Rattle.ndarray_layout.proofs.laws.Step.{IsViewOf-view_after}
 use Rattle.ndarray_layout.proofs.laws.StepFits.{fits_of_no_fault_of_step, no_fault_of_fitting_step}
 use Rattle.nd_base.specs.declared.error.LayoutError.{LayoutError}
 use Rattle.nd_base.specs.declared.error.LayoutError.TheVariants.{Shape, Memory}
 use Rattle.nd_base.specs.declared.order.Order.{Order}
-use Rattle.nd_base.specs.Lengths.{NeedsNoMemory}
-use Rattle.nd_base.specs.ShapeFault.{shape_fault}
+use Rattle.nd_base.proofs.laws.Definitions.{NeedsNoMemory, shape_fault}
 use Rattle.ndarray_layout.specs.ReshapedView.{IsReshapeRefusal}
-use Rattle.ndarray_layout.specs.Run.{AllFit, IsRefusedBy, NeedNoMemory, run_of}
-use Rattle.ndarray_layout.proofs.laws.Run.{first_then, in_turn, joined, run_of_append, run_of_fitting, run_of_refused, stayed}
+use Rattle.ndarray_layout.specs.Run.{AllFit, IsRefusedBy, Leave, NeedNoMemory, StopsAt, run_of}
+use Rattle.ndarray_layout.proofs.laws.Run.{first_then, in_turn, joined, run_of_append, run_of_fitting, run_of_refused, run_sound, stayed}
 use Rattle.ndarray_layout.specs.View.{View, IsView}
 
--- one more step
-pub run_of_next : (steps : List StepValue) (at : ℕ) (step : StepValue) (view : View) → slice_get steps at ≡ Some step → run_of (take (at + 1) steps) view ≡ in_turn (run_of (take at steps)) (run_of (step ∷ [])) view
-run_of_next steps at step view there =
-    let within = slice_get_within steps at step there in
-    let item = get_or_from_slice_get steps at step step there in
-    let count : at + 1 ≡ suc at = omega arith in
-    let cut = ap (λ n. take n steps) count ∙ take-suc steps at step within ∙ ap (λ s. take at steps ++ (s ∷ [])) item in
-    ap (λ part. run_of part view) cut ∙ run_of_append (take at steps) (step ∷ []) view
+-- where a run has no fault, each step fits
+pub all_fit : (steps : List StepValue) (view : View) → IsView view → (run_of steps view).fault ≡ None → AllFit steps view
+all_fit [] view v none = tt
+all_fit (step ∷ steps) view v none = by (step_fault view step) refl (all_fit steps (view_after view step)) none
+  where
+    by : (fault : Option ErrorKind) → step_fault view step ≡ fault
+        → (IsView (view_after view step) → (run_of steps (view_after view step)).fault ≡ None → AllFit steps (view_after view step))
+        → (first_then fault view step (run_of steps (view_after view step))).fault ≡ None → AllFit (step ∷ steps) view
+    by None e rest none = (fits_of_no_fault_of_step step v e, rest (IsViewOf-view_after step v e).is_view none)
+    by (Some kind) e rest none = absurd (cc)
 
--- a step that doesn't fit ends the run of the whole list
-pub run_of_ended : (steps : List StepValue) (at : ℕ) (step : StepValue) (view left : View) (kind : ErrorKind) → slice_get steps at ≡ Some step → (run_of (take at steps) view).fault ≡ None → (run_of (take at steps) view).view ≡ left → step_fault left step ≡ Some kind
-    → run_of steps view ≡ joined None (run_of (take at steps) view) (stayed (Some kind) left)
-run_of_ended steps at step view left kind there before same fault =
-    let within = slice_get_within steps at step there in
-    let item = get_or_from_slice_get steps at step step there in
-    let rest = drop-cons steps at step within ∙ ap (λ s. s ∷ drop (suc at) steps) item in
-    let first = run_of (take at steps) view in
-    let cut = sym (take-append-drop at steps) ∙ ap (λ part. take at steps ++ part) rest in
-    let ended = run_of_refused step (drop (suc at) steps) left kind fault in
-    ap (λ part. run_of part view) cut ∙ run_of_append (take at steps) (step ∷ drop (suc at) steps) view ∙ rw (before, same, ended) refl
+-- and the view that it leaves is one of the first one's data
+pub left_by : {steps : List StepValue} {start view : View} → IsView start → (run_of steps start).fault ≡ None
+    → (run_of steps start).view ≡ view → Leave steps start view
+left_by {steps} {start} v none same =
+    let sound = run_sound steps start v in
+    record {
+      fits = none;
+      each_fits = all_fit steps start v none;
+      left = same;
+      kept = subst (IsViewOf (run_of steps start).source start) same sound.kept;
+      distinct = λ apart distinct. subst HasDistinctPlaces same (sound.distinct apart distinct);
+    }
 
 -- as many steps were taken as there are where none has a fault
-pub taken_of_no_fault : (steps : List StepValue) (view : View) → (run_of steps view).fault ≡ None → (run_of steps view).taken ≡ length steps
+taken_of_no_fault : (steps : List StepValue) (view : View) → (run_of steps view).fault ≡ None → (run_of steps view).taken ≡ length steps
 taken_of_no_fault [] view none = refl
 taken_of_no_fault (step ∷ steps) view none = by (step_fault view step) (taken_of_no_fault steps (view_after view step)) none
   where
-    by : (fault : Option ErrorKind) → ((run_of steps (view_after view step)).fault ≡ None → (run_of steps (view_after view step)).taken ≡ length steps) → (first_then fault view step (run_of steps (view_after view step))).fault ≡ None → (first_then fault view step (run_of steps (view_after view step))).taken ≡ suc (length steps)
+    by : (fault : Option ErrorKind)
+        → ((run_of steps (view_after view step)).fault ≡ None → (run_of steps (view_after view step)).taken ≡ length steps)
+        → (first_then fault view step (run_of steps (view_after view step))).fault ≡ None
+        → (first_then fault view step (run_of steps (view_after view step))).taken ≡ suc (length steps)
     by None rest none = omega (arith, rest none)
     by (Some kind) rest none = absurd (cc)
-
--- a step that fits leaves what it makes of the view so far
-pub taken_so_far : (steps : List StepValue) (at : ℕ) (step : StepValue) (start left : View) → slice_get steps at ≡ Some step → (run_of (take at steps) start).fault ≡ None → (run_of (take at steps) start).view ≡ left → step_fault left step ≡ None
-    → ((run_of (take (at + 1) steps) start).fault ≡ None) × ((run_of (take (at + 1) steps) start).view ≡ view_after left step)
-taken_so_far steps at step start left there before same fits = rw (run_of_next steps at step start there, before, same, run_of_fitting step [] left fits) (refl, refl)
-
--- one that is refused by a fault ends the run of them all
-pub ended_by : (steps : List StepValue) (at : ℕ) (step : StepValue) (start left : View) (fault : LayoutError) (kind : ErrorKind) → slice_get steps at ≡ Some step → (run_of (take at steps) start).fault ≡ None → (run_of (take at steps) start).view ≡ left → IsRefusedBy left fault step
-    → fault ≡ Shape kind → ((run_of steps start).fault ≡ Some kind) × ((run_of steps start).taken ≡ at) × ((run_of steps start).view ≡ left)
-ended_by steps at step start left fault kind there before same refused is =
-    let within = slice_get_within steps at step there in
-    let count = taken_of_no_fault (take at steps) start before ∙ length-take-le at steps (omega (arith, within)) in
-    let known : IsRefusedBy left (Shape kind) step = subst (λ f. IsRefusedBy left f step) is refused in
-    rw (run_of_ended steps at step start left kind there before same known.0) (refl, omega (arith, count), refl)
 
 -- a kind of step to which memory is refused only where it fits
 abbrev pub WantsMemoryLast : StepValue → Type 0
@@ -75,39 +70,52 @@ WantsMemoryLast (ReshapeTo shape order) = ⊥
 WantsMemoryLast (BroadcastTo shape) = Unit {0}
 
 -- what is known of a step that is not taken, where memory comes after the fault of a shape
-pub refused_of : (X : Type 0) (view : View) (step : StepValue) (fault : LayoutError) → IsView view → WantsMemoryLast step → shape_fault {X = X} (Err fault) ≡ step_fault view step → (step_fault view step ≡ None → may_want_memory step ≡ false → IsOk {T = X} {E = LayoutError} (Err fault)) → IsRefusedBy view fault step
-refused_of X view step (Shape kind) v last refused memory = (
+pub refused_of : (X : Type 0) {view : View} (step : StepValue) (fault : LayoutError) → IsView view → WantsMemoryLast step
+    → shape_fault {X = X} (Err fault) ≡ step_fault view step
+    → (step_fault view step ≡ None → may_want_memory step ≡ false → IsOk {T = X} {E = LayoutError} (Err fault))
+    → IsRefusedBy view fault step
+refused_of X step (Shape kind) v last refused memory = (
   sym refused,
   λ fits.
-      let none = no_fault_of_fitting_step view step v fits in
+      let none = no_fault_of_fitting_step step v fits in
       let e : Some kind ≡ None = refused ∙ none in
       cc,
 )
-refused_of X view step (Memory e) v last refused memory = wanted view step v last (sym refused) (λ few.
+refused_of X {view} step (Memory e) v last refused memory = wanted view step v last (sym refused) (λ few.
     let ok = memory (sym refused) few in
     cc)
   where
-    wanted : (view : View) (step : StepValue) → IsView view → WantsMemoryLast step → step_fault view step ≡ None → (may_want_memory step ≡ false → ⊥) → MayRefuseMemory view step
-    wanted view (SliceBy elems fit) v last none wants = (fits_of_no_fault_of_step view (SliceBy elems fit) v none, ltb-true INLINE_AXES (out_count elems) (true_from_ne_false (nat_lt INLINE_AXES (out_count elems)) wants))
+    wanted : (view : View) (step : StepValue) → IsView view → WantsMemoryLast step → step_fault view step ≡ None
+        → (may_want_memory step ≡ false → ⊥) → MayRefuseMemory view step
+    wanted view (SliceBy elems fit) v last none wants = (
+      fits_of_no_fault_of_step (SliceBy elems fit) v none,
+      ltb-true INLINE_AXES
+          (out_count elems) (true_from_ne_false (nat_lt INLINE_AXES (out_count elems)) wants),
+    )
     wanted view (CollapseTo axis index) v last none wants = wants refl
     wanted view (MergeInto take into) v last none wants = wants refl
     wanted view (ReshapeTo shape order) v last none wants = absurd last
-    wanted view (BroadcastTo shape) v last none wants = (fits_of_no_fault_of_step view (BroadcastTo shape) v none, ltb-true INLINE_AXES (length shape) (true_from_ne_false (nat_lt INLINE_AXES (length shape)) wants))
+    wanted view (BroadcastTo shape) v last none wants = (
+      fits_of_no_fault_of_step (BroadcastTo shape) v none,
+      ltb-true INLINE_AXES
+          (length shape) (true_from_ne_false (nat_lt INLINE_AXES (length shape)) wants),
+    )
 
 -- a count that wants memory is above four
 past_inline : (n : ℕ) → ¬ NeedsNoMemory None n → INLINE_AXES < n
 past_inline n many = omega arith
 
 -- and of a reshape, where it may come before it
-pub reshape_refused_of : (view : View) (shape : List ℕ) (order : Order) (fault : LayoutError) → IsView view → IsReshapeRefusal None order shape view fault → IsRefusedBy view fault (ReshapeTo shape order)
-reshape_refused_of view shape order (Shape kind) v refused = (
+pub reshape_refused_of : {view : View} (shape : List ℕ) (order : Order) (fault : LayoutError) → IsView view
+    → IsReshapeRefusal None order shape view fault → IsRefusedBy view fault (ReshapeTo shape order)
+reshape_refused_of shape order (Shape kind) v refused = (
   refused,
   λ fits.
-      let none = no_fault_of_fitting_step view (ReshapeTo shape order) v fits in
+      let none = no_fault_of_fitting_step (ReshapeTo shape order) v fits in
       let e : Some kind ≡ None = sym refused ∙ none in
       cc,
 )
-reshape_refused_of view shape order (Memory e) v refused = (refused.0, past_inline (length shape) refused.1)
+reshape_refused_of shape order (Memory e) v refused = (refused.0, past_inline (length shape) refused.1)
 
 -- a count above `INLINE_AXES` is not at most that
 above_inline : (n : ℕ) → INLINE_AXES < n → nat_lt INLINE_AXES n ≡ false → ⊥
@@ -121,23 +129,55 @@ not_refused view (MergeInto take into) refused few = refused
 not_refused view (ReshapeTo shape order) refused few = above_inline (length shape) refused.1 few
 not_refused view (BroadcastTo shape) refused few = above_inline (length shape) refused.1 few
 
--- a run without fault whose steps want no memory is not stopped
-pub not_stopped : (steps : List StepValue) (at : ℕ) (step : StepValue) (start left : View) (fault : LayoutError) → slice_get steps at ≡ Some step → (run_of (take at steps) start).fault ≡ None → (run_of (take at steps) start).view ≡ left → IsRefusedBy left fault step
-    → (run_of steps start).fault ≡ None → NeedNoMemory steps → ⊥
-not_stopped steps at step start left (Shape kind) there before same refused none few =
-    let ended = run_of_ended steps at step start left kind there before same refused.0 in
-    let e : Some kind ≡ None = rw ended at none in
-    cc
-not_stopped steps at step start left (Memory e) there before same refused none few =
-    let within = slice_get_within steps at step there in
-    let here : may_want_memory step ≡ false = subst (λ one. may_want_memory one ≡ false) (get_or_from_slice_get steps at step step there) (few at step within) in
-    not_refused left step refused here
+-- ---- a run that has come to one of its steps
+module _ (steps : List StepValue) (at : ℕ) (step : StepValue) (start left : View) (there : slice_get steps at ≡ Some step)
+    (before : Leave (take at steps) start left) where
+  within : at < length steps
+  within = slice_get_within steps at step there
 
--- where a run has no fault, each step fits
-pub all_fit : (steps : List StepValue) (view : View) → IsView view → (run_of steps view).fault ≡ None → AllFit steps view
-all_fit [] view v none = tt
-all_fit (step ∷ steps) view v none = by (step_fault view step) refl (all_fit steps (view_after view step)) none
-  where
-    by : (fault : Option ErrorKind) → step_fault view step ≡ fault → (IsView (view_after view step) → (run_of steps (view_after view step)).fault ≡ None → AllFit steps (view_after view step)) → (first_then fault view step (run_of steps (view_after view step))).fault ≡ None → AllFit (step ∷ steps) view
-    by None e rest none = (fits_of_no_fault_of_step view step v e, rest (IsView-view_after view step v e) none)
-    by (Some kind) e rest none = absurd (cc)
+  item : get_or steps at step ≡ step
+  item = get_or_from_slice_get steps at step step there
+
+  -- the run up to this step and with it
+  run_of_next : run_of (take (at + 1) steps) start ≡ in_turn (run_of (take at steps)) (run_of (step ∷ [])) start
+  run_of_next =
+      let count : at + 1 ≡ suc at = omega arith in
+      let cut = ap (λ n. take n steps) count ∙ take-suc steps at step within ∙ ap (λ s. take at steps ++ (s ∷ [])) item in
+      ap (λ part. run_of part start) cut ∙ run_of_append (take at steps) (step ∷ []) start
+
+  -- a step that fits leaves what it makes of the view so far
+  pub one_more : IsView start → step_fault left step ≡ None → Leave (take (at + 1) steps) start (view_after left step)
+  one_more v fits =
+      let now : ((run_of (take (at + 1) steps) start).fault ≡ None) × ((run_of (take (at + 1) steps) start).view ≡ view_after left step) =
+      rw (run_of_next, before.fits, before.left, run_of_fitting step [] left fits) (refl, refl) in
+      left_by v now.0 now.1
+
+  -- one that doesn't fit ends the run of them all
+  run_of_ended : (kind : ErrorKind) → step_fault left step ≡ Some kind
+      → run_of steps start ≡ joined None (run_of (take at steps) start) (stayed (Some kind) left)
+  run_of_ended kind fault =
+      let rest = drop-cons steps at step within ∙ ap (λ s. s ∷ drop (suc at) steps) item in
+      let cut = sym (take-append-drop at steps) ∙ ap (λ part. take at steps ++ part) rest in
+      let ended = run_of_refused step (drop (suc at) steps) left fault in
+      ap (λ part. run_of part start) cut
+      ∙ run_of_append (take at steps) (step ∷ drop (suc at) steps) start
+      ∙ rw (before.fits, before.left, ended) refl
+
+  pub stopped : (fault : LayoutError) → IsRefusedBy left fault step → StopsAt steps start at fault left
+  stopped fault refused = record {
+    before = before;
+    within = within;
+    refused = rw there refused;
+    ended = λ kind is.
+        let known : IsRefusedBy left (Shape kind) step = subst (λ f. IsRefusedBy left f step) is refused in
+        let count = taken_of_no_fault (take at steps) start before.fits ∙ length-take-le at steps (omega (arith, within)) in
+        rw (run_of_ended kind known.0) (refl, omega (arith, count), refl);
+  }
+
+  -- and a run without fault whose steps want no memory is not stopped
+  pub not_stopped : (fault : LayoutError) → IsRefusedBy left fault step → (run_of steps start).fault ≡ None → NeedNoMemory steps → ⊥
+  not_stopped (Shape kind) refused none few =
+      let e : Some kind ≡ None = rw (run_of_ended kind refused.0) at none in
+      cc
+  not_stopped (Memory e) refused none few =
+      not_refused left step refused (subst (λ one. may_want_memory one ≡ false) item (few at step within))

@@ -1,40 +1,45 @@
 -- The walk over the indices of a view, entry by entry of its slowest axis.
-use Rattle.std.proofs.Common.{◌≡◌, ℕ, ◌+◌, ◌*◌, ◌<◌, ◌≤◌, ℤ, pos, ◌+ℤ◌, ◌*ℤ◌, ◌≤ℤ◌, List, length, [], ◌∷◌, ◌++◌, map, reverse, eqb, arith, refl, sym, ap, ◌∙◌, add-one, append_assoc, subst}
+use Rattle.std.proofs.Common.{◌≡◌, ℕ, ◌+◌, ◌*◌, ◌<◌, ◌≤◌, ℤ, pos, ◌+ℤ◌, ◌*ℤ◌, ◌≤ℤ◌, List, length, [], ◌∷◌, ◌++◌, map, eqb, arith}
+use Rattle.std.proofs.Common.{refl, sym, ap, ◌∙◌, add-one, append_assoc, subst}
 use Rattle.std.proofs.lemmas.Int.{ints}
 use Rattle.std.proofs.lemmas.Bool.{cond-false, ne_eqb}
-use Rattle.std.proofs.lemmas.List.{map-append, reverse-append, nil_from_length}
+use Rattle.std.proofs.lemmas.List.{map-append, nil_from_length}
 use Rattle.std.proofs.Math.Nat.{mul-le-mul_right, mul-le-mul_left}
 use Rattle.nd_base.specs.declared.order.Order.{Order}
 use Rattle.nd_base.specs.declared.order.Order.TheVariants.{RowMajor, ColumnMajor}
-use Rattle.nd_base.specs.Indices.{indices}
-use Rattle.nd_base.specs.Place.{place}
-use Rattle.nd_base.specs.Signed.{signed, all_signed}
-use Rattle.nd_base.specs.Size.{size, nonzero_size, limit}
+use Rattle.nd_base.proofs.laws.Definitions.{indices, place, as_read, all_signed, signed, limit, nonzero_size, size}
 use Rattle.ndarray_layout.specs.View.{IsView, view_places}
-use Rattle.nd_base.specs.Reading.{as_read}
 use Rattle.ndarray_layout.specs.private.ReadView.{view_as_read, row_view}
 use Rattle.nd_base.proofs.laws.Indices.{indices_more}
 use Rattle.nd_base.proofs.laws.NonzeroSize.{nonzero_size_pos}
 use Rattle.ndarray_layout.proofs.OneAxis.{axis_within}
+use Rattle.nd_base.proofs.laws.Lists.{map-reverse}
 
 -- an entry of the first axis moves the start
-row_at : (start i inner : ℕ) (stride : ℤ) (strides : List ℤ) (xs : List (List ℕ)) → pos inner ≡ pos start +ℤ (pos i *ℤ stride) → map (place start (stride ∷ strides)) (map (λ index. i ∷ index) xs) ≡ map (place inner strides) xs
-row_at start i inner stride strides [] e = refl
-row_at start i inner stride strides (x ∷ xs) e =
+row_at : (start i : ℕ) {inner : ℕ} (stride : ℤ) (strides : List ℤ) (xs : List (List ℕ)) → pos inner ≡ pos start +ℤ (pos i *ℤ stride)
+    → map (place start (stride ∷ strides)) (map (λ index. i ∷ index) xs) ≡ map (place inner strides) xs
+row_at start i stride strides [] e = refl
+row_at start i {inner} stride strides (x ∷ xs) e =
     let here : place start (stride ∷ strides) (i ∷ x) ≡ place inner strides x = omega (arith, ints) in
-    rw (here, row_at start i inner stride strides xs e) refl
+    rw (here, row_at start i stride strides xs e) refl
 
 -- the places with one entry more of the first axis
-pub places_more : (start i inner : ℕ) (lens : List ℕ) (stride : ℤ) (strides : List ℤ) → pos inner ≡ pos start +ℤ (pos i *ℤ stride) → view_places RowMajor (record { start = start; shape = (i + 1) ∷ lens; strides = stride ∷ strides }) ≡ view_places RowMajor (record { start = start; shape = i ∷ lens; strides = stride ∷ strides }) ++ view_places RowMajor (record { start = inner; shape = lens; strides = strides })
-places_more start i inner lens stride strides e =
+pub places_more : (start i : ℕ) {inner : ℕ} (lens : List ℕ) (stride : ℤ) (strides : List ℤ) → pos inner ≡ pos start +ℤ (pos i *ℤ stride)
+    → view_places RowMajor (record { start = start; shape = (i + 1) ∷ lens; strides = stride ∷ strides })
+    ≡ view_places RowMajor (record { start = start; shape = i ∷ lens; strides = stride ∷ strides }) ++ view_places RowMajor
+    (record { start = inner; shape = lens; strides = strides })
+places_more start i lens stride strides e =
     let row = map (λ index. i ∷ index) (indices lens) in
-    rw (add-one i) (ap (map (place start (stride ∷ strides))) (indices_more i lens) ∙ map-append (place start (stride ∷ strides)) (indices (i ∷ lens)) row ∙ ap (λ xs. map (place start (stride ∷ strides)) (indices (i ∷ lens)) ++ xs) (row_at start i inner stride strides (indices lens) e))
+    rw (add-one i) (ap (map (place start (stride ∷ strides))) (indices_more i lens) ∙ map-append (place start (stride ∷ strides))
+    (indices (i ∷ lens)) row ∙ ap (λ xs. map (place start (stride ∷ strides)) (indices (i ∷ lens)) ++ xs)
+    (row_at start i stride strides (indices lens) e))
 
 -- a row with one entry more
-pub row_more : (start i inner : ℕ) (stride : ℤ) → pos inner ≡ pos start +ℤ (pos i *ℤ stride) → view_places RowMajor (row_view start (i + 1) stride) ≡ view_places RowMajor (row_view start i stride) ++ pos inner ∷ []
-row_more start i inner stride e =
+pub row_more : (start i : ℕ) {inner : ℕ} (stride : ℤ) → pos inner ≡ pos start +ℤ (pos i *ℤ stride)
+    → view_places RowMajor (row_view start (i + 1) stride) ≡ view_places RowMajor (row_view start i stride) ++ pos inner ∷ []
+row_more start i {inner} stride e =
     let alone : inner + 0 ≡ inner = omega arith in
-    places_more start i inner [] stride [] e ∙ ap (λ n. view_places RowMajor (row_view start i stride) ++ pos n ∷ []) alone
+    places_more start i [] stride [] e ∙ ap (λ n. view_places RowMajor (row_view start i stride) ++ pos n ∷ []) alone
 
 -- what is known of one entry of the first axis
 pub record IsEntry (start len : ℕ) (lens : List ℕ) (stride : ℤ) (strides : List ℤ) (i : ℕ) : Type 0 where
@@ -46,11 +51,13 @@ pub record IsEntry (start len : ℕ) (lens : List ℕ) (stride : ℤ) (strides :
 
 some_size : (len : ℕ) (lens : List ℕ) → 0 < len → nonzero_size (len ∷ lens) ≤ limit → (len ≤ limit) × (nonzero_size lens ≤ limit)
 some_size len lens some h =
-    let whole : nonzero_size (len ∷ lens) ≡ len * nonzero_size lens = cond-false (eqb len 0) (nonzero_size lens) (len * nonzero_size lens) (ne_eqb len 0 (λ z. omega arith)) in
+    let whole : nonzero_size (len ∷ lens) ≡ len * nonzero_size lens = cond-false (eqb len 0) (nonzero_size lens) (len * nonzero_size lens)
+    (ne_eqb len 0 (λ z. omega arith)) in
     let rest = nonzero_size_pos lens in
     (omega (arith, mul-le-mul_left len rest), omega (arith, mul-le-mul_right (nonzero_size lens) some))
 
-pub entry_within : (start len : ℕ) (lens : List ℕ) (stride : ℤ) (strides : List ℤ) (i : ℕ) → IsView (record { start = start; shape = len ∷ lens; strides = stride ∷ strides }) → i < len → IsEntry start len lens stride strides i
+pub entry_within : (start len : ℕ) (lens : List ℕ) (stride : ℤ) (strides : List ℤ) (i : ℕ)
+    → IsView (record { start = start; shape = len ∷ lens; strides = stride ∷ strides }) → i < len → IsEntry start len lens stride strides i
 entry_within start len lens stride strides i view h =
     let axis = axis_within len i stride h in
     let fits = some_size len lens (omega arith) view.valid.size_fits in
@@ -66,54 +73,82 @@ entry_within start len lens stride strides i view h =
       };
     }
 
-map_reverse : {A B : Type 0} (f : A → B) (xs : List A) → map f (reverse xs) ≡ reverse (map f xs)
-map_reverse f [] = refl
-map_reverse f (x ∷ xs) = ap (map f) (reverse-append (x ∷ []) xs) ∙ map-append f (reverse xs) (x ∷ []) ∙ ap (λ ys. ys ++ f x ∷ []) (map_reverse f xs) ∙ sym (reverse-append (f x ∷ []) (map f xs))
-
 -- reading strides as signed commutes with turning them round
 pub as_read_signed : (order : Order) (strides : List ℕ) → as_read order (all_signed strides) ≡ all_signed (as_read order strides)
 as_read_signed RowMajor strides = refl
-as_read_signed ColumnMajor strides = sym (map_reverse signed strides)
+as_read_signed ColumnMajor strides = sym (map-reverse signed strides)
 
 as_read_none : {A : Type 0} (order : Order) → as_read {A = A} order [] ≡ []
 as_read_none RowMajor = refl
 as_read_none ColumnMajor = refl
 
 -- the strides of a view by its slowest axis
-strides_split : (order : Order) (stride : ℕ) (strides rest : List ℕ) → as_read order strides ≡ stride ∷ as_read order rest → as_read order (all_signed strides) ≡ signed stride ∷ all_signed (as_read order rest)
-strides_split order stride strides rest e = as_read_signed order strides ∙ ap all_signed e
+strides_split : (order : Order) {stride : ℕ} (strides rest : List ℕ) → as_read order strides ≡ stride ∷ as_read order rest
+    → as_read order (all_signed strides) ≡ signed stride ∷ all_signed (as_read order rest)
+strides_split order strides rest e = as_read_signed order strides ∙ ap all_signed e
 
 -- the same of the view
-pub view_split : (order : Order) (start len stride : ℕ) (shape lens strides rest : List ℕ) → as_read order shape ≡ len ∷ as_read order lens → as_read order strides ≡ stride ∷ as_read order rest → view_as_read order start shape (all_signed strides) ≡ record { start = start; shape = len ∷ as_read order lens; strides = signed stride ∷ all_signed (as_read order rest) }
-view_split order start len stride shape lens strides rest e f = rw (e, strides_split order stride strides rest f) refl
+pub view_split : (order : Order) (start : ℕ) {len stride : ℕ} (shape lens strides rest : List ℕ)
+    → as_read order shape ≡ len ∷ as_read order lens → as_read order strides ≡ stride ∷ as_read order rest
+    → view_as_read order start shape (all_signed strides) ≡ record {
+      start = start;
+      shape = len ∷ as_read order lens;
+      strides =
+          signed stride ∷ all_signed (as_read order rest);
+    }
+view_split order start shape lens strides rest e f = rw (e, strides_split order strides rest f) refl
 
-pub entry_of : (order : Order) (start len stride i : ℕ) (shape lens strides rest : List ℕ) → as_read order shape ≡ len ∷ as_read order lens → as_read order strides ≡ stride ∷ as_read order rest → IsView (view_as_read order start shape (all_signed strides)) → i < len → IsEntry start len (as_read order lens) (signed stride) (all_signed (as_read order rest)) i
-entry_of order start len stride i shape lens strides rest e f view h =
-    entry_within start len (as_read order lens) (signed stride) (all_signed (as_read order rest)) i (subst IsView (view_split order start len stride shape lens strides rest e f) view) h
+pub entry_of : (order : Order) (start : ℕ) {len stride : ℕ} (i : ℕ) (shape lens strides rest : List ℕ)
+    → as_read order shape ≡ len ∷ as_read order lens → as_read order strides ≡ stride ∷ as_read order rest
+    → IsView (view_as_read order start shape (all_signed strides)) → i < len
+    → IsEntry start len (as_read order lens) (signed stride) (all_signed (as_read order rest)) i
+entry_of order start {len} {stride} i shape lens strides rest e f view h =
+    entry_within start len (as_read order lens) (signed stride) (all_signed (as_read order rest)) i
+    (subst IsView (view_split order start shape lens strides rest e f) view) h
 
 -- where one axis is left it is a row
-rest_of_row : (order : Order) (len : ℕ) (shape lens : List ℕ) → as_read order shape ≡ len ∷ as_read order lens → length lens ≡ 0 → as_read order shape ≡ len ∷ []
-rest_of_row order len shape lens e none = e ∙ ap (λ xs. len ∷ as_read order xs) (nil_from_length lens none) ∙ ap (λ xs. len ∷ xs) (as_read_none order)
+rest_of_row : (order : Order) {len : ℕ} (shape lens : List ℕ) → as_read order shape ≡ len ∷ as_read order lens → length lens ≡ 0
+    → as_read order shape ≡ len ∷ []
+rest_of_row order {len} shape lens e none = e ∙ ap (λ xs. len ∷ as_read order xs) (nil_from_length lens none)
+    ∙ ap (λ xs. len ∷ xs) (as_read_none order)
 
-pub size_of_row : (order : Order) (len : ℕ) (shape lens : List ℕ) → as_read order shape ≡ len ∷ as_read order lens → length lens ≡ 0 → size (as_read order shape) ≡ len
-size_of_row order len shape lens e none =
+pub size_of_row : (order : Order) {len : ℕ} (shape lens : List ℕ) → as_read order shape ≡ len ∷ as_read order lens → length lens ≡ 0
+    → size (as_read order shape) ≡ len
+size_of_row order {len} shape lens e none =
     let one : size (len ∷ []) ≡ len = omega arith in
-    ap size (rest_of_row order len shape lens e none) ∙ one
+    ap size (rest_of_row order shape lens e none) ∙ one
 
-pub view_of_row : (order : Order) (start len stride : ℕ) (shape lens strides rest : List ℕ) → as_read order shape ≡ len ∷ as_read order lens → as_read order strides ≡ stride ∷ as_read order rest → length lens ≡ 0 → IsView (view_as_read order start shape (all_signed strides)) → view_as_read order start shape (all_signed strides) ≡ row_view start len (signed stride)
-view_of_row order start len stride shape lens strides rest e f none view =
-    let row = rest_of_row order len shape lens e none in
-    let split = strides_split order stride strides rest f in
+pub view_of_row : (order : Order) (start : ℕ) {len stride : ℕ} (shape lens strides rest : List ℕ)
+    → as_read order shape ≡ len ∷ as_read order lens → as_read order strides ≡ stride ∷ as_read order rest → length lens ≡ 0
+    → IsView (view_as_read order start shape (all_signed strides))
+    → view_as_read order start shape (all_signed strides) ≡ row_view start len (signed stride)
+view_of_row order start shape lens strides rest e f none view =
+    let row = rest_of_row order shape lens e none in
+    let split = strides_split order strides rest f in
     let lengths : length (as_read order shape) ≡ 1 = ap length row in
-    let alone : all_signed (as_read order rest) ≡ [] = nil_from_length (all_signed (as_read order rest)) (omega (arith, view.valid.same_count, lengths, ap length split)) in
+    let alone : all_signed (as_read order rest) ≡ [] = nil_from_length (all_signed (as_read order rest))
+    (omega (arith, view.valid.same_count, lengths, ap length split)) in
     rw (row, split, alone) refl
 
 -- the walk is whole at the last entry
-pub walk_whole : (order : Order) (start len stride i : ℕ) (shape lens strides rest : List ℕ) → as_read order shape ≡ len ∷ as_read order lens → as_read order strides ≡ stride ∷ as_read order rest → i ≡ len → view_places RowMajor (record { start = start; shape = i ∷ as_read order lens; strides = signed stride ∷ all_signed (as_read order rest) }) ≡ view_places RowMajor (view_as_read order start shape (all_signed strides))
-walk_whole order start len stride i shape lens strides rest e f all =
-    ap (λ n. view_places RowMajor (record { start = start; shape = n ∷ as_read order lens; strides = signed stride ∷ all_signed (as_read order rest) })) all
-    ∙ ap (view_places RowMajor) (sym (view_split order start len stride shape lens strides rest e f))
+pub walk_whole : (order : Order) (start : ℕ) {len stride i : ℕ} (shape lens strides rest : List ℕ)
+    → as_read order shape ≡ len ∷ as_read order lens → as_read order strides ≡ stride ∷ as_read order rest → i ≡ len
+    → view_places RowMajor (record {
+      start = start;
+      shape = i ∷ as_read order lens;
+      strides = signed stride ∷ all_signed
+          (as_read order rest);
+    }) ≡ view_places RowMajor (view_as_read order start shape (all_signed strides))
+walk_whole order start {stride} shape lens strides rest e f all =
+    ap (λ n. view_places RowMajor (record {
+      start = start;
+      shape = n ∷ as_read order lens;
+      strides = signed stride ∷ all_signed
+          (as_read order rest);
+    })) all
+    ∙ ap (view_places RowMajor) (sym (view_split order start shape lens strides rest e f))
 
 -- one row more after the rows so far
-pub row_after : (old now new rows inner all : List ℤ) → new ≡ now ++ inner → now ≡ old ++ rows → all ≡ rows ++ inner → new ≡ old ++ all
-row_after old now new rows inner all e f g = e ∙ ap (λ xs. xs ++ inner) f ∙ append_assoc old rows inner ∙ ap (λ xs. old ++ xs) (sym g)
+pub row_after : (old : List ℤ) {now new : List ℤ} (rows inner : List ℤ) {all : List ℤ} → new ≡ now ++ inner → now ≡ old ++ rows
+    → all ≡ rows ++ inner → new ≡ old ++ all
+row_after old rows inner e f g = e ∙ ap (λ xs. xs ++ inner) f ∙ append_assoc old rows inner ∙ ap (λ xs. old ++ xs) (sym g)

@@ -1,5 +1,6 @@
 pub mod BroadcastView
 pub mod CollapsedView
+pub mod Descends
 pub mod DistinctPlaces
 pub mod KeepsPlaces
 pub mod MergedView

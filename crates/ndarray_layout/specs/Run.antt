@@ -1,12 +1,16 @@
 -- What a list of steps makes of a view: what its steps make of it, one after another.
-use Rattle.std.specs.Prelude.{◌≡◌, ℕ, ◌+◌, pos, true, false, Option, Some, None, IsSomeAnd, List, [], ◌∷◌, take, slice_get, refl}
+use Rattle.std.specs.Prelude.{◌≡◌, ℕ, ◌+◌, ◌<◌, pos, true, false, Option, Some, None, Err, IsSomeAnd, List, [], ◌∷◌, length, take, slice_get, nat_eq, refl}
 use Rattle.std.specs.List.{All}
+use Rattle.std.proofs.Common.{ap, eq-eqb}
 use Rattle.std.proofs.Math.Dec.{lit<, lt→ltb}
 use Rattle.std.proofs.lemmas.Bool.{both_ways}
 use Rattle.nd_base.specs.declared.error.ErrorKind.{ErrorKind}
 use Rattle.nd_base.specs.declared.error.ErrorKind.TheVariants.{OutOfBounds}
 use Rattle.nd_base.specs.declared.error.LayoutError.{LayoutError}
 use Rattle.nd_base.specs.declared.error.LayoutError.TheVariants.{Shape, Memory}
+use Rattle.nd_base.specs.ShapeFault.{shape_fault}
+use Rattle.ndarray_layout.specs.Descends.{IsViewOf}
+use Rattle.ndarray_layout.specs.DistinctPlaces.{HasDistinctPlaces}
 use Rattle.ndarray_layout.specs.Step.{StepValue, CollapseTo, MergeInto, BroadcastTo, step_fault, view_after, source_index, may_want_memory, is_broadcast}
 use Rattle.ndarray_layout.specs.StepFits.{StepFits, MayRefuseMemory}
 use Rattle.ndarray_layout.specs.View.{View}
@@ -48,11 +52,22 @@ abbrev pub IsRefusedBy : View → LayoutError → StepValue → Type 0
 IsRefusedBy view (Shape kind) step = (step_fault view step ≡ Some kind) × ¬ StepFits view step
 IsRefusedBy view (Memory e) step = MayRefuseMemory view step
 
--- the steps before the one of this number fit and leave this view, and that step is not taken
+-- each of the steps fits the view that those before it leave, and the last one leaves this view: one of the same data, whose indices
+-- lie where their sources do; without a broadcast its places are distinct where those of the first view are
+pub record Leave (steps : List StepValue) (start view : View) : Type 0 where
+  pub fits : (run_of steps start).fault ≡ None
+  pub each_fits : AllFit steps start
+  pub left : (run_of steps start).view ≡ view
+  pub kept : IsViewOf (run_of steps start).source start view
+  pub distinct : HasNoBroadcast steps → HasDistinctPlaces start → HasDistinctPlaces view
+
+-- the steps before the one of this number leave this view, and that step is not taken; where it doesn't fit, it ends the run of all
 pub record StopsAt (steps : List StepValue) (start : View) (at : ℕ) (fault : LayoutError) (view : View) : Type 0 where
-  pub before : (run_of (take at steps) start).fault ≡ None
-  pub left : (run_of (take at steps) start).view ≡ view
+  pub before : Leave (take at steps) start view
+  pub within : at < length steps
   pub refused : IsSomeAnd (slice_get steps at) (IsRefusedBy view fault)
+  pub ended : (kind : ErrorKind) → fault ≡ Shape kind →
+      let run = run_of steps start in (run.fault ≡ Some kind) × (run.taken ≡ at) × (run.view ≡ view)
 
 -- examples
 abbrev two_by_three : View
@@ -93,8 +108,17 @@ refused_a_second_entry = (refl, λ fits. lt→ltb 1 1 fits.1)
 no_refusal_of_an_entry : IsRefusedBy two_by_three (Shape OutOfBounds) (CollapseTo 0 1) → ⊥
 no_refusal_of_an_entry refused = refused.1 (lit< tt, lit< tt)
 
-stops_at_the_second : StopsAt (CollapseTo 0 1 ∷ CollapseTo 0 1 ∷ []) two_by_three 1 (Shape OutOfBounds) second_row
-stops_at_the_second = record { before = refl; left = refl; refused = refused_a_second_entry }
+stops_at_the_second : Leave (CollapseTo 0 1 ∷ []) two_by_three second_row → StopsAt (CollapseTo 0 1 ∷ CollapseTo 0 1 ∷ []) two_by_three 1 (Shape OutOfBounds) second_row
+stops_at_the_second leave = record {
+  before = leave;
+  within = lit< tt;
+  refused = refused_a_second_entry;
+  ended = λ kind is. (ap (λ fault. shape_fault {X = View} (Err fault)) is, refl, refl);
+}
+
+-- the first row isn't the second one
+leaves_no_other_row : Leave (CollapseTo 0 0 ∷ []) two_by_three second_row → ⊥
+leaves_no_other_row leave = both_ways (nat_eq 0 3) refl (eq-eqb 0 3 (ap (λ (view : View). view.start) leave.left))
 
 not_at_the_first : StopsAt (CollapseTo 0 1 ∷ CollapseTo 0 1 ∷ []) two_by_three 0 (Shape OutOfBounds) two_by_three → ⊥
 not_at_the_first stops = no_refusal_of_an_entry stops.refused

@@ -48,15 +48,16 @@ pub fn reshape_dim<D: Lengths, E: Lengths>(
     requires from_some { is_empty (D.list from.now) ≡ false }
     requires to_some { is_empty (E.list to.now) ≡ false }
     requires to_fits { nonzero_size (E.list to.now) ≤ limit }
-    ensures fits { OnOk result
-        (reshape_fault order (D.list from.now) (all_signed (D.list strides.now)) (E.list to.now) ≡ None) }
-    ensures refused { IfErr result (λ e. IsRefusedFor
-        (reshape_fault order (D.list from.now) (all_signed (D.list strides.now)) (E.list to.now)) e) }
+    ensures fits { OnOk result (reshape_fault order
+        (D.list from.now) (all_signed (D.list strides.now)) (E.list to.now) ≡ None) }
+    ensures fault { IfErr result (λ e. IsRefusedFor (reshape_fault order
+        (D.list from.now) (all_signed (D.list strides.now)) (E.list to.now)) e) }
     ensures memory { NeedsNoMemory E.NDIM (length (E.list to.now)) → IfErr result IsOfShape }
-    ensures strides { IfOk result (λ others. all_signed (E.list others)
-        ≡ forced_strides order (D.list from.now) (all_signed (D.list strides.now)) (E.list to.now)) }
+    ensures strides { IfOk result (λ others. all_signed (E.list others) ≡ forced_strides order
+        (D.list from.now) (all_signed (D.list strides.now)) (E.list to.now)) }
     ensures keeps { IfOk result (λ others. Keeps order
-        (D.list from.now) (all_signed (D.list strides.now)) (E.list to.now) (all_signed (E.list others))) }
+        (D.list from.now) (all_signed (D.list strides.now))
+        (E.list to.now) (all_signed (E.list others))) }
     ensures complete { (reshape_fault order
         (D.list from.now) (all_signed (D.list strides.now)) (E.list to.now) ≡ None)
         ↔ ((others : List ℤ) × Keeps order

@@ -1,14 +1,10 @@
 //! Steps from one view to the next, and runs of them.
-ghost use Rattle.std.specs.Prelude.{◌≡◌, ℕ, ◌<◌, length, None, Some, map, IfOk, IfErr, IsOk, OnErr, OnOk, false, take};
+ghost use Rattle.std.specs.Prelude.{◌≡◌, None, map, IfOk, IfErr, IsOk, OnErr, OnOk, false};
 ghost use Rattle.std.specs.Result.{result_err};
-ghost use Rattle.nd_base.specs.declared.error.ErrorKind.{ErrorKind};
-ghost use Rattle.nd_base.specs.declared.error.LayoutError.TheVariants.{Shape};
-ghost use Rattle.ndarray_layout.specs.DistinctPlaces.{HasDistinctPlaces};
-ghost use Rattle.ndarray_layout.specs.KeepsPlaces.{KeepsPlaces};
 ghost use Rattle.ndarray_layout.specs.MergedView.{merge_fault, merge_of};
-ghost use Rattle.ndarray_layout.specs.Run.{run_of, AllFit, StopsAt, IsRefusedBy, HasNoBroadcast, NeedNoMemory};
+ghost use Rattle.ndarray_layout.specs.Run.{run_of, Leave, StopsAt, IsRefusedBy, NeedNoMemory};
 ghost use Rattle.ndarray_layout.specs.Step.{may_want_memory, step_fault, step_value, view_after};
-ghost use Rattle.ndarray_layout.specs.View.{IsView, LiesWithin};
+ghost use Rattle.ndarray_layout.specs.View.{IsView};
 
 use crate::strided::Strided;
 use nd_base::{Axis, ErrorKind, IxDyn, LayoutError, Order, ShapeError, from_kind};
@@ -46,7 +42,7 @@ pub struct Stopped {
 /// where no stride has the entries of both; the view is unchanged.
 fn merge_axes_of(view: &mut Strided<IxDyn>, take: Axis, into: Axis) -> Result<(), ShapeError>
     ensures fault { result_err result ≡ merge_fault take.0 into.0 view.old }
-    ensures refusal { OnErr result (view.new ≡ view.old) }
+    ensures unchanged { OnErr result (view.new ≡ view.old) }
     ensures merged { OnOk result (view.new ≡ merge_of take.0 into.0 view.old) }
 {
     if view.merge(take, into)? {
@@ -71,8 +67,8 @@ fn step_to(view: &mut Strided<IxDyn>, next: Strided<IxDyn>)
 fn take_step(alloc: Global, view: &mut Strided<IxDyn>, step: &Step) -> Result<(), LayoutError>
     requires { IsView view.old }
     ensures fits { OnOk result (step_fault view.old (step_value step.now) ≡ None) }
-    ensures refused { IfErr result (λ e. IsRefusedBy view.old e (step_value step.now)) }
-    ensures refusal { OnErr result (view.new ≡ view.old) }
+    ensures fault { IfErr result (λ e. IsRefusedBy view.old e (step_value step.now)) }
+    ensures unchanged { OnErr result (view.new ≡ view.old) }
     ensures taken { OnOk result (view.new ≡ view_after view.old (step_value step.now)) }
     ensures memory { step_fault view.old (step_value step.now) ≡ None →
         may_want_memory (step_value step.now) ≡ false → IsOk result }
@@ -113,31 +109,11 @@ fn take_step(alloc: Global, view: &mut Strided<IxDyn>, step: &Step) -> Result<()
 /// Entry 1 of axis 0, then axis 0 into axis 1, of `[2,3]`, `[3,1]` from 0: `[1,3]`, `[3,1]` from 3.
 /// The project's own.
 pub fn run(alloc: Global, view: Strided<IxDyn>, steps: &[Step]) -> Result<Strided<IxDyn>, Stopped>
-    ensures fits { IfOk result (λ v. (run_of (map step_value steps.now) view).fault ≡ None) }
-    ensures each_fits { IsOk result → AllFit (map step_value steps.now) view }
-    ensures left { IfOk result (λ v. v ≡ (run_of (map step_value steps.now) view).view) }
-    ensures at { IfErr result (λ s. s.at < length steps.now) }
+    ensures left { IfOk result (λ v. Leave (map step_value steps.now) view v) }
     ensures stopped { IfErr result (λ s.
         StopsAt (map step_value steps.now) view s.at s.fault s.view) }
-    ensures ended { IfErr result (λ s. (kind : ErrorKind) → s.fault ≡ Shape kind →
-        let run = run_of (map step_value steps.now) view in
-        (run.fault ≡ Some kind) × (run.taken ≡ s.at) × (run.view ≡ s.view)) }
     ensures memory { (run_of (map step_value steps.now) view).fault ≡ None →
         NeedNoMemory (map step_value steps.now) → IsOk result }
-    ensures stopped_view { IfErr result (λ s. IsView s.view) }
-    ensures stopped_places { IfErr result (λ s.
-        KeepsPlaces (run_of (take s.at (map step_value steps.now)) view).source view s.view) }
-    ensures stopped_inside { IfErr result (λ s.
-        (len : ℕ) → LiesWithin len view → LiesWithin len s.view) }
-    ensures stopped_distinct { IfErr result (λ s.
-        HasNoBroadcast (take s.at (map step_value steps.now)) →
-        HasDistinctPlaces view → HasDistinctPlaces s.view) }
-    ensures is_view { IfOk result (λ v. IsView v) }
-    ensures places { IfOk result (λ v.
-        KeepsPlaces (run_of (map step_value steps.now) view).source view v) }
-    ensures inside { IfOk result (λ v. (len : ℕ) → LiesWithin len view → LiesWithin len v) }
-    ensures distinct { IfOk result (λ v. HasNoBroadcast (map step_value steps.now) →
-        HasDistinctPlaces view → HasDistinctPlaces v) }
 {
     // Says to the proof that the view given is one, which is known of a value of the type only where a method returns.
     let _start = view.start();

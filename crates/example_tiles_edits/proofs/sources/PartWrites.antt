@@ -27,7 +27,7 @@ use Rattle.ndarray_layout.specs.Sliced.{sliced_shape}
 use Rattle.ndarray_layout.specs.SlicedView.{slice_of}
 use Rattle.ndarray_layout.specs.View.{IsView, View, place_at, view_places}
 use Rattle.ndarray_layout.proofs.laws.Rank.{slice_get-rank_in}
-use Rattle.ndarray_layout.proofs.laws.SlicedView.{KeepsPlaces-slice_of}
+use Rattle.ndarray_layout.proofs.laws.SlicedView.{Descends-slice_of}
 use Rattle.ndarray_layout.proofs.laws.View.{length-view_places}
 use Rattle.nd_owned.specs.Owned.{Owned, item_at_place}
 use Rattle.nd_owned.specs.Writes.{IsFaultOfWrites, IsIntersectionFault, IsWritten, SomeIntersect, Write, counts_fault, has_count, slices_fault}
@@ -98,7 +98,7 @@ picked_at extent one other r c i j f g is_view first second below right =
     let shape : view.shape ≡ shape_of extent_left = left extent.rows extent.columns one other r c f g first second in
     let is : is_index view.shape (index_of at) ≡ true = ap (λ s. is_index s (index_of at)) shape ∙ is_index_of extent_left at within in
     let ranks : rank view.shape (index_of at) ≡ i * c + j = ap (λ s. rank s (index_of at)) shape ∙ rank_of extent_left at in
-    let kept = KeepsPlaces-slice_of Strict elements (whole_view extent) is_view (no_fault extent.rows extent.columns one other r c f g first second) (index_of at) is in
+    let kept = (Descends-slice_of Strict elements (whole_view extent) is_view (no_fault extent.rows extent.columns one other r c f g first second)).places (index_of at) is in
     ap (slice_get (view_places RowMajor view)) (sym ranks)
     ∙ slice_get-map (place_at view) (indices_in RowMajor view.shape) (rank view.shape (index_of at))
     ∙ ap (option_map (place_at view)) (slice_get-rank_in RowMajor view.shape (index_of at) is)

@@ -1,5 +1,6 @@
 -- Laws of single entries: of a shape and an index, and of one entry that takes another value.
-use Rattle.std.proofs.Common.{◌≡◌, ◌⊎◌, ℕ, zero, suc, ◌+◌, ◌*◌, ◌<◌, ◌≤◌, ℤ, pos, true, List, [], ◌∷◌, length, get_or, set, refl, sym, ap, ◌∙◌, arith, inl, inr, get_or-set_same, get_or-set_other}
+use Rattle.std.proofs.Common.{◌≡◌, ◌⊎◌, ℕ, zero, suc, ◌+◌, ◌*◌, ◌<◌, ◌≤◌, ℤ, pos, true, List, [], ◌∷◌, length, get_or, set, refl, sym}
+use Rattle.std.proofs.Common.{ap, ◌∙◌, arith, inl, inr, get_or-set_same, get_or-set_other}
 use Rattle.std.specs.Prelude.{nat_lt}
 use Rattle.std.proofs.lemmas.Bool.{and_from, cases_eq, cases_lt, lt-ltb}
 use Rattle.std.proofs.lemmas.List.{length-set}
@@ -9,15 +10,18 @@ use Rattle.nd_base.proofs.laws.IsIndex.{length_of_index, entry_of_index}
 
 -- ---- which lists are indices
 -- a list with an entry for each axis, below its length, is an index
-pub is_index_from_entries : (shape index : List ℕ) → length index ≡ length shape → ((axis : ℕ) → axis < length shape → get_or index axis 0 < get_or shape axis 0) → is_index shape index ≡ true
+pub is_index_from_entries : (shape index : List ℕ) → length index ≡ length shape
+    → ((axis : ℕ) → axis < length shape → get_or index axis 0 < get_or shape axis 0) → is_index shape index ≡ true
 is_index_from_entries [] [] e h = refl
 is_index_from_entries [] (i ∷ index) e h = absurd (omega arith)
 is_index_from_entries (len ∷ shape) [] e h = absurd (omega arith)
 is_index_from_entries (len ∷ shape) (i ∷ index) e h =
-    and_from (nat_lt i len) (is_index shape index) (lt-ltb i len (h 0 (omega arith))) (is_index_from_entries shape index (omega arith) (λ axis l. h (suc axis) (omega arith)))
+    and_from (nat_lt i len) (is_index shape index) (lt-ltb i len (h 0 (omega arith)))
+    (is_index_from_entries shape index (omega arith) (λ axis l. h (suc axis) (omega arith)))
 
 -- of as many entries as axes, either all are below the lengths or one is not
-pub index_or_entry : (shape index : List ℕ) → length index ≡ length shape → (is_index shape index ≡ true) ⊎ ((axis : ℕ) × (axis < length shape) × (get_or shape axis 0 ≤ get_or index axis 0))
+pub index_or_entry : (shape index : List ℕ) → length index ≡ length shape
+    → (is_index shape index ≡ true) ⊎ ((axis : ℕ) × (axis < length shape) × (get_or shape axis 0 ≤ get_or index axis 0))
 index_or_entry [] [] e = inl refl
 index_or_entry [] (i ∷ index) e = absurd (omega arith)
 index_or_entry (len ∷ shape) [] e = absurd (omega arith)
@@ -30,7 +34,9 @@ index_or_entry (len ∷ shape) (i ∷ index) e = elim (cases_lt i len) [
 ]
 
 -- an index of a shape is one of a shape of no smaller lengths
-pub is_index_of_larger : (shape larger index : List ℕ) → length larger ≡ length shape → ((axis : ℕ) → axis < length shape → get_or shape axis 0 ≤ get_or larger axis 0) → is_index shape index ≡ true → is_index larger index ≡ true
+pub is_index_of_larger : (shape larger index : List ℕ) → length larger ≡ length shape
+    → ((axis : ℕ) → axis < length shape → get_or shape axis 0 ≤ get_or larger axis 0) → is_index shape index ≡ true
+    → is_index larger index ≡ true
 is_index_of_larger shape larger index e h g =
     is_index_from_entries larger index (length_of_index shape index g ∙ sym e) (λ axis l.
     let inside : axis < length shape = omega arith in
@@ -43,24 +49,28 @@ module _ (shape index : List ℕ) (h : is_index shape index ≡ true) where
   pub is_index-set : (axis len i : ℕ) → axis < length shape → i < len → is_index (set shape axis len) (set index axis i) ≡ true
   is_index-set axis len i l below =
       let count = length_of_index shape index h in
-      is_index_from_entries (set shape axis len) (set index axis i) (length-set index axis i ∙ count ∙ sym (length-set shape axis len)) (λ k g.
+      is_index_from_entries (set shape axis len) (set index axis i) (length-set index axis i ∙ count ∙ sym (length-set shape axis len))
+      (λ k g.
       let inside : k < length shape = omega (arith, length-set shape axis len) in
       elim (cases_eq k axis) [
         | inl same ↦
             let there : axis < length index = omega arith in
             rw (same, get_or-set_same shape axis len 0 l, get_or-set_same index axis i 0 there) below
-        | inr other ↦ rw (get_or-set_other shape axis k len 0 other, get_or-set_other index axis k i 0 other) (entry_of_index shape index k h inside)
+        | inr other ↦ rw (get_or-set_other shape axis k len 0 other, get_or-set_other index axis k i 0 other)
+            (entry_of_index shape index k h inside)
       ])
 
 -- ---- sizes
 -- another length in place of 1 multiplies the size
-pub size-set : (shape : List ℕ) (axis len : ℕ) → axis < length shape → get_or shape axis 0 ≡ 1 → size (set shape axis len) ≡ size shape * len
+pub size-set : (shape : List ℕ) (axis len : ℕ) → axis < length shape → get_or shape axis 0 ≡ 1
+    → size (set shape axis len) ≡ size shape * len
 size-set [] axis len l e = absurd (omega arith)
 size-set (n ∷ shape) zero len l e = rw e (omega arith)
 size-set (n ∷ shape) (suc axis) len l e = ap (λ m. n * m) (size-set shape axis len (omega arith) e) ∙ omega arith
 
 -- no smaller lengths have no smaller product
-pub size_le : (shape larger : List ℕ) → length larger ≡ length shape → ((axis : ℕ) → axis < length shape → get_or shape axis 0 ≤ get_or larger axis 0) → size shape ≤ size larger
+pub size_le : (shape larger : List ℕ) → length larger ≡ length shape
+    → ((axis : ℕ) → axis < length shape → get_or shape axis 0 ≤ get_or larger axis 0) → size shape ≤ size larger
 size_le [] [] e h = omega arith
 size_le [] (m ∷ larger) e h = absurd (omega arith)
 size_le (n ∷ shape) [] e h = absurd (omega arith)
@@ -69,15 +79,20 @@ size_le (n ∷ shape) (m ∷ larger) e h =
 
 -- ---- how far an index lies
 -- another entry moves the index along its axis
-pub farthest_offset-set : (strides : List ℤ) (index : List ℕ) (axis i : ℕ) → length index ≡ length strides → axis < length index → farthest_offset strides (set index axis i) + get_or index axis 0 * magnitude (get_or strides axis (pos 0)) ≡ farthest_offset strides index + i * magnitude (get_or strides axis (pos 0))
+pub farthest_offset-set : (strides : List ℤ) (index : List ℕ) (axis i : ℕ) → length index ≡ length strides → axis < length index
+    → farthest_offset strides (set index axis i) + get_or index axis 0 * magnitude (get_or strides axis (pos 0))
+    ≡ farthest_offset strides index + i * magnitude (get_or strides axis (pos 0))
 farthest_offset-set strides [] axis i e l = absurd (omega arith)
 farthest_offset-set [] (j ∷ index) axis i e l = absurd (omega arith)
 farthest_offset-set (stride ∷ strides) (j ∷ index) zero i e l = omega arith
-farthest_offset-set (stride ∷ strides) (j ∷ index) (suc axis) i e l = omega (arith, farthest_offset-set strides index axis i (omega arith) (omega arith))
+farthest_offset-set (stride ∷ strides) (j ∷ index) (suc axis) i e l =
+    omega (arith, farthest_offset-set strides index axis i (omega arith) (omega arith))
 
 -- it lies no nearer than one of its entries alone
-pub farthest_offset_ge_entry : (strides : List ℤ) (index : List ℕ) (axis : ℕ) → length index ≡ length strides → axis < length index → get_or index axis 0 * magnitude (get_or strides axis (pos 0)) ≤ farthest_offset strides index
+pub farthest_offset_ge_entry : (strides : List ℤ) (index : List ℕ) (axis : ℕ) → length index ≡ length strides → axis < length index
+    → get_or index axis 0 * magnitude (get_or strides axis (pos 0)) ≤ farthest_offset strides index
 farthest_offset_ge_entry strides [] axis e l = absurd (omega arith)
 farthest_offset_ge_entry [] (j ∷ index) axis e l = absurd (omega arith)
 farthest_offset_ge_entry (stride ∷ strides) (j ∷ index) zero e l = omega arith
-farthest_offset_ge_entry (stride ∷ strides) (j ∷ index) (suc axis) e l = omega (arith, farthest_offset_ge_entry strides index axis (omega arith) (omega arith))
+farthest_offset_ge_entry (stride ∷ strides) (j ∷ index) (suc axis) e l =
+    omega (arith, farthest_offset_ge_entry strides index axis (omega arith) (omega arith))

@@ -1,5 +1,6 @@
 -- Laws of the list of indices of a shape: which they are, how many, and each of them once.
-use Rattle.std.proofs.Common.{◌≡◌, ◌≢◌, ℕ, zero, suc, ◌+◌, ◌<◌, true, List, [], ◌∷◌, ◌++◌, length, get_or, map, reverse, refl, sym, ap, ◌∙◌, arith}
+use Rattle.std.proofs.Common.{◌≡◌, ◌≢◌, ℕ, zero, suc, ◌+◌, ◌<◌, true, List, [], ◌∷◌, ◌++◌, length, get_or, map, reverse, refl, sym, ap}
+use Rattle.std.proofs.Common.{◌∙◌, arith}
 use Rattle.std.specs.Bool.{Decides}
 use Rattle.std.specs.List.{All, AllPairs, Contains, flat_map, range_with_len}
 use Rattle.std.proofs.lemmas.List.{append-nil, length-map, nil_from_length}
@@ -13,7 +14,8 @@ use Rattle.nd_base.proofs.laws.Definitions.{below, indices, indices_column_major
 use Rattle.nd_base.proofs.laws.Definitions.{index_of_rank_in, rank_in, size}
 use Rattle.nd_base.proofs.Rows.{length_indices}
 use Rattle.nd_base.proofs.laws.Lists.{map_same}
-use Rattle.nd_base.proofs.laws.Rank.{slice_get-indices_in, is_index-index_of_rank_in, rank_in-index_of_rank_in, rank_in-lt-size, index_of_rank_in-rank_in}
+use Rattle.nd_base.proofs.laws.Rank.{slice_get-indices_in, is_index-index_of_rank_in, rank_in-index_of_rank_in, rank_in-lt-size}
+use Rattle.nd_base.proofs.laws.Rank.{index_of_rank_in-rank_in}
 use Rattle.nd_base.proofs.laws.Size.{size-reverse}
 
 -- ---- how many
@@ -41,7 +43,8 @@ module _ (order : Order) (shape : List ℕ) where
   -- they are the indices of rank 0, 1 and so on, below the size
   pub indices_in-by_rank : indices_in order shape ≡ map (index_of_rank_in order shape) (below (size shape))
   indices_in-by_rank =
-      fill_by_all (index_of_rank_in order shape) (indices_in order shape) (size shape) [] (length-indices_in order shape) (λ k h. get_or-indices_in k [] h)
+      fill_by_all (index_of_rank_in order shape) (indices_in order shape) (size shape) [] (length-indices_in order shape)
+      (λ k h. get_or-indices_in k [] h)
 
   -- each item is an index of the shape
   pub All-indices_in : All (λ index. is_index shape index ≡ true) (indices_in order shape)
@@ -52,21 +55,26 @@ module _ (order : Order) (shape : List ℕ) where
   -- what is in the list is an index of the shape
   pub is_index-from_Contains : (index : List ℕ) → Contains (indices_in order shape) index → is_index shape index ≡ true
   is_index-from_Contains index h =
-      All-contains (λ x. is_index shape x ≡ true) (indices_in order shape) index (All-indices_in) h
+      All-contains (λ x. is_index shape x ≡ true) (indices_in order shape) index All-indices_in h
 
   -- and each index of the shape is in the list
   pub Contains-indices_in : (index : List ℕ) → is_index shape index ≡ true → Contains (indices_in order shape) index
   Contains-indices_in index h =
       let r = rank_in order shape index in
-      let within = rank_in-lt-size order shape index h in
-      (r, omega (arith, within, length-indices_in order shape), get_or-indices_in r index within ∙ index_of_rank_in-rank_in order shape index h)
+      let within = rank_in-lt-size order shape index h in (
+        r,
+        omega (arith, within, length-indices_in order shape),
+        get_or-indices_in r index within
+            ∙ index_of_rank_in-rank_in order shape index h,
+      )
 
   -- so the test says exactly what the list contains
   pub Decides-is_index : (index : List ℕ) → Decides (is_index shape index) (Contains (indices_in order shape) index)
   Decides-is_index index = (Contains-indices_in index, is_index-from_Contains index)
 
 -- two functions that agree at each index of the shape agree on the list
-pub map-indices_in : {B : Type 0} (order : Order) (f g : List ℕ → B) (shape : List ℕ) → ((index : List ℕ) → is_index shape index ≡ true → f index ≡ g index) → map f (indices_in order shape) ≡ map g (indices_in order shape)
+pub map-indices_in : {B : Type 0} (order : Order) (f g : List ℕ → B) (shape : List ℕ)
+    → ((index : List ℕ) → is_index shape index ≡ true → f index ≡ g index) → map f (indices_in order shape) ≡ map g (indices_in order shape)
 map-indices_in order f g shape h =
     map_same f g (indices_in order shape) (λ k d l. h (get_or (indices_in order shape) k d) (All-indices_in order shape k d l))
 
@@ -80,8 +88,7 @@ pub AllPairs-indices_in : (order : Order) (shape : List ℕ) → AllPairs (λ in
 AllPairs-indices_in order shape i j d h g e =
     let late : j < size shape = omega (arith, length-indices_in order shape) in
     let early : i < size shape = omega arith in
-    let ranks : i ≡ j =
-    sym (rank_in-index_of_rank_in order shape i early)
+    let ranks = sym (rank_in-index_of_rank_in order shape i early)
     ∙ ap (rank_in order shape) (sym (get_or-indices_in order shape i d early) ∙ e ∙ get_or-indices_in order shape j d late)
     ∙ rank_in-index_of_rank_in order shape j late in
     omega arith
@@ -118,7 +125,8 @@ pub Contains-indices_column_major : (shape index : List ℕ) → is_index shape 
 Contains-indices_column_major shape index h = Contains-indices_in ColumnMajor shape index h
 
 -- and nothing else
-pub is_index-from_Contains_indices_column_major : (shape index : List ℕ) → Contains (indices_column_major shape) index → is_index shape index ≡ true
+pub is_index-from_Contains_indices_column_major : (shape index : List ℕ) → Contains (indices_column_major shape) index
+    → is_index shape index ≡ true
 is_index-from_Contains_indices_column_major shape index h = is_index-from_Contains ColumnMajor shape index h
 
 -- no two items by columns are equal

@@ -11,7 +11,8 @@ inside_from len (pos n) low high = omega (arith, ints)
 inside_from len (negsuc n) low high = omega (arith, ints)
 
 -- with the first index as far on as the layout reaches down, every index lies among the elements that the span counts
-pub lies_inside_from_span : (len : ℕ) (shape : List ℕ) (strides : List ℤ) → span shape strides < len → length shape ≡ length strides → LiesInside len (low_span shape strides) shape strides
+pub lies_inside_from_span : (len : ℕ) (shape : List ℕ) (strides : List ℤ) → span shape strides < len → length shape ≡ length strides
+    → LiesInside len (low_span shape strides) shape strides
 lies_inside_from_span len shape strides fits e index h =
     let bounds = offset_bounds shape strides index h e in
     let whole = low_high_span shape strides in

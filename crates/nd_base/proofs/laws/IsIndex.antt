@@ -1,5 +1,6 @@
 -- Laws of the test for an index of a shape.
-use Rattle.std.proofs.Common.{◌≡◌, ℕ, zero, suc, ◌<◌, Bool, true, false, eqb, List, [], ◌∷◌, ◌++◌, length, get_or, replicate, reverse, refl, sym, ap, ◌∙◌, arith, pos_of_ne-zero}
+use Rattle.std.proofs.Common.{◌≡◌, ℕ, zero, suc, ◌<◌, Bool, true, false, eqb, List, [], ◌∷◌, ◌++◌, length, get_or, replicate, reverse}
+use Rattle.std.proofs.Common.{refl, sym, ap, ◌∙◌, arith, pos_of_ne-zero}
 use Rattle.std.specs.Prelude.{nat_lt, ◌&&◌}
 use Rattle.std.proofs.lemmas.Bool.{and_from, and_parts, and_right, eqb-false, lt-ltb, ltb-true, ne_eqb, or_from, or_parts}
 use Rattle.std.proofs.lemmas.List.{reverse-append}
@@ -14,7 +15,8 @@ length_of_index (len ∷ lens) (i ∷ index) h =
     ap suc (length_of_index lens index (and_parts (nat_lt i len) (is_index lens index) h).1)
 
 -- each entry of an index is below the length of its axis
-pub entry_of_index : (shape index : List ℕ) (axis : ℕ) → is_index shape index ≡ true → axis < length shape → get_or index axis 0 < get_or shape axis 0
+pub entry_of_index : (shape index : List ℕ) (axis : ℕ) → is_index shape index ≡ true → axis < length shape
+    → get_or index axis 0 < get_or shape axis 0
 entry_of_index [] index axis h l = absurd (omega arith)
 entry_of_index (len ∷ lens) [] axis h l = absurd (cc)
 entry_of_index (len ∷ lens) (i ∷ index) zero h l =
@@ -36,7 +38,8 @@ pub is_index-zeros : (shape : List ℕ) → is_empty shape ≡ false → is_inde
 is_index-zeros [] h = refl
 is_index-zeros (len ∷ lens) h =
     let parts = or_parts (eqb len 0) (is_empty lens) h in
-    and_from (nat_lt 0 len) (is_index lens (replicate (length lens) 0)) (lt-ltb 0 len (pos_of_ne-zero (eqb-false len 0 parts.0))) (is_index-zeros lens parts.1)
+    and_from (nat_lt 0 len) (is_index lens (replicate (length lens) 0)) (lt-ltb 0 len (pos_of_ne-zero (eqb-false len 0 parts.0)))
+    (is_index-zeros lens parts.1)
 
 and_turned : (b : Bool) → (b && true) ≡ b
 and_turned true = refl
@@ -55,7 +58,8 @@ no_entry [] len = refl
 no_entry (n ∷ shape) len = refl
 
 -- one axis more is one entry more
-pub is_index-push : (shape index : List ℕ) (len i : ℕ) → is_index (shape ++ len ∷ []) (index ++ i ∷ []) ≡ (is_index shape index && nat_lt i len)
+pub is_index-push : (shape index : List ℕ) (len i : ℕ)
+    → is_index (shape ++ len ∷ []) (index ++ i ∷ []) ≡ (is_index shape index && nat_lt i len)
 is_index-push [] [] len i = and_turned (nat_lt i len)
 is_index-push [] (j ∷ index) len i = and_right (nat_lt j len) (is_index [] (index ++ i ∷ [])) (no_index index i)
 is_index-push (n ∷ shape) [] len i = and_right (nat_lt i n) (is_index (shape ++ len ∷ []) []) (no_entry shape len)

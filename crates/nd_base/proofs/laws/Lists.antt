@@ -1,8 +1,10 @@
 -- Laws of lists, whatever their items.
-use Rattle.std.proofs.Common.{◌≡◌, ℕ, zero, suc, ◌-◌, ◌<◌, List, [], ◌∷◌, ◌++◌, length, get_or, set, take, drop, map, replicate, reverse, refl, sym, ap, subst, ◌∙◌, add-one, append_assoc, arith, drop-cons}
+use Rattle.std.proofs.Common.{◌≡◌, ℕ, zero, suc, ◌-◌, ◌<◌, List, [], ◌∷◌, ◌++◌, length, get_or, set, take, drop, map, replicate}
+use Rattle.std.proofs.Common.{reverse, refl, sym, ap, subst, ◌∙◌, add-one, append_assoc, arith, drop-cons}
 use Rattle.std.specs.List.{All, Contains}
 use Rattle.std.proofs.Math.ListN.{get_or-map}
-use Rattle.std.proofs.lemmas.List.{get_or-reverse, length-drop, length-map, length-reverse, map-append, replicate_more, reverse-append, set_at, set_split, take-append-drop}
+use Rattle.std.proofs.lemmas.List.{get_or-reverse, length-drop, length-map, length-reverse, map-append, replicate_more, reverse-append}
+use Rattle.std.proofs.lemmas.List.{set_at, set_split, take-append-drop}
 use Rattle.std.proofs.lemmas.List.Elements.{All-head, All-tail, Contains-get_or}
 
 -- ---- a function of each item
@@ -61,7 +63,7 @@ pub reverse-set : {A : Type 0} (xs : List A) (k : ℕ) (x : A) → k < length xs
 reverse-set xs k x below =
     let back = drop (suc k) xs in
     let first = get_or xs k x in
-    let place : length (reverse back) ≡ length xs - 1 - k = length-reverse back ∙ length-drop (suc k) xs ∙ omega arith in
+    let place = length-reverse back ∙ length-drop (suc k) xs ∙ omega arith in
     ap (λ ys. set (reverse ys) (length xs - 1 - k) x) (sym (take-append-drop k xs) ∙ ap (λ ys. take k xs ++ ys) (drop-cons xs k x below))
     ∙ ap (λ ys. set ys (length xs - 1 - k) x) (reverse_parts (take k xs) first back)
     ∙ set_at (reverse back) first (reverse (take k xs)) x (length xs - 1 - k) place

@@ -1,5 +1,7 @@
 -- Laws of the products of the lengths that are not 0.
-use Rattle.std.proofs.Common.{◌≡◌, ◌≢◌, ℕ, zero, suc, ◌+◌, ◌*◌, ◌<◌, ◌≤◌, Bool, true, false, cond, eqb, List, [], ◌∷◌, ◌++◌, length, reverse, drop, get_or, inl, inr, refl, ap, ◌∙◌, arith, add-one, drop-cons, mul-pos, le-mul_of_pos_right, mul-le-mul_left, mul_comm, pos_of_ne-zero, zero-mul}
+use Rattle.std.proofs.Common.{◌≡◌, ◌≢◌, ℕ, zero, suc, ◌+◌, ◌*◌, ◌<◌, ◌≤◌, Bool, true, false, cond, eqb, List, [], ◌∷◌, ◌++◌, length}
+use Rattle.std.proofs.Common.{reverse, drop, get_or, inl, inr, refl, ap, ◌∙◌, arith, add-one, drop-cons, mul-pos, le-mul_of_pos_right}
+use Rattle.std.proofs.Common.{mul-le-mul_left, mul_comm, pos_of_ne-zero, zero-mul}
 use Rattle.std.proofs.lemmas.Bool.{cases_eq, cond-true, cond-false, eq-eqb, ne_eqb, or_parts, eqb-false}
 use Rattle.std.proofs.lemmas.List.{get_or_default, reverse-append}
 use Rattle.nd_base.proofs.laws.Definitions.{is_index, is_empty, nonzero_size, size}
@@ -37,12 +39,16 @@ size_le_nonzero_size (suc n ∷ lens) =
     rw (nonzero_size_of_other (suc n) lens (λ e. omega arith)) (mul-le-mul_left (suc n) (size_le_nonzero_size lens))
 
 -- the product from axis k on, where its length is 0
-pub nonzero_size_from_zero : (shape : List ℕ) (k : ℕ) → k < length shape → get_or shape k 0 ≡ 0 → nonzero_size (drop k shape) ≡ nonzero_size (drop (k + 1) shape)
-nonzero_size_from_zero shape k h e = rw add-one (ap nonzero_size (drop-cons shape k 0 h) ∙ nonzero_size_of_zero (get_or shape k 0) (drop (suc k) shape) e)
+pub nonzero_size_from_zero : (shape : List ℕ) (k : ℕ) → k < length shape → get_or shape k 0 ≡ 0
+    → nonzero_size (drop k shape) ≡ nonzero_size (drop (k + 1) shape)
+nonzero_size_from_zero shape k h e =
+    rw add-one (ap nonzero_size (drop-cons shape k 0 h) ∙ nonzero_size_of_zero (get_or shape k 0) (drop (suc k) shape) e)
 
 -- and where it is not
-pub nonzero_size_from_other : (shape : List ℕ) (k : ℕ) → k < length shape → get_or shape k 0 ≢ 0 → nonzero_size (drop k shape) ≡ get_or shape k 0 * nonzero_size (drop (k + 1) shape)
-nonzero_size_from_other shape k h e = rw add-one (ap nonzero_size (drop-cons shape k 0 h) ∙ nonzero_size_of_other (get_or shape k 0) (drop (suc k) shape) e)
+pub nonzero_size_from_other : (shape : List ℕ) (k : ℕ) → k < length shape → get_or shape k 0 ≢ 0
+    → nonzero_size (drop k shape) ≡ get_or shape k 0 * nonzero_size (drop (k + 1) shape)
+nonzero_size_from_other shape k h e =
+    rw add-one (ap nonzero_size (drop-cons shape k 0 h) ∙ nonzero_size_of_other (get_or shape k 0) (drop (suc k) shape) e)
 
 factors : (len rest : ℕ) → 0 < rest → (len ≤ cond (eqb len 0) rest (len * rest)) × (rest ≤ cond (eqb len 0) rest (len * rest))
 factors len rest some = elim (cases_eq len 0) [
@@ -66,7 +72,8 @@ entry_le_nonzero_size shape index here k d below =
     let within : k < length shape = omega (arith, length_of_index shape index here) in
     omega (arith, get_or_default index k d 0 below, entry_of_index shape index k here within, length_le_nonzero_size shape k)
 
-factors_swap : (t u : Bool) (a b n : ℕ) → cond t (cond u n (b * n)) (a * cond u n (b * n)) ≡ cond u (cond t n (a * n)) (b * cond t n (a * n))
+factors_swap : (t u : Bool) (a b n : ℕ)
+    → cond t (cond u n (b * n)) (a * cond u n (b * n)) ≡ cond u (cond t n (a * n)) (b * cond t n (a * n))
 factors_swap true true a b n = refl
 factors_swap true false a b n = refl
 factors_swap false true a b n = refl
@@ -75,9 +82,11 @@ factors_swap false false a b n = omega arith
 -- one axis more at the back is one at the front
 pub nonzero_size-push : (shape : List ℕ) (len : ℕ) → nonzero_size (shape ++ len ∷ []) ≡ nonzero_size (len ∷ shape)
 nonzero_size-push [] len = refl
-nonzero_size-push (n ∷ shape) len = ap (λ m. cond (eqb n 0) m (n * m)) (nonzero_size-push shape len) ∙ factors_swap (eqb n 0) (eqb len 0) n len (nonzero_size shape)
+nonzero_size-push (n ∷ shape) len = ap (λ m. cond (eqb n 0) m (n * m)) (nonzero_size-push shape len)
+    ∙ factors_swap (eqb n 0) (eqb len 0) n len (nonzero_size shape)
 
 -- the axes read from the back have the same product
 pub nonzero_size-reverse : (shape : List ℕ) → nonzero_size (reverse shape) ≡ nonzero_size shape
 nonzero_size-reverse [] = refl
-nonzero_size-reverse (n ∷ shape) = ap nonzero_size (reverse-append (n ∷ []) shape) ∙ nonzero_size-push (reverse shape) n ∙ ap (λ m. cond (eqb n 0) m (n * m)) (nonzero_size-reverse shape)
+nonzero_size-reverse (n ∷ shape) = ap nonzero_size (reverse-append (n ∷ []) shape) ∙ nonzero_size-push (reverse shape) n
+    ∙ ap (λ m. cond (eqb n 0) m (n * m)) (nonzero_size-reverse shape)

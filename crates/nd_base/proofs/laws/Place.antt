@@ -9,13 +9,16 @@ use Rattle.nd_base.proofs.laws.Indices.{get_or-indices_in, length-indices_in}
 use Rattle.nd_base.proofs.laws.Rank.{is_index-index_of_rank_in, rank_in-index_of_rank_in}
 
 -- where each index lies as far from the first as its rank, the places follow one another
-pub places_at_ranks : (order : Order) (start : ℕ) (shape : List ℕ) (strides : List ℤ) → ((index : List ℕ) → is_index shape index ≡ true → offset_of strides index ≡ pos (rank_in order shape index)) → places order start shape strides ≡ map (λ r. pos (start + r)) (below (size shape))
+pub places_at_ranks : (order : Order) (start : ℕ) (shape : List ℕ) (strides : List ℤ)
+    → ((index : List ℕ) → is_index shape index ≡ true → offset_of strides index ≡ pos (rank_in order shape index))
+    → places order start shape strides ≡ map (λ r. pos (start + r)) (below (size shape))
 places_at_ranks order start shape strides h =
     let xs = indices_in order shape in
     let long = length-indices_in order shape in
-    fill_by_all (λ r. pos (start + r)) (places order start shape strides) (size shape) (pos 0) (length-map xs (place start strides) ∙ long) (λ k l.
+    fill_by_all (λ r. pos (start + r)) (places order start shape strides) (size shape) (pos 0)
+    (length-map xs (place start strides) ∙ long) (λ k l.
     let index = index_of_rank_in order shape k in
-    let here : offset_of strides index ≡ pos k = h index (is_index-index_of_rank_in order shape k l) ∙ ap pos (rank_in-index_of_rank_in order shape k l) in
+    let here = h index (is_index-index_of_rank_in order shape k l) ∙ ap pos (rank_in-index_of_rank_in order shape k l) in
     get_or-map (place start strides) xs k [] (pos 0) (omega (arith, long))
     ∙ ap (place start strides) (get_or-indices_in order shape k [] l)
     ∙ ap (λ z. pos start +ℤ z) here

@@ -1,5 +1,6 @@
 -- Laws of ranks: the indices of a shape and the numbers below its size stand for one another.
-use Rattle.std.proofs.Common.{◌≡◌, ℕ, zero, suc, ◌+◌, ◌*◌, ◌/◌, ◌%◌, ◌<◌, Some, true, List, [], ◌∷◌, length, replicate, reverse, refl, sym, ap, ◌∙◌, arith}
+use Rattle.std.proofs.Common.{◌≡◌, ℕ, zero, suc, ◌+◌, ◌*◌, ◌/◌, ◌%◌, ◌<◌, Some, true, List, [], ◌∷◌, length, replicate, reverse, refl}
+use Rattle.std.proofs.Common.{sym, ap, ◌∙◌, arith}
 use Rattle.std.specs.List.{slice_get}
 use Rattle.std.specs.Option.{option_map}
 use Rattle.std.specs.Prelude.{nat_lt}
@@ -49,7 +50,8 @@ pub is_index-index_of_rank : (shape : List ℕ) (r : ℕ) → r < size shape →
 is_index-index_of_rank [] r h = refl
 is_index-index_of_rank (len ∷ lens) r h =
     let parts = split len (size lens) r h in
-    and_from (nat_lt (r / size lens) len) (is_index lens (index_of_rank lens (r % size lens))) (lt-ltb (r / size lens) len parts.first) (is_index-index_of_rank lens (r % size lens) parts.later)
+    and_from (nat_lt (r / size lens) len) (is_index lens (index_of_rank lens (r % size lens))) (lt-ltb (r / size lens) len parts.first)
+    (is_index-index_of_rank lens (r % size lens) parts.later)
 
 -- and its rank is r
 pub rank-index_of_rank : (shape : List ℕ) (r : ℕ) → r < size shape → rank shape (index_of_rank shape r) ≡ r
@@ -112,19 +114,22 @@ module _ (order : Order) (shape : List ℕ) where
       omega (arith, size-as_read order shape)
 
   -- and is the one at its rank
-  pub index_of_rank_in-rank_in : (index : List ℕ) → is_index shape index ≡ true → index_of_rank_in order shape (rank_in order shape index) ≡ index
+  pub index_of_rank_in-rank_in : (index : List ℕ) → is_index shape index ≡ true
+      → index_of_rank_in order shape (rank_in order shape index) ≡ index
   index_of_rank_in-rank_in index h =
       ap (as_read order) (index_of_rank-rank (as_read order shape) (as_read order index) (is_index-as_read order shape index ∙ h))
       ∙ as_read-as_read order index
 
   -- so an index is the item at its rank
-  pub slice_get-rank_in : (index : List ℕ) → is_index shape index ≡ true → slice_get (indices_in order shape) (rank_in order shape index) ≡ Some index
+  pub slice_get-rank_in : (index : List ℕ) → is_index shape index ≡ true
+      → slice_get (indices_in order shape) (rank_in order shape index) ≡ Some index
   slice_get-rank_in index h =
       slice_get-indices_in order shape (rank_in order shape index) (rank_in-lt-size index h)
       ∙ ap Some (index_of_rank_in-rank_in index h)
 
   -- and two indices of equal rank are one
-  pub same_from_rank_in : (index other : List ℕ) → is_index shape index ≡ true → is_index shape other ≡ true → rank_in order shape index ≡ rank_in order shape other → index ≡ other
+  pub same_from_rank_in : (index other : List ℕ) → is_index shape index ≡ true → is_index shape other ≡ true
+      → rank_in order shape index ≡ rank_in order shape other → index ≡ other
   same_from_rank_in index other h g e =
       sym (index_of_rank_in-rank_in index h)
       ∙ ap (index_of_rank_in order shape) e

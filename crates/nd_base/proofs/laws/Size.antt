@@ -1,5 +1,7 @@
 -- Laws of sizes, the products of lengths.
-use Rattle.std.proofs.Common.{◌≡◌, ℕ, zero, suc, ◌+◌, ◌-◌, ◌*◌, ◌<◌, ◌≤◌, Bool, true, false, ◌||◌, eqb, List, [], ◌∷◌, ◌++◌, length, get_or, take, drop, reverse, refl, sym, ap, ◌∙◌, inl, inr, arith, add-one, drop-cons, eqb-true, mul-le-mul_left, mul-one, mul-pos, mul-zero, mul_assoc, mul_comm, one-mul, pos_of_ne-zero, zero-mul}
+use Rattle.std.proofs.Common.{◌≡◌, ℕ, zero, suc, ◌+◌, ◌-◌, ◌*◌, ◌<◌, ◌≤◌, Bool, true, false, ◌||◌, eqb, List, [], ◌∷◌, ◌++◌, length}
+use Rattle.std.proofs.Common.{get_or, take, drop, reverse, refl, sym, ap, ◌∙◌, inl, inr, arith, add-one, drop-cons, eqb-true}
+use Rattle.std.proofs.Common.{mul-le-mul_left, mul-one, mul-pos, mul-zero, mul_assoc, mul_comm, one-mul, pos_of_ne-zero, zero-mul}
 use Rattle.std.proofs.lemmas.Bool.{or_cases, or_parts, eqb-false}
 use Rattle.std.proofs.lemmas.List.{reverse-append, take_more}
 use Rattle.std.proofs.lemmas.Nat.{mul-le}
@@ -74,14 +76,16 @@ size_from shape k h = rw add-one (ap size (drop-cons shape k 0 h))
 
 -- the size up to an axis and with it is the size before it times its length
 pub size_take_more : (lens : List ℕ) (k : ℕ) → k < length lens → size (take (k + 1) lens) ≡ size (take k lens) * get_or lens k 0
-size_take_more lens k h = ap size (take_more lens k 0 h) ∙ size-append (take k lens) (get_or lens k 0 ∷ []) ∙ ap (λ m. size (take k lens) * m) (mul-one (get_or lens k 0))
+size_take_more lens k h = ap size (take_more lens k 0 h) ∙ size-append (take k lens) (get_or lens k 0 ∷ [])
+    ∙ ap (λ m. size (take k lens) * m) (mul-one (get_or lens k 0))
 
 -- one length before those whose product is known
-pub size_drop_more : (lens : List ℕ) (axis whole : ℕ) → 0 < axis → axis ≤ length lens → whole ≡ size (drop axis lens) → whole * get_or lens (axis - 1) 0 ≡ size (drop (axis - 1) lens)
+pub size_drop_more : (lens : List ℕ) (axis whole : ℕ) → 0 < axis → axis ≤ length lens → whole ≡ size (drop axis lens)
+    → whole * get_or lens (axis - 1) 0 ≡ size (drop (axis - 1) lens)
 size_drop_more lens axis whole h g e =
     let k = axis - 1 in
     let here : axis ≡ k + 1 = omega arith in
-    let after : whole ≡ size (drop (k + 1) lens) = e ∙ ap (λ a. size (drop a lens)) here in
+    let after = e ∙ ap (λ a. size (drop a lens)) here in
     mul_comm whole (get_or lens k 0) ∙ ap (λ s. get_or lens k 0 * s) after ∙ sym (size_from lens k (omega arith))
 
 -- no front of a shape without a zero length is of greater size
@@ -96,5 +100,5 @@ size_drop_le lens zero h = omega arith
 size_drop_le [] (suc k) h = omega arith
 size_drop_le (n ∷ lens) (suc k) h =
     let rest = size_drop_le lens k (or_parts (eqb n 0) (is_empty lens) h).1 in
-    let more : 1 * size lens ≤ n * size lens = mul-le 1 (size lens) n (size lens) (length_pos (n ∷ lens) 0 h (omega arith)) (omega arith) in
+    let more = mul-le 1 (size lens) n (size lens) (length_pos (n ∷ lens) 0 h (omega arith)) (omega arith) in
     omega (arith, one-mul (size lens))

@@ -1,5 +1,6 @@
 -- Laws of indices that count from the far end of each axis whose stride is negative: so every step leads up.
-use Rattle.std.proofs.Common.{◌≡◌, ℕ, suc, ◌+◌, ◌-◌, ◌*◌, ◌<◌, ℤ, pos, negsuc, neg_ℤ, ◌+ℤ◌, ◌*ℤ◌, true, false, eqb, List, [], ◌∷◌, length, map, replicate, refl, ap, ◌∙◌, arith, pos_of_ne-zero}
+use Rattle.std.proofs.Common.{◌≡◌, ℕ, suc, ◌+◌, ◌-◌, ◌*◌, ◌<◌, ℤ, pos, negsuc, neg_ℤ, ◌+ℤ◌, ◌*ℤ◌, true, false, eqb, List, [], ◌∷◌}
+use Rattle.std.proofs.Common.{length, map, replicate, refl, ap, ◌∙◌, arith, pos_of_ne-zero}
 use Rattle.std.specs.Prelude.{nat_lt}
 use Rattle.std.proofs.lemmas.Bool.{and_from, and_parts, eqb-false, lt-ltb, ltb-true, or_parts}
 use Rattle.std.proofs.lemmas.Int.{ints}
@@ -31,17 +32,20 @@ turned_entry_twice len (pos s) i h = refl
 turned_entry_twice len (negsuc s) i h = omega arith
 
 -- it is an index of the shape again
-pub is_index-turned : (shape : List ℕ) (strides : List ℤ) (index : List ℕ) → is_index shape index ≡ true → is_index shape (turned shape strides index) ≡ true
+pub is_index-turned : (shape : List ℕ) (strides : List ℤ) (index : List ℕ) → is_index shape index ≡ true
+    → is_index shape (turned shape strides index) ≡ true
 is_index-turned [] strides index h = h
 is_index-turned (len ∷ shape) [] index h = h
 is_index-turned (len ∷ shape) (stride ∷ strides) [] h = h
 is_index-turned (len ∷ shape) (stride ∷ strides) (i ∷ index) h =
     let parts = and_parts (nat_lt i len) (is_index shape index) h in
     let first = turned_entry_below len stride i (ltb-true i len parts.0) in
-    and_from (nat_lt (turned_entry len stride i) len) (is_index shape (turned shape strides index)) (lt-ltb (turned_entry len stride i) len first) (is_index-turned shape strides index parts.1)
+    and_from (nat_lt (turned_entry len stride i) len) (is_index shape (turned shape strides index))
+    (lt-ltb (turned_entry len stride i) len first) (is_index-turned shape strides index parts.1)
 
 -- and turned twice it is itself
-pub turned-turned : (shape : List ℕ) (strides : List ℤ) (index : List ℕ) → is_index shape index ≡ true → turned shape strides (turned shape strides index) ≡ index
+pub turned-turned : (shape : List ℕ) (strides : List ℤ) (index : List ℕ) → is_index shape index ≡ true
+    → turned shape strides (turned shape strides index) ≡ index
 turned-turned [] strides index h = refl
 turned-turned (len ∷ shape) [] index h = refl
 turned-turned (len ∷ shape) (stride ∷ strides) [] h = refl
@@ -54,7 +58,8 @@ turned-turned (len ∷ shape) (stride ∷ strides) (i ∷ index) h =
 step_back : (i n s : ℕ) → (pos i *ℤ negsuc s) +ℤ pos ((i + n) * suc s) ≡ pos (n * suc s)
 step_back i n s = omega (arith, ints)
 
-turned_entry_moves : (len : ℕ) (stride : ℤ) (i : ℕ) → i < len → (pos i *ℤ stride) +ℤ pos (reach_down len stride) ≡ pos (turned_entry len stride i * magnitude stride)
+turned_entry_moves : (len : ℕ) (stride : ℤ) (i : ℕ) → i < len
+    → (pos i *ℤ stride) +ℤ pos (reach_down len stride) ≡ pos (turned_entry len stride i * magnitude stride)
 turned_entry_moves len (pos s) i h = omega (arith, ints)
 turned_entry_moves len (negsuc s) i h =
     let n = len - 1 - i in
@@ -62,7 +67,8 @@ turned_entry_moves len (negsuc s) i h =
     ap (λ k. (pos i *ℤ negsuc s) +ℤ pos (k * suc s)) e ∙ step_back i n s
 
 -- an offset, counted from the least one, is how far the turned index lies whatever the signs
-pub offset_of-turned : (shape : List ℕ) (strides : List ℤ) (index : List ℕ) → length shape ≡ length strides → is_index shape index ≡ true → offset_of strides index +ℤ pos (low_span shape strides) ≡ pos (farthest_offset strides (turned shape strides index))
+pub offset_of-turned : (shape : List ℕ) (strides : List ℤ) (index : List ℕ) → length shape ≡ length strides → is_index shape index ≡ true
+    → offset_of strides index +ℤ pos (low_span shape strides) ≡ pos (farthest_offset strides (turned shape strides index))
 offset_of-turned [] [] [] e h = omega (arith, ints)
 offset_of-turned [] [] (i ∷ index) e h = absurd (cc)
 offset_of-turned [] (stride ∷ strides) index e h = absurd (omega arith)
@@ -92,22 +98,28 @@ is_index-last (len ∷ shape) h =
 
 module _ (shape : List ℕ) (strides : List ℤ) where
   -- where an index lies so far whatever the signs, the turned one lies as far above the least offset
-  pub has_offset_turned : (index : List ℕ) (k : ℕ) → length shape ≡ length strides → is_index shape index ≡ true → farthest_offset strides index ≡ k → (found : List ℕ) × (is_index shape found ≡ true) × (offset_of strides found ≡ pos k +ℤ neg_ℤ (pos (low_span shape strides)))
+  pub has_offset_turned : (index : List ℕ) (k : ℕ) → length shape ≡ length strides → is_index shape index ≡ true
+      → farthest_offset strides index ≡ k
+      → (found : List ℕ) × (is_index shape found ≡ true) × (offset_of strides found ≡ pos k +ℤ neg_ℤ (pos (low_span shape strides)))
   has_offset_turned index k e h far =
       let back = turned shape strides index in
-      let inside : is_index shape back ≡ true = is_index-turned shape strides index h in
+      let inside = is_index-turned shape strides index h in
       let moved = offset_of-turned shape strides back e inside in
-      let same : farthest_offset strides (turned shape strides back) ≡ k = ap (farthest_offset strides) (turned-turned shape strides index h) ∙ far in
+      let same = ap (farthest_offset strides) (turned-turned shape strides index h) ∙ far in
       (back, inside, omega (arith, ints, moved, same))
 
   -- a shape with an index has one whose offset is the low span down
-  pub least_offset : length shape ≡ length strides → is_empty shape ≡ false → (index : List ℕ) × (is_index shape index ≡ true) × (offset_of strides index ≡ neg_ℤ (pos (low_span shape strides)))
+  pub least_offset : length shape ≡ length strides → is_empty shape ≡ false
+      → (index : List ℕ) × (is_index shape index ≡ true) × (offset_of strides index ≡ neg_ℤ (pos (low_span shape strides)))
   least_offset e some =
-      let found = has_offset_turned (replicate (length shape) 0) 0 e (is_index-zeros shape some) (farthest_offset-zeros strides (length shape)) in
+      let found = has_offset_turned (replicate (length shape) 0) 0 e (is_index-zeros shape some)
+      (farthest_offset-zeros strides (length shape)) in
       (found.0, found.1, omega (arith, ints, found.2))
 
   -- and one whose offset is the high span up
-  pub greatest_offset : length shape ≡ length strides → is_empty shape ≡ false → (index : List ℕ) × (is_index shape index ≡ true) × (offset_of strides index ≡ pos (high_span shape strides))
+  pub greatest_offset : length shape ≡ length strides → is_empty shape ≡ false
+      → (index : List ℕ) × (is_index shape index ≡ true) × (offset_of strides index ≡ pos (high_span shape strides))
   greatest_offset e some =
-      let found = has_offset_turned (last_entries shape) (span shape strides) e (is_index-last shape some) (farthest_of_last shape strides) in
+      let found = has_offset_turned (last_entries shape) (span shape strides) e (is_index-last shape some)
+      (farthest_of_last shape strides) in
       (found.0, found.1, omega (arith, ints, found.2, low_high_span shape strides))

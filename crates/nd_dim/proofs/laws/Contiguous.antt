@@ -1,11 +1,13 @@
 -- Laws of contiguous layouts: the written rule says exactly that the indices fill one stretch of memory.
-use Rattle.std.proofs.Common.{◌≡◌, ◌⊎◌, ◌↔◌, ℕ, zero, suc, ◌+◌, ◌-◌, ◌<◌, ◌≤◌, ℤ, pos, negsuc, ◌+ℤ◌, ◌≤ℤ◌, Bool, true, false, eqb, List, [], ◌∷◌, length, get_or, map, cond, refl, sym, ap, ◌∙◌, arith, inl, inr, subst}
+use Rattle.std.proofs.Common.{◌≡◌, ◌⊎◌, ◌↔◌, ℕ, zero, suc, ◌+◌, ◌-◌, ◌<◌, ◌≤◌, ℤ, pos, negsuc, ◌+ℤ◌, ◌≤ℤ◌, Bool, true, false, eqb, List}
+use Rattle.std.proofs.Common.{[], ◌∷◌, length, get_or, map, cond, refl, sym, ap, ◌∙◌, arith, inl, inr, subst}
 use Rattle.std.specs.Bool.{IsTrue}
 use Rattle.std.specs.List.Sorted.{IsPermutation}
 use Rattle.std.specs.Ordering.{int_eq}
 use Rattle.std.specs.List.{list_all}
 use Rattle.std.specs.Prelude.{if◌then◌else◌, nat_le, nat_lt, slice_index, ◌==◌, ◌&&◌, ◌||◌}
-use Rattle.std.proofs.lemmas.Bool.{cond-false, eq-eqb, eqb-true, le-leb, leb-true, both_ways, cases_Bool, eqb-false, ne_eqb, or_cases, or_left, or_parts, or_right}
+use Rattle.std.proofs.lemmas.Bool.{cond-false, eq-eqb, eqb-true, le-leb, leb-true, both_ways, cases_Bool, eqb-false, ne_eqb, or_cases}
+use Rattle.std.proofs.lemmas.Bool.{or_left, or_parts, or_right}
 use Rattle.std.proofs.lemmas.Bool.Decides.{Decides-int_eq, nat_tests}
 use Rattle.std.proofs.lemmas.Int.{ints}
 use Rattle.std.specs.Cmp.Rules.{signed_items}
@@ -36,36 +38,47 @@ from_zero k = omega (arith, ints)
 pub stretch_of_default : (lens : List ℕ) → FillsStretch lens (map pos (default_strides lens))
 stretch_of_default lens = record {
   least = pos 0;
-  none_below = λ index h. at_rank (offset_of (map pos (default_strides lens)) index) (rank lens index) (offset_of-default_strides lens index h);
+  none_below = λ index h. at_rank (offset_of (map pos (default_strides lens)) index) (rank lens index)
+      (offset_of-default_strides lens index h);
   filled = λ k h.
       let index = index_of_rank lens k in
       let inside = is_index-index_of_rank lens k h in
       (index, inside, offset_of-default_strides lens index inside ∙ ap pos (rank-index_of_rank lens k h) ∙ from_zero k);
   distinct = λ index other h g e.
-      same_from_rank_in RowMajor lens index other h g (same_rank (offset_of (map pos (default_strides lens)) index) (offset_of (map pos (default_strides lens)) other) (rank lens index) (rank lens other) (offset_of-default_strides lens index h) (offset_of-default_strides lens other g) e);
+      same_from_rank_in RowMajor lens index other h g
+      (same_rank (offset_of (map pos (default_strides lens)) index) (offset_of (map pos (default_strides lens)) other)
+      (rank lens index) (rank lens other) (offset_of-default_strides lens index h) (offset_of-default_strides lens other g) e);
 }
 
 -- ---- packed axes
 module _ (lens : List ℕ) (strides : List ℤ) where
   packed_fact : (axis : ℕ) → is_packed_at lens strides axis ≡ true → IsPackedAt lens strides axis
-  packed_fact axis h = elim (or_cases (eqb (get_or lens axis 0) 1) (eqb (magnitude_at strides axis) (size (lens_before lens strides axis))) h) [
-    | inl one ↦ inl (eqb-true (get_or lens axis 0) 1 one)
-    | inr fits ↦ inr (eqb-true (magnitude_at strides axis) (size (lens_before lens strides axis)) fits)
-  ]
+  packed_fact axis h = elim (or_cases (eqb (get_or lens axis 0) 1)
+      (eqb (magnitude_at strides axis) (size (lens_before lens strides axis))) h) [
+        | inl one ↦ inl (eqb-true (get_or lens axis 0) 1 one)
+        | inr fits ↦ inr (eqb-true (magnitude_at strides axis) (size (lens_before lens strides axis)) fits)
+      ]
 
   packed_test : (axis : ℕ) → IsPackedAt lens strides axis → is_packed_at lens strides axis ≡ true
-  packed_test axis (inl one) = or_left (eqb (get_or lens axis 0) 1) (eqb (magnitude_at strides axis) (size (lens_before lens strides axis))) (eq-eqb (get_or lens axis 0) 1 one)
-  packed_test axis (inr fits) = or_right (eqb (get_or lens axis 0) 1) (eqb (magnitude_at strides axis) (size (lens_before lens strides axis))) (eq-eqb (magnitude_at strides axis) (size (lens_before lens strides axis)) fits)
+  packed_test axis (inl one) =
+      or_left (eqb (get_or lens axis 0) 1) (eqb (magnitude_at strides axis) (size (lens_before lens strides axis)))
+      (eq-eqb (get_or lens axis 0) 1 one)
+  packed_test axis (inr fits) =
+      or_right (eqb (get_or lens axis 0) 1) (eqb (magnitude_at strides axis) (size (lens_before lens strides axis)))
+      (eq-eqb (magnitude_at strides axis) (size (lens_before lens strides axis)) fits)
 
   -- where every axis is packed, the indices fill a stretch
-  stretch_from_packed : length lens ≡ length strides → is_empty lens ≡ false → ((axis : ℕ) → axis < length lens → IsPackedAt lens strides axis) → FillsStretch lens strides
+  stretch_from_packed : length lens ≡ length strides → is_empty lens ≡ false
+      → ((axis : ℕ) → axis < length lens → IsPackedAt lens strides axis) → FillsStretch lens strides
   stretch_from_packed count some packed =
       let fills = fills_from_packed lens strides count some packed in
       stretch_from_reaches lens strides count fills.each
 
   -- and where they fill one, every axis is
-  packed_from_stretch : length lens ≡ length strides → is_empty lens ≡ false → FillsStretch lens strides → (axis : ℕ) → axis < length lens → IsPackedAt lens strides axis
-  packed_from_stretch count some stretch = packed_from_reaches lens strides count some (reaches_from_stretch lens strides count some stretch)
+  packed_from_stretch : length lens ≡ length strides → is_empty lens ≡ false → FillsStretch lens strides → (axis : ℕ) → axis < length lens
+      → IsPackedAt lens strides axis
+  packed_from_stretch count some stretch =
+      packed_from_reaches lens strides count some (reaches_from_stretch lens strides count some stretch)
 
 -- ---- a lone axis
 not_before_itself : (m : ℕ) → (nat_lt m m || (m == m && nat_lt 0 0)) ≡ false
@@ -76,7 +89,8 @@ none_before : (len : ℕ) (stride : ℤ) → size (lens_before (len ∷ []) (str
 none_before len stride =
     ap (λ b. size (map (slice_index (len ∷ [])) (cond b (0 ∷ []) []))) (not_before_itself (magnitude stride))
 
-lone_packed : (len : ℕ) (stride : ℤ) → is_empty (len ∷ []) ≡ false → is_lone_step_back (len ∷ []) (stride ∷ []) ≡ true → (axis : ℕ) → axis < length (len ∷ []) → IsPackedAt (len ∷ []) (stride ∷ []) axis
+lone_packed : (len : ℕ) (stride : ℤ) → is_empty (len ∷ []) ≡ false → is_lone_step_back (len ∷ []) (stride ∷ []) ≡ true → (axis : ℕ)
+    → axis < length (len ∷ []) → IsPackedAt (len ∷ []) (stride ∷ []) axis
 lone_packed len stride some h (suc axis) l = absurd (omega arith)
 lone_packed len stride some h zero l = elim (or_cases (nat_le len 1) (int_eq stride (negsuc 0)) h) [
   | inl short ↦
@@ -98,12 +112,15 @@ lone_default len some = ap (map pos) (cond-false (is_empty (len ∷ [])) (0 ∷ 
 lone_rule : (len : ℕ) (stride : ℤ) → is_lone_step_back (len ∷ []) (stride ∷ []) ≡ true → is_contiguous (len ∷ []) (stride ∷ []) ≡ true
 lone_rule len stride h = or_right (has_default_strides (len ∷ []) (stride ∷ [])) (is_lone_step_back (len ∷ []) (stride ∷ [])) h
 
-lone_contiguous : (len : ℕ) (stride : ℤ) → is_empty (len ∷ []) ≡ false → IsPackedAt (len ∷ []) (stride ∷ []) 0 → is_contiguous (len ∷ []) (stride ∷ []) ≡ true
-lone_contiguous len stride some (inl one) = lone_rule len stride (or_left (nat_le len 1) (int_eq stride (negsuc 0)) (le-leb len 1 (omega arith)))
+lone_contiguous : (len : ℕ) (stride : ℤ) → is_empty (len ∷ []) ≡ false → IsPackedAt (len ∷ []) (stride ∷ []) 0
+    → is_contiguous (len ∷ []) (stride ∷ []) ≡ true
+lone_contiguous len stride some (inl one) =
+    lone_rule len stride (or_left (nat_le len 1) (int_eq stride (negsuc 0)) (le-leb len 1 (omega arith)))
 lone_contiguous len stride some (inr fits) = elim (one_step stride (fits ∙ none_before len stride)) [
   | inl up ↦
-      let default : (stride ∷ []) ≡ map pos (default_strides (len ∷ [])) = ap (λ s. s ∷ []) up ∙ sym (lone_default len some) in
-      or_left (has_default_strides (len ∷ []) (stride ∷ [])) (is_lone_step_back (len ∷ []) (stride ∷ [])) ((signed_items (stride ∷ []) (map pos (default_strides (len ∷ [])))).1 default)
+      let default = ap (λ s. s ∷ []) up ∙ sym (lone_default len some) in
+      or_left (has_default_strides (len ∷ []) (stride ∷ [])) (is_lone_step_back (len ∷ []) (stride ∷ []))
+      ((signed_items (stride ∷ []) (map pos (default_strides (len ∷ [])))).1 default)
   | inr back ↦ lone_rule len stride (or_right (nat_le len 1) (int_eq stride (negsuc 0)) ((Decides-int_eq stride (negsuc 0)).1 back))
 ]
 
@@ -118,17 +135,21 @@ passes_below p n all k h = elim (cases_Bool (p k)) [
 abbrev asked : List ℕ → List ℤ → Bool
 asked lens strides = (if length lens == 1 then is_lone_step_back lens strides else is_packed lens strides)
 
-packed_from_asked : (lens : List ℕ) (strides : List ℤ) → length lens ≡ length strides → is_empty lens ≡ false → asked lens strides ≡ true → (axis : ℕ) → axis < length lens → IsPackedAt lens strides axis
+packed_from_asked : (lens : List ℕ) (strides : List ℤ) → length lens ≡ length strides → is_empty lens ≡ false → asked lens strides ≡ true
+    → (axis : ℕ) → axis < length lens → IsPackedAt lens strides axis
 packed_from_asked [] strides count some h axis l = absurd (omega arith)
 packed_from_asked (len ∷ []) [] count some h axis l = absurd (omega arith)
 packed_from_asked (len ∷ []) (stride ∷ []) count some h axis l = lone_packed len stride some h axis l
 packed_from_asked (len ∷ []) (stride ∷ next ∷ strides) count some h axis l = absurd (omega arith)
 packed_from_asked (len ∷ more ∷ lens) strides count some h axis l =
     let all = len ∷ more ∷ lens in
-    let several : asked all strides ≡ is_packed all strides = cond-false (eqb (length all) 1) (is_lone_step_back all strides) (is_packed all strides) (ne_eqb (length all) 1 (λ e. omega arith)) in
+    let several : asked all strides ≡ is_packed all strides =
+    cond-false (eqb (length all) 1) (is_lone_step_back all strides) (is_packed all strides)
+    (ne_eqb (length all) 1 (λ e. omega arith)) in
     packed_fact all strides axis (passes_below (is_packed_at all strides) (length all) (sym several ∙ h) axis l)
 
-rule_from_packed : (lens : List ℕ) (strides : List ℤ) → length lens ≡ length strides → is_empty lens ≡ false → ((axis : ℕ) → axis < length lens → IsPackedAt lens strides axis) → is_contiguous lens strides ≡ true
+rule_from_packed : (lens : List ℕ) (strides : List ℤ) → length lens ≡ length strides → is_empty lens ≡ false
+    → ((axis : ℕ) → axis < length lens → IsPackedAt lens strides axis) → is_contiguous lens strides ≡ true
 rule_from_packed [] [] count some packed = refl
 rule_from_packed [] (stride ∷ strides) count some packed = absurd (omega arith)
 rule_from_packed (len ∷ []) [] count some packed = absurd (omega arith)
@@ -136,8 +157,11 @@ rule_from_packed (len ∷ []) (stride ∷ []) count some packed = lone_contiguou
 rule_from_packed (len ∷ []) (stride ∷ next ∷ strides) count some packed = absurd (omega arith)
 rule_from_packed (len ∷ more ∷ lens) strides count some packed =
     let all = len ∷ more ∷ lens in
-    let several : asked all strides ≡ is_packed all strides = cond-false (eqb (length all) 1) (is_lone_step_back all strides) (is_packed all strides) (ne_eqb (length all) 1 (λ e. omega arith)) in
-    or_right (has_default_strides all strides) (asked all strides) (several ∙ all_below (is_packed_at all strides) (length all) (λ axis l. packed_test all strides axis (packed axis l)))
+    let several : asked all strides ≡ is_packed all strides =
+    cond-false (eqb (length all) 1) (is_lone_step_back all strides) (is_packed all strides)
+    (ne_eqb (length all) 1 (λ e. omega arith)) in
+    or_right (has_default_strides all strides) (asked all strides)
+    (several ∙ all_below (is_packed_at all strides) (length all) (λ axis l. packed_test all strides axis (packed axis l)))
 
 module _ (lens : List ℕ) (strides : List ℤ) (count : length lens ≡ length strides) (some : is_empty lens ≡ false) where
   -- a layout that the rule takes fills one stretch
@@ -171,7 +195,9 @@ by_columns : FillsStretch (2 ∷ 3 ∷ []) (pos 1 ∷ pos 2 ∷ [])
 by_columns = stretch_from_rule (2 ∷ 3 ∷ []) (pos 1 ∷ pos 2 ∷ []) refl refl refl
 
 with_a_gap : FillsStretch (2 ∷ 3 ∷ []) (pos 1 ∷ pos 3 ∷ []) → ⊥
-with_a_gap stretch = both_ways (is_contiguous (2 ∷ 3 ∷ []) (pos 1 ∷ pos 3 ∷ [])) refl (rule_from_stretch (2 ∷ 3 ∷ []) (pos 1 ∷ pos 3 ∷ []) refl refl stretch)
+with_a_gap stretch = both_ways (is_contiguous (2 ∷ 3 ∷ []) (pos 1 ∷ pos 3 ∷ [])) refl
+    (rule_from_stretch (2 ∷ 3 ∷ []) (pos 1 ∷ pos 3 ∷ []) refl refl stretch)
 
 distinct_with_a_gap : FillsStretch (3 ∷ 2 ∷ []) (pos 2 ∷ pos 3 ∷ []) → ⊥
-distinct_with_a_gap stretch = both_ways (is_contiguous (3 ∷ 2 ∷ []) (pos 2 ∷ pos 3 ∷ [])) refl (rule_from_stretch (3 ∷ 2 ∷ []) (pos 2 ∷ pos 3 ∷ []) refl refl stretch)
+distinct_with_a_gap stretch =
+    both_ways (is_contiguous (3 ∷ 2 ∷ []) (pos 2 ∷ pos 3 ∷ [])) refl (rule_from_stretch (3 ∷ 2 ∷ []) (pos 2 ∷ pos 3 ∷ []) refl refl stretch)

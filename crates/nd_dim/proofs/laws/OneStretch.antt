@@ -1,5 +1,6 @@
 -- Laws of layouts that fill one stretch of memory: where it begins and ends, and that a walk along it meets each index once.
-use Rattle.std.proofs.Common.{◌≡◌, ℕ, ◌+◌, ◌-◌, ◌<◌, ◌≤◌, ℤ, pos, neg_ℤ, ◌+ℤ◌, ◌≤ℤ◌, ◌<ℤ◌, true, false, List, length, get_or, map, sym, ap, ◌∙◌, arith, subst}
+use Rattle.std.proofs.Common.{◌≡◌, ℕ, ◌+◌, ◌-◌, ◌<◌, ◌≤◌, ℤ, pos, neg_ℤ, ◌+ℤ◌, ◌≤ℤ◌, ◌<ℤ◌, true, false, List, length, get_or, map, sym}
+use Rattle.std.proofs.Common.{ap, ◌∙◌, arith, subst}
 use Rattle.std.specs.List.Sorted.{IsPermutation}
 use Rattle.std.proofs.lemmas.Int.{ints}
 use Rattle.std.proofs.lemmas.List.{get_or-map, length-map}
@@ -18,7 +19,8 @@ use Rattle.nd_dim.proofs.Rearranged.{permutation_from_members}
 
 -- ---- sums and values
 -- a number above the low span down and below it
-between : (least offset : ℤ) (low : ℕ) → least ≤ℤ offset → offset ≡ neg_ℤ (pos low) → neg_ℤ (pos low) ≤ℤ (least +ℤ pos 0) → least ≡ neg_ℤ (pos low)
+between : (least offset : ℤ) (low : ℕ) → least ≤ℤ offset → offset ≡ neg_ℤ (pos low) → neg_ℤ (pos low) ≤ℤ (least +ℤ pos 0)
+    → least ≡ neg_ℤ (pos low)
 between least offset low above at under = omega (arith, ints)
 
 -- a distance from the low end, whatever the signs
@@ -32,7 +34,8 @@ same_far : {a b : ℤ} (low : ℕ) {m n : ℕ} → a +ℤ pos low ≡ pos m → 
 same_far low p q e = omega (arith, ints)
 
 -- each distance reached once is one stretch
-pub stretch_from_reaches : (shape : List ℕ) (strides : List ℤ) → length shape ≡ length strides → ReachesEach shape strides → FillsStretch shape strides
+pub stretch_from_reaches : (shape : List ℕ) (strides : List ℤ) → length shape ≡ length strides → ReachesEach shape strides
+    → FillsStretch shape strides
 stretch_from_reaches shape strides count each = record {
   least = neg_ℤ (pos (low_span shape strides));
   none_below = λ index h. (offset_bounds shape strides index h count).0;
@@ -43,23 +46,32 @@ stretch_from_reaches shape strides count each = record {
   distinct = λ index other h g e.
       let one = turned shape strides index in
       let two = turned shape strides other in
-      let far : farthest_offset strides one ≡ farthest_offset strides two =
-      same_far (low_span shape strides) (offset_of-turned shape strides index count h) (offset_of-turned shape strides other count g) e in
-      let same : one ≡ two = each.distinct one two (is_index-turned shape strides index h) (is_index-turned shape strides other g) far in
+      let far = same_far (low_span shape strides) (offset_of-turned shape strides index count h)
+      (offset_of-turned shape strides other count g) e in
+      let same = each.distinct one two (is_index-turned shape strides index h) (is_index-turned shape strides other g) far in
       sym (turned-turned shape strides index h) ∙ ap (turned shape strides) same ∙ turned-turned shape strides other g;
 }
 
 -- where a value is given to each index, and each of as many values as the size is given to one, these are the values given
-pub values_in_order : (order : Order) (f : ℕ → ℤ) (g : List ℕ → ℤ) (shape : List ℕ) → ((i j : ℕ) → f i ≡ f j → i ≡ j) → ((k : ℕ) → k < size shape → (index : List ℕ) × (is_index shape index ≡ true) × (g index ≡ f k)) → IsPermutation (map f (below (size shape))) (map g (indices_in order shape))
+pub values_in_order : (order : Order) (f : ℕ → ℤ) (g : List ℕ → ℤ) (shape : List ℕ) → ((i j : ℕ) → f i ≡ f j → i ≡ j)
+    → ((k : ℕ) → k < size shape → (index : List ℕ) × (is_index shape index ≡ true) × (g index ≡ f k))
+    → IsPermutation (map f (below (size shape))) (map g (indices_in order shape))
 values_in_order order f g shape differ given =
     let n = size shape in
     let all = indices_in order shape in
-    let many : length (map f (below n)) ≡ n = length-map-range_with_len f 0 n in
-    let at : (k : ℕ) (d : ℤ) → k < n → get_or (map f (below n)) k d ≡ f k = λ k d h. get_or-map-range_with_len f 0 n k k d h (omega arith) in
-    permutation_from_members (map f (below n)) (map g all) (λ i j d h l e. let same : i ≡ j = differ i j (sym (at i d (omega arith)) ∙ e ∙ at j d (omega arith)) in omega arith) (many ∙ sym (length-map all g ∙ length-indices_in order shape)) (λ z c.
+    let many = length-map-range_with_len f 0 n in
+    let at : (k : ℕ) (d : ℤ) → k < n
+    → get_or (map f (below n)) k d ≡ f k = λ k d h. get_or-map-range_with_len f 0 n k k d h (omega arith) in
+    permutation_from_members (map f (below n)) (map g all)
+    (λ i j d h l e. let same : i ≡ j = differ i j (sym (at i d (omega arith)) ∙ e ∙ at j d (omega arith)) in omega arith)
+    (many ∙ sym (length-map all g ∙ length-indices_in order shape)) (λ z c.
     let found = given c.0 (let l = c.1 in omega arith) in
-    let listed = Contains-indices_in order shape found.0 found.1 in
-    (listed.0, (let l = listed.1 in omega (arith, length-map all g)), get_or-map g all listed.0 found.0 z listed.1 ∙ ap g listed.2 ∙ found.2 ∙ sym (at c.0 z (let l = c.1 in omega arith)) ∙ c.2))
+    let listed = Contains-indices_in order shape found.0 found.1 in (
+      listed.0,
+      (let l = listed.1 in omega (arith, length-map all g)),
+      get_or-map g all listed.0 found.0 z listed.1 ∙ ap g listed.2
+          ∙ found.2 ∙ sym (at c.0 z (let l = c.1 in omega arith)) ∙ c.2,
+    ))
 
 moved_apart : (low i j : ℕ) → pos i +ℤ neg_ℤ (pos low) ≡ pos j +ℤ neg_ℤ (pos low) → i ≡ j
 moved_apart low i j e = omega (arith, ints)
@@ -80,7 +92,8 @@ pub record IsOnlyIndexAt (shape : List ℕ) (strides : List ℤ) (offset : ℤ) 
   pub only : (other : List ℕ) → is_index shape other ≡ true → offset_of strides other ≡ offset → other ≡ index
 
 -- ---- a layout that fills a stretch: where it begins and ends, and a walk along it
-module _ (shape : List ℕ) (strides : List ℤ) (count : length shape ≡ length strides) (some : is_empty shape ≡ false) (stretch : FillsStretch shape strides) where
+module _ (shape : List ℕ) (strides : List ℤ) (count : length shape ≡ length strides) (some : is_empty shape ≡ false)
+    (stretch : FillsStretch shape strides) where
   -- the stretch begins the low span down
   pub least_of_stretch : stretch.least ≡ neg_ℤ (pos (low_span shape strides))
   least_of_stretch =
@@ -93,16 +106,18 @@ module _ (shape : List ℕ) (strides : List ℤ) (count : length shape ≡ lengt
       between stretch.least (offset_of strides lowest.0) (low_span shape strides) (stretch.none_below lowest.0 lowest.1) lowest.2 under
 
   -- two indices at one distance are one
-  apart : (index other : List ℕ) → is_index shape index ≡ true → is_index shape other ≡ true → farthest_offset strides index ≡ farthest_offset strides other → index ≡ other
+  apart : (index other : List ℕ) → is_index shape index ≡ true → is_index shape other ≡ true
+      → farthest_offset strides index ≡ farthest_offset strides other → index ≡ other
   apart index other h g e =
       let one = turned shape strides index in
       let two = turned shape strides other in
       let in_one = is_index-turned shape strides index h in
       let in_two = is_index-turned shape strides other g in
-      let far : farthest_offset strides (turned shape strides one) ≡ farthest_offset strides (turned shape strides two) =
-      ap (farthest_offset strides) (turned-turned shape strides index h) ∙ e ∙ ap (farthest_offset strides) (sym (turned-turned shape strides other g)) in
+      let far = ap (farthest_offset strides) (turned-turned shape strides index h) ∙ e
+      ∙ ap (farthest_offset strides) (sym (turned-turned shape strides other g)) in
       let offsets : offset_of strides one ≡ offset_of strides two =
-      same_offset (low_span shape strides) (offset_of-turned shape strides one count in_one) (offset_of-turned shape strides two count in_two) far in
+      same_offset (low_span shape strides) (offset_of-turned shape strides one count in_one)
+      (offset_of-turned shape strides two count in_two) far in
       sym (turned-turned shape strides index h)
       ∙ ap (turned shape strides) (stretch.distinct one two in_one in_two offsets)
       ∙ turned-turned shape strides other g
@@ -113,17 +128,22 @@ module _ (shape : List ℕ) (strides : List ℤ) (count : length shape ≡ lengt
     filled = λ k h.
         let found = stretch.filled k h in
         let begin = least_of_stretch in
-        let inside = is_index-turned shape strides found.0 found.1 in
-        (turned shape strides found.0, inside, same_distance (low_span shape strides) k found.2 begin (offset_of-turned shape strides found.0 count found.1));
+        let inside = is_index-turned shape strides found.0 found.1 in (
+          turned shape strides found.0,
+          inside,
+          same_distance (low_span shape strides) k found.2 begin (offset_of-turned shape strides found.0 count found.1),
+        );
     distinct = apart;
   }
 
   -- counted from where it begins, each index lies below the size
-  pub below_size_in_stretch : (index : List ℕ) → is_index shape index ≡ true → (offset_of strides index +ℤ pos (low_span shape strides)) <ℤ pos (size shape)
+  pub below_size_in_stretch : (index : List ℕ) → is_index shape index ≡ true
+      → (offset_of strides index +ℤ pos (low_span shape strides)) <ℤ pos (size shape)
   below_size_in_stretch index h =
       let each = reaches_from_stretch in
       let fills = fills_from_packed shape strides count some (packed_from_reaches shape strides count some each) in
-      less_from_far (offset_of strides index) (low_span shape strides) (farthest_offset strides (turned shape strides index)) (size shape) (offset_of-turned shape strides index count h) (fills.below (turned shape strides index) (is_index-turned shape strides index h))
+      less_from_far (offset_of strides index) (low_span shape strides) (farthest_offset strides (turned shape strides index)) (size shape)
+      (offset_of-turned shape strides index count h) (fills.below (turned shape strides index) (is_index-turned shape strides index h))
 
   -- and each number below the size is where some index lies, counted so
   pub has_index_in_stretch : (k : ℕ) → k < size shape → HasIndexAt shape strides (pos k +ℤ neg_ℤ (pos (low_span shape strides)))
@@ -132,7 +152,8 @@ module _ (shape : List ℕ) (strides : List ℤ) (count : length shape ≡ lengt
       let begin = least_of_stretch in
       (found.0, found.1, omega (arith, ints, found.2, begin))
 
-  pub only_index_in_stretch : (k : ℕ) → k < size shape → (index : List ℕ) × IsOnlyIndexAt shape strides (pos k +ℤ neg_ℤ (pos (low_span shape strides))) index
+  pub only_index_in_stretch : (k : ℕ) → k < size shape
+      → (index : List ℕ) × IsOnlyIndexAt shape strides (pos k +ℤ neg_ℤ (pos (low_span shape strides))) index
   only_index_in_stretch k h =
       let found = has_index_in_stretch k h in (
         found.0,
@@ -144,13 +165,18 @@ module _ (shape : List ℕ) (strides : List ℤ) (count : length shape ≡ lengt
       )
 
   -- the offsets of all indices, in whatever order of the indices, are the numbers from the low span down, one by one
-  pub offsets_in_stretch : (order : Order) → IsPermutation (map (λ k. pos k +ℤ neg_ℤ (pos (low_span shape strides))) (below (size shape))) (map (offset_of strides) (indices_in order shape))
+  pub offsets_in_stretch : (order : Order)
+      → IsPermutation (map (λ k. pos k +ℤ neg_ℤ (pos (low_span shape strides))) (below (size shape)))
+      (map (offset_of strides) (indices_in order shape))
   offsets_in_stretch order =
-      values_in_order order (λ k. pos k +ℤ neg_ℤ (pos (low_span shape strides))) (offset_of strides) shape (moved_apart (low_span shape strides)) (λ k h. has_index_in_stretch k h)
+      values_in_order order (λ k. pos k +ℤ neg_ℤ (pos (low_span shape strides))) (offset_of strides) shape
+      (moved_apart (low_span shape strides)) (λ k h. has_index_in_stretch k h)
 
   -- and the places are start less the low span, one more, and so on, as many as the size
-  pub places_in_stretch : (order : Order) (start : ℕ) → low_span shape strides ≤ start → IsPermutation (map (λ k. pos (start - low_span shape strides + k)) (below (size shape))) (places order start shape strides)
+  pub places_in_stretch : (order : Order) (start : ℕ) → low_span shape strides ≤ start
+      → IsPermutation (map (λ k. pos (start - low_span shape strides + k)) (below (size shape))) (places order start shape strides)
   places_in_stretch order start fits =
-      values_in_order order (λ k. pos (start - low_span shape strides + k)) (place start strides) shape (same_place (start - low_span shape strides)) (λ k h.
+      values_in_order order (λ k. pos (start - low_span shape strides + k)) (place start strides) shape
+      (same_place (start - low_span shape strides)) (λ k h.
       let found = has_index_in_stretch k h in
       (found.0, found.1, place_there start (low_span shape strides) k (offset_of strides found.0) fits found.2))

@@ -1,9 +1,11 @@
 -- Laws of the strides that a shape has by itself: each index lies at its rank.
-use Rattle.std.proofs.Common.{◌≡◌, ℕ, zero, suc, ◌+◌, ◌-◌, ◌<◌, ◌≤◌, pos, ◌+ℤ◌, ◌*ℤ◌, true, false, eqb, List, [], ◌∷◌, ◌++◌, length, get_or, map, take, drop, replicate, reverse, inl, inr, refl, sym, ap, ◌∙◌, arith}
+use Rattle.std.proofs.Common.{◌≡◌, ℕ, zero, suc, ◌+◌, ◌-◌, ◌<◌, ◌≤◌, pos, ◌+ℤ◌, ◌*ℤ◌, true, false, eqb, List, [], ◌∷◌, ◌++◌, length}
+use Rattle.std.proofs.Common.{get_or, map, take, drop, replicate, reverse, inl, inr, refl, sym, ap, ◌∙◌, arith}
 use Rattle.std.specs.Prelude.{nat_lt}
 use Rattle.std.proofs.lemmas.Bool.{and_parts, cases_Bool, cond-true, cond-false, cond_both, or_parts}
 use Rattle.std.proofs.lemmas.Int.{ints}
-use Rattle.std.proofs.lemmas.List.{drop_at, ext_get_or, get_or-replicate, get_or-reverse, length-drop, length-map, length-replicate, length-reverse, map-append, reverse-append, reverse-reverse, take-append-drop}
+use Rattle.std.proofs.lemmas.List.{drop_at, ext_get_or, get_or-replicate, get_or-reverse, length-drop, length-map, length-replicate}
+use Rattle.std.proofs.lemmas.List.{length-reverse, map-append, reverse-append, reverse-reverse, take-append-drop}
 use Rattle.std.proofs.lemmas.List.FromFn.{length-map-range_with_len, get_or-map-range_with_len}
 use Rattle.nd_base.specs.declared.order.Order.TheVariants.{RowMajor, ColumnMajor}
 use Rattle.nd_base.proofs.laws.Definitions.{below, is_index, offset_of, places, rank, rank_in, is_empty, limit, nonzero_size, size}
@@ -17,30 +19,37 @@ use Rattle.nd_dim.specs.Strides.{size_after, size_until, default_strides, fortra
 
 -- ---- in row-major order
 -- the default stride of an axis of a shape with an index
-pub default_at : (lens : List ℕ) (axis : ℕ) → is_empty lens ≡ false → axis < length lens → get_or (default_strides lens) axis 0 ≡ size_after lens axis
+pub default_at : (lens : List ℕ) (axis : ℕ) → is_empty lens ≡ false → axis < length lens
+    → get_or (default_strides lens) axis 0 ≡ size_after lens axis
 default_at lens axis some h =
-    ap (λ xs. get_or xs axis 0) (cond-false (is_empty lens) _ (map (size_after lens) (below (length lens))) some) ∙ get_or-map-range_with_len (size_after lens) 0 (length lens) axis axis 0 h (omega arith)
+    ap (λ xs. get_or xs axis 0) (cond-false (is_empty lens) _ (map (size_after lens) (below (length lens))) some)
+    ∙ get_or-map-range_with_len (size_after lens) 0 (length lens) axis axis 0 h (omega arith)
 
 -- one default stride for each axis
 pub default_count : (lens : List ℕ) → length (default_strides lens) ≡ length lens
-default_count lens = cond_both (is_empty lens) (replicate (length lens) 0) (map (size_after lens) (below (length lens))) (λ xs. length xs ≡ length lens) (λ e. length-replicate (length lens) 0) (λ e. length-map-range_with_len (size_after lens) 0 (length lens))
+default_count lens = cond_both (is_empty lens) (replicate (length lens) 0) (map (size_after lens) (below (length lens)))
+    (λ xs. length xs ≡ length lens) (λ e. length-replicate (length lens) 0)
+    (λ e. length-map-range_with_len (size_after lens) 0 (length lens))
 
 -- a default stride is no greater than the limit that the size is held to
 pub default_small : (lens : List ℕ) (k : ℕ) → nonzero_size lens ≤ limit → k < length lens → get_or (default_strides lens) k 0 ≤ limit
 default_small lens k top h =
     elim (cases_Bool (is_empty lens)) [
       | inl none ↦
-          let zero' : get_or (default_strides lens) k 0 ≡ 0 = ap (λ xs. get_or xs k 0) (cond-true (is_empty lens) (replicate (length lens) 0) (map (size_after lens) (below (length lens))) none) ∙ get_or-replicate (length lens) k 0 0 h in
+          let zero' : get_or (default_strides lens) k 0 ≡ 0 =
+          ap (λ xs. get_or xs k 0) (cond-true (is_empty lens) (replicate (length lens) 0)
+          (map (size_after lens) (below (length lens))) none) ∙ get_or-replicate (length lens) k 0 0 h in
           omega arith
       | inr some ↦
-          let is : get_or (default_strides lens) k 0 ≡ size_after lens k = default_at lens k some h in
-          let less : size_after lens k ≤ size lens = size_drop_le lens (k + 1) some in
+          let is = default_at lens k some h in
+          let less = size_drop_le lens (k + 1) some in
           omega (arith, size_le_nonzero_size lens)
     ]
 
 default_cons : (len : ℕ) (lens : List ℕ) → is_empty (len ∷ lens) ≡ false → default_strides (len ∷ lens) ≡ size lens ∷ default_strides lens
 default_cons len lens some =
-    ext_get_or 0 (default_strides (len ∷ lens)) (size lens ∷ default_strides lens) (default_count (len ∷ lens) ∙ ap suc (sym (default_count lens))) (λ k h. by k (omega (arith, default_count (len ∷ lens))))
+    ext_get_or 0 (default_strides (len ∷ lens)) (size lens ∷ default_strides lens)
+    (default_count (len ∷ lens) ∙ ap suc (sym (default_count lens))) (λ k h. by k (omega (arith, default_count (len ∷ lens))))
   where
     by : (k : ℕ) → k < length (len ∷ lens) → get_or (default_strides (len ∷ lens)) k 0 ≡ get_or (size lens ∷ default_strides lens) k 0
     by zero h = default_at (len ∷ lens) 0 some h
@@ -51,7 +60,8 @@ default_cons len lens some =
         ∙ sym (default_at lens k (or_parts (eqb len 0) (is_empty lens) some).1 (omega arith))
 
 -- the default strides place each index at its rank
-pub offset_of-default_strides : (shape index : List ℕ) → is_index shape index ≡ true → offset_of (map pos (default_strides shape)) index ≡ pos (rank shape index)
+pub offset_of-default_strides : (shape index : List ℕ) → is_index shape index ≡ true
+    → offset_of (map pos (default_strides shape)) index ≡ pos (rank shape index)
 offset_of-default_strides [] [] h = refl
 offset_of-default_strides [] (i ∷ index) h = absurd (cc)
 offset_of-default_strides (len ∷ lens) [] h = absurd (cc)
@@ -63,13 +73,17 @@ offset_of-default_strides (len ∷ lens) (i ∷ index) h =
 
 -- ---- in column-major order
 -- the stride by columns of an axis of a shape with an index
-pub fortran_at : (lens : List ℕ) (axis : ℕ) → is_empty lens ≡ false → axis < length lens → get_or (fortran_strides lens) axis 0 ≡ size_until lens axis
+pub fortran_at : (lens : List ℕ) (axis : ℕ) → is_empty lens ≡ false → axis < length lens
+    → get_or (fortran_strides lens) axis 0 ≡ size_until lens axis
 fortran_at lens axis some h =
-    ap (λ xs. get_or xs axis 0) (cond-false (is_empty lens) _ (map (size_until lens) (below (length lens))) some) ∙ get_or-map-range_with_len (size_until lens) 0 (length lens) axis axis 0 h (omega arith)
+    ap (λ xs. get_or xs axis 0) (cond-false (is_empty lens) _ (map (size_until lens) (below (length lens))) some)
+    ∙ get_or-map-range_with_len (size_until lens) 0 (length lens) axis axis 0 h (omega arith)
 
 -- one stride by columns for each axis
 pub fortran_count : (lens : List ℕ) → length (fortran_strides lens) ≡ length lens
-fortran_count lens = cond_both (is_empty lens) (replicate (length lens) 0) (map (size_until lens) (below (length lens))) (λ xs. length xs ≡ length lens) (λ e. length-replicate (length lens) 0) (λ e. length-map-range_with_len (size_until lens) 0 (length lens))
+fortran_count lens = cond_both (is_empty lens) (replicate (length lens) 0) (map (size_until lens) (below (length lens)))
+    (λ xs. length xs ≡ length lens) (λ e. length-replicate (length lens) 0)
+    (λ e. length-map-range_with_len (size_until lens) 0 (length lens))
 
 drop-reverse : (k : ℕ) (xs : List ℕ) → drop (length xs - k) (reverse xs) ≡ reverse (take k xs)
 drop-reverse k xs =
@@ -77,18 +91,21 @@ drop-reverse k xs =
     ∙ ap (drop (length xs - k)) (reverse-append (take k xs) (drop k xs))
     ∙ drop_at (reverse (drop k xs)) (reverse (take k xs)) (length xs - k) (length-reverse (drop k xs) ∙ length-drop k xs)
 
-zero_at : (lens : List ℕ) (k : ℕ) → is_empty lens ≡ true → k < length lens → (get_or (default_strides lens) k 0 ≡ 0) × (get_or (fortran_strides lens) k 0 ≡ 0)
+zero_at : (lens : List ℕ) (k : ℕ) → is_empty lens ≡ true → k < length lens
+    → (get_or (default_strides lens) k 0 ≡ 0) × (get_or (fortran_strides lens) k 0 ≡ 0)
 zero_at lens k none h =
     let zeros = get_or-replicate (length lens) k 0 0 h in (
-      ap (λ xs. get_or xs k 0) (cond-true (is_empty lens) (replicate (length lens) 0) (map (size_after lens) (below (length lens))) none) ∙ zeros,
-      ap (λ xs. get_or xs k 0) (cond-true (is_empty lens) (replicate (length lens) 0) (map (size_until lens) (below (length lens))) none) ∙ zeros,
+      ap (λ xs. get_or xs k 0) (cond-true (is_empty lens) (replicate (length lens) 0) (map (size_after lens) (below (length lens))) none)
+          ∙ zeros,
+      ap (λ xs. get_or xs k 0) (cond-true (is_empty lens) (replicate (length lens) 0) (map (size_until lens) (below (length lens))) none)
+          ∙ zeros,
     )
 
 -- they are the default ones of the axes read from the back
 pub fortran_by_default : (shape : List ℕ) → fortran_strides shape ≡ reverse (default_strides (reverse shape))
 fortran_by_default shape =
     let back = default_strides (reverse shape) in
-    let count : length back ≡ length shape = default_count (reverse shape) ∙ length-reverse shape in
+    let count = default_count (reverse shape) ∙ length-reverse shape in
     ext_get_or 0 (fortran_strides shape) (reverse back) (fortran_count shape ∙ sym count ∙ sym (length-reverse back)) (λ k h.
     let within : k < length shape = omega (arith, fortran_count shape) in
     let other = length back - 1 - k in
@@ -107,10 +124,12 @@ fortran_by_default shape =
     ])
 
 -- the strides by columns place each index at its rank by columns
-pub offset_of-fortran_strides : (shape index : List ℕ) → is_index shape index ≡ true → offset_of (map pos (fortran_strides shape)) index ≡ pos (rank_in ColumnMajor shape index)
+pub offset_of-fortran_strides : (shape index : List ℕ) → is_index shape index ≡ true
+    → offset_of (map pos (fortran_strides shape)) index ≡ pos (rank_in ColumnMajor shape index)
 offset_of-fortran_strides shape index h =
     let back = map pos (default_strides (reverse shape)) in
-    let long : length back ≡ length (reverse index) = length-map (default_strides (reverse shape)) pos ∙ default_count (reverse shape) ∙ length-reverse shape ∙ sym (length_of_index shape index h) ∙ sym (length-reverse index) in
+    let long = length-map (default_strides (reverse shape)) pos ∙ default_count (reverse shape) ∙ length-reverse shape
+    ∙ sym (length_of_index shape index h) ∙ sym (length-reverse index) in
     ap (λ strides. offset_of (map pos strides) index) (fortran_by_default shape)
     ∙ ap (λ strides. offset_of strides index) (map-reverse pos (default_strides (reverse shape)))
     ∙ ap (offset_of (reverse back)) (sym (reverse-reverse index))
@@ -118,9 +137,13 @@ offset_of-fortran_strides shape index h =
     ∙ offset_of-default_strides (reverse shape) (reverse index) (is_index-reverse shape index ∙ h)
 
 -- by the default strides the places by rows follow one another
-pub places-default_strides : (start : ℕ) (shape : List ℕ) → places RowMajor start shape (map pos (default_strides shape)) ≡ map (λ r. pos (start + r)) (below (size shape))
-places-default_strides start shape = places_at_ranks RowMajor start shape (map pos (default_strides shape)) (offset_of-default_strides shape)
+pub places-default_strides : (start : ℕ) (shape : List ℕ)
+    → places RowMajor start shape (map pos (default_strides shape)) ≡ map (λ r. pos (start + r)) (below (size shape))
+places-default_strides start shape =
+    places_at_ranks RowMajor start shape (map pos (default_strides shape)) (offset_of-default_strides shape)
 
 -- by the strides by columns the places by columns follow one another
-pub places-fortran_strides : (start : ℕ) (shape : List ℕ) → places ColumnMajor start shape (map pos (fortran_strides shape)) ≡ map (λ r. pos (start + r)) (below (size shape))
-places-fortran_strides start shape = places_at_ranks ColumnMajor start shape (map pos (fortran_strides shape)) (offset_of-fortran_strides shape)
+pub places-fortran_strides : (start : ℕ) (shape : List ℕ)
+    → places ColumnMajor start shape (map pos (fortran_strides shape)) ≡ map (λ r. pos (start + r)) (below (size shape))
+places-fortran_strides start shape =
+    places_at_ranks ColumnMajor start shape (map pos (fortran_strides shape)) (offset_of-fortran_strides shape)

@@ -13,14 +13,16 @@ use Rattle.nd_shape.proofs.laws.DistinctOffsets.{distinct_without_overlap}
 use Rattle.nd_base.proofs.laws.Inside.{lies_inside_from_span}
 
 -- where sizes and reach have no fault, every sum on the layout fits
-pub sized_valid : (elem_size : ℕ) (shape : List ℕ) (strides : List ℤ) → size_fault elem_size shape strides ≡ None → IsValidLayout shape strides
+pub sized_valid : (elem_size : ℕ) (shape : List ℕ) (strides : List ℤ) → size_fault elem_size shape strides ≡ None
+    → IsValidLayout shape strides
 sized_valid elem_size shape strides h = record {
   same_count = grind (arith, common_steps);
   size_fits = grind (arith, common_steps);
   span_fits = grind (arith, common_steps);
 }
 
-module _ (elem_size len : ℕ) (mode : CanIndexCheckMode) (shape : List ℕ) (strides : List ℤ) (h : acceptance elem_size len mode shape strides ≡ None) where
+module _ (elem_size len : ℕ) (mode : CanIndexCheckMode) (shape : List ℕ) (strides : List ℤ)
+    (h : acceptance elem_size len mode shape strides ≡ None) where
   -- an accepted layout does not leave the data
   pub accepted_stays : leaves_data len shape strides ≡ false
   accepted_stays = grind (arith, common_steps)
@@ -42,8 +44,9 @@ module _ (elem_size len : ℕ) (mode : CanIndexCheckMode) (shape : List ℕ) (st
   accepted_lies_inside index here =
       let stays = accepted_stays in
       let some = nonempty_from_index shape index here in
-      let test : leaves_data len shape strides ≡ nat_le len (span shape strides) = cond-false (is_empty shape) (nat_lt len (span shape strides)) (nat_le len (span shape strides)) some in
-      lies_inside_from_span len shape strides (leb-false len (span shape strides) (sym test ∙ stays)) (accepted_count) index here
+      let test : leaves_data len shape strides ≡ nat_le len (span shape strides) =
+      cond-false (is_empty shape) (nat_lt len (span shape strides)) (nat_le len (span shape strides)) some in
+      lies_inside_from_span len shape strides (leb-false len (span shape strides) (sym test ∙ stays)) accepted_count index here
 
 module _ (elem_size len : ℕ) (shape : List ℕ) (strides : List ℤ) (h : acceptance elem_size len OwnedMutable shape strides ≡ None) where
   -- a layout accepted to be written does not fail the test for a shared element
@@ -53,4 +56,4 @@ module _ (elem_size len : ℕ) (shape : List ℕ) (strides : List ℤ) (h : acce
   -- of a layout accepted to be written, every two indices have offsets of their own
   pub accepted_distinct : HasDistinctOffsets shape strides
   accepted_distinct =
-      distinct_without_overlap shape strides (accepted_count elem_size len OwnedMutable shape strides h) (accepted_apart)
+      distinct_without_overlap shape strides (accepted_count elem_size len OwnedMutable shape strides h) accepted_apart

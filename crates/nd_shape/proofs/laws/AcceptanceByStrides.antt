@@ -41,23 +41,32 @@ module _ (order : Order) (len : ℕ) (shape : List ℕ) (h : acceptance_of_stand
   standard_accepted_rule some = standard_meets_rule order shape (standard_size len shape h) some
 
 -- ---- by their own strides or by given ones
-from_low_span : (order : Order) (len : ℕ) (shape : List ℕ) → acceptance_of_standard len shape ≡ None → LiesInside len (low_span shape (all_signed (standard_strides order shape))) shape (all_signed (standard_strides order shape))
-from_low_span order len shape h = rw (standard_low_span order shape (standard_size len shape h)) (standard_accepted_inside order len shape h)
+from_low_span : (order : Order) (len : ℕ) (shape : List ℕ) → acceptance_of_standard len shape ≡ None
+    → LiesInside len (low_span shape (all_signed (standard_strides order shape))) shape (all_signed (standard_strides order shape))
+from_low_span order len shape h =
+    rw (standard_low_span order shape (standard_size len shape h)) (standard_accepted_inside order len shape h)
 
 -- every sum on an accepted layout fits
-pub by_strides_valid : {D : Type 0} (list : D → List ℕ) (elem_size len : ℕ) (mode : CanIndexCheckMode) (shape : List ℕ) (strides : Strides D) → acceptance_by_strides list elem_size len mode shape strides ≡ None → IsValidLayout shape (all_signed (strides_list list shape strides))
+pub by_strides_valid : {D : Type 0} (list : D → List ℕ) (elem_size len : ℕ) (mode : CanIndexCheckMode) (shape : List ℕ)
+    (strides : Strides D) → acceptance_by_strides list elem_size len mode shape strides ≡ None
+    → IsValidLayout shape (all_signed (strides_list list shape strides))
 by_strides_valid list elem_size len mode shape C h = standard_valid RowMajor shape (standard_size len shape h)
 by_strides_valid list elem_size len mode shape F h = standard_valid ColumnMajor shape (standard_size len shape h)
 by_strides_valid list elem_size len mode shape (Custom strides) h = accepted_valid elem_size len mode shape (all_signed (list strides)) h
 
 -- each of its indices lies within the data
-pub by_strides_inside : {D : Type 0} (list : D → List ℕ) (elem_size len : ℕ) (mode : CanIndexCheckMode) (shape : List ℕ) (strides : Strides D) → acceptance_by_strides list elem_size len mode shape strides ≡ None → LiesInside len (low_span shape (all_signed (strides_list list shape strides))) shape (all_signed (strides_list list shape strides))
+pub by_strides_inside : {D : Type 0} (list : D → List ℕ) (elem_size len : ℕ) (mode : CanIndexCheckMode) (shape : List ℕ)
+    (strides : Strides D) → acceptance_by_strides list elem_size len mode shape strides ≡ None
+    → LiesInside len (low_span shape (all_signed (strides_list list shape strides))) shape (all_signed (strides_list list shape strides))
 by_strides_inside list elem_size len mode shape C h = from_low_span RowMajor len shape h
 by_strides_inside list elem_size len mode shape F h = from_low_span ColumnMajor len shape h
-by_strides_inside list elem_size len mode shape (Custom strides) h = accepted_lies_inside elem_size len mode shape (all_signed (list strides)) h
+by_strides_inside list elem_size len mode shape (Custom strides) h =
+    accepted_lies_inside elem_size len mode shape (all_signed (list strides)) h
 
 -- and of one accepted to be written, every two have offsets of their own
-pub by_strides_distinct : {D : Type 0} (list : D → List ℕ) (elem_size len : ℕ) (shape : List ℕ) (strides : Strides D) → acceptance_by_strides list elem_size len OwnedMutable shape strides ≡ None → HasDistinctOffsets shape (all_signed (strides_list list shape strides))
+pub by_strides_distinct : {D : Type 0} (list : D → List ℕ) (elem_size len : ℕ) (shape : List ℕ) (strides : Strides D)
+    → acceptance_by_strides list elem_size len OwnedMutable shape strides ≡ None
+    → HasDistinctOffsets shape (all_signed (strides_list list shape strides))
 by_strides_distinct list elem_size len shape C h = standard_distinct RowMajor shape (standard_size len shape h)
 by_strides_distinct list elem_size len shape F h = standard_distinct ColumnMajor shape (standard_size len shape h)
 by_strides_distinct list elem_size len shape (Custom strides) h = accepted_distinct elem_size len shape (all_signed (list strides)) h

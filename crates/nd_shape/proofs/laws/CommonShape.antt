@@ -1,5 +1,6 @@
 -- Laws of the shape that two shapes have in common: the order and the grouping of shapes don't matter, success included.
-use Rattle.std.proofs.Common.{◌≡◌, ◌≢◌, ℕ, zero, suc, ◌+◌, ◌-◌, ◌≤◌, max, cond, eqb, Option, Some, None, is_some, List, [], ◌∷◌, ◌++◌, length, replicate, inl, inr, refl, sym, ap, ◌∙◌, arith, append_assoc, length-append}
+use Rattle.std.proofs.Common.{◌≡◌, ◌≢◌, ℕ, zero, suc, ◌+◌, ◌-◌, ◌≤◌, max, cond, eqb, Option, Some, None, is_some, List, [], ◌∷◌, ◌++◌}
+use Rattle.std.proofs.Common.{length, replicate, inl, inr, refl, sym, ap, ◌∙◌, arith, append_assoc, length-append}
 use Rattle.std.specs.Option.{option_map, option_and_then}
 use Rattle.std.proofs.lemmas.Bool.{cases_eq, cond-true, cond-false, eq-eqb, ne_eqb}
 use Rattle.std.proofs.lemmas.List.{length-replicate, replicate-append-replicate}
@@ -55,7 +56,8 @@ before_one : (o : Option ℕ) → option_and_then (λ n. common_length n 1) o �
 before_one None = refl
 before_one (Some n) = common_with_one n
 
-common_length-associates : (a b c : ℕ) → option_and_then (λ n. common_length n c) (common_length a b) ≡ option_and_then (λ n. common_length a n) (common_length b c)
+common_length-associates : (a b c : ℕ)
+    → option_and_then (λ n. common_length n c) (common_length a b) ≡ option_and_then (λ n. common_length a n) (common_length b c)
 common_length-associates a b c =
     elim (cases_eq a 1) [
       | inl e ↦
@@ -79,8 +81,10 @@ common_length-associates a b c =
             | inl h ↦
                 ap (option_and_then (λ m. common_length m c)) (common_with_same a b h)
                 ∙ elim (cases_eq b c) [
-                  | inl k ↦ common_with_same a c (h ∙ k) ∙ sym (ap (option_and_then (λ m. common_length a m)) (common_with_same b c k) ∙ common_with_same a b h)
-                  | inr k ↦ common_of_others a c (λ l. k (sym h ∙ l)) e g ∙ sym (ap (option_and_then (λ m. common_length a m)) (common_of_others b c k f g))
+                  | inl k ↦ common_with_same a c (h ∙ k)
+                      ∙ sym (ap (option_and_then (λ m. common_length a m)) (common_with_same b c k) ∙ common_with_same a b h)
+                  | inr k ↦ common_of_others a c (λ l. k (sym h ∙ l)) e g
+                      ∙ sym (ap (option_and_then (λ m. common_length a m)) (common_of_others b c k f g))
                 ]
             | inr h ↦
                 ap (option_and_then (λ m. common_length m c)) (common_of_others a b h e f)
@@ -117,17 +121,22 @@ common_lengths-idempotent (len ∷ lens) =
     ∙ ap (joined (Some len)) (common_lengths-idempotent lens)
 
 -- a third list joins part by part, from either side
-third_after : (o : Option ℕ) (p : Option (List ℕ)) (c : ℕ) (cs : List ℕ) → option_and_then (λ s. common_lengths s (c ∷ cs)) (joined o p) ≡ joined (option_and_then (λ n. common_length n c) o) (option_and_then (λ s. common_lengths s cs) p)
+third_after : (o : Option ℕ) (p : Option (List ℕ)) (c : ℕ) (cs : List ℕ)
+    → option_and_then (λ s. common_lengths s (c ∷ cs)) (joined o p)
+    ≡ joined (option_and_then (λ n. common_length n c) o) (option_and_then (λ s. common_lengths s cs) p)
 third_after None p c cs = refl
 third_after (Some n) None c cs = sym (joined_to_none (common_length n c))
 third_after (Some n) (Some s) c cs = refl
 
-third_before : (a : ℕ) (as' : List ℕ) (o : Option ℕ) (p : Option (List ℕ)) → option_and_then (λ s. common_lengths (a ∷ as') s) (joined o p) ≡ joined (option_and_then (λ n. common_length a n) o) (option_and_then (λ s. common_lengths as' s) p)
+third_before : (a : ℕ) (as' : List ℕ) (o : Option ℕ) (p : Option (List ℕ))
+    → option_and_then (λ s. common_lengths (a ∷ as') s) (joined o p)
+    ≡ joined (option_and_then (λ n. common_length a n) o) (option_and_then (λ s. common_lengths as' s) p)
 third_before a as' None p = refl
 third_before a as' (Some n) None = sym (joined_to_none (common_length a n))
 third_before a as' (Some n) (Some s) = refl
 
-common_lengths-associates : (xs ys zs : List ℕ) → length xs ≡ length ys → length ys ≡ length zs → option_and_then (λ s. common_lengths s zs) (common_lengths xs ys) ≡ option_and_then (λ s. common_lengths xs s) (common_lengths ys zs)
+common_lengths-associates : (xs ys zs : List ℕ) → length xs ≡ length ys → length ys ≡ length zs
+    → option_and_then (λ s. common_lengths s zs) (common_lengths xs ys) ≡ option_and_then (λ s. common_lengths xs s) (common_lengths ys zs)
 common_lengths-associates [] [] [] e f = refl
 common_lengths-associates [] [] (z ∷ zs) e f = absurd (omega arith)
 common_lengths-associates [] (y ∷ ys) zs e f = absurd (omega arith)
@@ -136,10 +145,12 @@ common_lengths-associates (x ∷ xs) (y ∷ ys) [] e f = absurd (omega arith)
 common_lengths-associates (x ∷ xs) (y ∷ ys) (z ∷ zs) e f =
     third_after (common_length x y) (common_lengths xs ys) z zs
     ∙ ap (λ o. joined o (option_and_then (λ s. common_lengths s zs) (common_lengths xs ys))) (common_length-associates x y z)
-    ∙ ap (joined (option_and_then (λ n. common_length x n) (common_length y z))) (common_lengths-associates xs ys zs (omega arith) (omega arith))
+    ∙ ap (joined (option_and_then (λ n. common_length x n) (common_length y z)))
+    (common_lengths-associates xs ys zs (omega arith) (omega arith))
     ∙ sym (third_before x xs (common_length y z) (common_lengths ys zs))
 
-joined_count : (o : Option ℕ) (p : Option (List ℕ)) (n : ℕ) → ((s : List ℕ) → p ≡ Some s → length s ≡ n) → (s : List ℕ) → joined o p ≡ Some s → length s ≡ suc n
+joined_count : (o : Option ℕ) (p : Option (List ℕ)) (n : ℕ) → ((s : List ℕ) → p ≡ Some s → length s ≡ n) → (s : List ℕ)
+    → joined o p ≡ Some s → length s ≡ suc n
 joined_count None p n h s e = absurd (cc)
 joined_count (Some len) None n h s e = absurd (cc)
 joined_count (Some len) (Some lens) n h s e =
@@ -152,11 +163,13 @@ common_lengths_count [] others s e h =
     ap length (sym same)
 common_lengths_count (len ∷ lens) [] s e h = absurd (omega arith)
 common_lengths_count (len ∷ lens) (other ∷ others) s e h =
-    joined_count (common_length len other) (common_lengths lens others) (length lens) (λ t g. common_lengths_count lens others t (omega arith) g) s h
+    joined_count (common_length len other) (common_lengths lens others) (length lens)
+    (λ t g. common_lengths_count lens others t (omega arith) g) s h
 
 -- ---- lengths of 1 in front
 -- ones before both lists stay before what they have in common
-common_after_ones : (n : ℕ) (lens others : List ℕ) → common_lengths (replicate n 1 ++ lens) (replicate n 1 ++ others) ≡ option_map (λ s. replicate n 1 ++ s) (common_lengths lens others)
+common_after_ones : (n : ℕ) (lens others : List ℕ)
+    → common_lengths (replicate n 1 ++ lens) (replicate n 1 ++ others) ≡ option_map (λ s. replicate n 1 ++ s) (common_lengths lens others)
 common_after_ones zero lens others = by (common_lengths lens others)
   where
     by : (o : Option (List ℕ)) → o ≡ option_map (λ s. [] ++ s) o
@@ -168,10 +181,12 @@ common_after_ones (suc n) lens others =
 
 -- with ones in front there are as many
 pub length-padded : (count : ℕ) (shape : List ℕ) → length shape ≤ count → length (padded count shape) ≡ count
-length-padded count shape h = omega (arith, length-append (replicate (count - length shape) 1) shape, length-replicate {A = ℕ} (count - length shape) 1)
+length-padded count shape h =
+    omega (arith, length-append (replicate (count - length shape) 1) shape, length-replicate {A = ℕ} (count - length shape) 1)
 
 ones_before_ones : (m n : ℕ) (shape : List ℕ) → replicate (m + n) 1 ++ shape ≡ replicate m 1 ++ (replicate n 1 ++ shape)
-ones_before_ones m n shape = ap (λ ones. ones ++ shape) (sym (replicate-append-replicate m n 1)) ∙ append_assoc (replicate m 1) (replicate n 1) shape
+ones_before_ones m n shape = ap (λ ones. ones ++ shape) (sym (replicate-append-replicate m n 1))
+    ∙ append_assoc (replicate m 1) (replicate n 1) shape
 
 -- ones in front up to a count, and then to a greater one
 padded_more : (n m : ℕ) (shape : List ℕ) → length shape ≤ n → n ≤ m → padded m shape ≡ replicate (m - n) 1 ++ padded n shape
@@ -183,12 +198,13 @@ padded_more n m shape h g =
 pub common_shape_count : (shape other s : List ℕ) → common_shape shape other ≡ Some s → length s ≡ max (length shape) (length other)
 common_shape_count shape other s h =
     let n = max (length shape) (length other) in
-    let one : length (padded n shape) ≡ n = length-padded n shape (omega arith) in
-    let two : length (padded n other) ≡ n = length-padded n other (omega arith) in
+    let one = length-padded n shape (omega arith) in
+    let two = length-padded n other (omega arith) in
     common_lengths_count (padded n shape) (padded n other) s (one ∙ sym two) h ∙ one
 
 -- with more ones in front of both it is the same, with as many in front
-common_shape_at : (n : ℕ) (shape other : List ℕ) → length shape ≤ n → length other ≤ n → common_lengths (padded n shape) (padded n other) ≡ option_map (padded n) (common_shape shape other)
+common_shape_at : (n : ℕ) (shape other : List ℕ) → length shape ≤ n → length other ≤ n
+    → common_lengths (padded n shape) (padded n other) ≡ option_map (padded n) (common_shape shape other)
 common_shape_at n shape other h g =
     let m = max (length shape) (length other) in
     ap (λ xs. common_lengths xs (padded n other)) (padded_more m n shape (omega arith) (omega arith))
@@ -203,8 +219,8 @@ common_shape-commutes shape other =
     let n = max (length shape) (length other) in
     let m = max (length other) (length shape) in
     let same : n ≡ m = omega arith in
-    let one : length (padded n shape) ≡ n = length-padded n shape (omega arith) in
-    let two : length (padded n other) ≡ n = length-padded n other (omega arith) in
+    let one = length-padded n shape (omega arith) in
+    let two = length-padded n other (omega arith) in
     common_lengths-commutes (padded n shape) (padded n other) (one ∙ sym two)
     ∙ ap (λ k. common_lengths (padded k other) (padded k shape)) same
 
@@ -220,16 +236,19 @@ common_shape-idempotent shape =
     ∙ common_lengths-idempotent shape
 
 -- of three shapes, all of one count
-three_at : (n : ℕ) (xs ys zs : List ℕ) → n ≡ max (max (length xs) (length ys)) (length zs) → option_and_then (λ s. common_shape s zs) (common_shape xs ys) ≡ option_and_then (λ s. common_lengths s (padded n zs)) (common_lengths (padded n xs) (padded n ys))
+three_at : (n : ℕ) (xs ys zs : List ℕ) → n ≡ max (max (length xs) (length ys)) (length zs)
+    → option_and_then (λ s. common_shape s zs) (common_shape xs ys)
+    ≡ option_and_then (λ s. common_lengths s (padded n zs)) (common_lengths (padded n xs) (padded n ys))
 three_at n xs ys zs e =
     and_then_same (common_shape xs ys) (λ s h.
-    let count : max (length s) (length zs) ≡ n = ap (λ k. max k (length zs)) (common_shape_count xs ys s h) ∙ sym e in
+    let count = ap (λ k. max k (length zs)) (common_shape_count xs ys s h) ∙ sym e in
     ap (λ k. common_lengths (padded k s) (padded k zs)) count)
     ∙ sym (and_then-option_map (λ s. common_lengths s (padded n zs)) (padded n) (common_shape xs ys))
     ∙ ap (option_and_then (λ s. common_lengths s (padded n zs))) (sym (common_shape_at n xs ys (omega arith) (omega arith)))
 
 -- three shapes have one in common however they are grouped, or none
-pub common_shape-associates : (xs ys zs : List ℕ) → option_and_then (λ s. common_shape s zs) (common_shape xs ys) ≡ option_and_then (λ s. common_shape xs s) (common_shape ys zs)
+pub common_shape-associates : (xs ys zs : List ℕ)
+    → option_and_then (λ s. common_shape s zs) (common_shape xs ys) ≡ option_and_then (λ s. common_shape xs s) (common_shape ys zs)
 common_shape-associates xs ys zs =
     let n = max (max (length xs) (length ys)) (length zs) in
     let px = padded n xs in
@@ -240,6 +259,7 @@ common_shape-associates xs ys zs =
     let cz : length pz ≡ n = length-padded n zs (omega arith) in
     three_at n xs ys zs refl
     ∙ common_lengths-associates px py pz (cx ∙ sym cy) (cy ∙ sym cz)
-    ∙ and_then_same (common_lengths py pz) (λ s h. common_lengths-commutes px s (cx ∙ sym (common_lengths_count py pz s (cy ∙ sym cz) h ∙ cy)))
+    ∙ and_then_same (common_lengths py pz)
+    (λ s h. common_lengths-commutes px s (cx ∙ sym (common_lengths_count py pz s (cy ∙ sym cz) h ∙ cy)))
     ∙ sym (three_at n ys zs xs (omega arith))
     ∙ and_then_same (common_shape ys zs) (λ s h. common_shape-commutes s xs)

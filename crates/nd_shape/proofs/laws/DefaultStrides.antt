@@ -1,5 +1,7 @@
 -- Laws of the strides that a shape has by itself by rows: how far they reach, and that they obey the rule for owned data.
-use Rattle.std.proofs.Common.{◌≡◌, ℕ, zero, suc, ◌+◌, ◌-◌, ◌*◌, ◌<◌, ◌≤◌, pos, false, eqb, List, [], ◌∷◌, length, get_or, map, take, drop, replicate, refl, sym, ap, ◌∙◌, arith, add-one, mul-le-mul_left, mul-one, mul_assoc, mul_comm, one-mul, pos_of_ne-zero}
+use Rattle.std.proofs.Common.{◌≡◌, ℕ, zero, suc, ◌+◌, ◌-◌, ◌*◌, ◌<◌, ◌≤◌, pos, false, eqb, List, [], ◌∷◌, length, get_or, map, take}
+use Rattle.std.proofs.Common.{drop, replicate, refl, sym, ap, ◌∙◌, arith, add-one, mul-le-mul_left, mul-one, mul_assoc, mul_comm}
+use Rattle.std.proofs.Common.{one-mul, pos_of_ne-zero}
 use Rattle.std.specs.Prelude.{nat_le}
 use Rattle.std.proofs.Math.Nat.{suc-mul}
 use Rattle.std.proofs.lemmas.Bool.{cond-false, eqb-false, lt-leb, or_parts}
@@ -63,22 +65,27 @@ pub default_strides_span : (lens : List ℕ) → is_empty lens ≡ false → spa
 default_strides_span lens some = rw (default_by_rows lens some) (span_by_rows lens some)
 
 -- an axis of more than one entry has a stride below the size
-stride_below : (lens : List ℕ) (axis : ℕ) → is_empty lens ≡ false → axis < length lens → 1 < get_or lens axis 0 → magnitude_at (map pos (by_rows lens)) axis < size lens
+stride_below : (lens : List ℕ) (axis : ℕ) → is_empty lens ≡ false → axis < length lens → 1 < get_or lens axis 0
+    → magnitude_at (map pos (by_rows lens)) axis < size lens
 stride_below [] axis some h long = absurd (omega arith)
 stride_below (len ∷ lens) zero some h long =
     let rest = size_of_nonempty lens (lengths len lens some).1 in
-    let twice : 2 * size lens ≤ len * size lens = mul-le 2 (size lens) len (size lens) long (omega arith) in
+    let twice = mul-le 2 (size lens) len (size lens) long (omega arith) in
     omega arith
 stride_below (len ∷ lens) (suc axis) some h long =
     let parts = lengths len lens some in
-    let once : 1 * size lens ≤ len * size lens = mul-le 1 (size lens) len (size lens) parts.0 (omega arith) in
+    let once = mul-le 1 (size lens) len (size lens) parts.0 (omega arith) in
     omega (arith, stride_below lens axis parts.1 (omega arith) long)
 
 over_rows : (lens : List ℕ) → is_empty lens ≡ false → MeetsOwnedRule lens (map pos (by_rows lens))
 over_rows [] some axis h long = absurd (omega arith)
 over_rows (len ∷ lens) some zero h long =
     let m = size lens in
-    omega (arith, sum_le (reach_up_to m) reach (reach_up_to_le m) lens (map pos (by_rows lens)), span_by_rows lens (lengths len lens some).1)
+    omega (
+      arith,
+      sum_le (reach_up_to m) reach (reach_up_to_le m) lens (map pos (by_rows lens)),
+      span_by_rows lens (lengths len lens some).1,
+    )
 over_rows (len ∷ lens) some (suc axis) h long =
     let rest = (lengths len lens some).1 in
     let within : axis < length lens = omega arith in

@@ -1,5 +1,6 @@
 -- Laws of layouts that place no two of their indices at one element.
-use Rattle.std.proofs.Common.{◌≡◌, ◌≢◌, ℕ, zero, suc, ◌-◌, ◌*◌, ◌<◌, ◌≤◌, ℤ, pos, negsuc, ◌+ℤ◌, ◌*ℤ◌, ◌≤ℤ◌, true, false, List, [], ◌∷◌, length, get_or, refl, sym, ◌∙◌, ◌⊎◌, inl, inr, arith}
+use Rattle.std.proofs.Common.{◌≡◌, ◌≢◌, ℕ, zero, suc, ◌-◌, ◌*◌, ◌<◌, ◌≤◌, ℤ, pos, negsuc, ◌+ℤ◌, ◌*ℤ◌, ◌≤ℤ◌, true, false, List, [], ◌∷◌}
+use Rattle.std.proofs.Common.{length, get_or, refl, sym, ◌∙◌, ◌⊎◌, inl, inr, arith}
 use Rattle.std.specs.Prelude.{nat_lt, nat_le, remove, not, ◌&&◌}
 use Rattle.std.proofs.Math.Nat.{mul-le-mul_right, suc-mul}
 use Rattle.std.proofs.lemmas.Bool.{and_from, and_parts, both_ways, cases_eq, cases_lt, cases_order, cond-true, le-leb, ltb-true}
@@ -41,13 +42,15 @@ module _ (m : ℕ) where
   same_everywhere (stride ∷ strides) (i ∷ index) = (λ ne. absurd (ne refl), same_everywhere strides index)
 
   -- without an axis the rest differs where the whole did
-  rest_differs : (strides : List ℤ) (index other : List ℕ) (axis : ℕ) → length index ≡ length strides → length other ≡ length strides → DiffersUpTo m strides index other → DiffersUpTo m (remove strides axis) (remove index axis) (remove other axis)
+  rest_differs : (strides : List ℤ) (index other : List ℕ) (axis : ℕ) → length index ≡ length strides → length other ≡ length strides
+      → DiffersUpTo m strides index other → DiffersUpTo m (remove strides axis) (remove index axis) (remove other axis)
   rest_differs [] index other zero e f d = tt
   rest_differs [] index other (suc axis) e f d = tt
   rest_differs (stride ∷ strides) [] other axis e f d = absurd (omega arith)
   rest_differs (stride ∷ strides) (i ∷ index) [] axis e f d = absurd (omega arith)
   rest_differs (stride ∷ strides) (i ∷ index) (j ∷ other) zero e f d = d.1
-  rest_differs (stride ∷ strides) (i ∷ index) (j ∷ other) (suc axis) e f d = (d.0, rest_differs strides index other axis (omega arith) (omega arith) d.1)
+  rest_differs (stride ∷ strides) (i ∷ index) (j ∷ other) (suc axis) e f d =
+      (d.0, rest_differs strides index other axis (omega arith) (omega arith) d.1)
 
 -- an axis where the entries differ, and no other such axis has a stride of greater magnitude
 record IsLongestDifference (strides : List ℤ) (index other : List ℕ) (axis : ℕ) : Type 0 where
@@ -57,14 +60,17 @@ record IsLongestDifference (strides : List ℤ) (index other : List ℕ) (axis :
 
 module _ (stride : ℤ) (strides : List ℤ) (i j : ℕ) (index other : List ℕ) where
   -- it can be the first axis, or that of the rest
-  first_taken : i ≢ j → DiffersUpTo (magnitude stride) strides index other → IsLongestDifference (stride ∷ strides) (i ∷ index) (j ∷ other) 0
+  first_taken : i ≢ j → DiffersUpTo (magnitude stride) strides index other
+      → IsLongestDifference (stride ∷ strides) (i ∷ index) (j ∷ other) 0
   first_taken ne d = record { exists = omega arith; differs = ne; longest = (λ w. omega arith, d) }
 
-  later_kept : (axis : ℕ) → (i ≢ j → magnitude stride ≤ magnitude_at strides axis) → IsLongestDifference strides index other axis → IsLongestDifference (stride ∷ strides) (i ∷ index) (j ∷ other) (suc axis)
+  later_kept : (axis : ℕ) → (i ≢ j → magnitude stride ≤ magnitude_at strides axis) → IsLongestDifference strides index other axis
+      → IsLongestDifference (stride ∷ strides) (i ∷ index) (j ∷ other) (suc axis)
   later_kept axis short h = record { exists = let e = h.exists in omega arith; differs = h.differs; longest = (short, h.longest) }
 
 -- two lists of entries are equal, or there is such an axis
-longest_difference : (strides : List ℤ) (index other : List ℕ) → length index ≡ length strides → length other ≡ length strides → (index ≡ other) ⊎ ((axis : ℕ) × IsLongestDifference strides index other axis)
+longest_difference : (strides : List ℤ) (index other : List ℕ) → length index ≡ length strides → length other ≡ length strides
+    → (index ≡ other) ⊎ ((axis : ℕ) × IsLongestDifference strides index other axis)
 longest_difference [] [] [] e f = inl refl
 longest_difference [] [] (j ∷ other) e f = absurd (omega arith)
 longest_difference [] (i ∷ index) other e f = absurd (omega arith)
@@ -79,7 +85,11 @@ longest_difference (stride ∷ strides) (i ∷ index) (j ∷ other) e f =
       | inr found ↦ elim (cases_eq i j) [
         | inl same ↦ inr (suc found.0, later_kept stride strides i j index other found.0 (λ ne. absurd (ne same)) found.1)
         | inr ne ↦ elim (cases_lt (magnitude_at strides found.0) (magnitude stride)) [
-          | inl longer ↦ inr (0, first_taken stride strides i j index other ne (raised (magnitude_at strides found.0) (magnitude stride) strides index other (omega arith) found.1.longest))
+          | inl longer ↦ inr (
+            0,
+            first_taken stride strides i j index other ne
+                (raised (magnitude_at strides found.0) (magnitude stride) strides index other (omega arith) found.1.longest),
+          )
           | inr shorter ↦ inr (suc found.0, later_kept stride strides i j index other found.0 (λ w. shorter) found.1)
         ]
       ]
@@ -98,16 +108,19 @@ entry_apart len (negsuc s) i j h g =
 
 module _ (m : ℕ) where
   -- equal entries by nothing, so where only strides of magnitude at most m differ, only their reach counts
-  entry_within : (len : ℕ) (stride : ℤ) (i j : ℕ) → i < len → j < len → (i ≢ j → magnitude stride ≤ m) → (pos i *ℤ stride) ≤ℤ ((pos j *ℤ stride) +ℤ pos (reach_up_to m len stride))
+  entry_within : (len : ℕ) (stride : ℤ) (i j : ℕ) → i < len → j < len → (i ≢ j → magnitude stride ≤ m)
+      → (pos i *ℤ stride) ≤ℤ ((pos j *ℤ stride) +ℤ pos (reach_up_to m len stride))
   entry_within len stride i j h g d = elim (cases_eq i j) [
     | inl same ↦ rw same (omega (arith, ints))
     | inr ne ↦
-        let own : reach_up_to m len stride ≡ reach len stride = cond-true (nat_le (magnitude stride) m) (reach len stride) 0 (le-leb (magnitude stride) m (d ne)) in
+        let own : reach_up_to m len stride ≡ reach len stride =
+        cond-true (nat_le (magnitude stride) m) (reach len stride) 0 (le-leb (magnitude stride) m (d ne)) in
         rw own (entry_apart len stride i j h g)
   ]
 
   -- the offsets of two indices are no farther apart than what those axes reach where they differ
-  offsets_apart : (shape : List ℕ) (strides : List ℤ) (index other : List ℕ) → is_index shape index ≡ true → is_index shape other ≡ true → DiffersUpTo m strides index other → offset_of strides index ≤ℤ (offset_of strides other +ℤ pos (span_up_to m shape strides))
+  offsets_apart : (shape : List ℕ) (strides : List ℤ) (index other : List ℕ) → is_index shape index ≡ true → is_index shape other ≡ true
+      → DiffersUpTo m strides index other → offset_of strides index ≤ℤ (offset_of strides other +ℤ pos (span_up_to m shape strides))
   offsets_apart [] [] [] [] h g d = omega (arith, ints)
   offsets_apart [] (stride ∷ strides) [] [] h g d = omega (arith, ints)
   offsets_apart [] strides (i ∷ index) other h g d = absurd (cc)
@@ -122,23 +135,29 @@ module _ (m : ℕ) where
       omega (arith, ints, here, offsets_apart shape strides index other first.1 second.1 d.1)
 
 -- an offset is that of one axis and that of the others
-offset_and_others : (strides : List ℤ) (index : List ℕ) (axis : ℕ) → axis < length strides → length index ≡ length strides → offset_of strides index ≡ (pos (get_or index axis 0) *ℤ get_or strides axis (pos 0)) +ℤ offset_of (remove strides axis) (remove index axis)
+offset_and_others : (strides : List ℤ) (index : List ℕ) (axis : ℕ) → axis < length strides → length index ≡ length strides
+    → offset_of strides index
+    ≡ (pos (get_or index axis 0) *ℤ get_or strides axis (pos 0)) +ℤ offset_of (remove strides axis) (remove index axis)
 offset_and_others [] index axis h e = absurd (omega arith)
 offset_and_others (stride ∷ strides) [] axis h e = absurd (omega arith)
 offset_and_others (stride ∷ strides) (i ∷ index) zero h e = refl
-offset_and_others (stride ∷ strides) (i ∷ index) (suc axis) h e = omega (arith, ints, offset_and_others strides index axis (omega arith) (omega arith))
+offset_and_others (stride ∷ strides) (i ∷ index) (suc axis) h e =
+    omega (arith, ints, offset_and_others strides index axis (omega arith) (omega arith))
 
 -- without an axis an index is one of the shape without it
-is_index-remove : (shape index : List ℕ) (axis : ℕ) → axis < length shape → is_index shape index ≡ true → is_index (remove shape axis) (remove index axis) ≡ true
+is_index-remove : (shape index : List ℕ) (axis : ℕ) → axis < length shape → is_index shape index ≡ true
+    → is_index (remove shape axis) (remove index axis) ≡ true
 is_index-remove [] index axis h g = absurd (omega arith)
 is_index-remove (len ∷ shape) [] axis h g = absurd (cc)
 is_index-remove (len ∷ shape) (i ∷ index) zero h g = (and_parts (nat_lt i len) (is_index shape index) g).1
 is_index-remove (len ∷ shape) (i ∷ index) (suc axis) h g =
     let parts = and_parts (nat_lt i len) (is_index shape index) g in
-    and_from (nat_lt i len) (is_index (remove shape axis) (remove index axis)) parts.0 (is_index-remove shape index axis (omega arith) parts.1)
+    and_from (nat_lt i len) (is_index (remove shape axis) (remove index axis)) parts.0
+    (is_index-remove shape index axis (omega arith) parts.1)
 
 -- a step along an axis whose stride is longer than what the others make up
-steps_past : (stride : ℤ) {here there : ℤ} {i j n : ℕ} → i < j → n < magnitude stride → here ≤ℤ (there +ℤ pos n) → there ≤ℤ (here +ℤ pos n) → (pos i *ℤ stride) +ℤ here ≡ (pos j *ℤ stride) +ℤ there → ⊥
+steps_past : (stride : ℤ) {here there : ℤ} {i j n : ℕ} → i < j → n < magnitude stride → here ≤ℤ (there +ℤ pos n)
+    → there ≤ℤ (here +ℤ pos n) → (pos i *ℤ stride) +ℤ here ≡ (pos j *ℤ stride) +ℤ there → ⊥
 steps_past (pos s) {i = i} {j = j} less far a b e =
     let step : suc i * s ≤ j * s = mul-le-mul_right s (omega arith) in
     omega (arith, ints, suc-mul i s)
@@ -148,7 +167,9 @@ steps_past (negsuc s) {i = i} {j = j} less far a b e =
 
 module _ (shape : List ℕ) (strides : List ℤ) where
   -- under the rule for owned data two indices that differ have different offsets
-  told_apart : {index other : List ℕ} {axis : ℕ} → length shape ≡ length strides → MeetsOwnedRule shape strides → is_index shape index ≡ true → is_index shape other ≡ true → IsLongestDifference strides index other axis → offset_of strides index ≡ offset_of strides other → ⊥
+  told_apart : {index other : List ℕ} {axis : ℕ} → length shape ≡ length strides → MeetsOwnedRule shape strides
+      → is_index shape index ≡ true → is_index shape other ≡ true → IsLongestDifference strides index other axis
+      → offset_of strides index ≡ offset_of strides other → ⊥
   told_apart {index = index} {other = other} {axis = axis} count rule h g found same =
       let exists : axis < length strides = found.exists in
       let below : axis < length shape = omega arith in
@@ -172,7 +193,8 @@ module _ (shape : List ℕ) (strides : List ℤ) where
       let short = rest_differs m strides index other axis entries others found.longest in
       let up : here ≤ℤ (there +ℤ pos n) = offsets_apart m rest moves one two first second short in
       let down : there ≤ℤ (here +ℤ pos n) = offsets_apart m rest moves two one second first (turned m moves one two short) in
-      let sums : (pos i *ℤ stride) +ℤ here ≡ (pos j *ℤ stride) +ℤ there = sym (offset_and_others strides index axis exists entries) ∙ same ∙ offset_and_others strides other axis exists others in
+      let sums : (pos i *ℤ stride) +ℤ here ≡ (pos j *ℤ stride) +ℤ there = sym (offset_and_others strides index axis exists entries) ∙ same
+      ∙ offset_and_others strides other axis exists others in
       elim (cases_order i j) [
         | inl equal ↦ found.differs equal
         | inr unequal ↦ elim unequal [
@@ -192,7 +214,8 @@ module _ (shape : List ℕ) (strides : List ℤ) where
       ]
 
   -- where the test for a shared element fails, no two indices share one: a shape without an index has no two
-  pub distinct_without_overlap : length shape ≡ length strides → (not (is_empty shape) && not (meets_owned_rule shape strides)) ≡ false → HasDistinctOffsets shape strides
+  pub distinct_without_overlap : length shape ≡ length strides → (not (is_empty shape) && not (meets_owned_rule shape strides)) ≡ false
+      → HasDistinctOffsets shape strides
   distinct_without_overlap count apart index other h g same =
       let some : is_empty shape ≡ false = nonempty_from_index shape index h in
       elim ((no_overlap shape strides).0 apart) [

@@ -1,5 +1,6 @@
 -- Laws of what a walk over the indices of a shape has still to give.
-use Rattle.std.proofs.Common.{◌≡◌, ℕ, suc, ◌-◌, ◌<◌, ◌≤◌, List, [], ◌∷◌, length, drop, ap, ◌∙◌, arith, drop-cons, length-drop, drop_of_length-le}
+use Rattle.std.proofs.Common.{◌≡◌, ℕ, suc, ◌-◌, ◌<◌, ◌≤◌, List, [], ◌∷◌, length, drop, ap, ◌∙◌, arith, drop-cons, length-drop}
+use Rattle.std.proofs.Common.{drop_of_length-le}
 use Rattle.nd_base.specs.declared.order.Order.{Order}
 use Rattle.nd_base.proofs.laws.Definitions.{indices_in, size}
 use Rattle.nd_base.proofs.laws.Indices.{get_or-indices_in, length-indices_in}
@@ -20,7 +21,8 @@ module _ (order : Order) (shape : List ℕ) where
   indices_left-none = drop_of_length-le (indices_in order shape) (omega (arith, length-indices_in order shape))
 
   -- of one more than n the first is the index of its rank, and the others are the last n
-  pub indices_left-more : (n : ℕ) → 0 < n → n ≤ size shape → indices_left order shape n ≡ first_left order shape n ∷ indices_left order shape (n - 1)
+  pub indices_left-more : (n : ℕ) → 0 < n → n ≤ size shape
+      → indices_left order shape n ≡ first_left order shape n ∷ indices_left order shape (n - 1)
   indices_left-more n h g =
       let k = size shape - n in
       let on : suc k ≡ size shape - (n - 1) = omega arith in

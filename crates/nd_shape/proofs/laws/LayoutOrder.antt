@@ -1,5 +1,6 @@
 -- Laws of layouts whose indices lie one after another: they are those of the rule on strides.
-use Rattle.std.proofs.Common.{◌≡◌, ◌≢◌, ℕ, zero, suc, ◌+◌, ◌<◌, ℤ, pos, ◌+ℤ◌, ◌*ℤ◌, true, false, eqb, List, [], ◌∷◌, length, get_or, map, replicate, inl, inr, refl, sym, ap, ◌∙◌, ◌↔◌, arith}
+use Rattle.std.proofs.Common.{◌≡◌, ◌≢◌, ℕ, zero, suc, ◌+◌, ◌<◌, ℤ, pos, ◌+ℤ◌, ◌*ℤ◌, true, false, eqb, List, [], ◌∷◌, length, get_or}
+use Rattle.std.proofs.Common.{map, replicate, inl, inr, refl, sym, ap, ◌∙◌, ◌↔◌, arith}
 use Rattle.std.specs.Prelude.{nat_lt}
 use Rattle.std.proofs.lemmas.Bool.{and_from, and_parts, cases_Bool, cases_eq, lt-ltb, ltb-true, or_parts, eqb-false}
 use Rattle.std.proofs.lemmas.Int.{ints}
@@ -21,7 +22,10 @@ use Rattle.nd_shape.proofs.laws.StandardStrides.{offset_of-standard_strides, sta
 
 -- ---- from the rule
 -- strides that agree on the axes of other lengths than 1 lead to the same offsets
-same_offset : (shape : List ℕ) (strides others : List ℤ) (index : List ℕ) → (length strides ≡ length shape) × (length others ≡ length shape) → is_index shape index ≡ true → ((axis : ℕ) → axis < length shape → get_or shape axis 0 ≢ 1 → get_or strides axis (pos 0) ≡ get_or others axis (pos 0)) → offset_of strides index ≡ offset_of others index
+same_offset : (shape : List ℕ) (strides others : List ℤ) (index : List ℕ)
+    → (length strides ≡ length shape) × (length others ≡ length shape) → is_index shape index ≡ true
+    → ((axis : ℕ) → axis < length shape → get_or shape axis 0 ≢ 1 → get_or strides axis (pos 0) ≡ get_or others axis (pos 0))
+    → offset_of strides index ≡ offset_of others index
 same_offset [] strides others [] e h same = refl
 same_offset [] strides others (i ∷ index) e h same = absurd (cc)
 same_offset (len ∷ lens) strides others [] e h same = absurd (cc)
@@ -30,7 +34,8 @@ same_offset (len ∷ lens) (s ∷ strides) [] (i ∷ index) e h same = absurd (o
 same_offset (len ∷ lens) (s ∷ strides) (t ∷ others) (i ∷ index) e h same =
     let parts = and_parts (nat_lt i len) (is_index lens index) h in
     let within : i < len = ltb-true i len parts.0 in
-    let rest = same_offset lens strides others index (omega (arith, e.0), omega (arith, e.1)) parts.1 (λ axis l ne. same (suc axis) (omega arith) ne) in
+    let rest = same_offset lens strides others index (omega (arith, e.0), omega (arith, e.1)) parts.1
+    (λ axis l ne. same (suc axis) (omega arith) ne) in
     elim (cases_eq len 1) [
       | inl one ↦
           let none : i ≡ 0 = omega arith in
@@ -43,27 +48,29 @@ empty_in_order order shape strides none start =
     let size : size shape ≡ 0 = size_of_empty shape none in
     ap (map (place start strides)) (indices_in_of_empty order shape size) ∙ sym (ap (λ n. map (λ r. pos (start + r)) (below n)) size)
 
-pub in_order_from_rule : (order : Order) (shape : List ℕ) (strides : List ℤ) → length strides ≡ length shape → MeetsOrderRule order shape strides → LiesInOrder order shape strides
+pub in_order_from_rule : (order : Order) (shape : List ℕ) (strides : List ℤ) → length strides ≡ length shape
+    → MeetsOrderRule order shape strides → LiesInOrder order shape strides
 in_order_from_rule order shape strides e (inl none) = empty_in_order order shape strides none
 in_order_from_rule order shape strides e (inr rule) =
     let standard = standard_strides order shape in
-    let count : length standard ≡ length shape = standard_count order shape in
+    let count = standard_count order shape in
     λ start. places_at_ranks order start shape strides (λ index h.
-    same_offset shape strides (map pos standard) index (e, length-map standard pos ∙ count) h (λ axis l ne. rule axis l ne ∙ sym (get_or-map pos standard axis 0 (pos 0) (omega arith)))
+    same_offset shape strides (map pos standard) index (e, length-map standard pos ∙ count) h
+    (λ axis l ne. rule axis l ne ∙ sym (get_or-map pos standard axis 0 (pos 0) (omega arith)))
     ∙ offset_of-standard_strides order shape index h)
 
 -- ---- to the rule
 -- where the indices lie in order, each lies at its rank
-pub rank_from_in_order : (order : Order) (shape : List ℕ) (strides : List ℤ) → LiesInOrder order shape strides → (index : List ℕ) → is_index shape index ≡ true → offset_of strides index ≡ pos (rank_in order shape index)
+pub rank_from_in_order : (order : Order) (shape : List ℕ) (strides : List ℤ) → LiesInOrder order shape strides → (index : List ℕ)
+    → is_index shape index ≡ true → offset_of strides index ≡ pos (rank_in order shape index)
 rank_from_in_order order shape strides lies index h =
     let r = rank_in order shape index in
     let within : r < size shape = rank_in-lt-size order shape index h in
     let xs = indices_in order shape in
-    let there : get_or (places order 0 shape strides) r (pos 0) ≡ place 0 strides index =
-    get_or-map (place 0 strides) xs r [] (pos 0) (omega (arith, length-indices_in order shape))
+    let there = get_or-map (place 0 strides) xs r [] (pos 0) (omega (arith, length-indices_in order shape))
     ∙ ap (place 0 strides) (get_or-indices_in order shape r [] within ∙ index_of_rank_in-rank_in order shape index h) in
-    let here : get_or (map (λ n. pos (0 + n)) (below (size shape))) r (pos 0) ≡ pos (0 + r) = get_or-map-range_with_len (λ n. pos (0 + n)) 0 (size shape) r r (pos 0) within (omega arith) in
-    let same : place 0 strides index ≡ pos (0 + r) = sym there ∙ ap (λ zs. get_or zs r (pos 0)) (lies 0) ∙ here in
+    let here = get_or-map-range_with_len (λ n. pos (0 + n)) 0 (size shape) r r (pos 0) within (omega arith) in
+    let same = sym there ∙ ap (λ zs. get_or zs r (pos 0)) (lies 0) ∙ here in
     omega (arith, ints, same)
 
 -- one step along an axis from the first index
@@ -72,7 +79,8 @@ step_along [] axis = []
 step_along (len ∷ lens) zero = 1 ∷ replicate (length lens) 0
 step_along (len ∷ lens) (suc axis) = 0 ∷ step_along lens axis
 
-is_index-step_along : (shape : List ℕ) (axis : ℕ) → is_empty shape ≡ false → axis < length shape → get_or shape axis 0 ≢ 1 → is_index shape (step_along shape axis) ≡ true
+is_index-step_along : (shape : List ℕ) (axis : ℕ) → is_empty shape ≡ false → axis < length shape → get_or shape axis 0 ≢ 1
+    → is_index shape (step_along shape axis) ≡ true
 is_index-step_along [] axis some h ne = absurd (omega arith)
 is_index-step_along (len ∷ lens) zero some h ne =
     let parts = or_parts (eqb len 0) (is_empty lens) some in
@@ -81,24 +89,27 @@ is_index-step_along (len ∷ lens) zero some h ne =
 is_index-step_along (len ∷ lens) (suc axis) some h ne =
     let parts = or_parts (eqb len 0) (is_empty lens) some in
     let more : len ≢ 0 = eqb-false len 0 parts.0 in
-    and_from (nat_lt 0 len) (is_index lens (step_along lens axis)) (lt-ltb 0 len (omega arith)) (is_index-step_along lens axis parts.1 (omega arith) ne)
+    and_from (nat_lt 0 len) (is_index lens (step_along lens axis)) (lt-ltb 0 len (omega arith))
+    (is_index-step_along lens axis parts.1 (omega arith) ne)
 
-offset_of-step_along : (shape : List ℕ) (strides : List ℤ) (axis : ℕ) → length strides ≡ length shape → axis < length shape → offset_of strides (step_along shape axis) ≡ get_or strides axis (pos 0)
+offset_of-step_along : (shape : List ℕ) (strides : List ℤ) (axis : ℕ) → length strides ≡ length shape → axis < length shape
+    → offset_of strides (step_along shape axis) ≡ get_or strides axis (pos 0)
 offset_of-step_along [] strides axis e h = absurd (omega arith)
 offset_of-step_along (len ∷ lens) [] axis e h = absurd (omega arith)
 offset_of-step_along (len ∷ lens) (s ∷ strides) zero e h = omega (arith, ints, offset_of-zeros strides (length lens))
-offset_of-step_along (len ∷ lens) (s ∷ strides) (suc axis) e h = omega (arith, ints, offset_of-step_along lens strides axis (omega arith) (omega arith))
+offset_of-step_along (len ∷ lens) (s ∷ strides) (suc axis) e h =
+    omega (arith, ints, offset_of-step_along lens strides axis (omega arith) (omega arith))
 
 module _ (order : Order) (shape : List ℕ) (strides : List ℤ) (e : length strides ≡ length shape) where
   pub rule_from_in_order : LiesInOrder order shape strides → MeetsOrderRule order shape strides
   rule_from_in_order lies =
       let standard = standard_strides order shape in
-      let count : length standard ≡ length shape = standard_count order shape in
+      let count = standard_count order shape in
       elim (cases_Bool (is_empty shape)) [
         | inl none ↦ inl none
         | inr some ↦ inr (λ axis l ne.
             let index = step_along shape axis in
-            let h : is_index shape index ≡ true = is_index-step_along shape axis some l ne in
+            let h = is_index-step_along shape axis some l ne in
             sym (offset_of-step_along shape strides axis e l)
             ∙ rank_from_in_order order shape strides lies index h
             ∙ sym (offset_of-standard_strides order shape index h)

@@ -25,7 +25,9 @@ pub record StepsOn (take_len : ℕ) (take_stride : ℤ) (into_len : ℕ) (into_s
   pub stride : merged_stride take_len take_stride into_len into_stride ≡ into_stride
 
 abbrev pub HowItFits : ℕ → ℤ → ℕ → ℤ → Type 0
-HowItFits take_len take_stride into_len into_stride = FewTaken take_len take_stride into_len into_stride ⊎ (IntoFew take_len take_stride into_len into_stride ⊎ StepsOn take_len take_stride into_len into_stride)
+HowItFits take_len take_stride into_len into_stride =
+    FewTaken take_len take_stride into_len into_stride
+    ⊎ (IntoFew take_len take_stride into_len into_stride ⊎ StepsOn take_len take_stride into_len into_stride)
 
 module _ (take_len : ℕ) (take_stride : ℤ) (into_len : ℕ) (into_stride : ℤ) where
   pub how_it_fits : merge_fits take_len take_stride into_len into_stride ≡ true → HowItFits take_len take_stride into_len into_stride
@@ -40,7 +42,8 @@ module _ (take_len : ℕ) (take_stride : ℤ) (into_len : ℕ) (into_stride : �
           | inr few ↦ inr (inl (record {
             more = more;
             few = few;
-            stride = cond-true here take_stride into_stride (and_from (ltb 1 take_len) (leb into_len 1) (lt-ltb 1 take_len more) (le-leb into_len 1 few));
+            stride = cond-true here take_stride into_stride
+                (and_from (ltb 1 take_len) (leb into_len 1) (lt-ltb 1 take_len more) (le-leb into_len 1 few));
           }))
           | inl into ↦
               let on : int_eq take_stride (pos into_len *ℤ into_stride) ≡ true = rw (lt-leb take_len 1 more, lt-leb into_len 1 into) at h in
@@ -54,7 +57,8 @@ module _ (take_len : ℕ) (take_stride : ℤ) (into_len : ℕ) (into_stride : �
       ]
 
   -- where it fits, the stride of the merged axis has every entry of both
-  pub merged_stride_serves : merge_fits take_len take_stride into_len into_stride ≡ true → IsMergedStride take_len take_stride into_len into_stride (merged_stride take_len take_stride into_len into_stride)
+  pub merged_stride_serves : merge_fits take_len take_stride into_len into_stride ≡ true
+      → IsMergedStride take_len take_stride into_len into_stride (merged_stride take_len take_stride into_len into_stride)
   merged_stride_serves h =
       elim (how_it_fits h) [
         | inl k ↦ rw k.stride (short_taken take_len take_stride into_len into_stride k.few)
@@ -65,7 +69,8 @@ module _ (take_len : ℕ) (take_stride : ℤ) (into_len : ℕ) (into_stride : �
       ]
 
   -- the test answers where some stride does
-  pub merge_fits-Decides : Decides (merge_fits take_len take_stride into_len into_stride) (MergeFits take_len take_stride into_len into_stride)
+  pub merge_fits-Decides : Decides (merge_fits take_len take_stride into_len into_stride)
+      (MergeFits take_len take_stride into_len into_stride)
   merge_fits-Decides = (
     λ h. (merged_stride take_len take_stride into_len into_stride, merged_stride_serves h),
     λ fits.
@@ -73,7 +78,9 @@ module _ (take_len : ℕ) (take_stride : ℤ) (into_len : ℕ) (into_stride : �
           | inr few ↦ rw (le-leb take_len 1 few) refl
           | inl more ↦ elim (cases_lt 1 into_len) [
             | inr short ↦ rw (lt-leb take_len 1 more, le-leb into_len 1 short) refl
-            | inl long ↦ rw (lt-leb take_len 1 more, lt-leb into_len 1 long) ((Decides-int_eq take_stride (pos into_len *ℤ into_stride)).1 (steps_on_from_fit take_len take_stride into_len into_stride more long fits))
+            | inl long ↦ rw (lt-leb take_len 1 more, lt-leb into_len 1 long)
+                ((Decides-int_eq take_stride (pos into_len *ℤ into_stride)).1
+                (steps_on_from_fit take_len take_stride into_len into_stride more long fits))
           ]
         ],
   )

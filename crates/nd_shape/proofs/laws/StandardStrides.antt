@@ -115,7 +115,7 @@ pub standard_distinct : (order : Order) (shape : List ℕ) → nonzero_size shap
 standard_distinct order shape top = rw (standard_signed order shape top) (λ index other h g same.
     let one = offset_of-standard_strides order shape index h in
     let two = offset_of-standard_strides order shape other g in
-    let ranks : pos (rank_in order shape index) ≡ pos (rank_in order shape other) = sym one ∙ same ∙ two in
+    let ranks = sym one ∙ same ∙ two in
     same_from_rank_in order shape index other h g (cc))
 
 -- ---- the no-alias rule of owned mode
@@ -127,8 +127,7 @@ meets_rule_as_read ColumnMajor shape strides count rule = λ axis within long.
     let k = length shape - 1 - axis in
     let place : k ≡ length strides - 1 - axis = omega arith in
     let len = get_or-from_back shape axis 0 within in
-    let stride : get_or (reverse strides) k (pos 0) ≡ get_or strides axis (pos 0) =
-    ap (λ n. get_or (reverse strides) n (pos 0)) place ∙ get_or-from_back strides axis (pos 0) (omega arith) in
+    let stride = ap (λ n. get_or (reverse strides) n (pos 0)) place ∙ get_or-from_back strides axis (pos 0) (omega arith) in
     let there : k < length (reverse shape) = omega (arith, length-reverse shape) in
     let counts : length (reverse shape) ≡ length (reverse strides) = omega (arith, length-reverse shape, length-reverse strides) in
     let f = reach_up_to (magnitude_at strides axis) in

@@ -80,7 +80,8 @@ impl<O: WalkOrder> Cursor<O> {
     /// Lends the next index, or `None` after the last one, however often it is called. Takes no memory.
     #[inline]
     pub fn next(&mut self) -> Option<&[usize]>
-        ensures* rest { sem 𝓛 (Rests (the_row O.row O.WalkOrder) self.entry (λ left. left ≡ drop 1 self.old)) }
+        ensures* rest { sem 𝓛
+            (Rests (the_row O.row O.WalkOrder) self.entry (λ left. left ≡ drop 1 self.old)) }
         ensures index { option_map (λ index. index.now) result ≡ slice_get self.old 0 }
     {
         if self.left == 0 {

@@ -72,7 +72,8 @@ impl From<RangeTo<i32>> for SliceInfoElem {
 }
 
 impl From<RangeInclusive<i32>> for SliceInfoElem {
-    ghost from_gives = { λ range elem. elem ≡ elem_of.Slice (range_inclusive_start range) (end_after (range_inclusive_end range)) (pos 1) };
+    ghost from_gives = { λ range elem. elem ≡ elem_of.Slice
+        (range_inclusive_start range) (end_after (range_inclusive_end range)) (pos 1) };
 
     #[inline]
     fn from(range: RangeInclusive<i32>) -> SliceInfoElem {

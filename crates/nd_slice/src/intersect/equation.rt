@@ -25,7 +25,8 @@ pub fn solve_linear_diophantine_eq(a: i128, b: i128, c: i128) -> Option<(i128, i
     requires second_some { b ≢ pos 0 }
     requires second_small { magnitude b ≤ 2 ^ 63 }
     requires sum_small { magnitude c ≤ 2 ^ 64 }
-    ensures solvable { (g : ℕ) → IsGcd (magnitude a) (magnitude b) g → (IsSome result ↔ (g ∣ magnitude c)) }
+    ensures solvable { (g : ℕ) → IsGcd (magnitude a) (magnitude b) g
+        → (IsSome result ↔ (g ∣ magnitude c)) }
     ensures least { IfSome result (λ (least, apart). IsLeastSolution a b c least) }
     ensures apart { IfSome result (λ (least, apart). (g : ℕ) → IsGcd (magnitude a) (magnitude b) g →
         apart ≡ pos (magnitude b / g)) }

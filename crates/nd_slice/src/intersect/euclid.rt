@@ -79,9 +79,12 @@ pub fn extended_gcd(a: i128, b: i128) -> (i128, (i128, i128))
     ensures gcd { IsGcd (magnitude a) (magnitude b) (magnitude result.0) }
     ensures sum { (a *ℤ result.1.0) +ℤ (b *ℤ result.1.1) ≡ result.0 }
     ensures first_zero { a ≡ pos 0 → result.1 ≡ record { 0 = pos 0; 1 = int_signum b } }
-    ensures second_zero { a ≢ pos 0 → b ≡ pos 0 → result.1 ≡ record { 0 = int_signum a; 1 = pos 0 } }
-    ensures first_within { a ≢ pos 0 → b ≢ pos 0 → magnitude result.1.0 ≤ magnitude b / magnitude result.0 }
-    ensures second_within { a ≢ pos 0 → b ≢ pos 0 → magnitude result.1.1 ≤ magnitude a / magnitude result.0 }
+    ensures second_zero { a ≢ pos 0 → b ≡ pos 0
+        → result.1 ≡ record { 0 = int_signum a; 1 = pos 0 } }
+    ensures first_within { a ≢ pos 0 → b ≢ pos 0
+        → magnitude result.1.0 ≤ magnitude b / magnitude result.0 }
+    ensures second_within { a ≢ pos 0 → b ≢ pos 0
+        → magnitude result.1.1 ≤ magnitude a / magnitude result.0 }
 {
     if a == 0 {
         (b.abs(), (0i128, b.signum()))

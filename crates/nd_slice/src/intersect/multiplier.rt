@@ -44,7 +44,8 @@ pub(crate) fn least_multiplier(factor: usize, modulus: usize, rest: usize) -> Op
     ensures solvable { (g : ℕ) → IsGcd factor modulus g → (IsSome result ↔ (g ∣ rest)) }
     ensures none { IfNone result ((number : ℕ) → ¬ (modulus ∣ factor * number + rest)) }
     ensures least { IfSome result (λ (least, apart). IsLeastMultiplier factor modulus rest least) }
-    ensures apart { IfSome result (λ (least, apart). (g : ℕ) → IsGcd factor modulus g → apart ≡ modulus / g) }
+    ensures apart { IfSome result (λ (least, apart).
+        (g : ℕ) → IsGcd factor modulus g → apart ≡ modulus / g) }
     ensures within { IfSome result (λ (least, apart). least < apart) }
 {
     let (gcd, multiplier) = inverse(factor, modulus);

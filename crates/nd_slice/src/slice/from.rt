@@ -71,7 +71,8 @@ impl From<RangeTo<i32>> for Slice {
 }
 
 impl From<RangeInclusive<i32>> for Slice {
-    ghost from_gives = { λ range slice. slice ≡ slice_with (range_inclusive_start range) (end_after (range_inclusive_end range)) (pos 1) };
+    ghost from_gives = { λ range slice. slice ≡ slice_with
+        (range_inclusive_start range) (end_after (range_inclusive_end range)) (pos 1) };
 
     #[inline]
     fn from(range: RangeInclusive<i32>) -> Slice {

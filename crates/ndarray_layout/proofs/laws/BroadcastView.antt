@@ -1,5 +1,6 @@
 -- Laws of views that are read as views of a shape with more or longer axes.
-use Rattle.std.proofs.Common.{◌≡◌, ◌≢◌, ℕ, ◌+◌, ◌-◌, ◌<◌, ◌≤◌, Bool, true, false, not, cond, ltb, Option, Some, None, List, length, get_or, inl, inr, refl, ap, arith}
+use Rattle.std.proofs.Common.{◌≡◌, ◌≢◌, ℕ, ◌+◌, ◌-◌, ◌<◌, ◌≤◌, Bool, true, false, not, cond, ltb, Option, Some, None, List, length, get_or}
+use Rattle.std.proofs.Common.{inl, inr, refl, ap, arith}
 use Rattle.std.proofs.lemmas.Bool.{false_from_ne_true, ltb-false, le-ltb}
 use Rattle.std.proofs.lemmas.Int.{ints}
 use Rattle.std.specs.Bool.{Decides}
@@ -8,13 +9,13 @@ use Rattle.std.specs.Option.{option_map_or}
 use Rattle.std.specs.Prelude.{nat_eq}
 use Rattle.nd_base.specs.declared.error.ErrorKind.TheVariants.{IncompatibleShape, Overflow}
 use Rattle.nd_base.specs.Size.{nonzero_size, limit}
-use Rattle.nd_base.proofs.laws.Span.{low_high_span}
 use Rattle.nd_shape.specs.CommonShape.{common_shape}
 use Rattle.nd_shape.proofs.laws.Stretches.{StretchesTo, common_from_stretches, stretches_to_common}
 use Rattle.ndarray_layout.specs.BroadcastView.{takes_in, broadcast_fault, broadcast_of, broadcast_source}
-use Rattle.ndarray_layout.specs.KeepsPlaces.{KeepsPlaces}
-use Rattle.ndarray_layout.specs.View.{View, IsView, LiesWithin}
-use Rattle.ndarray_layout.proofs.laws.KeepsPlaces.{LiesWithin-kept}
+use Rattle.ndarray_layout.specs.Descends.{IsViewOf}
+use Rattle.ndarray_layout.specs.View.{View, IsView}
+use Rattle.ndarray_layout.proofs.laws.KeepsPlaces.{IsViewOf-kept}
+use Rattle.ndarray_layout.proofs.laws.View.{IsView-within}
 use Rattle.ndarray_layout.proofs.Broadcasts.{Stretches, broadcast_kept, broadcast_source_kept}
 
 -- the test says where a shape is the common one of itself and another
@@ -38,7 +39,8 @@ takes_in_no_fewer shape other h = false_from_ne_true (takes_in shape other) (λ 
     omega (arith, parts.0))
 
 -- and where an axis has neither the length beside it nor a length of 1
-pub takes_in_no_other : (shape other : List ℕ) (k : ℕ) → k < length other → get_or other k 0 ≢ get_or shape (length shape - length other + k) 0 → get_or other k 0 ≢ 1 → takes_in shape other ≡ false
+pub takes_in_no_other : (shape other : List ℕ) (k : ℕ) → k < length other
+    → get_or other k 0 ≢ get_or shape (length shape - length other + k) 0 → get_or other k 0 ≢ 1 → takes_in shape other ≡ false
 takes_in_no_other shape other k there differs long = false_from_ne_true (takes_in shape other) (λ takes.
     let parts = stretches_to_common shape other ((takes_in-Decides shape other).0 takes) in
     elim (parts.1 k there) [
@@ -55,15 +57,16 @@ pub record CanBroadcast (shape view_shape : List ℕ) : Type 0 where
   pub common : common_shape view_shape shape ≡ Some shape
   pub size_fits : nonzero_size shape ≤ limit
 
-pub can_broadcast : (shape view_shape : List ℕ) → broadcast_fault shape view_shape ≡ None → CanBroadcast shape view_shape
-can_broadcast shape view_shape none =
+pub can_broadcast : {shape view_shape : List ℕ} → broadcast_fault shape view_shape ≡ None → CanBroadcast shape view_shape
+can_broadcast {shape} {view_shape} none =
     let parts = by (takes_in shape view_shape) (ltb limit (nonzero_size shape)) none in
     record {
       common = (takes_in-Decides shape view_shape).0 parts.0;
       size_fits = ltb-false limit (nonzero_size shape) parts.1;
     }
   where
-    by : (takes large : Bool) → cond (not takes) (Some IncompatibleShape) (cond large (Some Overflow) None) ≡ None → (takes ≡ true) × (large ≡ false)
+    by : (takes large : Bool) → cond (not takes) (Some IncompatibleShape) (cond large (Some Overflow) None) ≡ None
+        → (takes ≡ true) × (large ≡ false)
     by true true none = absurd (cc)
     by true false none = (refl, refl)
     by false large none = absurd (cc)
@@ -72,37 +75,27 @@ pub no_fault_where_it_can : (shape view_shape : List ℕ) → CanBroadcast shape
 no_fault_where_it_can shape view_shape can =
     rw ((takes_in-Decides shape view_shape).1 can.common, le-ltb limit (nonzero_size shape) can.size_fits) refl
 
-stretched : (shape : List ℕ) (view : View) → IsView view → broadcast_fault shape view.shape ≡ None → Stretches shape view.shape view.strides
-stretched shape view v none =
-    let parts = stretches_to_common shape view.shape (can_broadcast shape view.shape none).common in
+stretched : {shape : List ℕ} {view : View} → IsView view → broadcast_fault shape view.shape ≡ None → Stretches shape view.shape view.strides
+stretched {shape} {view} v none =
+    let parts = stretches_to_common shape view.shape (can_broadcast none).common in
     record { counts = v.valid.same_count; fewer = parts.0; stretches = parts.1 }
 
 -- it has no fewer axes
 pub no_fewer_axes : (shape view_shape : List ℕ) → broadcast_fault shape view_shape ≡ None → length view_shape ≤ length shape
-no_fewer_axes shape view_shape none = (stretches_to_common shape view_shape (can_broadcast shape view_shape none).common).0
+no_fewer_axes shape view_shape none = (stretches_to_common shape view_shape (can_broadcast none).common).0
 
--- the view is one
-pub IsView-broadcast_of : (shape : List ℕ) (view : View) → IsView view → broadcast_fault shape view.shape ≡ None → IsView (broadcast_of shape view)
-IsView-broadcast_of shape view v none =
-    let part = broadcast_kept shape view.shape view.strides (stretched shape view v none) in
-    let spans = low_high_span shape (broadcast_of shape view).strides in
-    let whole = low_high_span view.shape view.strides in
-    record {
-      valid = record {
-        same_count = part.counts;
-        size_fits = (can_broadcast shape view.shape none).size_fits;
-        span_fits = omega (arith, part.low, part.high, spans, whole, v.valid.span_fits);
-      };
-      low = omega (arith, part.low, v.low);
-      high = omega (arith, part.high, v.high);
-    }
+-- the view is one of the same data, whose indices lie where their sources do
+pub IsViewOf-broadcast_of : (shape : List ℕ) {view : View} → IsView view → broadcast_fault shape view.shape ≡ None
+    → IsViewOf (broadcast_source view.shape) view (broadcast_of shape view)
+IsViewOf-broadcast_of shape {view} v none = IsViewOf-kept whole (λ entries here.
+    let stays = broadcast_source_kept entries stretches here in
+    (stays.within, omega (arith, ints, stays.offset)))
+  where
+    stretches : Stretches shape view.shape view.strides
+    stretches = stretched v none
 
--- its indices lie where their sources do, so each of its places is one of the view
-pub KeepsPlaces-broadcast_of : (shape : List ℕ) (view : View) → IsView view → broadcast_fault shape view.shape ≡ None → KeepsPlaces (broadcast_source view.shape) view (broadcast_of shape view)
-KeepsPlaces-broadcast_of shape view v none = λ entries here.
-    let stays = broadcast_source_kept shape view.shape view.strides entries (stretched shape view v none) here in
-    (stays.within, omega (arith, ints, stays.offset))
-
--- it lies within the data that the view lies within
-pub LiesWithin-broadcast_of : (len : ℕ) (shape : List ℕ) (view : View) → IsView view → broadcast_fault shape view.shape ≡ None → LiesWithin len view → LiesWithin len (broadcast_of shape view)
-LiesWithin-broadcast_of len shape view v none within = LiesWithin-kept len (broadcast_source view.shape) view (broadcast_of shape view) (KeepsPlaces-broadcast_of shape view v none) within
+    whole : IsView (broadcast_of shape view)
+    whole =
+        let part = broadcast_kept stretches in
+        IsView-within v part.counts (can_broadcast {shape = shape} none).size_fits
+        (omega (arith, part.low)) (omega (arith, part.high))

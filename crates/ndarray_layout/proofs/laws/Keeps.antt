@@ -1,5 +1,6 @@
 -- Laws of strides that keep the places of a layout: there are some exactly where the sizes agree and no joint is bad.
-use Rattle.std.proofs.Common.{◌≡◌, ℕ, suc, ◌-◌, ◌%◌, ◌<◌, false, ℤ, pos, List, [], ◌∷◌, length, get_or, map, reverse, refl, sym, ap, ◌∙◌, inl, inr, arith, subst}
+use Rattle.std.proofs.Common.{◌≡◌, ℕ, suc, ◌-◌, ◌%◌, ◌<◌, false, ℤ, pos, List, [], ◌∷◌, length, get_or, map, reverse, refl, sym, ap, ◌∙◌}
+use Rattle.std.proofs.Common.{inl, inr, arith, subst}
 use Rattle.std.specs.Prelude.{◌↔◌, ◌==◌, Bool, Some, None, if◌then◌else◌}
 use Rattle.std.proofs.lemmas.Bool.{cases_Bool, cases_lt, cond-true, cond-false, eq-eqb, eqb-true}
 use Rattle.std.proofs.lemmas.Int.{ints}
@@ -8,11 +9,8 @@ use Rattle.std.proofs.lemmas.List.FromFn.{fill_by_all, length-map-range_with_len
 use Rattle.nd_base.specs.declared.error.ErrorKind.TheVariants.{IncompatibleShape, IncompatibleLayout}
 use Rattle.nd_base.specs.declared.order.Order.{Order}
 use Rattle.nd_base.specs.declared.order.Order.TheVariants.{RowMajor, ColumnMajor}
-use Rattle.nd_base.specs.Indices.{below, indices_in}
-use Rattle.nd_base.specs.Offset.{offset_of}
-use Rattle.nd_base.specs.Place.{place, places}
-use Rattle.nd_base.specs.Rank.{index_of_rank, index_of_rank_in}
-use Rattle.nd_base.specs.Size.{size, is_empty}
+use Rattle.nd_base.proofs.laws.Definitions.{below, indices_in, offset_of, place, places, index_of_rank, index_of_rank_in, as_read}
+use Rattle.nd_base.proofs.laws.Definitions.{is_empty, size}
 use Rattle.nd_base.proofs.laws.Indices.{get_or-indices_in, length-indices_in}
 use Rattle.nd_base.proofs.laws.Offset.{offset_of-reverse}
 use Rattle.nd_base.proofs.laws.Reading.{length-as_read, as_read-as_read, size-as_read, is_empty-as_read}
@@ -20,7 +18,6 @@ use Rattle.nd_dim.specs.Strides.{size_after}
 use Rattle.ndarray_layout.specs.reshape.ForcedStrides.{forced_strides, offset_at_rank, stride_at}
 use Rattle.ndarray_layout.specs.reshape.Joints.{has_bad_joint}
 use Rattle.ndarray_layout.specs.reshape.Keeps.{Keeps, AgreeOnLonger}
-use Rattle.nd_base.specs.Reading.{as_read}
 use Rattle.ndarray_layout.specs.reshape.ReshapeFault.{reshape_fault}
 use Rattle.ndarray_layout.specs.private.ReshapeProgress.{PlacesAlike}
 use Rattle.ndarray_layout.proofs.reshapes.Complete.{good-of-alike, alike-of-good}
@@ -31,15 +28,18 @@ length-index_of_rank [] r = refl
 length-index_of_rank (len ∷ shape) r = ap suc (length-index_of_rank shape (r % size shape))
 
 -- the index of a rank lies as far as that of the axes as they are read
-pub offset-as_read : (order : Order) (shape : List ℕ) (strides : List ℤ) (r : ℕ) → length shape ≡ length strides → offset_of strides (index_of_rank_in order shape r) ≡ offset_of (as_read order strides) (index_of_rank (as_read order shape) r)
+pub offset-as_read : (order : Order) (shape : List ℕ) (strides : List ℤ) (r : ℕ) → length shape ≡ length strides
+    → offset_of strides (index_of_rank_in order shape r) ≡ offset_of (as_read order strides) (index_of_rank (as_read order shape) r)
 offset-as_read RowMajor shape strides r e = refl
 offset-as_read ColumnMajor shape strides r e =
     let index = index_of_rank (reverse shape) r in
     ap (λ ss. offset_of ss (reverse index)) (sym (reverse-reverse strides))
-    ∙ offset_of-reverse (reverse strides) index (length-reverse strides ∙ sym e ∙ sym (length-reverse shape) ∙ sym (length-index_of_rank (reverse shape) r))
+    ∙ offset_of-reverse (reverse strides) index (length-reverse strides ∙ sym e ∙ sym (length-reverse shape)
+    ∙ sym (length-index_of_rank (reverse shape) r))
 
 -- ---- places by rank
-place-at-rank : (order : Order) (shape : List ℕ) (strides : List ℤ) (r : ℕ) → r < size shape → get_or (places order 0 shape strides) r (pos 0) ≡ offset_of strides (index_of_rank_in order shape r)
+place-at-rank : (order : Order) (shape : List ℕ) (strides : List ℤ) (r : ℕ) → r < size shape
+    → get_or (places order 0 shape strides) r (pos 0) ≡ offset_of strides (index_of_rank_in order shape r)
 place-at-rank order shape strides r h =
     let long = length-indices_in order shape in
     get_or-map (place 0 strides) (indices_in order shape) r [] (pos 0) (omega (arith, long))
@@ -49,27 +49,35 @@ place-at-rank order shape strides r h =
 count-places : (order : Order) (shape : List ℕ) (strides : List ℤ) → length (places order 0 shape strides) ≡ size shape
 count-places order shape strides = length-map (indices_in order shape) (place 0 strides) ∙ length-indices_in order shape
 
--- strides that keep the places leave the size
-pub size-of-keeps : (order : Order) (from : List ℕ) (strides : List ℤ) (to : List ℕ) (others : List ℤ) → Keeps order from strides to others → size from ≡ size to
-size-of-keeps order from strides to others k = sym (count-places order from strides) ∙ sym (ap length k.same_places) ∙ count-places order to others
+module _ {order : Order} {from : List ℕ} {strides : List ℤ} {to : List ℕ} {others : List ℤ} where
+  -- strides that keep the places leave the size
+  pub size-of-keeps : Keeps order from strides to others → size from ≡ size to
+  size-of-keeps k = sym (count-places order from strides) ∙ sym (ap length k.same_places) ∙ count-places order to others
 
-pub alike-of-keeps : (order : Order) (from : List ℕ) (strides : List ℤ) (to : List ℕ) (others : List ℤ) → length from ≡ length strides → Keeps order from strides to others → PlacesAlike (as_read order from) (as_read order strides) (as_read order to) (as_read order others)
-alike-of-keeps order from strides to others e k r l =
-    let sizes = size-of-keeps order from strides to others k in
-    let whole = size-as_read order from in
-    sym (offset-as_read order to others r k.same_count)
-    ∙ sym (place-at-rank order to others r (omega arith))
-    ∙ ap (λ xs. get_or xs r (pos 0)) k.same_places
-    ∙ place-at-rank order from strides r (omega arith)
-    ∙ offset-as_read order from strides r e
+  pub alike-of-keeps : length from ≡ length strides → Keeps order from strides to others
+      → PlacesAlike (as_read order from) (as_read order strides) (as_read order to) (as_read order others)
+  alike-of-keeps e k r l =
+      let sizes = size-of-keeps k in
+      let whole = size-as_read order from in
+      sym (offset-as_read order to others r k.same_count)
+      ∙ sym (place-at-rank order to others r (omega arith))
+      ∙ ap (λ xs. get_or xs r (pos 0)) k.same_places
+      ∙ place-at-rank order from strides r (omega arith)
+      ∙ offset-as_read order from strides r e
 
-pub keeps-of-alike : (order : Order) (from : List ℕ) (strides : List ℤ) (to : List ℕ) (others : List ℤ) → length from ≡ length strides → length to ≡ length others → size from ≡ size to → PlacesAlike (as_read order from) (as_read order strides) (as_read order to) (as_read order others) → Keeps order from strides to others
+pub keeps-of-alike : (order : Order) (from : List ℕ) (strides : List ℤ) (to : List ℕ) (others : List ℤ) → length from ≡ length strides
+    → length to ≡ length others → size from ≡ size to
+    → PlacesAlike (as_read order from) (as_read order strides) (as_read order to) (as_read order others)
+    → Keeps order from strides to others
 keeps-of-alike order from strides to others e g sizes alike =
     let by_rank = λ (r : ℕ). offset_of strides (index_of_rank_in order from r) in
     let whole = size-as_read order from in
-    let there : places order 0 to others ≡ map by_rank (below (size to)) = fill_by_all by_rank (places order 0 to others) (size to) (pos 0) (count-places order to others) (λ r l.
-    place-at-rank order to others r l ∙ offset-as_read order to others r g ∙ alike r (omega arith) ∙ sym (offset-as_read order from strides r e)) in
-    let here : places order 0 from strides ≡ map by_rank (below (size from)) = fill_by_all by_rank (places order 0 from strides) (size from) (pos 0) (count-places order from strides) (λ r l. place-at-rank order from strides r l) in
+    let there : places order 0 to others ≡ map by_rank (below (size to)) = fill_by_all by_rank (places order 0 to others) (size to) (pos 0)
+    (count-places order to others) (λ r l.
+    place-at-rank order to others r l ∙ offset-as_read order to others r g ∙ alike r (omega arith)
+    ∙ sym (offset-as_read order from strides r e)) in
+    let here : places order 0 from strides ≡ map by_rank (below (size from)) = fill_by_all by_rank (places order 0 from strides) (size from)
+    (pos 0) (count-places order from strides) (λ r l. place-at-rank order from strides r l) in
     record { same_count = g; same_places = there ∙ ap (λ n. map by_rank (below n)) (sym sizes) ∙ sym here }
 
 -- ---- reshape is complete
@@ -78,7 +86,8 @@ abbrev pub Fits : Order → List ℕ → List ℤ → List ℕ → Type 0
 Fits order from strides to = (size from ≡ size to) × (has_bad_joint (as_read order from) (as_read order strides) (as_read order to) ≡ false)
 
 -- exactly there some strides, any whole numbers, keep the places
-pub keeps-exactly : (order : Order) (from : List ℕ) (strides : List ℤ) (to : List ℕ) → is_empty from ≡ false → is_empty to ≡ false → length from ≡ length strides → Fits order from strides to ↔ ((others : List ℤ) × Keeps order from strides to others)
+pub keeps-exactly : (order : Order) (from : List ℕ) (strides : List ℤ) (to : List ℕ) → is_empty from ≡ false → is_empty to ≡ false
+    → length from ≡ length strides → Fits order from strides to ↔ ((others : List ℤ) × Keeps order from strides to others)
 keeps-exactly order from strides to some more e = (λ fits. make fits, λ k. fit k)
   where
     from_read : is_empty (as_read order from) ≡ false
@@ -92,42 +101,63 @@ keeps-exactly order from strides to some more e = (λ fits. make fits, λ k. fit
 
     fit : (others : List ℤ) × Keeps order from strides to others → Fits order from strides to
     fit k =
-        let sizes = size-of-keeps order from strides to k.0 k.1 in
-        let equal : length (as_read order to) ≡ length (as_read order k.0) = length-as_read order to ∙ k.1.same_count ∙ sym (length-as_read order k.0) in
-        (sizes, good-of-alike (as_read order from) (as_read order strides) (as_read order to) (as_read order k.0) from_read to_read counts equal (size-as_read order from ∙ sizes ∙ sym (size-as_read order to)) (alike-of-keeps order from strides to k.0 e k.1))
+        let sizes = size-of-keeps k.1 in
+        let equal : length (as_read order to) ≡ length (as_read order k.0) = length-as_read order to ∙ k.1.same_count
+        ∙ sym (length-as_read order k.0) in (
+          sizes,
+          good-of-alike (as_read order from) (as_read order strides) (as_read order to) (as_read order k.0) from_read to_read counts
+              equal (size-as_read order from ∙ sizes ∙ sym (size-as_read order to)) (alike-of-keeps e k.1),
+        )
 
     make : Fits order from strides to → (others : List ℤ) × Keeps order from strides to others
     make fits =
-        let made = alike-of-good (as_read order from) (as_read order strides) (as_read order to) from_read to_read counts (size-as_read order from ∙ fits.0 ∙ sym (size-as_read order to)) fits.1 in
+        let made = alike-of-good (as_read order from) (as_read order strides) (as_read order to) from_read to_read counts
+        (size-as_read order from ∙ fits.0 ∙ sym (size-as_read order to)) fits.1 in
         let others = as_read order made.0 in
-        let equal : length to ≡ length others = sym (length-as_read order to) ∙ made.1 ∙ sym (length-as_read order made.0) in
-        (others, keeps-of-alike order from strides to others e equal fits.0 (subst (PlacesAlike (as_read order from) (as_read order strides) (as_read order to)) (sym (as_read-as_read order made.0)) made.2))
+        let equal : length to ≡ length others = sym (length-as_read order to) ∙ made.1 ∙ sym (length-as_read order made.0) in (
+          others,
+          keeps-of-alike order from strides to others e equal fits.0
+              (subst (PlacesAlike (as_read order from) (as_read order strides) (as_read order to)) (sym (as_read-as_read order made.0))
+              made.2),
+        )
 
 -- ---- and then the strides of the definition do
 -- on each axis of more than one entry all strides that keep the places are those of the definition
-pub keeps-forced : (order : Order) (from : List ℕ) (strides : List ℤ) (to : List ℕ) (others : List ℤ) (axis : ℕ) → is_empty to ≡ false → length from ≡ length strides → Keeps order from strides to others →
-    axis < length to → 1 < get_or (as_read order to) axis 0 → get_or (as_read order others) axis (pos 0) ≡ offset_at_rank (as_read order from) (as_read order strides) (size_after (as_read order to) axis)
-keeps-forced order from strides to others axis more e k l long =
-    let sizes = size-of-keeps order from strides to others k in
-    let equal : length (as_read order to) ≡ length (as_read order others) = length-as_read order to ∙ k.same_count ∙ sym (length-as_read order others) in
+pub keeps-forced : {order : Order} {from : List ℕ} {strides : List ℤ} {to : List ℕ} {others : List ℤ} (axis : ℕ) → is_empty to ≡ false
+    → length from ≡ length strides → Keeps order from strides to others → axis < length to → 1 < get_or (as_read order to) axis 0
+    → get_or (as_read order others) axis (pos 0) ≡ offset_at_rank (as_read order from) (as_read order strides)
+    (size_after (as_read order to) axis)
+keeps-forced {order} {from} {strides} {to} {others} axis more e k l long =
+    let sizes = size-of-keeps k in
+    let equal : length (as_read order to) ≡ length (as_read order others) = length-as_read order to ∙ k.same_count
+    ∙ sym (length-as_read order others) in
     let count = length-as_read order to in
-    forced-of-alike (as_read order from) (as_read order strides) (as_read order to) (as_read order others) axis (is_empty-as_read order to ∙ more) (size-as_read order from ∙ sizes ∙ sym (size-as_read order to)) equal (alike-of-keeps order from strides to others e k) (omega arith) long
+    forced-of-alike (as_read order from) (as_read order strides) (as_read order to) (as_read order others) axis (is_empty-as_read order to
+    ∙ more) (size-as_read order from ∙ sizes ∙ sym (size-as_read order to)) equal (alike-of-keeps e k) (omega arith) long
 
-pub forced-keeps : (order : Order) (from : List ℕ) (strides : List ℤ) (to : List ℕ) → is_empty from ≡ false → is_empty to ≡ false → length from ≡ length strides → Fits order from strides to → Keeps order from strides to (forced_strides order from strides to)
+pub forced-keeps : (order : Order) (from : List ℕ) (strides : List ℤ) (to : List ℕ) → is_empty from ≡ false → is_empty to ≡ false
+    → length from ≡ length strides → Fits order from strides to → Keeps order from strides to (forced_strides order from strides to)
 forced-keeps order from strides to some more e fits =
     let kept = (keeps-exactly order from strides to some more e).0 fits in
     let others = kept.0 in
     let sizes : size (as_read order from) ≡ size (as_read order to) = size-as_read order from ∙ fits.0 ∙ sym (size-as_read order to) in
-    let equal : length (as_read order to) ≡ length (as_read order others) = length-as_read order to ∙ kept.1.same_count ∙ sym (length-as_read order others) in
+    let equal : length (as_read order to) ≡ length (as_read order others) = length-as_read order to ∙ kept.1.same_count
+    ∙ sym (length-as_read order others) in
     let at = stride_at (as_read order from) (as_read order strides) (as_read order to) in
-    let made : PlacesAlike (as_read order from) (as_read order strides) (as_read order to) (map at (below (length (as_read order to)))) = alike-forced (as_read order from) (as_read order strides) (as_read order to) (as_read order others) (is_empty-as_read order to ∙ more) sizes equal (alike-of-keeps order from strides to others e kept.1) in
-    let read : map at (below (length (as_read order to))) ≡ as_read order (forced_strides order from strides to) = ap (λ n. map at (below n)) (length-as_read order to) ∙ sym (as_read-as_read order (map at (below (length to)))) in
-    let counts : length to ≡ length (forced_strides order from strides to) = sym (length-map-range_with_len at 0 (length to)) ∙ sym (length-as_read order (map at (below (length to)))) in
-    keeps-of-alike order from strides to (forced_strides order from strides to) e counts fits.0 (subst (PlacesAlike (as_read order from) (as_read order strides) (as_read order to)) read made)
+    let made : PlacesAlike (as_read order from) (as_read order strides) (as_read order to) (map at (below (length (as_read order to)))) =
+    alike-forced (as_read order from) (as_read order strides) (as_read order to) (as_read order others) (is_empty-as_read order to
+    ∙ more) sizes equal (alike-of-keeps e kept.1) in
+    let read : map at (below (length (as_read order to))) ≡ as_read order (forced_strides order from strides to) =
+    ap (λ n. map at (below n)) (length-as_read order to) ∙ sym (as_read-as_read order (map at (below (length to)))) in
+    let counts : length to ≡ length (forced_strides order from strides to) = sym (length-map-range_with_len at 0 (length to))
+    ∙ sym (length-as_read order (map at (below (length to)))) in
+    keeps-of-alike order from strides to (forced_strides order from strides to) e counts fits.0
+    (subst (PlacesAlike (as_read order from) (as_read order strides) (as_read order to)) read made)
 
 -- ---- the fault of a reshape
 -- there is none exactly where the sizes agree and no joint is bad
-pub fault-exactly : (order : Order) (from : List ℕ) (strides : List ℤ) (to : List ℕ) → (reshape_fault order from strides to ≡ None) ↔ Fits order from strides to
+pub fault-exactly : (order : Order) (from : List ℕ) (strides : List ℤ) (to : List ℕ)
+    → (reshape_fault order from strides to ≡ None) ↔ Fits order from strides to
 fault-exactly order from strides to = (λ none. fit none, λ fits. fault fits)
   where
     bad : Bool
@@ -138,13 +168,16 @@ fault-exactly order from strides to = (λ none. fit none, λ fits. fault fits)
 
     fault : Fits order from strides to → reshape_fault order from strides to ≡ None
     fault fits = cond-false bad (Some IncompatibleLayout) (if same then None else Some IncompatibleShape) fits.1
-        ∙ cond-true same None (Some IncompatibleShape) (eq-eqb (size (as_read order from)) (size (as_read order to)) (size-as_read order from ∙ fits.0 ∙ sym (size-as_read order to)))
+        ∙ cond-true same None (Some IncompatibleShape) (eq-eqb (size (as_read order from)) (size (as_read order to))
+        (size-as_read order from ∙ fits.0 ∙ sym (size-as_read order to)))
 
     sizes : bad ≡ false → reshape_fault order from strides to ≡ None → size from ≡ size to
     sizes good none = elim (cases_Bool same) [
-      | inl equal ↦ sym (size-as_read order from) ∙ eqb-true (size (as_read order from)) (size (as_read order to)) equal ∙ size-as_read order to
+      | inl equal ↦ sym (size-as_read order from) ∙ eqb-true (size (as_read order from)) (size (as_read order to)) equal
+          ∙ size-as_read order to
       | inr apart ↦
-          let is_shape = sym (cond-false same None (Some IncompatibleShape) apart) ∙ sym (cond-false bad (Some IncompatibleLayout) (if same then None else Some IncompatibleShape) good) ∙ none in
+          let is_shape = sym (cond-false same None (Some IncompatibleShape) apart)
+          ∙ sym (cond-false bad (Some IncompatibleLayout) (if same then None else Some IncompatibleShape) good) ∙ none in
           absurd (cc)
     ]
 
@@ -157,14 +190,16 @@ fault-exactly order from strides to = (λ none. fit none, λ fits. fault fits)
     ]
 
 -- and exactly where some strides keep the places
-pub fault-complete : (order : Order) (from : List ℕ) (strides : List ℤ) (to : List ℕ) → is_empty from ≡ false → is_empty to ≡ false → length from ≡ length strides → (reshape_fault order from strides to ≡ None) ↔ ((others : List ℤ) × Keeps order from strides to others)
+pub fault-complete : (order : Order) (from : List ℕ) (strides : List ℤ) (to : List ℕ) → is_empty from ≡ false → is_empty to ≡ false
+    → length from ≡ length strides → (reshape_fault order from strides to ≡ None) ↔ ((others : List ℤ) × Keeps order from strides to others)
 fault-complete order from strides to some more e =
     let fits = fault-exactly order from strides to in
     let kept = keeps-exactly order from strides to some more e in
     (λ none. kept.0 (fits.0 none), λ k. fits.1 (kept.1 k))
 
 -- an item counted from the back
-from-back : {A : Type 0} (items : List A) (axis : ℕ) (d : A) → axis < length items → get_or (reverse items) (length items - 1 - axis) d ≡ get_or items axis d
+from-back : {A : Type 0} (items : List A) (axis : ℕ) (d : A) → axis < length items
+    → get_or (reverse items) (length items - 1 - axis) d ≡ get_or items axis d
 from-back items axis d l =
     let back : length items - 1 - (length items - 1 - axis) ≡ axis = omega arith in
     get_or-reverse items (length items - 1 - axis) d (omega arith) ∙ ap (λ k. get_or items k d) back
@@ -177,20 +212,25 @@ longer-within lens axis long = elim (cases_lt axis (length lens)) [
 
 -- what agrees as it is read agrees as it stands
 agree-as_read : (order : Order) (to : List ℕ) (others strides : List ℤ) → length to ≡ length others → length to ≡ length strides
-    → ((axis : ℕ) → axis < length to → 1 < get_or (as_read order to) axis 0 → get_or (as_read order others) axis (pos 0) ≡ get_or (as_read order strides) axis (pos 0))
+    → ((axis : ℕ) → axis < length to → 1 < get_or (as_read order to) axis 0 → get_or (as_read order others) axis (pos 0)
+    ≡ get_or (as_read order strides) axis (pos 0))
     → AgreeOnLonger to others strides
 agree-as_read RowMajor to others strides e g agree axis long = agree axis (longer-within to axis long) long
 agree-as_read ColumnMajor to others strides e g agree axis long =
     let l = longer-within to axis long in
     let back = length to - 1 - axis in
-    let one : get_or (reverse others) back (pos 0) ≡ get_or others axis (pos 0) = ap (λ n. get_or (reverse others) (n - 1 - axis) (pos 0)) e ∙ from-back others axis (pos 0) (omega arith) in
-    let other : get_or (reverse strides) back (pos 0) ≡ get_or strides axis (pos 0) = ap (λ n. get_or (reverse strides) (n - 1 - axis) (pos 0)) g ∙ from-back strides axis (pos 0) (omega arith) in
+    let one : get_or (reverse others) back (pos 0) ≡ get_or others axis (pos 0) = ap (λ n. get_or (reverse others) (n - 1 - axis) (pos 0)) e
+    ∙ from-back others axis (pos 0) (omega arith) in
+    let other : get_or (reverse strides) back (pos 0) ≡ get_or strides axis (pos 0) =
+    ap (λ n. get_or (reverse strides) (n - 1 - axis) (pos 0)) g ∙ from-back strides axis (pos 0) (omega arith) in
     sym one ∙ agree back (omega arith) (subst (λ n. 1 < n) (sym (from-back to axis 0 l)) long) ∙ other
 
 -- all strides that do agree with those of the definition on each axis of more than one entry
-pub keeps-agree : (order : Order) (from : List ℕ) (strides : List ℤ) (to : List ℕ) (others : List ℤ) → is_empty from ≡ false → is_empty to ≡ false → length from ≡ length strides → Keeps order from strides to others → AgreeOnLonger to others (forced_strides order from strides to)
-keeps-agree order from strides to others some more e k =
+pub keeps-agree : {order : Order} {from : List ℕ} {strides : List ℤ} {to : List ℕ} {others : List ℤ} → is_empty from ≡ false
+    → is_empty to ≡ false → length from ≡ length strides → Keeps order from strides to others
+    → AgreeOnLonger to others (forced_strides order from strides to)
+keeps-agree {order} {from} {strides} {to} {others} some more e k =
     let forced = forced-keeps order from strides to some more e ((keeps-exactly order from strides to some more e).1 (others, k)) in
     agree-as_read order to others (forced_strides order from strides to) k.same_count forced.same_count (λ axis l long.
-    keeps-forced order from strides to others axis more e k l long
-    ∙ sym (keeps-forced order from strides to (forced_strides order from strides to) axis more e forced l long))
+    keeps-forced axis more e k l long
+    ∙ sym (keeps-forced axis more e forced l long))

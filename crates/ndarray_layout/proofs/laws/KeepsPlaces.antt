@@ -1,50 +1,70 @@
 -- Laws of views whose indices lie where their sources in another view do.
-use Rattle.std.proofs.Common.{◌≡◌, ℕ, ℤ, true, List, map, refl, sym, ap, subst, ◌∙◌, arith}
-use Rattle.std.proofs.Math.ListN.{get_or-map}
-use Rattle.std.proofs.lemmas.List.{length-map}
+use Rattle.std.proofs.Common.{◌≡◌, ℕ, true, List, refl, sym, subst, ◌∙◌}
 use Rattle.std.proofs.lemmas.List.Elements.{All-map, All-weaker}
 use Rattle.std.specs.List.{All, Contains}
 use Rattle.nd_base.specs.declared.order.Order.{Order}
-use Rattle.nd_base.specs.Indices.{is_index, indices_in}
+use Rattle.nd_base.proofs.laws.Definitions.{indices_in, is_index, IsInside}
 use Rattle.nd_base.proofs.laws.Indices.{All-indices_in, Contains-indices_in}
-use Rattle.nd_base.specs.Inside.{IsInside}
-use Rattle.ndarray_layout.specs.DistinctPlaces.{HasDistinctPlaces}
+use Rattle.ndarray_layout.specs.Descends.{Descends, IsViewOf}
 use Rattle.ndarray_layout.specs.KeepsPlaces.{KeepsPlaces}
-use Rattle.ndarray_layout.specs.View.{View, LiesWithin, place_at, view_places}
+use Rattle.ndarray_layout.specs.View.{View, IsView, LiesWithin, place_at, view_places}
+use Rattle.nd_base.proofs.laws.Lists.{Contains-map}
 
 -- such a view lies within the data that the other lies within
-pub LiesWithin-kept : (len : ℕ) (source : List ℕ → List ℕ) (view result : View) → KeepsPlaces source view result → LiesWithin len view → LiesWithin len result
+pub LiesWithin-kept : (len : ℕ) (source : List ℕ → List ℕ) (view result : View) → KeepsPlaces source view result → LiesWithin len view
+    → LiesWithin len result
 LiesWithin-kept len source view result keeps within = λ index here.
     let stays = keeps index here in
     subst (IsInside len) (sym stays.1) (within (source index) stays.0)
 
--- and where no two indices of the other share a place, and different indices have different sources, no two of it do
-pub HasDistinctPlaces-kept : (source : List ℕ → List ℕ) (view result : View) → KeepsPlaces source view result → ((index other : List ℕ) → is_index result.shape index ≡ true → is_index result.shape other ≡ true → source index ≡ source other → index ≡ other) → HasDistinctPlaces view → HasDistinctPlaces result
-HasDistinctPlaces-kept source view result keeps injective distinct = λ index other here there same.
-    let first = keeps index here in
-    let second = keeps other there in
-    injective index other here there (distinct (source index) (source other) first.0 second.0 (sym first.1 ∙ same ∙ second.1))
+-- so a view whose indices lie where their sources do is one of the same data
+pub IsViewOf-kept : {source : List ℕ → List ℕ} {old new : View} → IsView new → KeepsPlaces source old new → IsViewOf source old new
+IsViewOf-kept {source} {old} {new} v keeps =
+    record { is_view = v; places = keeps; inside = λ len. LiesWithin-kept len source old new keeps }
 
--- a view keeps its own places
-pub KeepsPlaces-stayed : (view : View) → KeepsPlaces (λ index. index) view view
-KeepsPlaces-stayed view = λ index here. (here, refl)
+-- different indices of the result stand for different ones
+abbrev pub AreApart : (List ℕ → List ℕ) → View → Type 0
+AreApart source new = (index other : List ℕ) → is_index new.shape index ≡ true → is_index new.shape other ≡ true → source index
+    ≡ source other → index ≡ other
 
--- and a view's view keeps them, by the sources of the sources
-pub KeepsPlaces-in_turn : (source more : List ℕ → List ℕ) (view between result : View) → KeepsPlaces source view between → KeepsPlaces more between result → KeepsPlaces (λ index. source (more index)) view result
-KeepsPlaces-in_turn source more view between result first second = λ index here.
-    let near = second index here in
-    let far = first (more index) near.0 in
-    (far.0, near.1 ∙ far.1)
+-- and then no two of them share a place where no two of the view do
+pub Descends-kept : {source : List ℕ → List ℕ} {old new : View} → IsView new → KeepsPlaces source old new → AreApart source new
+    → Descends source old new
+Descends-kept {source} {old} {new} v keeps apart = record {
+  is_view = v;
+  places = keeps;
+  inside = λ len. LiesWithin-kept len source old new keeps;
+  distinct = λ distinct index other here there same.
+      let first = keeps index here in
+      let second = keeps other there in
+      apart index other here there (distinct (source index) (source other) first.0 second.0 (sym first.1 ∙ same ∙ second.1));
+}
 
-contained : (f : List ℕ → ℤ) (xs : List (List ℕ)) (x : List ℕ) → Contains xs x → Contains (map f xs) (f x)
-contained f xs x here = (here.0, omega (arith, length-map xs f, here.1), get_or-map f xs here.0 x ∙ ap f here.2)
+pub IsViewOf-Descends : {source : List ℕ → List ℕ} {old new : View} → Descends source old new → IsViewOf source old new
+IsViewOf-Descends d = record { is_view = d.is_view; places = d.places; inside = d.inside }
+
+-- a view is one of its own data
+pub IsViewOf-stayed : {view : View} → IsView view → IsViewOf (λ index. index) view view
+IsViewOf-stayed v = record { is_view = v; places = λ index here. (here, refl); inside = λ len within. within }
+
+-- and a view's view is one of the first one's, by the sources of the sources
+pub IsViewOf-in_turn : {source more : List ℕ → List ℕ} {view between result : View} → IsViewOf source view between
+    → IsViewOf more between result
+    → IsViewOf (λ index. source (more index)) view result
+IsViewOf-in_turn {source} {more} {view} {between} {result} first second = IsViewOf-kept second.is_view (λ index here.
+    let near = second.places index here in
+    let far = first.places (more index) near.0 in
+    (far.0, near.1 ∙ far.1))
 
 -- each of its places is one of the other's
-pub places_are_kept : (order : Order) (source : List ℕ → List ℕ) (view result : View) → KeepsPlaces source view result → All (Contains (view_places order view)) (view_places order result)
+pub places_are_kept : (order : Order) (source : List ℕ → List ℕ) (view result : View) → KeepsPlaces source view result
+    → All (Contains (view_places order view)) (view_places order result)
 places_are_kept order source view result keeps =
     let places = view_places order view in
     let stays : (index : List ℕ) → is_index result.shape index ≡ true → Contains places (place_at result index) = λ index here.
     let kept = keeps index here in
-    subst (Contains places) (sym kept.1) (contained (place_at view) (indices_in order view.shape) (source index) (Contains-indices_in order view.shape (source index) kept.0)) in
+    subst (Contains places) (sym kept.1) (Contains-map (place_at view) (indices_in order view.shape)
+    (Contains-indices_in order view.shape (source index) kept.0)) in
     let indices = indices_in order result.shape in
-    All-map (Contains places) (place_at result) indices (All-weaker (λ index. is_index result.shape index ≡ true) (λ index. Contains places (place_at result index)) stays indices (All-indices_in order result.shape))
+    All-map (Contains places) (place_at result) indices (All-weaker (λ index. is_index result.shape index ≡ true)
+    (λ index. Contains places (place_at result index)) stays indices (All-indices_in order result.shape))

@@ -1,5 +1,6 @@
 -- Laws of views in which an axis was merged into another.
-use Rattle.std.proofs.Common.{◌≡◌, ◌↔◌, ◌≢◌, ℕ, ◌<◌, ℤ, pos, Bool, true, false, not, cond, eqb, ltb, leb, Option, Some, None, List, length, get_or, nat_lt, refl, subst, sym, arith}
+use Rattle.std.proofs.Common.{◌≡◌, ◌↔◌, ◌≢◌, ℕ, ◌<◌, ℤ, pos, Bool, true, false, not, cond, eqb, ltb, leb, Option, Some, None, List, length}
+use Rattle.std.proofs.Common.{get_or, nat_lt, refl, arith}
 use Rattle.std.proofs.lemmas.Bool.{and_parts, ltb-true, eqb-false}
 use Rattle.std.proofs.lemmas.Bool.Decides.{same_from_decides}
 use Rattle.std.proofs.lemmas.Int.{ints}
@@ -8,19 +9,20 @@ use Rattle.std.specs.Option.{option_or}
 use Rattle.std.specs.Prelude.{◌&&◌}
 use Rattle.nd_base.specs.declared.error.ErrorKind.{ErrorKind}
 use Rattle.nd_base.specs.declared.error.ErrorKind.TheVariants.{IncompatibleLayout, OutOfBounds, Unsupported}
-use Rattle.nd_base.proofs.laws.Span.{low_high_span}
 use Rattle.nd_shape.specs.Merge.{IsMergedStride, merged_stride}
 use Rattle.nd_shape.proofs.laws.Merge.{merge_fits-Decides, merged_stride_serves}
-use Rattle.ndarray_layout.specs.DistinctPlaces.{HasDistinctPlaces}
-use Rattle.ndarray_layout.specs.KeepsPlaces.{KeepsPlaces}
-use Rattle.ndarray_layout.specs.MergedView.{axes_fault, HasMergedStride, has_merged_stride, merge_fault, lasting_axis, merge_of, merge_source}
-use Rattle.ndarray_layout.specs.View.{View, IsView, LiesWithin}
-use Rattle.ndarray_layout.proofs.laws.KeepsPlaces.{LiesWithin-kept, HasDistinctPlaces-kept}
-use Rattle.ndarray_layout.proofs.Merged.{TwoAxes, MergeKept, merge_kept, merge_source_kept, merge_source_injective}
+use Rattle.ndarray_layout.specs.Descends.{Descends}
+use Rattle.ndarray_layout.specs.MergedView.{axes_fault, HasMergedStride, has_merged_stride, merge_fault, lasting_axis, merge_of}
+use Rattle.ndarray_layout.specs.MergedView.{merge_source}
+use Rattle.ndarray_layout.specs.View.{View, IsView}
+use Rattle.ndarray_layout.proofs.laws.KeepsPlaces.{Descends-kept}
+use Rattle.ndarray_layout.proofs.laws.View.{IsView-within}
+use Rattle.ndarray_layout.proofs.Merged.{TwoAxes, merge_kept, merge_source_kept, merge_source_injective}
 
 -- the test says where some stride has the entries of both axes
 pub has_merged_stride-Decides : (take into : ℕ) (view : View) → Decides (has_merged_stride take into view) (HasMergedStride take into view)
-has_merged_stride-Decides take into view = merge_fits-Decides (get_or view.shape take 0) (get_or view.strides take (pos 0)) (get_or view.shape into 0) (get_or view.strides into (pos 0))
+has_merged_stride-Decides take into view = merge_fits-Decides (get_or view.shape take 0) (get_or view.strides take (pos 0))
+    (get_or view.shape into 0) (get_or view.strides into (pos 0))
 
 -- axes without fault are two that there are
 pub record AreTwoAxes (shape : List ℕ) (take into : ℕ) : Type 0 where
@@ -53,7 +55,8 @@ can_merge take into view none =
     let parts = by (axes_fault view.shape take into) (has_merged_stride take into view) none in
     record { axes = parts.0; stride = parts.1 }
   where
-    by : (axes : Option ErrorKind) (fits : Bool) → option_or axes (cond fits None (Some IncompatibleLayout)) ≡ None → (axes ≡ None) × (fits ≡ true)
+    by : (axes : Option ErrorKind) (fits : Bool) → option_or axes (cond fits None (Some IncompatibleLayout)) ≡ None
+        → (axes ≡ None) × (fits ≡ true)
     by None true none = (refl, refl)
     by None false none = absurd (cc)
     by (Some kind) fits none = absurd (cc)
@@ -62,60 +65,53 @@ pub no_fault_where_it_can : (take into : ℕ) (view : View) → CanMerge take in
 no_fault_where_it_can take into view can = rw (can.axes, can.stride) refl
 
 -- so a merge's answer says what its fault is, where the axes have to be merged
-pub merge_fault_of_answer : (take into : ℕ) (view : View) (merged : Bool) → axes_fault view.shape take into ≡ None → (merged ≡ true) ↔ HasMergedStride take into view → merge_fault take into view ≡ cond merged None (Some IncompatibleLayout)
-merge_fault_of_answer take into view merged none fits =
-    let same : has_merged_stride take into view ≡ merged = same_from_decides (has_merged_stride take into view) merged (has_merged_stride-Decides take into view) fits in
+pub merge_fault_of_answer : (take into : ℕ) (view : View) {merged : Bool} → axes_fault view.shape take into ≡ None
+    → (merged ≡ true) ↔ HasMergedStride take into view → merge_fault take into view ≡ cond merged None (Some IncompatibleLayout)
+merge_fault_of_answer take into view {merged} none fits =
+    let same : has_merged_stride take into view ≡ merged = same_from_decides (has_merged_stride take into view) merged
+    (has_merged_stride-Decides take into view) fits in
     rw (none, same) refl
 
-two_axes : (take into : ℕ) (view : View) → IsView view → axes_fault view.shape take into ≡ None → TwoAxes view.shape view.strides take into
-two_axes take into view v none =
+two_axes : {take into : ℕ} {view : View} → IsView view → axes_fault view.shape take into ≡ None → TwoAxes view.shape view.strides take into
+two_axes {take} {into} {view} v none =
     let axes = axes_of_no_fault view.shape take into none in
     record { counts = v.valid.same_count; taken_there = axes.take_there; into_there = axes.into_there; apart = axes.apart }
 
 -- the stride of the axis that lasts is the one that has them
-stride_of : (strides : List ℤ) (take into : ℕ) (taken : Bool) → get_or strides (cond taken take into) (pos 0) ≡ cond taken (get_or strides take (pos 0)) (get_or strides into (pos 0))
+stride_of : (strides : List ℤ) (take into : ℕ) (taken : Bool)
+    → get_or strides (cond taken take into) (pos 0) ≡ cond taken (get_or strides take (pos 0)) (get_or strides into (pos 0))
 stride_of strides take into true = refl
 stride_of strides take into false = refl
 
-lasting : (take into : ℕ) (view : View) → get_or view.strides (lasting_axis take into view.shape) (pos 0) ≡ merged_stride (get_or view.shape take 0) (get_or view.strides take (pos 0)) (get_or view.shape into 0) (get_or view.strides into (pos 0))
+lasting : (take into : ℕ) (view : View)
+    → get_or view.strides (lasting_axis take into view.shape) (pos 0) ≡ merged_stride (get_or view.shape take 0)
+    (get_or view.strides take (pos 0)) (get_or view.shape into 0) (get_or view.strides into (pos 0))
 lasting take into view = stride_of view.strides take into (ltb 1 (get_or view.shape take 0) && leb (get_or view.shape into 0) 1)
 
-kept : (take into : ℕ) (view : View) → IsView view → merge_fault take into view ≡ None → MergeKept view.shape view.strides take into (get_or view.strides (lasting_axis take into view.shape) (pos 0))
-kept take into view v none =
-    let can = can_merge take into view none in
-    merge_kept view.shape view.strides take into (get_or view.strides (lasting_axis take into view.shape) (pos 0)) (two_axes take into view v can.axes) can.stride (lasting take into view)
+-- axes of a view that can be merged
+module _ (take into : ℕ) (view : View) (v : IsView view) (none : merge_fault take into view ≡ None) where
+  can : CanMerge take into view
+  can = can_merge take into view none
 
--- the view is one
-pub IsView-merge_of : (take into : ℕ) (view : View) → IsView view → merge_fault take into view ≡ None → IsView (merge_of take into view)
-IsView-merge_of take into view v none =
-    let part = kept take into view v none in
-    let merged = merge_of take into view in
-    let spans = low_high_span merged.shape merged.strides in
-    let whole = low_high_span view.shape view.strides in
-    record {
-      valid = record {
-        same_count = part.counts;
-        size_fits = omega (arith, part.size, v.valid.size_fits);
-        span_fits = omega (arith, part.low, part.high, spans, whole, v.valid.span_fits);
-      };
-      low = omega (arith, part.low, v.low);
-      high = omega (arith, part.high, v.high);
-    }
+  axes : AreTwoAxes view.shape take into
+  axes = axes_of_no_fault view.shape take into can.axes
 
--- its indices lie where their sources do
-pub KeepsPlaces-merge_of : (take into : ℕ) (view : View) → IsView view → merge_fault take into view ≡ None → KeepsPlaces (merge_source take into view.shape) view (merge_of take into view)
-KeepsPlaces-merge_of take into view v none = λ entries here.
-    let can = can_merge take into view none in
-    let serves = subst (IsMergedStride (get_or view.shape take 0) (get_or view.strides take (pos 0)) (get_or view.shape into 0) (get_or view.strides into (pos 0))) (sym (lasting take into view)) (merged_stride_serves (get_or view.shape take 0) (get_or view.strides take (pos 0)) (get_or view.shape into 0) (get_or view.strides into (pos 0)) can.stride) in
-    let stays = merge_source_kept view.shape view.strides take into (get_or view.strides (lasting_axis take into view.shape) (pos 0)) entries (two_axes take into view v can.axes) serves here in
-    (stays.within, omega (arith, ints, stays.offset))
+  two : TwoAxes view.shape view.strides take into
+  two = two_axes v can.axes
 
--- it lies within the data that the view lies within
-pub LiesWithin-merge_of : (len take into : ℕ) (view : View) → IsView view → merge_fault take into view ≡ None → LiesWithin len view → LiesWithin len (merge_of take into view)
-LiesWithin-merge_of len take into view v none within = LiesWithin-kept len (merge_source take into view.shape) view (merge_of take into view) (KeepsPlaces-merge_of take into view v none) within
+  serves : IsMergedStride (get_or view.shape take 0) (get_or view.strides take (pos 0)) (get_or view.shape into 0)
+      (get_or view.strides into (pos 0)) (get_or view.strides (lasting_axis take into view.shape) (pos 0))
+  serves = rw (lasting take into view) (merged_stride_serves _ _ _ _ can.stride)
 
--- and where no two indices of the view share a place, no two of it do
-pub HasDistinctPlaces-merge_of : (take into : ℕ) (view : View) → IsView view → merge_fault take into view ≡ None → HasDistinctPlaces view → HasDistinctPlaces (merge_of take into view)
-HasDistinctPlaces-merge_of take into view v none distinct =
-    let axes = axes_of_no_fault view.shape take into (can_merge take into view none).axes in
-    HasDistinctPlaces-kept (merge_source take into view.shape) view (merge_of take into view) (KeepsPlaces-merge_of take into view v none) (λ entries others here there same. merge_source_injective view.shape take into entries others axes.take_there axes.into_there axes.apart here there same) distinct
+  is_view : IsView (merge_of take into view)
+  is_view =
+      let part = merge_kept two can.stride (lasting take into view) in
+      IsView-within v part.counts (omega (arith, part.size, v.valid.size_fits))
+      (omega (arith, part.low)) (omega (arith, part.high))
+
+  -- the view is one of the same data, whose indices lie where their sources do
+  pub Descends-merge_of : Descends (merge_source take into view.shape) view (merge_of take into view)
+  Descends-merge_of = Descends-kept is_view (λ entries here.
+      let stays = merge_source_kept entries two serves here in
+      (stays.within, omega (arith, ints, stays.offset)))
+      (λ entries others. merge_source_injective view.shape take into entries others axes.take_there axes.into_there axes.apart)

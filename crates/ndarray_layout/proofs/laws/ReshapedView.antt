@@ -1,5 +1,6 @@
 -- Laws of views whose places are read along another shape.
-use Rattle.std.proofs.Common.{◌≡◌, ◌↔◌, ℕ, ◌<◌, ◌≤◌, ℤ, pos, ◌+ℤ◌, Bool, true, false, cond, eqb, ltb, Option, Some, None, List, [], ◌∷◌, length, map, replicate, refl, sym, ap, ◌∙◌, arith}
+use Rattle.std.proofs.Common.{◌≡◌, ◌↔◌, ℕ, ◌<◌, ◌≤◌, ℤ, pos, ◌+ℤ◌, Bool, true, false, cond, eqb, ltb, Option, Some, None, List, [], ◌∷◌}
+use Rattle.std.proofs.Common.{length, map, replicate, refl, sym, ap, ◌∙◌, arith}
 use Rattle.std.specs.Prelude.{◌&&◌, ◌||◌}
 use Rattle.std.proofs.lemmas.Bool.{eq-eqb, eqb-true, le-ltb, ltb-false}
 use Rattle.std.proofs.lemmas.Int.{ints}
@@ -7,65 +8,67 @@ use Rattle.std.proofs.lemmas.List.{length-replicate}
 use Rattle.nd_base.specs.declared.error.ErrorKind.{ErrorKind}
 use Rattle.nd_base.specs.declared.error.ErrorKind.TheVariants.{IncompatibleLayout, IncompatibleShape, Overflow}
 use Rattle.nd_base.specs.declared.order.Order.{Order}
-use Rattle.nd_base.specs.Indices.{is_index, indices_in}
-use Rattle.nd_base.specs.Offset.{offset_of}
-use Rattle.nd_base.specs.Place.{place}
-use Rattle.nd_base.specs.Rank.{rank_in}
-use Rattle.nd_base.specs.Size.{is_empty, nonzero_size, size, limit}
-use Rattle.nd_base.specs.Span.{low_span, high_span}
+use Rattle.nd_base.proofs.laws.Definitions.{indices_in, is_index, offset_of, place, rank_in, as_read, is_empty, limit, nonzero_size}
+use Rattle.nd_base.proofs.laws.Definitions.{size, high_span, low_span}
 use Rattle.nd_base.proofs.laws.Indices.{indices_in_of_empty}
 use Rattle.nd_base.proofs.laws.Offset.{offset_bounds}
-use Rattle.nd_base.proofs.laws.Rank.{index_of_rank_in-rank_in, is_index-index_of_rank_in, rank_in-index_of_rank_in, rank_in-lt-size, same_from_rank_in}
+use Rattle.nd_base.proofs.laws.Rank.{index_of_rank_in-rank_in, is_index-index_of_rank_in, rank_in-index_of_rank_in, rank_in-lt-size}
+use Rattle.nd_base.proofs.laws.Rank.{same_from_rank_in}
 use Rattle.nd_base.proofs.laws.Size.{size_of_empty, size_of_nonempty}
-use Rattle.nd_base.proofs.laws.Span.{low_high_span}
 use Rattle.nd_base.proofs.laws.Turned.{least_offset, greatest_offset}
 use Rattle.ndarray_layout.specs.reshape.Joints.{has_bad_joint}
 use Rattle.ndarray_layout.specs.reshape.ForcedStrides.{forced_strides}
 use Rattle.ndarray_layout.specs.reshape.Keeps.{Keeps}
-use Rattle.nd_base.specs.Reading.{as_read}
 use Rattle.ndarray_layout.specs.reshape.ReshapeFault.{reshape_fault}
 use Rattle.nd_base.proofs.laws.Reading.{size-as_read}
 use Rattle.ndarray_layout.proofs.laws.Keeps.{Fits, alike-of-keeps, forced-keeps, keeps-exactly, offset-as_read, size-of-keeps}
-use Rattle.ndarray_layout.specs.DistinctPlaces.{HasDistinctPlaces}
-use Rattle.ndarray_layout.specs.KeepsPlaces.{KeepsPlaces}
-use Rattle.ndarray_layout.specs.View.{View, IsView, LiesWithin, view_places}
-use Rattle.ndarray_layout.proofs.laws.KeepsPlaces.{HasDistinctPlaces-kept, LiesWithin-kept}
+use Rattle.ndarray_layout.specs.Descends.{Descends}
+use Rattle.ndarray_layout.specs.View.{View, IsView, view_places}
+use Rattle.ndarray_layout.proofs.laws.KeepsPlaces.{Descends-kept}
+use Rattle.ndarray_layout.proofs.laws.View.{IsView-within}
 use Rattle.ndarray_layout.specs.ReshapedView.{ReshapeFits, reshape_of, reshape_refusal, reshape_source, reshaped_strides}
 
 -- ---- the index of equal rank
 -- along strides that keep the places an index lies as far as the one of equal rank does
-offset_of_source : (order : Order) (from : List ℕ) (strides : List ℤ) (to : List ℕ) (others : List ℤ) (index : List ℕ) → length from ≡ length strides → Keeps order from strides to others → is_index to index ≡ true → (is_index from (reshape_source order from to index) ≡ true) × (offset_of others index ≡ offset_of strides (reshape_source order from to index))
-offset_of_source order from strides to others index e k h =
+offset_of_source : {order : Order} {from : List ℕ} {strides : List ℤ} {to : List ℕ} {others : List ℤ} (index : List ℕ)
+    → length from ≡ length strides → Keeps order from strides to others → is_index to index ≡ true
+    → (is_index from (reshape_source order from to index) ≡ true)
+    × (offset_of others index ≡ offset_of strides (reshape_source order from to index))
+offset_of_source {order} {from} {strides} {to} {others} index e k h =
     let r = rank_in order to index in
-    let below : r < size from = omega (arith, rank_in-lt-size order to index h, size-of-keeps order from strides to others k) in
+    let below : r < size from = omega (arith, rank_in-lt-size order to index h, size-of-keeps k) in
     let here = offset-as_read order to others r k.same_count in
     let there = offset-as_read order from strides r e in
-    let alike = alike-of-keeps order from strides to others e k r (omega (arith, size-as_read order from)) in (
+    let alike = alike-of-keeps e k r (omega (arith, size-as_read order from)) in (
       is_index-index_of_rank_in order from r below,
       ap (offset_of others) (sym (index_of_rank_in-rank_in order to index h)) ∙ here ∙ alike ∙ sym there,
     )
 
 -- different indices stand for different ones
-source_apart : (order : Order) (from to index other : List ℕ) → size from ≡ size to → is_index to index ≡ true → is_index to other ≡ true → reshape_source order from to index ≡ reshape_source order from to other → index ≡ other
+source_apart : (order : Order) (from to index other : List ℕ) → size from ≡ size to → is_index to index ≡ true → is_index to other ≡ true
+    → reshape_source order from to index ≡ reshape_source order from to other → index ≡ other
 source_apart order from to index other sizes here there same =
     let first = rank_in-index_of_rank_in order from (rank_in order to index) (omega (arith, rank_in-lt-size order to index here)) in
     let second = rank_in-index_of_rank_in order from (rank_in order to other) (omega (arith, rank_in-lt-size order to other there)) in
     same_from_rank_in order to index other here there (sym first ∙ ap (rank_in order from) same ∙ second)
 
 -- ---- how far the layouts reach
-low_le : (order : Order) (from : List ℕ) (strides : List ℤ) (to : List ℕ) (others : List ℤ) → length from ≡ length strides → Keeps order from strides to others → is_empty to ≡ false → low_span to others ≤ low_span from strides
-low_le order from strides to others e k some =
-    let least = least_offset to others k.same_count some in
-    let moved = offset_of_source order from strides to others least.0 e k least.1 in
-    let bounds = offset_bounds from strides (reshape_source order from to least.0) moved.0 e in
-    omega (arith, ints, least.2, moved.1, bounds.0)
+module _ {order : Order} {from : List ℕ} {strides : List ℤ} {to : List ℕ} {others : List ℤ} where
+  low_le : length from ≡ length strides → Keeps order from strides to others → is_empty to ≡ false
+      → low_span to others ≤ low_span from strides
+  low_le e k some =
+      let least = least_offset to others k.same_count some in
+      let moved = offset_of_source least.0 e k least.1 in
+      let bounds = offset_bounds from strides (reshape_source order from to least.0) moved.0 e in
+      omega (arith, ints, least.2, moved.1, bounds.0)
 
-high_le : (order : Order) (from : List ℕ) (strides : List ℤ) (to : List ℕ) (others : List ℤ) → length from ≡ length strides → Keeps order from strides to others → is_empty to ≡ false → high_span to others ≤ high_span from strides
-high_le order from strides to others e k some =
-    let greatest = greatest_offset to others k.same_count some in
-    let moved = offset_of_source order from strides to others greatest.0 e k greatest.1 in
-    let bounds = offset_bounds from strides (reshape_source order from to greatest.0) moved.0 e in
-    omega (arith, ints, greatest.2, moved.1, bounds.1)
+  high_le : length from ≡ length strides → Keeps order from strides to others → is_empty to ≡ false
+      → high_span to others ≤ high_span from strides
+  high_le e k some =
+      let greatest = greatest_offset to others k.same_count some in
+      let moved = offset_of_source greatest.0 e k greatest.1 in
+      let bounds = offset_bounds from strides (reshape_source order from to greatest.0) moved.0 e in
+      omega (arith, ints, greatest.2, moved.1, bounds.1)
 
 -- along strides of 0 nothing does
 low_of_zeros : (shape : List ℕ) → low_span shape (replicate (length shape) (pos 0)) ≡ 0
@@ -77,30 +80,40 @@ high_of_zeros [] = refl
 high_of_zeros (len ∷ shape) = omega (arith, high_of_zeros shape)
 
 -- ---- the fault
-no_fault_parts : (bad same : Bool) → cond bad (Some IncompatibleLayout) (cond same None (Some IncompatibleShape)) ≡ None → (bad ≡ false) × (same ≡ true)
+no_fault_parts : (bad same : Bool) → cond bad (Some IncompatibleLayout) (cond same None (Some IncompatibleShape)) ≡ None
+    → (bad ≡ false) × (same ≡ true)
 no_fault_parts true same none = absurd (cc)
 no_fault_parts false true none = (refl, refl)
 no_fault_parts false false none = absurd (cc)
 
-fits_of_no_fault : (order : Order) (from : List ℕ) (strides : List ℤ) (to : List ℕ) → reshape_fault order from strides to ≡ None → Fits order from strides to
+fits_of_no_fault : (order : Order) (from : List ℕ) (strides : List ℤ) (to : List ℕ) → reshape_fault order from strides to ≡ None
+    → Fits order from strides to
 fits_of_no_fault order from strides to none =
-    let parts = no_fault_parts (has_bad_joint (as_read order from) (as_read order strides) (as_read order to)) (eqb (size (as_read order from)) (size (as_read order to))) none in
-    (sym (size-as_read order from) ∙ eqb-true (size (as_read order from)) (size (as_read order to)) parts.1 ∙ size-as_read order to, parts.0)
+    let parts = no_fault_parts (has_bad_joint (as_read order from) (as_read order strides) (as_read order to))
+    (eqb (size (as_read order from)) (size (as_read order to))) none in (
+      sym (size-as_read order from) ∙ eqb-true (size (as_read order from)) (size (as_read order to)) parts.1
+          ∙ size-as_read order to,
+      parts.0,
+    )
 
-no_fault_of_fits : (order : Order) (from : List ℕ) (strides : List ℤ) (to : List ℕ) → Fits order from strides to → reshape_fault order from strides to ≡ None
+no_fault_of_fits : (order : Order) (from : List ℕ) (strides : List ℤ) (to : List ℕ) → Fits order from strides to
+    → reshape_fault order from strides to ≡ None
 no_fault_of_fits order from strides to fits =
     let sizes : size (as_read order from) ≡ size (as_read order to) = size-as_read order from ∙ fits.0 ∙ sym (size-as_read order to) in
     rw (fits.1, eq-eqb (size (as_read order from)) (size (as_read order to)) sizes) refl
 
 -- what a view without a refusal has
-none_parts : (large from_empty to_empty : Bool) (fault : Option ErrorKind) → cond large (Some Overflow) (cond (from_empty && to_empty) None (cond (from_empty || to_empty) (Some IncompatibleShape) fault)) ≡ None → (large ≡ false) × (from_empty ≡ to_empty) × (to_empty ≡ false → fault ≡ None)
+none_parts : (large from_empty to_empty : Bool) (fault : Option ErrorKind)
+    → cond large (Some Overflow) (cond (from_empty && to_empty) None (cond (from_empty || to_empty) (Some IncompatibleShape) fault)) ≡ None
+    → (large ≡ false) × (from_empty ≡ to_empty) × (to_empty ≡ false → fault ≡ None)
 none_parts true from_empty to_empty fault none = absurd (cc)
 none_parts false true true fault none = (refl, refl, λ e. absurd (cc))
 none_parts false true false fault none = absurd (cc)
 none_parts false false true fault none = absurd (cc)
 none_parts false false false fault none = (refl, refl, λ e. none)
 
-none_from : (from_empty to_empty : Bool) (fault : Option ErrorKind) → from_empty ≡ to_empty → (to_empty ≡ false → fault ≡ None) → cond (from_empty && to_empty) None (cond (from_empty || to_empty) (Some IncompatibleShape) fault) ≡ None
+none_from : (from_empty to_empty : Bool) (fault : Option ErrorKind) → from_empty ≡ to_empty → (to_empty ≡ false → fault ≡ None)
+    → cond (from_empty && to_empty) None (cond (from_empty || to_empty) (Some IncompatibleShape) fault) ≡ None
 none_from true true fault same none = refl
 none_from true false fault same none = absurd (cc)
 none_from false true fault same none = absurd (cc)
@@ -117,95 +130,99 @@ same_emptiness from to sizes = by (is_empty from) (is_empty to) refl refl
     by false false e f = refl
 
 -- without an index there is no place, whatever the strides are
-empty_keeps : (order : Order) (from : List ℕ) (strides : List ℤ) (to : List ℕ) (others : List ℤ) → is_empty from ≡ true → is_empty to ≡ true → length to ≡ length others → Keeps order from strides to others
-empty_keeps order from strides to others none nothing e =
+empty_keeps : {order : Order} {from : List ℕ} {strides : List ℤ} {to : List ℕ} {others : List ℤ} → is_empty from ≡ true → is_empty to ≡ true
+    → length to ≡ length others → Keeps order from strides to others
+empty_keeps {order} {from} {strides} {to} {others} none nothing e =
     let here = ap (map (place 0 others)) (indices_in_of_empty order to (size_of_empty to nothing)) in
     let there = ap (map (place 0 strides)) (indices_in_of_empty order from (size_of_empty from none)) in
     record { same_count = e; same_places = here ∙ sym there }
 
 -- those of the definition keep the places of a view that is not refused
-pub reshaped_keeps : (order : Order) (shape : List ℕ) (view : View) → IsView view → reshape_refusal order shape view ≡ None → Keeps order view.shape view.strides shape (reshaped_strides order shape view)
-reshaped_keeps order shape view v none = by (is_empty shape) refl
+pub reshaped_keeps : (order : Order) (shape : List ℕ) {view : View} → IsView view → reshape_refusal order shape view ≡ None
+    → Keeps order view.shape view.strides shape (reshaped_strides order shape view)
+reshaped_keeps order shape {view} v none = by (is_empty shape) refl
   where
-    parts : (ltb limit (nonzero_size shape) ≡ false) × (is_empty view.shape ≡ is_empty shape) × (is_empty shape ≡ false → reshape_fault order view.shape view.strides shape ≡ None)
-    parts = none_parts (ltb limit (nonzero_size shape)) (is_empty view.shape) (is_empty shape) (reshape_fault order view.shape view.strides shape) none
+    parts : (ltb limit (nonzero_size shape) ≡ false) × (is_empty view.shape ≡ is_empty shape)
+        × (is_empty shape ≡ false → reshape_fault order view.shape view.strides shape ≡ None)
+    parts = none_parts (ltb limit (nonzero_size shape)) (is_empty view.shape) (is_empty shape) (reshape_fault order view.shape view.strides
+        shape) none
 
-    by : (e : Bool) → is_empty shape ≡ e → Keeps order view.shape view.strides shape (cond e (replicate (length shape) (pos 0)) (forced_strides order view.shape view.strides shape))
-    by true e = empty_keeps order view.shape view.strides shape (replicate (length shape) (pos 0)) (parts.1 ∙ e) e (sym (length-replicate (length shape) (pos 0)))
-    by false e = forced-keeps order view.shape view.strides shape (parts.1 ∙ e) e v.valid.same_count (fits_of_no_fault order view.shape view.strides shape (parts.2 e))
+    by : (e : Bool) → is_empty shape ≡ e
+        → Keeps order view.shape view.strides shape (cond e (replicate (length shape) (pos 0)) (forced_strides order view.shape view.strides
+        shape))
+    by true e = empty_keeps (parts.1 ∙ e) e (sym (length-replicate (length shape) (pos 0)))
+    by false e = forced-keeps order view.shape view.strides shape (parts.1 ∙ e) e v.valid.same_count
+        (fits_of_no_fault order view.shape view.strides shape (parts.2 e))
 
 -- a view can be read as one of a shape exactly where that is not refused
-fits_of_no_refusal : (order : Order) (shape : List ℕ) (view : View) → IsView view → reshape_refusal order shape view ≡ None → ReshapeFits order shape view
-fits_of_no_refusal order shape view v none =
-    let parts = none_parts (ltb limit (nonzero_size shape)) (is_empty view.shape) (is_empty shape) (reshape_fault order view.shape view.strides shape) none in
-    (ltb-false limit (nonzero_size shape) parts.0, (reshaped_strides order shape view, reshaped_keeps order shape view v none))
+fits_of_no_refusal : (order : Order) (shape : List ℕ) {view : View} → IsView view → reshape_refusal order shape view ≡ None
+    → ReshapeFits order shape view
+fits_of_no_refusal order shape {view} v none =
+    let parts = none_parts (ltb limit (nonzero_size shape)) (is_empty view.shape) (is_empty shape)
+    (reshape_fault order view.shape view.strides shape) none in
+    (ltb-false limit (nonzero_size shape) parts.0, (reshaped_strides order shape view, reshaped_keeps order shape v none))
 
-no_refusal_of_fits : (order : Order) (shape : List ℕ) (view : View) → IsView view → ReshapeFits order shape view → reshape_refusal order shape view ≡ None
-no_refusal_of_fits order shape view v fits =
-    let sizes = size-of-keeps order view.shape view.strides shape fits.1.0 fits.1.1 in
+no_refusal_of_fits : (order : Order) (shape : List ℕ) {view : View} → IsView view → ReshapeFits order shape view
+    → reshape_refusal order shape view ≡ None
+no_refusal_of_fits order shape {view} v fits =
+    let sizes = size-of-keeps fits.1.1 in
     let same = same_emptiness view.shape shape sizes in
-    rw (le-ltb limit (nonzero_size shape) fits.0) (none_from (is_empty view.shape) (is_empty shape) (reshape_fault order view.shape view.strides shape) same (λ some.
-    no_fault_of_fits order view.shape view.strides shape ((keeps-exactly order view.shape view.strides shape (same ∙ some) some v.valid.same_count).1 fits.1)))
+    rw (le-ltb limit (nonzero_size shape) fits.0) (none_from (is_empty view.shape) (is_empty shape)
+    (reshape_fault order view.shape view.strides shape) same (λ some.
+    no_fault_of_fits order view.shape view.strides shape
+    ((keeps-exactly order view.shape view.strides shape (same ∙ some) some v.valid.same_count).1 fits.1)))
 
-pub reshape_refusal-ReshapeFits : (order : Order) (shape : List ℕ) (view : View) → IsView view → (reshape_refusal order shape view ≡ None) ↔ ReshapeFits order shape view
-reshape_refusal-ReshapeFits order shape view v = (fits_of_no_refusal order shape view v, no_refusal_of_fits order shape view v)
+pub reshape_refusal-ReshapeFits : (order : Order) (shape : List ℕ) {view : View} → IsView view
+    → (reshape_refusal order shape view ≡ None) ↔ ReshapeFits order shape view
+reshape_refusal-ReshapeFits order shape v = (fits_of_no_refusal order shape v, no_refusal_of_fits order shape v)
 
 -- ---- the view that is read as one of a shape
-spans_kept : (order : Order) (shape : List ℕ) (view : View) → IsView view → reshape_refusal order shape view ≡ None → (low_span shape (reshaped_strides order shape view) ≤ low_span view.shape view.strides) × (high_span shape (reshaped_strides order shape view) ≤ high_span view.shape view.strides)
-spans_kept order shape view v none = by (is_empty shape) refl (reshaped_keeps order shape view v none)
+spans_kept : (order : Order) (shape : List ℕ) {view : View} → IsView view → reshape_refusal order shape view ≡ None
+    → (low_span shape (reshaped_strides order shape view) ≤ low_span view.shape view.strides)
+    × (high_span shape (reshaped_strides order shape view) ≤ high_span view.shape view.strides)
+spans_kept order shape {view} v none = by (is_empty shape) refl (reshaped_keeps order shape v none)
   where
     along : Bool → List ℤ
     along e = cond e (replicate (length shape) (pos 0)) (forced_strides order view.shape view.strides shape)
 
-    by : (e : Bool) → is_empty shape ≡ e → Keeps order view.shape view.strides shape (along e) → (low_span shape (along e) ≤ low_span view.shape view.strides) × (high_span shape (along e) ≤ high_span view.shape view.strides)
+    by : (e : Bool) → is_empty shape ≡ e → Keeps order view.shape view.strides shape (along e)
+        → (low_span shape (along e) ≤ low_span view.shape view.strides) × (high_span shape (along e) ≤ high_span view.shape view.strides)
     by true e k = (omega (arith, low_of_zeros shape), omega (arith, high_of_zeros shape))
-    by false e k = (low_le order view.shape view.strides shape (along false) v.valid.same_count k e, high_le order view.shape view.strides shape (along false) v.valid.same_count k e)
+    by false e k = (low_le v.valid.same_count k e, high_le v.valid.same_count k e)
 
--- it is one
-pub IsView-reshape_of : (order : Order) (shape : List ℕ) (view : View) → IsView view → reshape_refusal order shape view ≡ None → IsView (reshape_of order shape view)
-IsView-reshape_of order shape view v none =
-    let kept = reshaped_keeps order shape view v none in
-    let spans = spans_kept order shape view v none in
-    let fits = fits_of_no_refusal order shape view v none in
-    let here = low_high_span shape (reshaped_strides order shape view) in
-    let there = low_high_span view.shape view.strides in
-    record {
-      valid = record {
-        same_count = kept.same_count;
-        size_fits = fits.0;
-        span_fits = omega (arith, spans.0, spans.1, here, there, v.valid.span_fits);
-      };
-      low = omega (arith, spans.0, v.low);
-      high = omega (arith, spans.1, v.high);
-    }
+-- it is a view of the same data, where each index lies where the index of equal rank did
+pub Descends-reshape_of : (order : Order) (shape : List ℕ) {view : View} → IsView view → reshape_refusal order shape view ≡ None
+    → Descends (reshape_source order view.shape shape) view (reshape_of order shape view)
+Descends-reshape_of order shape {view} v none = Descends-kept whole (λ index here.
+    let moved = offset_of_source index v.valid.same_count kept here in
+    (moved.0, ap (λ z. pos view.start +ℤ z) moved.1))
+    (λ index other. source_apart order view.shape shape index other sizes)
+  where
+    kept : Keeps order view.shape view.strides shape (reshaped_strides order shape view)
+    kept = reshaped_keeps order shape v none
 
--- each index lies where the index of equal rank did
-pub KeepsPlaces-reshape_of : (order : Order) (shape : List ℕ) (view : View) → IsView view → reshape_refusal order shape view ≡ None → KeepsPlaces (reshape_source order view.shape shape) view (reshape_of order shape view)
-KeepsPlaces-reshape_of order shape view v none = λ index here.
-    let moved = offset_of_source order view.shape view.strides shape (reshaped_strides order shape view) index v.valid.same_count (reshaped_keeps order shape view v none) here in
-    (moved.0, ap (λ z. pos view.start +ℤ z) moved.1)
+    sizes : size view.shape ≡ size shape
+    sizes = size-of-keeps kept
 
--- it lies within the data that the view lies within
-pub LiesWithin-reshape_of : (len : ℕ) (order : Order) (shape : List ℕ) (view : View) → IsView view → reshape_refusal order shape view ≡ None → LiesWithin len view → LiesWithin len (reshape_of order shape view)
-LiesWithin-reshape_of len order shape view v none within = LiesWithin-kept len (reshape_source order view.shape shape) view (reshape_of order shape view) (KeepsPlaces-reshape_of order shape view v none) within
-
--- where no two indices of the view share a place, no two of it do
-pub HasDistinctPlaces-reshape_of : (order : Order) (shape : List ℕ) (view : View) → IsView view → reshape_refusal order shape view ≡ None → HasDistinctPlaces view → HasDistinctPlaces (reshape_of order shape view)
-HasDistinctPlaces-reshape_of order shape view v none distinct =
-    let sizes = size-of-keeps order view.shape view.strides shape (reshaped_strides order shape view) (reshaped_keeps order shape view v none) in
-    HasDistinctPlaces-kept (reshape_source order view.shape shape) view (reshape_of order shape view) (KeepsPlaces-reshape_of order shape view v none) (λ index other here there same. source_apart order view.shape shape index other sizes here there same) distinct
+    whole : IsView (reshape_of order shape view)
+    whole =
+        let spans = spans_kept order shape v none in
+        IsView-within v kept.same_count (fits_of_no_refusal order shape v none).0
+        (omega (arith, spans.0)) (omega (arith, spans.1))
 
 -- places from a start are those from 0, moved by it
-map_moved : (start : ℕ) (strides : List ℤ) (xs : List (List ℕ)) → map (place start strides) xs ≡ map (λ z. pos start +ℤ z) (map (place 0 strides) xs)
+map_moved : (start : ℕ) (strides : List ℤ) (xs : List (List ℕ))
+    → map (place start strides) xs ≡ map (λ z. pos start +ℤ z) (map (place 0 strides) xs)
 map_moved start strides [] = refl
 map_moved start strides (x ∷ xs) =
     let first : place start strides x ≡ pos start +ℤ place 0 strides x = omega (arith, ints) in
     ap (λ z. z ∷ map (place start strides) xs) first ∙ ap (λ zs. (pos start +ℤ place 0 strides x) ∷ zs) (map_moved start strides xs)
 
 -- the list of its places is that of the view
-pub view_places-reshape_of : (order : Order) (shape : List ℕ) (view : View) → IsView view → reshape_refusal order shape view ≡ None → view_places order (reshape_of order shape view) ≡ view_places order view
-view_places-reshape_of order shape view v none =
-    let kept = reshaped_keeps order shape view v none in
+pub view_places-reshape_of : (order : Order) (shape : List ℕ) {view : View} → IsView view → reshape_refusal order shape view ≡ None
+    → view_places order (reshape_of order shape view) ≡ view_places order view
+view_places-reshape_of order shape {view} v none =
+    let kept = reshaped_keeps order shape v none in
     map_moved view.start (reshaped_strides order shape view) (indices_in order shape)
     ∙ ap (map (λ z. pos view.start +ℤ z)) kept.same_places
     ∙ sym (map_moved view.start view.strides (indices_in order view.shape))

@@ -3,13 +3,13 @@
 use Rattle.std.proofs.Common.{◌≡◌, ◌+◌, false, Option, Some, None, List, [], ◌∷◌, ◌++◌, refl, ap, ◌∙◌, arith}
 use Rattle.std.proofs.lemmas.List.Elements.{All-head, All-tail}
 use Rattle.nd_base.specs.declared.error.ErrorKind.{ErrorKind}
+use Rattle.ndarray_layout.specs.Descends.{IsViewOf}
 use Rattle.ndarray_layout.specs.DistinctPlaces.{HasDistinctPlaces}
-use Rattle.ndarray_layout.specs.KeepsPlaces.{KeepsPlaces}
 use Rattle.ndarray_layout.specs.Run.{Outcome, run_of, HasNoBroadcast}
 use Rattle.ndarray_layout.specs.Step.{StepValue, step_fault, view_after, source_index, is_broadcast}
 use Rattle.ndarray_layout.specs.View.{View, IsView}
-use Rattle.ndarray_layout.proofs.laws.KeepsPlaces.{KeepsPlaces-stayed, KeepsPlaces-in_turn}
-use Rattle.ndarray_layout.proofs.laws.Step.{IsView-view_after, KeepsPlaces-view_after, HasDistinctPlaces-view_after}
+use Rattle.ndarray_layout.proofs.laws.KeepsPlaces.{IsViewOf-in_turn, IsViewOf-stayed}
+use Rattle.ndarray_layout.proofs.laws.Step.{Descends-view_after, IsViewOf-view_after}
 
 -- ---- outcomes in turn
 -- what became of a view of which no step was taken
@@ -23,7 +23,13 @@ stepped view step = record { taken = 1; view = view_after view step; source = so
 -- two outcomes, of which the second began with the view that the first left; a fault ends both
 abbrev pub joined : Option ErrorKind → Outcome → Outcome → Outcome
 joined None first second =
-    record { taken = first.taken + second.taken; view = second.view; source = λ index. first.source (second.source index); fault = second.fault }
+    record {
+      taken = first.taken + second.taken;
+      view = second.view;
+      source = λ index. first.source (second.source index);
+      fault =
+          second.fault;
+    }
 joined (Some kind) first second = first
 
 -- what two parts of a run make of a view, one after the other
@@ -35,58 +41,69 @@ abbrev pub first_then : Option ErrorKind → View → StepValue → Outcome → 
 first_then fault view step rest = elim fault [ Some kind ↦ stayed (Some kind) view | None ↦ joined None (stepped view step) rest ]
 
 -- a first step that fits goes before the others, and one that doesn't ends the run
-pub run_of_fitting : (step : StepValue) (steps : List StepValue) (view : View) → step_fault view step ≡ None → run_of (step ∷ steps) view ≡ joined None (stepped view step) (run_of steps (view_after view step))
+pub run_of_fitting : (step : StepValue) (steps : List StepValue) (view : View) → step_fault view step ≡ None
+    → run_of (step ∷ steps) view ≡ joined None (stepped view step) (run_of steps (view_after view step))
 run_of_fitting step steps view none = ap (λ fault. first_then fault view step (run_of steps (view_after view step))) none
 
-pub run_of_refused : (step : StepValue) (steps : List StepValue) (view : View) (kind : ErrorKind) → step_fault view step ≡ Some kind → run_of (step ∷ steps) view ≡ stayed (Some kind) view
-run_of_refused step steps view kind fault = ap (λ fault. first_then fault view step (run_of steps (view_after view step))) fault
+pub run_of_refused : (step : StepValue) (steps : List StepValue) (view : View) {kind : ErrorKind} → step_fault view step ≡ Some kind
+    → run_of (step ∷ steps) view ≡ stayed (Some kind) view
+run_of_refused step steps view fault = ap (λ fault. first_then fault view step (run_of steps (view_after view step))) fault
 
 -- a run after no steps
-after_none : (second : Outcome) (view : View) → second ≡ joined None (stayed None view) second
-after_none second view = ap (λ n. record { taken = n; view = second.view; source = second.source; fault = second.fault }) (let e : second.taken ≡ 0 + second.taken = omega arith in e)
+after_none : {second : Outcome} (view : View) → second ≡ joined None (stayed None view) second
+after_none {second} view = ap (λ n. record { taken = n; view = second.view; source = second.source; fault = second.fault })
+    (let e : second.taken ≡ 0 + second.taken = omega arith in e)
 
 -- three runs in turn are the first before the other two, or the first two before the third
-joined_in_turn : (a b c : Outcome) (f g : Option ErrorKind) → a.fault ≡ f → b.fault ≡ g → joined f a (joined g b c) ≡ joined (joined f a b).fault (joined f a b) c
-joined_in_turn a b c None None fine also = rw (also) (ap (λ n. record { taken = n; view = c.view; source = λ index. a.source (b.source (c.source index)); fault = c.fault }) (let e : a.taken + (b.taken + c.taken) ≡ (a.taken + b.taken) + c.taken = omega arith in e))
+joined_in_turn : (a b c : Outcome) (f g : Option ErrorKind) → a.fault ≡ f → b.fault ≡ g
+    → joined f a (joined g b c) ≡ joined (joined f a b).fault (joined f a b) c
+joined_in_turn a b c None None fine also =
+    rw (also) (ap (λ n. record { taken = n; view = c.view; source = λ index. a.source (b.source (c.source index)); fault = c.fault })
+    (let e : a.taken + (b.taken + c.taken) ≡ (a.taken + b.taken) + c.taken = omega arith in e))
 joined_in_turn a b c None (Some kind) fine fault = rw (fault) refl
 joined_in_turn a b c (Some kind) g fault also = rw (fault) refl
 
 -- two lists of steps in turn are one list
 pub run_of_append : (steps more : List StepValue) (view : View) → run_of (steps ++ more) view ≡ in_turn (run_of steps) (run_of more) view
-run_of_append [] more view = after_none (run_of more view) view
+run_of_append [] more view = after_none view
 run_of_append (step ∷ steps) more view = by (step_fault view step) (run_of_append steps more (view_after view step))
   where
-    by : (fault : Option ErrorKind) → run_of (steps ++ more) (view_after view step) ≡ in_turn (run_of steps) (run_of more) (view_after view step)
+    by : (fault : Option ErrorKind)
+        → run_of (steps ++ more) (view_after view step) ≡ in_turn (run_of steps) (run_of more) (view_after view step)
         → first_then fault view step (run_of (steps ++ more) (view_after view step))
-        ≡ joined (first_then fault view step (run_of steps (view_after view step))).fault (first_then fault view step (run_of steps (view_after view step))) (run_of more (first_then fault view step (run_of steps (view_after view step))).view)
+        ≡ joined (first_then fault view step (run_of steps (view_after view step))).fault
+        (first_then fault view step (run_of steps (view_after view step)))
+        (run_of more (first_then fault view step (run_of steps (view_after view step))).view)
     by None rest =
         let after = view_after view step in
-        ap (joined None (stepped view step)) rest ∙ joined_in_turn (stepped view step) (run_of steps after) (run_of more (run_of steps after).view) None (run_of steps after).fault refl refl
+        ap (joined None (stepped view step)) rest ∙ joined_in_turn (stepped view step) (run_of steps after)
+        (run_of more (run_of steps after).view) None (run_of steps after).fault refl refl
     by (Some kind) rest = refl
 
 -- ---- what is left
--- what is known of the view that is left: it is one, its indices lie where their sources do, and without a broadcast no two that were apart share a place
+-- the view that is left is one of the first one's data, and without a broadcast no two of its indices that were apart share a place
 pub record IsSound (start : View) (apart : Type 0) (outcome : Outcome) : Type 0 where
-  pub is_view : IsView outcome.view
-  pub places : KeepsPlaces outcome.source start outcome.view
+  pub kept : IsViewOf outcome.source start outcome.view
   pub distinct : apart → HasDistinctPlaces start → HasDistinctPlaces outcome.view
 
-stayed_sound : (fault : Option ErrorKind) (view : View) (apart : Type 0) → IsView view → IsSound view apart (stayed fault view)
-stayed_sound fault view apart v = record { is_view = v; places = KeepsPlaces-stayed view; distinct = λ none distinct. distinct }
+stayed_sound : (fault : Option ErrorKind) {view : View} {apart : Type 0} → IsView view → IsSound view apart (stayed fault view)
+stayed_sound fault v = record { kept = IsViewOf-stayed v; distinct = λ none distinct. distinct }
 
 pub run_sound : (steps : List StepValue) (view : View) → IsView view → IsSound view (HasNoBroadcast steps) (run_of steps view)
-run_sound [] view v = stayed_sound None view (HasNoBroadcast []) v
+run_sound [] view v = stayed_sound None v
 run_sound (step ∷ steps) view v = by (step_fault view step) refl (run_sound steps (view_after view step))
   where
-    by : (fault : Option ErrorKind) → step_fault view step ≡ fault → (IsView (view_after view step) → IsSound (view_after view step) (HasNoBroadcast steps) (run_of steps (view_after view step)))
+    by : (fault : Option ErrorKind) → step_fault view step ≡ fault
+        → (IsView (view_after view step) → IsSound (view_after view step) (HasNoBroadcast steps) (run_of steps (view_after view step)))
         → IsSound view (HasNoBroadcast (step ∷ steps)) (first_then fault view step (run_of steps (view_after view step)))
-    by (Some kind) e rest = stayed_sound (Some kind) view (HasNoBroadcast (step ∷ steps)) v
+    by (Some kind) e rest = stayed_sound (Some kind) v
     by None e rest =
-        let after = IsView-view_after view step v e in
-        let sound = rest after in
-        let ran = run_of steps (view_after view step) in
+        let after = IsViewOf-view_after step v e in
+        let sound = rest after.is_view in
+        let apart = λ (one : StepValue). is_broadcast one ≡ false in
         record {
-          is_view = sound.is_view;
-          places = KeepsPlaces-in_turn (source_index view step) ran.source view (view_after view step) ran.view (KeepsPlaces-view_after view step v e) sound.places;
-          distinct = λ none distinct. sound.distinct (All-tail (λ one. is_broadcast one ≡ false) step steps none) (HasDistinctPlaces-view_after view step v e (All-head (λ one. is_broadcast one ≡ false) step steps none) distinct);
+          kept = IsViewOf-in_turn after sound.kept;
+          distinct = λ none distinct.
+              let here = Descends-view_after step v e (All-head apart step steps none) in
+              sound.distinct (All-tail apart step steps none) (here.distinct distinct);
         }

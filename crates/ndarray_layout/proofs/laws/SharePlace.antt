@@ -16,42 +16,44 @@ use Rattle.ndarray_layout.specs.DistinctPlaces.{HasDistinctPlaces}
 use Rattle.ndarray_layout.specs.SharePlace.{SharePlace}
 use Rattle.ndarray_layout.specs.SlicedView.{slice_of}
 use Rattle.ndarray_layout.specs.View.{View, IsView, place_at, view_places}
-use Rattle.ndarray_layout.proofs.laws.SlicedView.{KeepsPlaces-slice_of}
+use Rattle.ndarray_layout.proofs.laws.SlicedView.{Descends-slice_of}
 
 -- the order of two views does not matter
 pub share_place_symmetric : (one other : View) → SharePlace one other → SharePlace other one
 share_place_symmetric one other share = ((share.2).0, (share.2).1, (share.0, share.1, sym (share.2).2))
 
 -- where no two indices of a view share a place, slices that share one meet
-pub meet_of_shared_place : (fit : Fit) (one other : List SliceInfoElem) (view : View) → IsView view → argument_fault fit view.shape one ≡ None
-    → argument_fault fit view.shape other ≡ None → HasDistinctPlaces view → SharePlace (slice_of fit one view) (slice_of fit other view)
-    → Meet fit view.shape one other
-meet_of_shared_place fit one other view v fits also distinct share =
-    let first = KeepsPlaces-slice_of fit one view v fits share.0 share.1 in
-    let second = KeepsPlaces-slice_of fit other view v also (share.2).0 (share.2).1 in
+pub meet_of_shared_place : (fit : Fit) (one other : List SliceInfoElem) {view : View} → IsView view
+    → argument_fault fit view.shape one ≡ None → argument_fault fit view.shape other ≡ None → HasDistinctPlaces view
+    → SharePlace (slice_of fit one view) (slice_of fit other view) → Meet fit view.shape one other
+meet_of_shared_place fit one other {view} v fits also distinct share =
+    let first = (Descends-slice_of fit one view v fits).places share.0 share.1 in
+    let second = (Descends-slice_of fit other view v also).places (share.2).0 (share.2).1 in
     meet_of_sources fit view.shape one other fits (record {
       index = share.0;
       within = share.1;
       at = (share.2).0;
       at_within = (share.2).1;
-      same = distinct (selected fit one view.shape share.0) (selected fit other view.shape (share.2).0) first.0 second.0 (sym first.1 ∙ (share.2).2 ∙ second.1);
+      same = distinct (selected fit one view.shape share.0) (selected fit other view.shape (share.2).0) first.0 second.0
+          (sym first.1 ∙ (share.2).2 ∙ second.1);
     })
 
 -- slices that meet share a place, whatever the view
-pub shared_place_of_meet : (fit : Fit) (one other : List SliceInfoElem) (view : View) → IsView view → argument_fault fit view.shape one ≡ None
-    → argument_fault fit view.shape other ≡ None → Meet fit view.shape one other → SharePlace (slice_of fit one view) (slice_of fit other view)
-shared_place_of_meet fit one other view v fits also meet =
+pub shared_place_of_meet : (fit : Fit) (one other : List SliceInfoElem) {view : View} → IsView view
+    → argument_fault fit view.shape one ≡ None → argument_fault fit view.shape other ≡ None → Meet fit view.shape one other
+    → SharePlace (slice_of fit one view) (slice_of fit other view)
+shared_place_of_meet fit one other {view} v fits also meet =
     let share = sources_of_meet fit view.shape one other fits also meet in
-    let first = KeepsPlaces-slice_of fit one view v fits share.index share.within in
-    let second = KeepsPlaces-slice_of fit other view v also share.at share.at_within in
+    let first = (Descends-slice_of fit one view v fits).places share.index share.within in
+    let second = (Descends-slice_of fit other view v also).places share.at share.at_within in
     (share.index, share.within, (share.at, share.at_within, first.1 ∙ ap (place_at view) share.same ∙ sym second.1))
 
 -- so there slices meet exactly where they share a place
-pub meet_is_shared_place : (fit : Fit) (one other : List SliceInfoElem) (view : View) → IsView view → argument_fault fit view.shape one ≡ None
-    → argument_fault fit view.shape other ≡ None → HasDistinctPlaces view
+pub meet_is_shared_place : (fit : Fit) (one other : List SliceInfoElem) {view : View} → IsView view
+    → argument_fault fit view.shape one ≡ None → argument_fault fit view.shape other ≡ None → HasDistinctPlaces view
     → Meet fit view.shape one other ↔ SharePlace (slice_of fit one view) (slice_of fit other view)
-meet_is_shared_place fit one other view v fits also distinct =
-    (shared_place_of_meet fit one other view v fits also, meet_of_shared_place fit one other view v fits also distinct)
+meet_is_shared_place fit one other v fits also distinct =
+    (shared_place_of_meet fit one other v fits also, meet_of_shared_place fit one other v fits also distinct)
 
 -- a number that is listed is the place of an index
 pub record IsPlaceOf (view : View) (n : ℕ) : Type 0 where
@@ -59,7 +61,8 @@ pub record IsPlaceOf (view : View) (n : ℕ) : Type 0 where
   pub within : is_index view.shape index ≡ true
   pub at : place_at view index ≡ pos n
 
-pub listed_place : (order : Order) (view : View) (items : List ℕ) (n : ℕ) → map pos items ≡ view_places order view → Contains items n → IsPlaceOf view n
+pub listed_place : (order : Order) (view : View) (items : List ℕ) (n : ℕ) → map pos items ≡ view_places order view → Contains items n
+    → IsPlaceOf view n
 listed_place order view items n same here =
     let indices = indices_in order view.shape in
     let long : length items ≡ length indices = omega (arith, length-map items pos, ap length same, length-map indices (place_at view)) in

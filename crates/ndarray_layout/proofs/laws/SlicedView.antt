@@ -1,30 +1,28 @@
 -- Laws of slices of views: a slice is a view of the same data, whose indices lie where those that they stand for do.
-use Rattle.std.proofs.Common.{◌≡◌, ℕ, ℤ, pos, negsuc, ◌≤ℤ◌, Option, Some, None, Bool, true, false, cond, eqb, List, length, refl, ◌∙◌, arith}
+use Rattle.std.proofs.Common.{◌≡◌, ℕ, pos, ◌≤ℤ◌, Option, Some, None, Bool, true, false, cond, eqb, List, length, refl, ◌∙◌, arith}
 use Rattle.std.proofs.lemmas.Bool.{cond-true, eq-eqb, eqb-true}
 use Rattle.std.proofs.lemmas.Int.{ints}
 use Rattle.nd_base.specs.declared.error.ErrorKind.{ErrorKind}
 use Rattle.nd_base.specs.declared.error.ErrorKind.TheVariants.{IncompatibleShape}
-use Rattle.nd_base.specs.Signed.{magnitude}
-use Rattle.nd_base.specs.Lengths.{IsCount}
-use Rattle.nd_base.specs.Size.{limit}
-use Rattle.nd_base.proofs.laws.Span.{low_high_span}
+use Rattle.nd_base.proofs.laws.Definitions.{IsCount, limit}
 use Rattle.nd_slice.specs.declared.fit.Fit.{Fit}
 use Rattle.nd_slice.specs.declared.elem.SliceInfoElem.{SliceInfoElem}
 use Rattle.nd_slice.specs.ArgumentFault.{in_count, out_count, first_fault, argument_fault}
 use Rattle.nd_slice.specs.Counts.{HasCounts}
-use Rattle.nd_slice.specs.Sliced.{sliced_shape, sliced_strides}
 use Rattle.nd_slice.specs.Selected.{selected}
 use Rattle.nd_slice.proofs.laws.Selected.{selected_injective}
 use Rattle.nd_slice.proofs.laws.ArgumentFault.{elements_of_no_fault}
-use Rattle.ndarray_layout.specs.DistinctPlaces.{HasDistinctPlaces}
-use Rattle.ndarray_layout.specs.KeepsPlaces.{KeepsPlaces}
+use Rattle.ndarray_layout.specs.Descends.{Descends}
 use Rattle.ndarray_layout.specs.SlicedView.{slice_of, sliced_start, slice_refusal}
-use Rattle.ndarray_layout.specs.View.{View, IsView, LiesWithin}
-use Rattle.ndarray_layout.proofs.laws.KeepsPlaces.{LiesWithin-kept, HasDistinctPlaces-kept}
+use Rattle.ndarray_layout.specs.View.{View, IsView}
+use Rattle.ndarray_layout.proofs.laws.KeepsPlaces.{Descends-kept}
+use Rattle.ndarray_layout.proofs.laws.View.{IsView-within}
 use Rattle.ndarray_layout.proofs.Slices.{SliceKept, slices_kept, places_kept}
+use Rattle.nd_base.proofs.laws.Signed.{magnitude_from}
 
 -- an argument that is not refused fits the shape
-pub fits_of_no_refusal : (fit : Fit) (fixed : Option ℕ) (shape : List ℕ) (elems : List SliceInfoElem) → slice_refusal fit fixed shape elems ≡ None → argument_fault fit shape elems ≡ None
+pub fits_of_no_refusal : (fit : Fit) (fixed : Option ℕ) (shape : List ℕ) (elems : List SliceInfoElem)
+    → slice_refusal fit fixed shape elems ≡ None → argument_fault fit shape elems ≡ None
 fits_of_no_refusal fit None shape elems none = none
 fits_of_no_refusal fit (Some count) shape elems none = by (eqb (out_count elems) count) none
   where
@@ -32,79 +30,63 @@ fits_of_no_refusal fit (Some count) shape elems none = by (eqb (out_count elems)
     by true none = none
     by false none = absurd (cc)
 
-chosen : (t : Bool) (first second : Option ErrorKind) → t ≡ true → cond t first second ≡ first
-chosen t first second e = cond-true {A = Option ErrorKind} t first second e
+chosen : {t : Bool} {first : Option ErrorKind} (second : Option ErrorKind) → t ≡ true → cond t first second ≡ first
+chosen {t} {first} second e = cond-true {A = Option ErrorKind} t first second e
 
-of_one_kind : (t : Bool) (first second : Option ErrorKind) → (t ≡ true → first ≡ second) → cond t first second ≡ second
-of_one_kind true first second same = same refl
-of_one_kind false first second same = refl
+of_one_kind : (t : Bool) (first : Option ErrorKind) {second : Option ErrorKind} → (t ≡ true → first ≡ second) → cond t first second ≡ second
+of_one_kind true first same = same refl
+of_one_kind false first same = refl
 
 -- an argument whose counts of axes fit is refused as its first element at fault is
-pub refusal_of_counts : (fit : Fit) (fixed : Option ℕ) (shape : List ℕ) (elems : List SliceInfoElem) → HasCounts (Some (length shape)) fixed elems → slice_refusal fit fixed shape elems ≡ first_fault fit shape elems
-refusal_of_counts fit fixed shape elems counts = by fixed counts.out_fits
+pub refusal_of_counts : (fit : Fit) {fixed : Option ℕ} (shape : List ℕ) {elems : List SliceInfoElem}
+    → HasCounts (Some (length shape)) fixed elems → slice_refusal fit fixed shape elems ≡ first_fault fit shape elems
+refusal_of_counts fit {fixed} shape {elems} counts = by fixed counts.out_fits
   where
     whole : argument_fault fit shape elems ≡ first_fault fit shape elems
-    whole = chosen (eqb (in_count elems) (length shape)) (first_fault fit shape elems) (Some IncompatibleShape) (eq-eqb (in_count elems) (length shape) counts.in_fits)
+    whole = chosen (Some IncompatibleShape) (eq-eqb (in_count elems) (length shape) counts.in_fits)
 
     by : (fixed : Option ℕ) → IsCount fixed (out_count elems) → slice_refusal fit fixed shape elems ≡ first_fault fit shape elems
     by None out = whole
-    by (Some count) out = chosen (eqb (out_count elems) count) (argument_fault fit shape elems) (Some IncompatibleShape) (eq-eqb (out_count elems) count out) ∙ whole
+    by (Some count) out = chosen (Some IncompatibleShape) (eq-eqb (out_count elems) count out) ∙ whole
 
 -- and any other for its counts
-pub refusal_of_other_counts : (fit : Fit) (fixed : Option ℕ) (shape : List ℕ) (elems : List SliceInfoElem) → (HasCounts (Some (length shape)) fixed elems → ⊥) → slice_refusal fit fixed shape elems ≡ Some IncompatibleShape
+pub refusal_of_other_counts : (fit : Fit) (fixed : Option ℕ) (shape : List ℕ) (elems : List SliceInfoElem)
+    → (HasCounts (Some (length shape)) fixed elems → ⊥) → slice_refusal fit fixed shape elems ≡ Some IncompatibleShape
 refusal_of_other_counts fit None shape elems other =
-    of_one_kind (eqb (in_count elems) (length shape)) (first_fault fit shape elems) (Some IncompatibleShape) (λ e. absurd (other (record { in_fits = eqb-true (in_count elems) (length shape) e; out_fits = tt })))
+    of_one_kind (eqb (in_count elems) (length shape)) (first_fault fit shape elems)
+    (λ e. absurd (other (record { in_fits = eqb-true (in_count elems) (length shape) e; out_fits = tt })))
 refusal_of_other_counts fit (Some count) shape elems other =
-    of_one_kind (eqb (out_count elems) count) (argument_fault fit shape elems) (Some IncompatibleShape) (λ out.
-    of_one_kind (eqb (in_count elems) (length shape)) (first_fault fit shape elems) (Some IncompatibleShape) (λ e.
+    of_one_kind (eqb (out_count elems) count) (argument_fault fit shape elems) (λ out.
+    of_one_kind (eqb (in_count elems) (length shape)) (first_fault fit shape elems) (λ e.
     absurd (other (record { in_fits = eqb-true (in_count elems) (length shape) e; out_fits = eqb-true (out_count elems) count out }))))
 
-kept : (fit : Fit) (elems : List SliceInfoElem) (view : View) → IsView view → argument_fault fit view.shape elems ≡ None → SliceKept fit elems view.shape view.strides
-kept fit elems view v none =
-    let fits = elements_of_no_fault fit view.shape elems none in
-    slices_kept fit elems view.shape view.strides v.valid.same_count fits.0 fits.1
+-- an argument that fits a view
+module _ (fit : Fit) (elems : List SliceInfoElem) (view : View) (v : IsView view) (none : argument_fault fit view.shape elems ≡ None) where
+  fits : (in_count elems ≡ length view.shape) × (first_fault fit view.shape elems ≡ None)
+  fits = elements_of_no_fault fit view.shape elems none
 
--- the slice begins at a place
-pub sliced_start_within : (fit : Fit) (elems : List SliceInfoElem) (view : View) → IsView view → argument_fault fit view.shape elems ≡ None → (pos 0 ≤ℤ sliced_start fit elems view) × (sliced_start fit elems view ≤ℤ pos limit)
-sliced_start_within fit elems view v none =
-    let part = kept fit elems view v none in
-    (omega (arith, ints, part.low, v.low), omega (arith, ints, part.high, v.high))
+  kept : SliceKept fit elems view.shape view.strides
+  kept = slices_kept fit elems view.shape view.strides v.valid.same_count fits.0 fits.1
 
-magnitude_from : (z : ℤ) → pos 0 ≤ℤ z → pos (magnitude z) ≡ z
-magnitude_from (pos n) low = refl
-magnitude_from (negsuc n) low = absurd (omega (arith, ints))
+  -- the slice begins at a place
+  pub sliced_start_within : (pos 0 ≤ℤ sliced_start fit elems view) × (sliced_start fit elems view ≤ℤ pos limit)
+  sliced_start_within =
+      let part = kept in
+      (omega (arith, ints, part.low, v.low), omega (arith, ints, part.high, v.high))
 
-pub start-slice_of : (fit : Fit) (elems : List SliceInfoElem) (view : View) → IsView view → argument_fault fit view.shape elems ≡ None → pos (slice_of fit elems view).start ≡ sliced_start fit elems view
-start-slice_of fit elems view v none = magnitude_from (sliced_start fit elems view) (sliced_start_within fit elems view v none).0
+  pub start-slice_of : pos (slice_of fit elems view).start ≡ sliced_start fit elems view
+  start-slice_of = magnitude_from (sliced_start fit elems view) sliced_start_within.0
 
--- a slice of a view is a view
-pub IsView-slice_of : (fit : Fit) (elems : List SliceInfoElem) (view : View) → IsView view → argument_fault fit view.shape elems ≡ None → IsView (slice_of fit elems view)
-IsView-slice_of fit elems view v none =
-    let part = kept fit elems view v none in
-    let start = start-slice_of fit elems view v none in
-    let spans = low_high_span (sliced_shape fit elems view.shape) (sliced_strides fit elems view.shape view.strides) in
-    let whole = low_high_span view.shape view.strides in
-    record {
-      valid = record {
-        same_count = part.counts;
-        size_fits = omega (arith, part.size, v.valid.size_fits);
-        span_fits = omega (arith, ints, part.low, part.high, spans, whole, v.valid.span_fits);
-      };
-      low = omega (arith, ints, part.low, v.low, start);
-      high = omega (arith, ints, part.high, v.high, start);
-    }
+  is_view : IsView (slice_of fit elems view)
+  is_view =
+      let part = kept in
+      let start = start-slice_of in
+      IsView-within v part.counts (omega (arith, part.size, v.valid.size_fits))
+      (omega (arith, ints, part.low, start)) (omega (arith, ints, part.high, start))
 
--- its indices lie where those that they stand for do
-pub KeepsPlaces-slice_of : (fit : Fit) (elems : List SliceInfoElem) (view : View) → IsView view → argument_fault fit view.shape elems ≡ None → KeepsPlaces (selected fit elems view.shape) view (slice_of fit elems view)
-KeepsPlaces-slice_of fit elems view v none = λ index here.
-    let fits = elements_of_no_fault fit view.shape elems none in
-    let stays = places_kept fit elems view.shape view.strides index v.valid.same_count fits.0 fits.1 here in
-    (stays.within, omega (arith, ints, start-slice_of fit elems view v none, stays.offset))
-
--- it lies within the data that the view lies within
-pub LiesWithin-slice_of : (fit : Fit) (len : ℕ) (elems : List SliceInfoElem) (view : View) → IsView view → argument_fault fit view.shape elems ≡ None → LiesWithin len view → LiesWithin len (slice_of fit elems view)
-LiesWithin-slice_of fit len elems view v none within = LiesWithin-kept len (selected fit elems view.shape) view (slice_of fit elems view) (KeepsPlaces-slice_of fit elems view v none) within
-
--- and where no two indices of the view share a place, no two of the slice do
-pub HasDistinctPlaces-slice_of : (fit : Fit) (elems : List SliceInfoElem) (view : View) → IsView view → argument_fault fit view.shape elems ≡ None → HasDistinctPlaces view → HasDistinctPlaces (slice_of fit elems view)
-HasDistinctPlaces-slice_of fit elems view v none distinct = HasDistinctPlaces-kept (selected fit elems view.shape) view (slice_of fit elems view) (KeepsPlaces-slice_of fit elems view v none) (λ index other here there same. selected_injective fit elems view.shape index other here there same) distinct
+  -- a slice of a view is a view of the same data, whose indices lie where those that they stand for do
+  pub Descends-slice_of : Descends (selected fit elems view.shape) view (slice_of fit elems view)
+  Descends-slice_of = Descends-kept is_view (λ index here.
+      let stays = places_kept fit elems view.shape view.strides index v.valid.same_count fits.0 fits.1 here in
+      (stays.within, omega (arith, ints, start-slice_of, stays.offset)))
+      (selected_injective fit elems view.shape)

@@ -1,8 +1,6 @@
 -- A step has no fault exactly where it fits a view.
-use Rattle.std.proofs.Common.{◌≡◌, ◌↔◌, ℕ, None, Some, Option, List, [], ◌∷◌, length, get_or, refl}
+use Rattle.std.proofs.Common.{◌≡◌, ◌↔◌, ℕ, None, List, [], ◌∷◌, length, get_or, refl}
 use Rattle.std.proofs.lemmas.Bool.{eq-eqb, lt-ltb, ne_eqb}
-use Rattle.std.specs.Option.{option_or}
-use Rattle.nd_base.specs.declared.error.ErrorKind.{ErrorKind}
 use Rattle.nd_slice.specs.declared.fit.Fit.{Fit}
 use Rattle.nd_slice.specs.Picks.{slice_with}
 use Rattle.nd_slice.specs.SliceFault.{slice_fault, index_fault}
@@ -20,25 +18,24 @@ use Rattle.ndarray_layout.proofs.laws.BroadcastView.{can_broadcast, no_fault_whe
 use Rattle.ndarray_layout.proofs.laws.CollapsedView.{entry_of_no_fault}
 use Rattle.ndarray_layout.proofs.laws.MergedView as merged
 use Rattle.ndarray_layout.proofs.laws.SlicedView.{fits_of_no_refusal}
-
-both_none : (first second : Option ErrorKind) → option_or first second ≡ None → (first ≡ None) × (second ≡ None)
-both_none None second none = (refl, none)
-both_none (Some fault) second none = absurd (cc)
+use Rattle.nd_base.proofs.laws.Options.{option_or_none}
 
 -- no element is at fault where each fits
-elements_of_no_first : (fit : Fit) (shape : List ℕ) (elems : List SliceInfoElem) → first_fault fit shape elems ≡ None → ElementsFit fit shape elems
+elements_of_no_first : (fit : Fit) (shape : List ℕ) (elems : List SliceInfoElem) → first_fault fit shape elems ≡ None
+    → ElementsFit fit shape elems
 elements_of_no_first fit shape [] none = tt
 elements_of_no_first fit shape (elem.NewAxis ∷ elems) none = elements_of_no_first fit shape elems none
 elements_of_no_first fit [] (elem.Slice start end step ∷ elems) none = tt
 elements_of_no_first fit [] (elem.Index index ∷ elems) none = tt
 elements_of_no_first fit (len ∷ shape) (elem.Slice start end step ∷ elems) none =
-    let parts = both_none (slice_fault fit len (slice_with start end step)) (first_fault fit shape elems) none in
+    let parts = option_or_none (slice_fault fit len (slice_with start end step)) none in
     (fits_of_no_fault fit len (slice_with start end step) parts.0, elements_of_no_first fit shape elems parts.1)
 elements_of_no_first fit (len ∷ shape) (elem.Index index ∷ elems) none =
-    let parts = both_none (index_fault len index) (first_fault fit shape elems) none in
+    let parts = option_or_none (index_fault len index) none in
     (index_fits_of_no_fault len index parts.0, elements_of_no_first fit shape elems parts.1)
 
-no_first_of_elements : (fit : Fit) (shape : List ℕ) (elems : List SliceInfoElem) → ElementsFit fit shape elems → first_fault fit shape elems ≡ None
+no_first_of_elements : (fit : Fit) (shape : List ℕ) (elems : List SliceInfoElem) → ElementsFit fit shape elems
+    → first_fault fit shape elems ≡ None
 no_first_of_elements fit shape [] fits = refl
 no_first_of_elements fit shape (elem.NewAxis ∷ elems) fits = no_first_of_elements fit shape elems fits
 no_first_of_elements fit [] (elem.Slice start end step ∷ elems) fits = refl
@@ -47,37 +44,39 @@ no_first_of_elements fit (len ∷ shape) (elem.Slice start end step ∷ elems) f
     rw (no_fault_of_fits fit len (slice_with start end step) fits.0) (no_first_of_elements fit shape elems fits.1)
 no_first_of_elements fit (len ∷ shape) (elem.Index index ∷ elems) fits = rw (fits.0) (no_first_of_elements fit shape elems fits.1)
 
-no_refusal : (fit : Fit) (shape : List ℕ) (elems : List SliceInfoElem) → in_count elems ≡ length shape → first_fault fit shape elems ≡ None → slice_refusal fit None shape elems ≡ None
+no_refusal : (fit : Fit) (shape : List ℕ) (elems : List SliceInfoElem) → in_count elems ≡ length shape → first_fault fit shape elems ≡ None
+    → slice_refusal fit None shape elems ≡ None
 no_refusal fit shape elems counts none = rw (eq-eqb (in_count elems) (length shape) counts, none) refl
 
 -- a step without fault fits
-pub fits_of_no_fault_of_step : (view : View) (step : StepValue) → IsView view → step_fault view step ≡ None → StepFits view step
-fits_of_no_fault_of_step view (SliceBy elems fit) v none =
+pub fits_of_no_fault_of_step : {view : View} (step : StepValue) → IsView view → step_fault view step ≡ None → StepFits view step
+fits_of_no_fault_of_step {view} (SliceBy elems fit) v none =
     let parts = elements_of_no_fault fit view.shape elems (fits_of_no_refusal fit None view.shape elems none) in
     (parts.0, elements_of_no_first fit view.shape elems parts.1)
-fits_of_no_fault_of_step view (CollapseTo axis index) v none = entry_of_no_fault view.shape axis index none
-fits_of_no_fault_of_step view (MergeInto take into) v none =
+fits_of_no_fault_of_step {view} (CollapseTo axis index) v none = entry_of_no_fault view.shape axis index none
+fits_of_no_fault_of_step {view} (MergeInto take into) v none =
     let can = merged.can_merge take into view none in
     let axes = merged.axes_of_no_fault view.shape take into can.axes in
     (axes.take_there, axes.into_there, axes.apart, (merged.has_merged_stride-Decides take into view).0 can.stride)
-fits_of_no_fault_of_step view (ReshapeTo shape order) v none = (reshape_refusal-ReshapeFits order shape view v).0 none
-fits_of_no_fault_of_step view (BroadcastTo shape) v none =
-    let can = can_broadcast shape view.shape none in
+fits_of_no_fault_of_step (ReshapeTo shape order) v none = (reshape_refusal-ReshapeFits order shape v).0 none
+fits_of_no_fault_of_step {view} (BroadcastTo shape) v none =
+    let can = can_broadcast {shape = shape} {view_shape = view.shape} none in
     (can.common, can.size_fits)
 
 -- and one that fits has no fault
-pub no_fault_of_fitting_step : (view : View) (step : StepValue) → IsView view → StepFits view step → step_fault view step ≡ None
-no_fault_of_fitting_step view (SliceBy elems fit) v fits =
+pub no_fault_of_fitting_step : {view : View} (step : StepValue) → IsView view → StepFits view step → step_fault view step ≡ None
+no_fault_of_fitting_step {view} (SliceBy elems fit) v fits =
     no_refusal fit view.shape elems fits.0 (no_first_of_elements fit view.shape elems fits.1)
-no_fault_of_fitting_step view (CollapseTo axis index) v fits =
+no_fault_of_fitting_step {view} (CollapseTo axis index) v fits =
     rw (lt-ltb axis (length view.shape) fits.0, lt-ltb index (get_or view.shape axis 0) fits.1) refl
-no_fault_of_fitting_step view (MergeInto take into) v fits =
+no_fault_of_fitting_step {view} (MergeInto take into) v fits =
     merged.no_fault_where_it_can take into view (record {
       axes = rw (lt-ltb take (length view.shape) fits.0, lt-ltb into (length view.shape) fits.1, ne_eqb take into fits.2) refl;
       stride = (merged.has_merged_stride-Decides take into view).1 fits.3;
     })
-no_fault_of_fitting_step view (ReshapeTo shape order) v fits = (reshape_refusal-ReshapeFits order shape view v).1 fits
-no_fault_of_fitting_step view (BroadcastTo shape) v fits = no_fault_where_it_can shape view.shape (record { common = fits.0; size_fits = fits.1 })
+no_fault_of_fitting_step (ReshapeTo shape order) v fits = (reshape_refusal-ReshapeFits order shape v).1 fits
+no_fault_of_fitting_step {view} (BroadcastTo shape) v fits = no_fault_where_it_can shape view.shape
+    (record { common = fits.0; size_fits = fits.1 })
 
-pub step_fault-StepFits : (view : View) (step : StepValue) → IsView view → (step_fault view step ≡ None) ↔ StepFits view step
-step_fault-StepFits view step v = (fits_of_no_fault_of_step view step v, no_fault_of_fitting_step view step v)
+pub step_fault-StepFits : {view : View} (step : StepValue) → IsView view → (step_fault view step ≡ None) ↔ StepFits view step
+step_fault-StepFits step v = (fits_of_no_fault_of_step step v, no_fault_of_fitting_step step v)

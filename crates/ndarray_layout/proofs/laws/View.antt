@@ -1,5 +1,6 @@
 -- Laws of views: each index of the shape has a place; how many places there are, in which order, and where they lie.
-use Rattle.std.proofs.Common.{◌≡◌, ℕ, ◌<◌, ◌^◌, ℤ, pos, ◌+ℤ◌, ◌≤ℤ◌, Bool, true, false, cond, Some, None, List, [], length, map, refl, sym, ap, subst, ◌∙◌, arith}
+use Rattle.std.proofs.Common.{◌≡◌, ℕ, ◌+◌, ◌<◌, ◌≤◌, ◌^◌, ℤ, pos, ◌+ℤ◌, ◌≤ℤ◌, Bool, true, false, cond, Some, None, List, [], length}
+use Rattle.std.proofs.Common.{map, refl, sym, ap, subst, ◌∙◌, arith}
 use Rattle.std.specs.Prelude.{slice_get}
 use Rattle.std.specs.Option.{option_map}
 use Rattle.std.specs.List.{All}
@@ -9,36 +10,48 @@ use Rattle.std.proofs.lemmas.List.{get_or-map, length-map}
 use Rattle.std.proofs.lemmas.List.Elements.{All-map, All-weaker}
 use Rattle.std.proofs.lemmas.Option.{slice_get-map}
 use Rattle.nd_base.specs.declared.order.Order.{Order}
-use Rattle.nd_base.specs.Indices.{is_index, indices_in}
-use Rattle.nd_base.specs.Offset.{offset_of, checked_offset}
-use Rattle.nd_base.specs.Rank.{index_of_rank_in}
-use Rattle.nd_base.specs.Size.{size, limit}
-use Rattle.nd_base.specs.Span.{low_span}
-use Rattle.nd_base.specs.ValidLayout.{IsValidLayout}
+use Rattle.nd_base.proofs.laws.Definitions.{indices_in, is_index, IsInside, checked_offset, offset_of, place, index_of_rank_in}
+use Rattle.nd_base.proofs.laws.Definitions.{limit, nonzero_size, size, high_span, low_span, IsValidLayout}
 use Rattle.nd_base.proofs.laws.Indices.{length-indices_in, All-indices_in, indices_in_of_empty}
 use Rattle.nd_base.proofs.laws.NonzeroSize.{length_le_nonzero_size, size_le_nonzero_size}
 use Rattle.nd_base.proofs.laws.Rank.{slice_get-indices_in}
 use Rattle.nd_base.proofs.laws.Span.{low_high_span}
-use Rattle.nd_base.specs.Inside.{IsInside}
-use Rattle.nd_base.specs.Place.{place}
 use Rattle.ndarray_layout.specs.View.{View, IsView, LiesWithin, place_at, view_places}
 use Rattle.ndarray_layout.proofs.Offsets.{offset_within}
 
 -- a layout from its lowest element on
-pub lowest_view : (shape : List ℕ) (strides : List ℤ) → IsValidLayout shape strides → IsView (record { start = low_span shape strides; shape = shape; strides = strides })
-lowest_view shape strides valid = record {
+pub lowest_view : {shape : List ℕ} {strides : List ℤ} → IsValidLayout shape strides
+    → IsView (record { start = low_span shape strides; shape = shape; strides = strides })
+lowest_view {shape} {strides} valid = record {
   valid = valid;
   low = omega arith;
   high = omega (arith, low_high_span shape strides, valid.span_fits);
 }
+
+-- a layout that reaches no further than a view does, to either side, is a view from its start on
+pub IsView-within : {view new : View} → IsView view → length new.shape ≡ length new.strides → nonzero_size new.shape ≤ limit
+    → low_span new.shape new.strides + view.start ≤ low_span view.shape view.strides + new.start
+    → new.start + high_span new.shape new.strides ≤ view.start + high_span view.shape view.strides → IsView new
+IsView-within {view} {new} v counts fits low high =
+    let spans = low_high_span new.shape new.strides in
+    let whole = low_high_span view.shape view.strides in
+    record {
+      valid = record {
+        same_count = counts;
+        size_fits = fits;
+        span_fits = omega (arith, spans, whole, v.valid.span_fits);
+      };
+      low = omega (arith, v.low);
+      high = omega (arith, v.high);
+    }
 
 -- the place of an index
 pub record HasPlace (view : View) (index : List ℕ) : Type 0 where
   pub low : pos 0 ≤ℤ place_at view index
   pub high : place_at view index ≤ℤ pos limit
 
-pub view_place : (view : View) (index : List ℕ) → IsView view → is_index view.shape index ≡ true → HasPlace view index
-view_place view index v h =
+pub view_place : {view : View} (index : List ℕ) → IsView view → is_index view.shape index ≡ true → HasPlace view index
+view_place {view} index v h =
     let offset = offset_within view.shape view.strides index v.valid.same_count h in
     record {
       low = omega (arith, ints, offset.above, v.low);
@@ -46,23 +59,27 @@ view_place view index v h =
     }
 
 -- an offset that is given is that of an index
-pub some_offset : (shape : List ℕ) (strides : List ℤ) (index : List ℕ) (offset : ℤ) → Some offset ≡ checked_offset shape strides index → (is_index shape index ≡ true) × (offset ≡ offset_of strides index)
-some_offset shape strides index offset e = by (is_index shape index) refl e
+pub some_offset : (shape : List ℕ) (strides : List ℤ) (index : List ℕ) {offset : ℤ} → Some offset ≡ checked_offset shape strides index
+    → (is_index shape index ≡ true) × (offset ≡ offset_of strides index)
+some_offset shape strides index {offset} e = by (is_index shape index) refl e
   where
-    by : (t : Bool) → is_index shape index ≡ t → Some offset ≡ cond t (Some (offset_of strides index)) None → (is_index shape index ≡ true) × (offset ≡ offset_of strides index)
+    by : (t : Bool) → is_index shape index ≡ t → Some offset ≡ cond t (Some (offset_of strides index)) None
+        → (is_index shape index ≡ true) × (offset ≡ offset_of strides index)
     by true h g = (h, cc)
     by false h g = absurd (cc)
 
 -- the place at an offset that is given
-pub offset_place_within : (view : View) (index : List ℕ) (offset : ℤ) → IsView view → Some offset ≡ checked_offset view.shape view.strides index → (pos 0 ≤ℤ (pos view.start +ℤ offset)) × ((pos view.start +ℤ offset) ≤ℤ pos limit)
-offset_place_within view index offset v e =
-    let some = some_offset view.shape view.strides index offset e in
-    let here = view_place view index v some.0 in
+pub offset_place_within : {view : View} (index : List ℕ) {offset : ℤ} → IsView view
+    → Some offset ≡ checked_offset view.shape view.strides index
+    → (pos 0 ≤ℤ (pos view.start +ℤ offset)) × ((pos view.start +ℤ offset) ≤ℤ pos limit)
+offset_place_within {view} index v e =
+    let some = some_offset view.shape view.strides index e in
+    let here = view_place index v some.0 in
     (rw some.1 here.low, rw some.1 here.high)
 
 -- the size of a view fits a word
-pub size_fits : (view : View) → IsView view → size view.shape < 2 ^ 64
-size_fits view v = omega (arith, size_le_nonzero_size view.shape, v.valid.size_fits)
+pub size_fits : {view : View} → IsView view → size view.shape < 2 ^ 64
+size_fits {view} v = omega (arith, size_le_nonzero_size view.shape, v.valid.size_fits)
 
 -- a view of a size of 0 has no place
 pub no_places : (order : Order) (view : View) → size view.shape ≡ 0 → view_places order view ≡ []
@@ -70,23 +87,27 @@ no_places order view h = ap (map (place view.start view.strides)) (indices_in_of
 
 -- as many places as indices
 pub length-view_places : (order : Order) (view : View) → length (view_places order view) ≡ size view.shape
-length-view_places order view = length-map (indices_in order view.shape) (place view.start view.strides) ∙ length-indices_in order view.shape
+length-view_places order view = length-map (indices_in order view.shape) (place view.start view.strides) ∙ length-indices_in order
+    view.shape
 
 -- where a view lies within data, each of its places does
 pub places_lie_within : (len : ℕ) (order : Order) (view : View) → LiesWithin len view → All (IsInside len) (view_places order view)
 places_lie_within len order view within =
     let indices = indices_in order view.shape in
-    let inside = All-weaker (λ index. is_index view.shape index ≡ true) (λ index. IsInside len (place view.start view.strides index)) within indices (All-indices_in order view.shape) in
+    let inside = All-weaker (λ index. is_index view.shape index ≡ true) (λ index. IsInside len (place view.start view.strides index)) within
+    indices (All-indices_in order view.shape) in
     All-map (IsInside len) (place view.start view.strides) indices inside
 
 -- the same of the places as unsigned numbers
-pub items_lie_within : (len : ℕ) (order : Order) (view : View) (items : List ℕ) → map pos items ≡ view_places order view → LiesWithin len view → All (λ item. item < len) items
+pub items_lie_within : (len : ℕ) (order : Order) (view : View) (items : List ℕ) → map pos items ≡ view_places order view
+    → LiesWithin len view → All (λ item. item < len) items
 items_lie_within len order view items same within = λ k d below.
     let places = subst (All (IsInside len)) (sym same) (places_lie_within len order view within) in
     subst (IsInside len) (get_or-map pos items k d (pos d) below) (places k (pos d) (omega (arith, length-map items pos)))
 
 -- what is listed at a rank is the place of the index of that rank
-pub item_at_rank : (order : Order) (view : View) (items : List ℕ) (r : ℕ) → map pos items ≡ view_places order view → r < size view.shape → option_map pos (slice_get items r) ≡ Some (place_at view (index_of_rank_in order view.shape r))
+pub item_at_rank : (order : Order) (view : View) (items : List ℕ) (r : ℕ) → map pos items ≡ view_places order view → r < size view.shape
+    → option_map pos (slice_get items r) ≡ Some (place_at view (index_of_rank_in order view.shape r))
 item_at_rank order view items r same below =
     sym (slice_get-map pos items r)
     ∙ ap (λ places. slice_get places r) same
@@ -94,6 +115,6 @@ item_at_rank order view items r same below =
     ∙ ap (option_map (place view.start view.strides)) (slice_get-indices_in order view.shape r below)
 
 -- each length of a view is below 2^63
-pub lens_fit : (view : View) → IsView view → All (λ len. len < 2 ^ 63) view.shape
-lens_fit view v = λ axis d below.
+pub lens_fit : {view : View} → IsView view → All (λ len. len < 2 ^ 63) view.shape
+lens_fit {view} v = λ axis d below.
     omega (arith, get_or_default_zero view.shape axis d below, length_le_nonzero_size view.shape axis, v.valid.size_fits)

@@ -1,9 +1,11 @@
 -- Strides that keep the places of a layout, its axes read from the slowest on, are there exactly where no joint is bad.
-use Rattle.std.proofs.Common.{◌≡◌, ℕ, zero, suc, ◌+◌, ◌*◌, ◌<◌, ◌≤◌, true, false, ℤ, pos, List, [], ◌∷◌, ◌++◌, length, reverse, refl, sym, ap, ap₂, ◌∙◌, inl, inr, arith, subst}
+use Rattle.std.proofs.Common.{◌≡◌, ℕ, zero, suc, ◌+◌, ◌*◌, ◌<◌, ◌≤◌, true, false, ℤ, pos, List, [], ◌∷◌, ◌++◌, length, reverse, refl, sym}
+use Rattle.std.proofs.Common.{ap, ap₂, ◌∙◌, inl, inr, arith, subst}
 use Rattle.std.specs.Prelude.{nat_lt, not, ◌==◌}
 use Rattle.std.specs.List.{list_any}
 use Rattle.std.proofs.Math.Nat.{mul-le-mul_left}
-use Rattle.std.proofs.lemmas.Bool.{cases_Bool, cond-true, both_ways, and_parts, and_from, lt-ltb, eqb-true, eq-eqb, cond-false, ltb-true, not-true, not_from_false}
+use Rattle.std.proofs.lemmas.Bool.{cases_Bool, cond-true, both_ways, and_parts, and_from, lt-ltb, eqb-true, eq-eqb, cond-false, ltb-true}
+use Rattle.std.proofs.lemmas.Bool.{not-true, not_from_false}
 use Rattle.std.proofs.lemmas.List.{map-append, reverse-append, reverse-reverse}
 use Rattle.nd_base.specs.Size.{size, is_empty}
 use Rattle.nd_base.proofs.laws.Size.{size_of_nonempty, size-reverse}
@@ -12,7 +14,8 @@ use Rattle.ndarray_layout.proofs.reshapes.Joins.{long_axes, joints, joints-of-lo
 use Rattle.ndarray_layout.specs.private.ReshapeProgress.{Member, PlacesAlike}
 use Rattle.ndarray_layout.proofs.reshapes.Members.{member-of-any, any-of-member}
 use Rattle.ndarray_layout.proofs.reshapes.Products.{long_lens, tail-of-product, product-of-tail, size-long_lens}
-use Rattle.ndarray_layout.proofs.reshapes.Ranks.{long-long_axes, long-reverse, count-long_axes, lens-long_axes, offset-at-rank, long-kept, long-left}
+use Rattle.ndarray_layout.proofs.reshapes.Ranks.{long-long_axes, long-reverse, count-long_axes, lens-long_axes, offset-at-rank, long-kept}
+use Rattle.ndarray_layout.proofs.reshapes.Ranks.{long-left}
 use Rattle.ndarray_layout.proofs.reshapes.Splits.{TailsFit, AllLong, reaches}
 use Rattle.ndarray_layout.proofs.reshapes.Tails.{IsLooseTail, IsTail, AreAlike, lens_of, tails_of_alike}
 use Rattle.ndarray_layout.proofs.reshapes.Values.{Axes, value, count, AreLong}
@@ -32,9 +35,9 @@ loose-more (axis ∷ axes) p h (inr l) =
     omega arith
 
 -- so the joint at it lies within the shape
-joint-below : (j p n : ℕ) → 1 < p → 0 < n → j * p ≡ n → j < n
-joint-below zero p n h g e = g
-joint-below (suc j) p n h g e =
+joint-below : (j p : ℕ) {n : ℕ} → 1 < p → 0 < n → j * p ≡ n → j < n
+joint-below zero p h g e = g
+joint-below (suc j) p h g e =
     let more : suc j * 2 ≤ suc j * p = mul-le-mul_left (suc j) h in
     omega arith
 
@@ -51,7 +54,8 @@ all-long : (lens : List ℕ) → AllLong (long_lens lens)
 all-long [] = tt
 all-long (len ∷ lens) =
     elim (cases_Bool (nat_lt 1 len)) [
-      | inl long ↦ subst AllLong (sym (cond-true (nat_lt 1 len) (len ∷ long_lens lens) (long_lens lens) long)) (ltb-true 1 len long, all-long lens)
+      | inl long ↦ subst AllLong (sym (cond-true (nat_lt 1 len) (len ∷ long_lens lens) (long_lens lens) long))
+          (ltb-true 1 len long, all-long lens)
       | inr short ↦ subst AllLong (sym (cond-false (nat_lt 1 len) (len ∷ long_lens lens) (long_lens lens) short)) (all-long lens)
     ]
 
@@ -61,7 +65,8 @@ all-long-push (first ∷ lens) len h g = (h.0, all-long-push lens len h.1 g)
 
 all-long-reverse : (lens : List ℕ) → AllLong lens → AllLong (reverse lens)
 all-long-reverse [] h = tt
-all-long-reverse (len ∷ lens) h = subst AllLong (sym (reverse-append (len ∷ []) lens)) (all-long-push (reverse lens) len (all-long-reverse lens h.1) h.0)
+all-long-reverse (len ∷ lens) h = subst AllLong (sym (reverse-append (len ∷ []) lens))
+    (all-long-push (reverse lens) len (all-long-reverse lens h.1) h.0)
 
 -- ---- joints and tails
 -- the axes from the fastest on
@@ -71,7 +76,8 @@ fast lens strides = reverse (long_axes lens strides)
 abbrev pub fast_lens : List ℕ → List ℕ
 fast_lens lens = reverse (long_lens lens)
 
-bad-of : (from : List ℕ) (strides : List ℤ) (to : List ℕ) (j : ℕ) → Member (loose_joints from strides) j → has_bad_joint from strides to ≡ false → is_bad_joint to j ≡ false
+bad-of : (from : List ℕ) (strides : List ℤ) (to : List ℕ) (j : ℕ) → Member (loose_joints from strides) j
+    → has_bad_joint from strides to ≡ false → is_bad_joint to j ≡ false
 bad-of from strides to j m h =
     elim (cases_Bool (is_bad_joint to j)) [
       | inl bad ↦ absurd (both_ways (has_bad_joint from strides to) h (any-of-member (is_bad_joint to) (loose_joints from strides) j m bad))
@@ -86,20 +92,26 @@ product-of-good to j l good =
       | inl found ↦
           let m = member-of-any (λ product. product == j) (cumulative_products to) found in
           subst (Member (cumulative_products to)) (eqb-true m.0 j m.2) m.1
-      | inr missing ↦ absurd (both_ways (is_bad_joint to j) good (and_from (nat_lt j (size to)) (not test) (lt-ltb j (size to) l) (not_from_false test missing)))
+      | inr missing ↦ absurd (both_ways (is_bad_joint to j) good (and_from (nat_lt j (size to)) (not test) (lt-ltb j (size to) l)
+          (not_from_false test missing)))
     ]
 
-pub tails-of-good : (from : List ℕ) (strides : List ℤ) (to : List ℕ) → is_empty from ≡ false → is_empty to ≡ false → length from ≡ length strides → size from ≡ size to → has_bad_joint from strides to ≡ false → TailsFit (fast from strides) (fast_lens to)
+pub tails-of-good : (from : List ℕ) (strides : List ℤ) (to : List ℕ) → is_empty from ≡ false → is_empty to ≡ false
+    → length from ≡ length strides → size from ≡ size to → has_bad_joint from strides to ≡ false
+    → TailsFit (fast from strides) (fast_lens to)
 tails-of-good from strides to some more same sizes good p l =
     let rows = long_axes from strides in
     let found = joint-of-tail rows p l in
     let j = found.0 in
     let whole : j * p ≡ size to = found.1 ∙ count-long_axes from strides some same ∙ sizes in
-    let inside = joint-below j p (size to) (loose-more (reverse rows) p (long-reverse rows (long-long_axes from strides)) l) (size_of_nonempty to more) whole in
+    let inside = joint-below j p (loose-more (reverse rows) p (long-reverse rows (long-long_axes from strides)) l)
+    (size_of_nonempty to more) whole in
     let member : Member (loose_joints from strides) j = subst (λ js. Member js j) (sym (joints-of-long from strides some)) found.2 in
     tail-of-product to j p more (product-of-good to j inside (bad-of from strides to j member good)) whole
 
-pub good-of-tails : (from : List ℕ) (strides : List ℤ) (to : List ℕ) → is_empty from ≡ false → is_empty to ≡ false → length from ≡ length strides → size from ≡ size to → TailsFit (fast from strides) (fast_lens to) → has_bad_joint from strides to ≡ false
+pub good-of-tails : (from : List ℕ) (strides : List ℤ) (to : List ℕ) → is_empty from ≡ false → is_empty to ≡ false
+    → length from ≡ length strides → size from ≡ size to → TailsFit (fast from strides) (fast_lens to)
+    → has_bad_joint from strides to ≡ false
 good-of-tails from strides to some more same sizes fit =
     elim (cases_Bool (has_bad_joint from strides to)) [
       | inl bad ↦
@@ -120,7 +132,9 @@ good-of-tails from strides to some more same sizes fit =
     ]
 
 -- ---- strides that keep the places
-pub good-of-alike : (from : List ℕ) (strides : List ℤ) (to : List ℕ) (others : List ℤ) → is_empty from ≡ false → is_empty to ≡ false → length from ≡ length strides → length to ≡ length others → size from ≡ size to → PlacesAlike from strides to others → has_bad_joint from strides to ≡ false
+pub good-of-alike : (from : List ℕ) (strides : List ℤ) (to : List ℕ) (others : List ℤ) → is_empty from ≡ false → is_empty to ≡ false
+    → length from ≡ length strides → length to ≡ length others → size from ≡ size to → PlacesAlike from strides to others
+    → has_bad_joint from strides to ≡ false
 good-of-alike from strides to others some more same equal sizes alike =
     let rows = long_axes from strides in
     let lines = long_axes to others in
@@ -130,8 +144,11 @@ good-of-alike from strides to others some more same equal sizes alike =
     let lines_count : count (fast to others) ≡ size to = count-reverse lines ∙ count-long_axes to others more equal in
     let lens : lens_of (fast to others) ≡ fast_lens to = lens-reverse lines ∙ ap reverse (lens-long_axes to others equal) in
     let values : AreAlike (fast from strides) (fast to others) = λ r l.
-    sym (offset-at-rank from strides r some same (omega arith)) ∙ sym (alike r (omega arith)) ∙ offset-at-rank to others r more equal (omega arith) in
-    good-of-tails from strides to some more same sizes (λ p l. subst (λ ls. IsTail ls p) lens (tails_of_alike (length (fast from strides) + length (fast to others)) (fast from strides) (fast to others) (omega arith) rows_long lines_long (rows_count ∙ sizes ∙ sym lines_count) values p l))
+    sym (offset-at-rank from strides r some same (omega arith)) ∙ sym (alike r (omega arith)) ∙ offset-at-rank to others r more equal
+    (omega arith) in
+    good-of-tails from strides to some more same sizes
+    (λ p l. subst (λ ls. IsTail ls p) lens (tails_of_alike (length (fast from strides) + length (fast to others)) (fast from strides)
+    (fast to others) (omega arith) rows_long lines_long (rows_count ∙ sizes ∙ sym lines_count) values p l))
 
 -- strides for the axes of more than one entry are strides for all
 pub record StridesOf (lens : List ℕ) (axes : Axes) : Type 0 where
@@ -139,46 +156,66 @@ pub record StridesOf (lens : List ℕ) (axes : Axes) : Type 0 where
   pub same_count : length lens ≡ length strides
   pub longer : long_axes lens strides ≡ axes
 
-strides-left : (len : ℕ) (lens : List ℕ) (axes : Axes) → nat_lt 1 len ≡ false → StridesOf lens axes → StridesOf (len ∷ lens) axes
-strides-left len lens axes short rest =
+strides-left : {len : ℕ} {lens : List ℕ} {axes : Axes} → nat_lt 1 len ≡ false → StridesOf lens axes → StridesOf (len ∷ lens) axes
+strides-left {len} {lens} short rest =
     let count = rest.same_count in
-    record { strides = pos 0 ∷ rest.strides; same_count = omega arith; longer = long-left len lens (pos 0) rest.strides short ∙ rest.longer }
+    record {
+      strides = pos 0 ∷ rest.strides;
+      same_count = omega arith;
+      longer = long-left len lens (pos 0) rest.strides short
+          ∙ rest.longer;
+    }
 
-strides-kept : (len : ℕ) (lens : List ℕ) → ((axes : Axes) → lens_of axes ≡ long_lens lens → StridesOf lens axes) → nat_lt 1 len ≡ true → (axes : Axes) → lens_of axes ≡ len ∷ long_lens lens → StridesOf (len ∷ lens) axes
-strides-kept len lens rest long [] e = absurd (cc)
-strides-kept len lens rest long (axis ∷ axes) e =
+strides-kept : {len : ℕ} {lens : List ℕ} → ((axes : Axes) → lens_of axes ≡ long_lens lens → StridesOf lens axes) → nat_lt 1 len ≡ true
+    → (axes : Axes) → lens_of axes ≡ len ∷ long_lens lens → StridesOf (len ∷ lens) axes
+strides-kept rest long [] e = absurd (cc)
+strides-kept {len} {lens} rest long (axis ∷ axes) e =
     let head : axis.0 ≡ len = cc in
     let tail : lens_of axes ≡ long_lens lens = cc in
     let others = rest axes tail in
     let count = others.same_count in
-    record { strides = axis.1 ∷ others.strides; same_count = omega arith; longer = long-kept len lens axis.1 others.strides long ∙ ap₂ (λ n xs. (n, axis.1) ∷ xs) (sym head) others.longer }
+    record {
+      strides = axis.1 ∷ others.strides;
+      same_count = omega arith;
+      longer = long-kept len lens axis.1 others.strides long
+          ∙ ap₂ (λ n xs. (n, axis.1) ∷ xs) (sym head) others.longer;
+    }
 
 strides-of : (lens : List ℕ) (axes : Axes) → lens_of axes ≡ long_lens lens → StridesOf lens axes
 strides-of [] [] e = record { strides = []; same_count = refl; longer = refl }
 strides-of [] (axis ∷ axes) e = absurd (cc)
 strides-of (len ∷ lens) axes e =
     elim (cases_Bool (nat_lt 1 len)) [
-      | inl long ↦ strides-kept len lens (λ xs h. strides-of lens xs h) long axes (e ∙ cond-true (nat_lt 1 len) (len ∷ long_lens lens) (long_lens lens) long)
-      | inr short ↦ strides-left len lens axes short (strides-of lens axes (e ∙ cond-false (nat_lt 1 len) (len ∷ long_lens lens) (long_lens lens) short))
+      | inl long ↦ strides-kept (λ xs h. strides-of lens xs h) long axes (e ∙ cond-true (nat_lt 1 len) (len ∷ long_lens lens)
+          (long_lens lens) long)
+      | inr short ↦ strides-left short (strides-of lens axes (e ∙ cond-false (nat_lt 1 len) (len ∷ long_lens lens) (long_lens lens) short))
     ]
 
 -- axes of the longer lengths that are alike give strides that are
-from-axes : (from : List ℕ) (strides : List ℤ) (to : List ℕ) (axes : Axes) → is_empty from ≡ false → is_empty to ≡ false → length from ≡ length strides → size from ≡ size to → lens_of axes ≡ fast_lens to → AreAlike (fast from strides) axes → (others : List ℤ) × (length to ≡ length others) × PlacesAlike from strides to others
+from-axes : (from : List ℕ) (strides : List ℤ) (to : List ℕ) (axes : Axes) → is_empty from ≡ false → is_empty to ≡ false
+    → length from ≡ length strides → size from ≡ size to → lens_of axes ≡ fast_lens to → AreAlike (fast from strides) axes
+    → (others : List ℤ) × (length to ≡ length others) × PlacesAlike from strides to others
 from-axes from strides to axes some more same sizes lens alike =
     let turned : lens_of (reverse axes) ≡ long_lens to = lens-reverse axes ∙ ap reverse lens ∙ reverse-reverse (long_lens to) in
     let made = strides-of to (reverse axes) turned in
     let back : fast to made.strides ≡ axes = ap reverse made.longer ∙ reverse-reverse axes in
-    let rows_count : count (fast from strides) ≡ size from = count-reverse (long_axes from strides) ∙ count-long_axes from strides some same in (
+    let rows_count : count (fast from strides) ≡ size from = count-reverse (long_axes from strides) ∙ count-long_axes from strides some
+    same in (
       made.strides,
       made.same_count,
       λ r l.
-          offset-at-rank to made.strides r more made.same_count (omega arith) ∙ ap (λ xs. value xs r) back ∙ sym (alike r (omega arith)) ∙ sym (offset-at-rank from strides r some same l),
+          offset-at-rank to made.strides r more made.same_count (omega arith) ∙ ap (λ xs. value xs r) back ∙ sym (alike r (omega arith))
+          ∙ sym (offset-at-rank from strides r some same l),
     )
 
-pub alike-of-good : (from : List ℕ) (strides : List ℤ) (to : List ℕ) → is_empty from ≡ false → is_empty to ≡ false → length from ≡ length strides → size from ≡ size to → has_bad_joint from strides to ≡ false → (others : List ℤ) × (length to ≡ length others) × PlacesAlike from strides to others
+pub alike-of-good : (from : List ℕ) (strides : List ℤ) (to : List ℕ) → is_empty from ≡ false → is_empty to ≡ false
+    → length from ≡ length strides → size from ≡ size to → has_bad_joint from strides to ≡ false
+    → (others : List ℤ) × (length to ≡ length others) × PlacesAlike from strides to others
 alike-of-good from strides to some more same sizes good =
     let rows = long_axes from strides in
     let rows_long = long-reverse rows (long-long_axes from strides) in
-    let counts : count (fast from strides) ≡ size (fast_lens to) = count-reverse rows ∙ count-long_axes from strides some same ∙ sizes ∙ sym (size-long_lens to more) ∙ sym (size-reverse (long_lens to)) in
-    let a = reaches (length (fast from strides) + length (fast_lens to)) (fast from strides) (fast_lens to) (omega arith) rows_long (all-long-reverse (long_lens to) (all-long to)) counts (tails-of-good from strides to some more same sizes good) in
+    let counts : count (fast from strides) ≡ size (fast_lens to) = count-reverse rows ∙ count-long_axes from strides some same ∙ sizes
+    ∙ sym (size-long_lens to more) ∙ sym (size-reverse (long_lens to)) in
+    let a = reaches (length (fast from strides) + length (fast_lens to)) (fast from strides) (fast_lens to) (omega arith) rows_long
+    (all-long-reverse (long_lens to) (all-long to)) counts (tails-of-good from strides to some more same sizes good) in
     from-axes from strides to a.0 some more same sizes a.1 a.2

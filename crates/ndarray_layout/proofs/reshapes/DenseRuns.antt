@@ -1,20 +1,20 @@
 -- Axes that step as one: which list of places they have, also one group of axes after another.
-use Rattle.std.proofs.Common.{◌≡◌, ◌≢◌, ℕ, zero, suc, ◌+◌, ◌*◌, ◌/◌, ◌%◌, ◌<◌, ◌==◌, false, ℤ, pos, ◌+ℤ◌, ◌*ℤ◌, List, [], ◌∷◌, ◌++◌, length, get_or, drop, sym, ap, ap₂, ◌∙◌, inl, inr, arith, add-one}
+use Rattle.std.proofs.Common.{◌≡◌, ◌≢◌, ℕ, zero, suc, ◌+◌, ◌*◌, ◌/◌, ◌%◌, ◌<◌, ◌==◌, false, ℤ, pos, ◌+ℤ◌, ◌*ℤ◌, List, [], ◌∷◌, ◌++◌, length}
+use Rattle.std.proofs.Common.{get_or, drop, sym, ap, ap₂, ◌∙◌, inl, inr, arith, add-one}
 use Rattle.std.proofs.Math.Arith.{mod-mul}
 use Rattle.std.proofs.Math.Nat.{div-div-eq-div-mul, div-eq_of_lt, mod-eq_of_lt, div-add-mod, mul_comm, one-mul}
 use Rattle.std.proofs.lemmas.Bool.{cases_lt, or_parts, eqb-false}
 use Rattle.std.proofs.lemmas.Int.{ints}
 use Rattle.std.proofs.lemmas.Nat.{div_below, mod_below, mod-mul-add, div-mul-add}
-use Rattle.nd_base.specs.Offset.{offset_of}
-use Rattle.nd_base.specs.Rank.{index_of_rank}
-use Rattle.nd_base.specs.Size.{size, is_empty}
+use Rattle.nd_base.proofs.laws.Definitions.{offset_of, index_of_rank, is_empty, size}
 use Rattle.nd_base.proofs.laws.Size.{size_of_nonempty, size-append, size-push}
 use Rattle.ndarray_layout.specs.private.ReshapeProgress.{PlacesAlike, IsDense}
 use Rattle.ndarray_layout.proofs.reshapes.Joins.{is_empty-rest}
 use Rattle.nd_base.proofs.laws.Times.{times_times, times_sum}
 
 -- so the index of a rank lies that many steps from the first one
-pub run-of-dense : (lens : List ℕ) (strides : List ℤ) (step : ℤ) (r : ℕ) → is_empty lens ≡ false → IsDense lens strides step → r < size lens → offset_of strides (index_of_rank lens r) ≡ pos r *ℤ step
+pub run-of-dense : (lens : List ℕ) (strides : List ℤ) (step : ℤ) (r : ℕ) → is_empty lens ≡ false → IsDense lens strides step → r < size lens
+    → offset_of strides (index_of_rank lens r) ≡ pos r *ℤ step
 run-of-dense [] strides step r h d l =
     let none : r ≡ 0 = omega arith in
     sym (ap (λ n. pos n *ℤ step) none ∙ omega (arith, ints))
@@ -25,7 +25,8 @@ run-of-dense (len ∷ lens) (stride ∷ strides) step r h d l =
     let rest = run-of-dense lens strides step (r % n) (is_empty-rest len lens h) d.1 (mod_below r n some) in
     elim (cases_lt 1 len) [
       | inl long ↦
-          let first : pos (r / n) *ℤ stride ≡ pos (r / n * n) *ℤ step = ap (λ z. pos (r / n) *ℤ z) (d.0 long) ∙ times_times (r / n) n step in
+          let first : pos (r / n) *ℤ stride ≡ pos (r / n * n) *ℤ step = ap (λ z. pos (r / n) *ℤ z) (d.0 long)
+          ∙ times_times (r / n) n step in
           let whole : r / n * n + r % n ≡ r = ap (λ m. m + r % n) (mul_comm (r / n) n) ∙ div-add-mod r n in
           ap₂ (λ x y. x +ℤ y) first rest ∙ sym (times_sum (r / n * n) (r % n) step) ∙ ap (λ m. pos m *ℤ step) whole
       | inr short ↦
@@ -38,36 +39,43 @@ run-of-dense (len ∷ lens) (stride ∷ strides) step r h d l =
     ]
 
 -- one more axis at the end
-pub dense-push : (lens : List ℕ) (strides : List ℤ) (len : ℕ) (stride step : ℤ) → length lens ≡ length strides → step ≡ pos len *ℤ stride → IsDense lens strides step → IsDense (lens ++ len ∷ []) (strides ++ stride ∷ []) stride
-dense-push [] [] len stride step e s d = (λ long. omega (arith, ints), tt)
-dense-push [] (other ∷ strides) len stride step e s d = absurd (omega arith)
-dense-push (first ∷ lens) [] len stride step e s d = absurd (omega arith)
-dense-push (first ∷ lens) (other ∷ strides) len stride step e s d = (
-  λ long. d.0 long ∙ ap (λ z. pos (size lens) *ℤ z) s ∙ times_times (size lens) len stride ∙ ap (λ n. pos n *ℤ stride) (mul_comm (size lens) len ∙ sym (size-push lens len)),
-  dense-push lens strides len stride step (omega arith) s d.1,
+pub dense-push : (lens : List ℕ) (strides : List ℤ) (len : ℕ) (stride : ℤ) {step : ℤ} → length lens ≡ length strides
+    → step ≡ pos len *ℤ stride → IsDense lens strides step → IsDense (lens ++ len ∷ []) (strides ++ stride ∷ []) stride
+dense-push [] [] len stride e s d = (λ long. omega (arith, ints), tt)
+dense-push [] (other ∷ strides) len stride e s d = absurd (omega arith)
+dense-push (first ∷ lens) [] len stride e s d = absurd (omega arith)
+dense-push (first ∷ lens) (other ∷ strides) len stride e s d = (
+  λ long. d.0 long ∙ ap (λ z. pos (size lens) *ℤ z) s ∙ times_times (size lens) len stride ∙ ap (λ n. pos n *ℤ stride)
+      (mul_comm (size lens) len ∙ sym (size-push lens len)),
+  dense-push lens strides len stride (omega arith) s d.1,
 )
 
-pub dense-push-one : (lens : List ℕ) (strides : List ℤ) (len : ℕ) (stride step : ℤ) → length lens ≡ length strides → len ≡ 1 → IsDense lens strides step → IsDense (lens ++ len ∷ []) (strides ++ stride ∷ []) step
-dense-push-one [] [] len stride step e s d = (λ long. absurd (omega arith), tt)
-dense-push-one [] (other ∷ strides) len stride step e s d = absurd (omega arith)
-dense-push-one (first ∷ lens) [] len stride step e s d = absurd (omega arith)
-dense-push-one (first ∷ lens) (other ∷ strides) len stride step e s d =
+pub dense-push-one : (lens : List ℕ) (strides : List ℤ) {len : ℕ} (stride step : ℤ) → length lens ≡ length strides → len ≡ 1
+    → IsDense lens strides step → IsDense (lens ++ len ∷ []) (strides ++ stride ∷ []) step
+dense-push-one [] [] stride step e s d = (λ long. absurd (omega arith), tt)
+dense-push-one [] (other ∷ strides) stride step e s d = absurd (omega arith)
+dense-push-one (first ∷ lens) [] stride step e s d = absurd (omega arith)
+dense-push-one (first ∷ lens) (other ∷ strides) {len} stride step e s d =
     let same : size (lens ++ len ∷ []) ≡ size lens = size-push lens len ∙ ap (λ n. n * size lens) s ∙ one-mul (size lens) in
-    (λ long. d.0 long ∙ ap (λ n. pos n *ℤ step) (sym same), dense-push-one lens strides len stride step (omega arith) s d.1)
+    (λ long. d.0 long ∙ ap (λ n. pos n *ℤ step) (sym same), dense-push-one lens strides stride step (omega arith) s d.1)
 
 -- strides that are the products of the later lengths times a step
-pub dense-of-products : (lens : List ℕ) (strides : List ℤ) (step : ℤ) → length lens ≡ length strides → ((k : ℕ) → k < length lens → get_or strides k (pos 0) ≡ pos (size (drop (k + 1) lens)) *ℤ step) → IsDense lens strides step
+pub dense-of-products : (lens : List ℕ) (strides : List ℤ) (step : ℤ) → length lens ≡ length strides
+    → ((k : ℕ) → k < length lens → get_or strides k (pos 0) ≡ pos (size (drop (k + 1) lens)) *ℤ step) → IsDense lens strides step
 dense-of-products [] strides step e h = tt
 dense-of-products (len ∷ lens) [] step e h = absurd (omega arith)
 dense-of-products (len ∷ lens) (stride ∷ strides) step e h = (
   λ long. h 0 (omega arith),
-  dense-of-products lens strides step (omega arith) (λ k l. h (suc k) (omega arith) ∙ ap (λ n. pos (size (drop n (len ∷ lens))) *ℤ step) (add-one (suc k)) ∙ sym (ap (λ n. pos (size (drop n lens)) *ℤ step) (add-one k))),
+  dense-of-products lens strides step (omega arith) (λ k l. h (suc k) (omega arith) ∙ ap (λ n. pos (size (drop n (len ∷ lens))) *ℤ step)
+      (add-one (suc k)) ∙ sym (ap (λ n. pos (size (drop n lens)) *ℤ step) (add-one k))),
 )
 
 -- ---- groups of axes one after another
 -- the first group counts whole turns of the second
-pub offset-append : (lens : List ℕ) (strides : List ℤ) (others : List ℕ) (steps : List ℤ) (r : ℕ) → length lens ≡ length strides → is_empty lens ≡ false → 0 < size others → r < size lens * size others →
-    offset_of (strides ++ steps) (index_of_rank (lens ++ others) r) ≡ offset_of strides (index_of_rank lens (r / size others)) +ℤ offset_of steps (index_of_rank others (r % size others))
+pub offset-append : (lens : List ℕ) (strides : List ℤ) (others : List ℕ) (steps : List ℤ) (r : ℕ) → length lens ≡ length strides
+    → is_empty lens ≡ false → 0 < size others → r < size lens * size others →
+    offset_of (strides ++ steps) (index_of_rank (lens ++ others) r) ≡ offset_of strides (index_of_rank lens (r / size others)) +ℤ offset_of
+    steps (index_of_rank others (r % size others))
 offset-append [] [] others steps r e h some l =
     let same : r % size others ≡ r = mod-eq_of_lt (omega arith) in
     ap (λ n. offset_of steps (index_of_rank others n)) (sym same) ∙ omega (arith, ints)
@@ -88,7 +96,8 @@ offset-append (len ∷ lens) (stride ∷ strides) others steps r e h some l =
     let rest = offset-append lens strides others steps (r % (m * n)) (omega arith) none some within in
     ap (λ k. (pos (r / k) *ℤ stride) +ℤ offset_of (strides ++ steps) (index_of_rank (lens ++ others) (r % k))) whole
     ∙ ap₂ (λ i z. (pos i *ℤ stride) +ℤ z) count rest
-    ∙ ap₂ (λ i j. (pos (r / n / m) *ℤ stride) +ℤ (offset_of strides (index_of_rank lens i) +ℤ offset_of steps (index_of_rank others j))) high entry
+    ∙ ap₂ (λ i j. (pos (r / n / m) *ℤ stride) +ℤ (offset_of strides (index_of_rank lens i) +ℤ offset_of steps (index_of_rank others j)))
+    high entry
     ∙ omega (arith, ints)
   where
     nonzero : (a b : ℕ) → 0 < a → 0 < b → 0 < a * b
@@ -96,8 +105,11 @@ offset-append (len ∷ lens) (stride ∷ strides) others steps r e h some l =
     nonzero zero b g k = absurd (omega arith)
     nonzero (suc a) zero g k = absurd (omega arith)
 
-pub places-append : (from : List ℕ) (strides : List ℤ) (to : List ℕ) (others : List ℤ) (lens : List ℕ) (steps : List ℤ) (news : List ℕ) (offs : List ℤ) → length from ≡ length strides → length to ≡ length others → is_empty from ≡ false → is_empty to ≡ false → is_empty lens ≡ false →
-    size from ≡ size to → size lens ≡ size news → PlacesAlike from strides to others → PlacesAlike lens steps news offs → PlacesAlike (from ++ lens) (strides ++ steps) (to ++ news) (others ++ offs)
+pub places-append : (from : List ℕ) (strides : List ℤ) (to : List ℕ) (others : List ℤ) (lens : List ℕ) (steps : List ℤ) (news : List ℕ)
+    (offs : List ℤ) → length from ≡ length strides → length to ≡ length others → is_empty from ≡ false → is_empty to ≡ false → is_empty lens
+    ≡ false →
+    size from ≡ size to → size lens ≡ size news → PlacesAlike from strides to others → PlacesAlike lens steps news offs
+    → PlacesAlike (from ++ lens) (strides ++ steps) (to ++ news) (others ++ offs)
 places-append from strides to others lens steps news offs e g h k some same equal alike like r l =
     let n = size lens in
     let more = size_of_nonempty lens some in

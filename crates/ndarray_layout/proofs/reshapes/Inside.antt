@@ -7,7 +7,8 @@ use Rattle.nd_base.proofs.laws.Size.{size_take_more}
 use Rattle.ndarray_layout.specs.private.ReshapeProgress.{IsInside}
 use Rattle.ndarray_layout.proofs.reshapes.Reached.{take-mono}
 
-grows : (lens : List ℕ) (k : ℕ) → is_empty lens ≡ false → k < length lens → 1 < get_or lens k 0 → size (take k lens) < size (take (k + 1) lens)
+grows : (lens : List ℕ) (k : ℕ) → is_empty lens ≡ false → k < length lens → 1 < get_or lens k 0
+    → size (take k lens) < size (take (k + 1) lens)
 grows lens k h l long =
     let next = size_take_more lens k l in
     let some = take-mono lens 0 k h (omega arith) in
@@ -17,8 +18,9 @@ grows lens k h l long =
 size-back : (lens : List ℕ) (k : ℕ) → size (take (k + 1 - 1) lens) ≡ size (take k lens)
 size-back lens k = let same : k + 1 - 1 ≡ k = omega arith in ap (λ n. size (take n lens)) same
 
-pub inside-first : (from to : List ℕ) (i k : ℕ) → is_empty from ≡ false → is_empty to ≡ false → i < length from → k < length to → size (take i from) ≡ size (take k to) → 1 < get_or from i 0 → 1 < get_or to k 0 → IsInside from to k (i + 1) (k + 1)
-inside-first from to i k h f l g e long more =
+pub inside-first : {from to : List ℕ} (i : ℕ) {k : ℕ} → is_empty from ≡ false → is_empty to ≡ false → i < length from → k < length to
+    → size (take i from) ≡ size (take k to) → 1 < get_or from i 0 → 1 < get_or to k 0 → IsInside from to k (i + 1) (k + 1)
+inside-first {from} {to} i {k} h f l g e long more =
     let from_grows = grows from i h l long in
     let to_grows = grows to k f g more in
     let from_back = size-back from i in
@@ -29,8 +31,9 @@ inside-first from to i k h f l g e long more =
       apart = λ axis above under m within same. absurd (omega arith);
     }
 
-pub inside-to : (from to : List ℕ) (k from_end to_end : ℕ) → is_empty from ≡ false → is_empty to ≡ false → size (take to_end to) < size (take from_end from) → IsInside from to k from_end to_end → IsInside from to k from_end (to_end + 1)
-inside-to from to k from_end to_end h f less inside =
+pub inside-to : {from to : List ℕ} {k from_end to_end : ℕ} → is_empty from ≡ false → is_empty to ≡ false
+    → size (take to_end to) < size (take from_end from) → IsInside from to k from_end to_end → IsInside from to k from_end (to_end + 1)
+inside-to {from} {to} {from_end} {to_end} h f less inside =
     let before = inside.from_below in
     let more = take-mono to to_end (to_end + 1) f (omega arith) in
     let back = size-back to to_end in
@@ -48,8 +51,9 @@ inside-to from to k from_end to_end h f less inside =
       ];
     }
 
-pub inside-from : (from to : List ℕ) (k from_end to_end : ℕ) → is_empty from ≡ false → size (take from_end from) < size (take to_end to) → IsInside from to k from_end to_end → IsInside from to k (from_end + 1) to_end
-inside-from from to k from_end to_end h less inside =
+pub inside-from : {from to : List ℕ} {k from_end to_end : ℕ} → is_empty from ≡ false → size (take from_end from) < size (take to_end to)
+    → IsInside from to k from_end to_end → IsInside from to k (from_end + 1) to_end
+inside-from {from} {from_end} h less inside =
     let before = inside.to_below in
     let more = take-mono from from_end (from_end + 1) h (omega arith) in
     let back = size-back from from_end in

@@ -1,5 +1,6 @@
 -- How far the index of a rank lies, by the longer axes of a layout, the fastest first.
-use Rattle.std.proofs.Common.{◌≡◌, ℕ, ◌+◌, ◌*◌, ◌/◌, ◌%◌, ◌<◌, true, false, ℤ, pos, ◌+ℤ◌, ◌*ℤ◌, List, [], ◌∷◌, ◌++◌, length, reverse, refl, sym, ap, ap₂, ◌∙◌, inl, inr, arith, subst}
+use Rattle.std.proofs.Common.{◌≡◌, ℕ, ◌+◌, ◌*◌, ◌/◌, ◌%◌, ◌<◌, true, false, ℤ, pos, ◌+ℤ◌, ◌*ℤ◌, List, [], ◌∷◌, ◌++◌, length, reverse, refl}
+use Rattle.std.proofs.Common.{sym, ap, ap₂, ◌∙◌, inl, inr, arith, subst}
 use Rattle.std.specs.Prelude.{nat_lt}
 use Rattle.std.proofs.Math.Arith.{mod-mul}
 use Rattle.std.proofs.Math.Nat.{div-div-eq-div-mul, div-one, div-eq_of_lt, mod-eq_of_lt, mul_comm, one-mul}
@@ -7,9 +8,7 @@ use Rattle.std.proofs.lemmas.Bool.{cases_Bool, cond-true, cond-false, ltb-true}
 use Rattle.std.proofs.lemmas.Int.{ints}
 use Rattle.std.proofs.lemmas.List.{reverse-append}
 use Rattle.std.proofs.lemmas.Nat.{div_below, mod_below, mod-mul-add, div-mul-add}
-use Rattle.nd_base.specs.Offset.{offset_of}
-use Rattle.nd_base.specs.Rank.{index_of_rank}
-use Rattle.nd_base.specs.Size.{size, is_empty}
+use Rattle.nd_base.proofs.laws.Definitions.{offset_of, index_of_rank, is_empty, size}
 use Rattle.nd_base.proofs.laws.Size.{size_of_nonempty}
 use Rattle.ndarray_layout.proofs.reshapes.Values.{Axes, value, count, AreLong}
 use Rattle.ndarray_layout.proofs.reshapes.Joins.{long_axes, is_empty-rest, one-of-short, count-reverse}
@@ -21,7 +20,8 @@ pub value-append : (axes others : Axes) (r : ℕ) → value (axes ++ others) r �
 value-append [] others r = omega (arith, ints, ap (value others) (div-one r))
 value-append (axis ∷ axes) others r =
     let rest = value-append axes others (r / axis.0) in
-    let past : value others (r / axis.0 / count axes) ≡ value others (r / (axis.0 * count axes)) = ap (value others) (div-div-eq-div-mul r axis.0 (count axes)) in
+    let past : value others (r / axis.0 / count axes) ≡ value others (r / (axis.0 * count axes)) = ap (value others)
+    (div-div-eq-div-mul r axis.0 (count axes)) in
     omega (arith, ints, rest, past)
 
 -- ranks past the last index begin anew
@@ -40,10 +40,12 @@ value-mod (axis ∷ axes) r h =
     ap₂ (λ i q. (pos i *ℤ axis.1) +ℤ value axes q) entry next ∙ ap (λ z. (pos inner *ℤ axis.1) +ℤ z) (value-mod axes (r / len) h.1)
 
 -- ---- the longer axes of lists
-pub long-kept : (len : ℕ) (lens : List ℕ) (stride : ℤ) (strides : List ℤ) → nat_lt 1 len ≡ true → long_axes (len ∷ lens) (stride ∷ strides) ≡ (len, stride) ∷ long_axes lens strides
+pub long-kept : (len : ℕ) (lens : List ℕ) (stride : ℤ) (strides : List ℤ) → nat_lt 1 len ≡ true
+    → long_axes (len ∷ lens) (stride ∷ strides) ≡ (len, stride) ∷ long_axes lens strides
 long-kept len lens stride strides h = cond-true (nat_lt 1 len) ((len, stride) ∷ long_axes lens strides) (long_axes lens strides) h
 
-pub long-left : (len : ℕ) (lens : List ℕ) (stride : ℤ) (strides : List ℤ) → nat_lt 1 len ≡ false → long_axes (len ∷ lens) (stride ∷ strides) ≡ long_axes lens strides
+pub long-left : (len : ℕ) (lens : List ℕ) (stride : ℤ) (strides : List ℤ) → nat_lt 1 len ≡ false
+    → long_axes (len ∷ lens) (stride ∷ strides) ≡ long_axes lens strides
 long-left len lens stride strides h = cond-false (nat_lt 1 len) ((len, stride) ∷ long_axes lens strides) (long_axes lens strides) h
 
 pub long-long_axes : (lens : List ℕ) (strides : List ℤ) → AreLong (long_axes lens strides)
@@ -61,16 +63,19 @@ long-push (first ∷ axes) axis h g = (h.0, long-push axes axis h.1 g)
 
 pub long-reverse : (axes : Axes) → AreLong axes → AreLong (reverse axes)
 long-reverse [] h = tt
-long-reverse (axis ∷ axes) h = subst AreLong (sym (reverse-append (axis ∷ []) axes)) (long-push (reverse axes) axis (long-reverse axes h.1) h.0)
+long-reverse (axis ∷ axes) h = subst AreLong (sym (reverse-append (axis ∷ []) axes)) (long-push (reverse axes) axis (long-reverse axes h.1)
+    h.0)
 
-pub count-long_axes : (lens : List ℕ) (strides : List ℤ) → is_empty lens ≡ false → length lens ≡ length strides → count (long_axes lens strides) ≡ size lens
+pub count-long_axes : (lens : List ℕ) (strides : List ℤ) → is_empty lens ≡ false → length lens ≡ length strides
+    → count (long_axes lens strides) ≡ size lens
 count-long_axes [] strides h e = refl
 count-long_axes (len ∷ lens) [] h e = absurd (omega arith)
 count-long_axes (len ∷ lens) (stride ∷ strides) h e =
     let rest = count-long_axes lens strides (is_empty-rest len lens h) (omega arith) in
     elim (cases_Bool (nat_lt 1 len)) [
       | inl long ↦ ap count (long-kept len lens stride strides long) ∙ ap (λ n. len * n) rest
-      | inr short ↦ ap count (long-left len lens stride strides short) ∙ rest ∙ sym (ap (λ n. n * size lens) (one-of-short len lens h short) ∙ one-mul (size lens))
+      | inr short ↦ ap count (long-left len lens stride strides short) ∙ rest ∙ sym (ap (λ n. n * size lens) (one-of-short lens h short)
+          ∙ one-mul (size lens))
     ]
 
 pub lens-long_axes : (lens : List ℕ) (strides : List ℤ) → length lens ≡ length strides → lens_of (long_axes lens strides) ≡ long_lens lens
@@ -79,12 +84,15 @@ lens-long_axes (len ∷ lens) [] e = absurd (omega arith)
 lens-long_axes (len ∷ lens) (stride ∷ strides) e =
     let rest = lens-long_axes lens strides (omega arith) in
     elim (cases_Bool (nat_lt 1 len)) [
-      | inl long ↦ ap lens_of (long-kept len lens stride strides long) ∙ ap (λ ls. len ∷ ls) rest ∙ sym (cond-true (nat_lt 1 len) (len ∷ long_lens lens) (long_lens lens) long)
-      | inr short ↦ ap lens_of (long-left len lens stride strides short) ∙ rest ∙ sym (cond-false (nat_lt 1 len) (len ∷ long_lens lens) (long_lens lens) short)
+      | inl long ↦ ap lens_of (long-kept len lens stride strides long) ∙ ap (λ ls. len ∷ ls) rest
+          ∙ sym (cond-true (nat_lt 1 len) (len ∷ long_lens lens) (long_lens lens) long)
+      | inr short ↦ ap lens_of (long-left len lens stride strides short) ∙ rest
+          ∙ sym (cond-false (nat_lt 1 len) (len ∷ long_lens lens) (long_lens lens) short)
     ]
 
 -- ---- the index of a rank lies as far as the value says
-pub offset-at-rank : (lens : List ℕ) (strides : List ℤ) (r : ℕ) → is_empty lens ≡ false → length lens ≡ length strides → r < size lens → offset_of strides (index_of_rank lens r) ≡ value (reverse (long_axes lens strides)) r
+pub offset-at-rank : (lens : List ℕ) (strides : List ℤ) (r : ℕ) → is_empty lens ≡ false → length lens ≡ length strides → r < size lens
+    → offset_of strides (index_of_rank lens r) ≡ value (reverse (long_axes lens strides)) r
 offset-at-rank [] strides r h e l = refl
 offset-at-rank (len ∷ lens) [] r h e l = absurd (omega arith)
 offset-at-rank (len ∷ lens) (stride ∷ strides) r h e l =
@@ -97,13 +105,18 @@ offset-at-rank (len ∷ lens) (stride ∷ strides) r h e l =
     elim (cases_Bool (nat_lt 1 len)) [
       | inl long ↦
           let below : r / size lens < len = div_below r (size lens) len some l in
-          let again : value fast (r % size lens) ≡ value fast r = ap (λ n. value fast (r % n)) (sym whole) ∙ value-mod fast r (long-reverse rows (long-long_axes lens strides)) in
-          let turned : reverse (long_axes (len ∷ lens) (stride ∷ strides)) ≡ fast ++ (len, stride) ∷ [] = ap reverse (long-kept len lens stride strides long) ∙ reverse-append ((len, stride) ∷ []) rows in
-          let last : value ((len, stride) ∷ []) (r / size lens) ≡ pos (r / size lens) *ℤ stride = ap (λ i. (pos i *ℤ stride) +ℤ pos 0) (mod-eq_of_lt below) ∙ omega (arith, ints) in
-          let split : value (fast ++ (len, stride) ∷ []) r ≡ value fast r +ℤ value ((len, stride) ∷ []) (r / size lens) = value-append fast ((len, stride) ∷ []) r ∙ ap (λ n. value fast r +ℤ value ((len, stride) ∷ []) (r / n)) whole in
-          ap (λ z. (pos (r / size lens) *ℤ stride) +ℤ z) (rest ∙ again) ∙ omega (arith, ints, last, split) ∙ sym (ap (λ xs. value xs r) turned)
+          let again : value fast (r % size lens) ≡ value fast r = ap (λ n. value fast (r % n)) (sym whole)
+          ∙ value-mod fast r (long-reverse rows (long-long_axes lens strides)) in
+          let turned : reverse (long_axes (len ∷ lens) (stride ∷ strides)) ≡ fast ++ (len, stride) ∷ [] = ap reverse
+          (long-kept len lens stride strides long) ∙ reverse-append ((len, stride) ∷ []) rows in
+          let last : value ((len, stride) ∷ []) (r / size lens) ≡ pos (r / size lens) *ℤ stride = ap (λ i. (pos i *ℤ stride) +ℤ pos 0)
+          (mod-eq_of_lt below) ∙ omega (arith, ints) in
+          let split : value (fast ++ (len, stride) ∷ []) r ≡ value fast r +ℤ value ((len, stride) ∷ []) (r / size lens) = value-append fast
+          ((len, stride) ∷ []) r ∙ ap (λ n. value fast r +ℤ value ((len, stride) ∷ []) (r / n)) whole in
+          ap (λ z. (pos (r / size lens) *ℤ stride) +ℤ z) (rest ∙ again) ∙ omega (arith, ints, last, split)
+          ∙ sym (ap (λ xs. value xs r) turned)
       | inr short ↦
-          let one = one-of-short len lens h short in
+          let one = one-of-short {len = len} lens h short in
           let below : r < size lens = omega (arith, ap (λ n. n * size lens) one, one-mul (size lens)) in
           let first : r / size lens ≡ 0 = div-eq_of_lt below in
           let same : r % size lens ≡ r = mod-eq_of_lt below in

@@ -1,9 +1,11 @@
 -- Loose joints and cumulative products, by the axes that are read.
-use Rattle.std.proofs.Common.{◌≡◌, ◌≢◌, ℕ, zero, suc, ◌+◌, ◌*◌, ◌<◌, ◌≤◌, ◌==◌, ◌&&◌, true, false, ℤ, pos, ◌*ℤ◌, List, [], ◌∷◌, length, get_or, take, map, refl, sym, ap, ap₂, ◌∙◌, ◌⊎◌, inl, inr, arith, subst, Some, None}
+use Rattle.std.proofs.Common.{◌≡◌, ◌≢◌, ℕ, zero, suc, ◌+◌, ◌*◌, ◌<◌, ◌≤◌, ◌==◌, ◌&&◌, true, false, ℤ, pos, ◌*ℤ◌, List, [], ◌∷◌, length}
+use Rattle.std.proofs.Common.{get_or, take, map, refl, sym, ap, ap₂, ◌∙◌, ◌⊎◌, inl, inr, arith, subst, Some, None}
 use Rattle.std.specs.Prelude.{nat_lt, not, if◌then◌else◌}
 use Rattle.std.specs.List.{list_any}
 use Rattle.std.proofs.Math.Nat.{mul_comm, mul-one, mul-le-mul_left}
-use Rattle.std.proofs.lemmas.Bool.{cases_Bool, cases_lt, cond-true, cond-false, and_parts, and_from, lt-ltb, ltb-true, eqb-true, eq-eqb, not-true, not_from_false, both_ways}
+use Rattle.std.proofs.lemmas.Bool.{cases_Bool, cases_lt, cond-true, cond-false, and_parts, and_from, lt-ltb, ltb-true, eqb-true, eq-eqb}
+use Rattle.std.proofs.lemmas.Bool.{not-true, not_from_false, both_ways}
 use Rattle.nd_base.specs.declared.error.ErrorKind.TheVariants.{IncompatibleShape, IncompatibleLayout}
 use Rattle.nd_base.specs.Size.{size, is_empty}
 use Rattle.nd_base.proofs.laws.Size.{size_of_nonempty, size_take_more}
@@ -11,7 +13,8 @@ use Rattle.ndarray_layout.specs.reshape.Joints.{first_longer, is_loose, loose_jo
 use Rattle.ndarray_layout.specs.reshape.ReshapeFault.{fault_as_read}
 use Rattle.ndarray_layout.specs.private.ReshapeProgress.{Member, GoodBelow}
 use Rattle.ndarray_layout.proofs.reshapes.Joins.{is_empty-rest, loose-apart, apart-loose, of-choice, to-choice}
-use Rattle.ndarray_layout.proofs.reshapes.Members.{member-of-any, any-of-member, member-left, member-right, member-cases, member-times, times-member}
+use Rattle.ndarray_layout.proofs.reshapes.Members.{member-of-any, any-of-member, member-left, member-right, member-cases, member-times}
+use Rattle.ndarray_layout.proofs.reshapes.Members.{times-member}
 use Rattle.ndarray_layout.proofs.reshapes.Tails.{cancel}
 
 pub some-len : (len : ℕ) (lens : List ℕ) → is_empty (len ∷ lens) ≡ false → 0 < len
@@ -37,7 +40,8 @@ pub member-product : (lens : List ℕ) (k : ℕ) → k ≤ length lens → Membe
 member-product [] zero l = inl refl
 member-product [] (suc k) l = absurd (omega arith)
 member-product (len ∷ lens) zero l = inl refl
-member-product (len ∷ lens) (suc k) l = inr (member-times len (cumulative_products lens) (size (take k lens)) (member-product lens k (omega arith)))
+member-product (len ∷ lens) (suc k) l = inr (member-times len (cumulative_products lens) (size (take k lens))
+    (member-product lens k (omega arith)))
 
 pub product-member : (lens : List ℕ) (j : ℕ) → Member (cumulative_products lens) j → (k : ℕ) × (k ≤ length lens) × (j ≡ size (take k lens))
 product-member [] j (inl e) = (0, omega arith, sym e)
@@ -51,7 +55,8 @@ product-member (len ∷ lens) j (inr m) =
 
 -- ---- a loose joint is the product of the lengths before a longer axis
 -- an axis with more than one entry comes after
-pub some-longer : (lens : List ℕ) (strides : List ℤ) (stride : ℤ) → is_empty lens ≡ false → is_loose stride (first_longer lens strides) ≡ true → 1 < size lens
+pub some-longer : (lens : List ℕ) (strides : List ℤ) (stride : ℤ) → is_empty lens ≡ false
+    → is_loose stride (first_longer lens strides) ≡ true → 1 < size lens
 some-longer [] strides stride h l = absurd (cc)
 some-longer (len ∷ lens) [] stride h l = absurd (cc)
 some-longer (len ∷ lens) (s ∷ strides) stride h l =
@@ -63,14 +68,16 @@ some-longer (len ∷ lens) (s ∷ strides) stride h l =
           let one = ltb-true 1 len long in
           omega arith
       | inr short ↦
-          let rest = some-longer lens strides stride (is_empty-rest len lens h) (sym (ap (is_loose stride) (cond-false (nat_lt 1 len) (Some (len, s)) (first_longer lens strides) short)) ∙ l) in
+          let rest = some-longer lens strides stride (is_empty-rest len lens h)
+          (sym (ap (is_loose stride) (cond-false (nat_lt 1 len) (Some (len, s)) (first_longer lens strides) short)) ∙ l) in
           let more : len * 1 ≤ len * size lens = mul-le-mul_left len rest_some in
           let most : size lens * 1 ≤ size lens * len = mul-le-mul_left (size lens) here in
           let turned = mul_comm (size lens) len in
           omega arith
     ]
 
-pub joint-product : (lens : List ℕ) (strides : List ℤ) (j : ℕ) → is_empty lens ≡ false → Member (loose_joints lens strides) j → (k : ℕ) × (k ≤ length lens) × (j ≡ size (take k lens)) × (1 < j) × (j < size lens)
+pub joint-product : (lens : List ℕ) (strides : List ℤ) (j : ℕ) → is_empty lens ≡ false → Member (loose_joints lens strides) j
+    → (k : ℕ) × (k ≤ length lens) × (j ≡ size (take k lens)) × (1 < j) × (j < size lens)
 joint-product [] strides j h m = absurd m
 joint-product (len ∷ lens) [] j h m = absurd m
 joint-product (len ∷ lens) (s ∷ strides) j h m =
@@ -103,15 +110,20 @@ joint-product (len ∷ lens) (s ∷ strides) j h m =
 size-ones : (lens : List ℕ) (n : ℕ) → n ≤ length lens → ((i : ℕ) → i < n → get_or lens i 0 ≡ 1) → size (take n lens) ≡ 1
 size-ones lens zero l ones = refl
 size-ones [] (suc n) l ones = absurd (omega arith)
-size-ones (len ∷ lens) (suc n) l ones = ap₂ (λ x y. x * y) (ones 0 (omega arith)) (size-ones lens n (omega arith) (λ i h. ones (suc i) (omega arith)))
+size-ones (len ∷ lens) (suc n) l ones = ap₂ (λ x y. x * y) (ones 0 (omega arith))
+    (size-ones lens n (omega arith) (λ i h. ones (suc i) (omega arith)))
 
-first-longer-at : (lens : List ℕ) (strides : List ℤ) (n : ℕ) → length lens ≡ length strides → n < length lens → ((i : ℕ) → i < n → get_or lens i 0 ≡ 1) → 1 < get_or lens n 0 → first_longer lens strides ≡ Some (get_or lens n 0, get_or strides n (pos 0))
+first-longer-at : (lens : List ℕ) (strides : List ℤ) (n : ℕ) → length lens ≡ length strides → n < length lens
+    → ((i : ℕ) → i < n → get_or lens i 0 ≡ 1) → 1 < get_or lens n 0
+    → first_longer lens strides ≡ Some (get_or lens n 0, get_or strides n (pos 0))
 first-longer-at [] strides n e l ones long = absurd (omega arith)
 first-longer-at (len ∷ lens) [] n e l ones long = absurd (omega arith)
-first-longer-at (len ∷ lens) (s ∷ strides) zero e l ones long = cond-true (nat_lt 1 len) (Some (len, s)) (first_longer lens strides) (lt-ltb 1 len long)
+first-longer-at (len ∷ lens) (s ∷ strides) zero e l ones long = cond-true (nat_lt 1 len) (Some (len, s)) (first_longer lens strides)
+    (lt-ltb 1 len long)
 first-longer-at (len ∷ lens) (s ∷ strides) (suc n) e l ones long =
     let one : nat_lt 1 len ≡ false = ap (nat_lt 1) (ones 0 (omega arith)) in
-    cond-false (nat_lt 1 len) (Some (len, s)) (first_longer lens strides) one ∙ first-longer-at lens strides n (omega arith) (omega arith) (λ i h. ones (suc i) (omega arith)) long
+    cond-false (nat_lt 1 len) (Some (len, s)) (first_longer lens strides) one ∙ first-longer-at lens strides n (omega arith) (omega arith)
+    (λ i h. ones (suc i) (omega arith)) long
 
 long-take : (lens : List ℕ) (k n : ℕ) → is_empty lens ≡ false → k < n → k < length lens → 1 < get_or lens k 0 → 1 < size (take n lens)
 long-take lens k n h l g long =
@@ -129,24 +141,31 @@ pub record LastLonger (lens : List ℕ) (strides : List ℤ) (end : ℕ) (step :
   pub stride_is : get_or strides axis (pos 0) ≡ step
   pub ones : (i : ℕ) → axis < i → i < end → get_or lens i 0 ≡ 1
 
-member-at : (lens : List ℕ) (strides : List ℤ) (k n : ℕ) → length lens ≡ length strides → k < n → n < length lens → 1 < get_or lens k 0 → ((i : ℕ) → k < i → i < n → get_or lens i 0 ≡ 1) → 1 < get_or lens n 0 → get_or strides k (pos 0) ≢ pos (get_or lens n 0) *ℤ get_or strides n (pos 0) → Member (loose_joints lens strides) (size (take n lens))
+member-at : (lens : List ℕ) (strides : List ℤ) (k n : ℕ) → length lens ≡ length strides → k < n → n < length lens → 1 < get_or lens k 0
+    → ((i : ℕ) → k < i → i < n → get_or lens i 0 ≡ 1) → 1 < get_or lens n 0
+    → get_or strides k (pos 0) ≢ pos (get_or lens n 0) *ℤ get_or strides n (pos 0) → Member (loose_joints lens strides) (size (take n lens))
 member-at lens strides k zero e l g long ones next apart = absurd (omega arith)
 member-at [] strides k (suc n) e l g long ones next apart = absurd (omega arith)
 member-at (len ∷ lens) [] k (suc n) e l g long ones next apart = absurd (omega arith)
 member-at (len ∷ lens) (s ∷ strides) zero (suc n) e l g long ones next apart =
     let ones_after : (i : ℕ) → i < n → get_or lens i 0 ≡ 1 = λ i h. ones (suc i) (omega arith) (omega arith) in
     let first = first-longer-at lens strides n (omega arith) (omega arith) ones_after next in
-    let loose : is_loose s (first_longer lens strides) ≡ true = ap (is_loose s) first ∙ apart-loose s (get_or lens n 0, get_or strides n (pos 0)) apart in
+    let loose : is_loose s (first_longer lens strides) ≡ true = ap (is_loose s) first
+    ∙ apart-loose s (get_or lens n 0, get_or strides n (pos 0)) apart in
     let test = nat_lt 1 len && is_loose s (first_longer lens strides) in
     let yes : test ≡ true = and_from (nat_lt 1 len) (is_loose s (first_longer lens strides)) (lt-ltb 1 len long) loose in
     let whole : len ≡ len * size (take n lens) = sym (ap (λ m. len * m) (size-ones lens n (omega arith) ones_after) ∙ mul-one len) in
-    subst (λ j. Member (loose_joints (len ∷ lens) (s ∷ strides)) j) whole (member-left (if test then len ∷ [] else []) (map (λ joint. len * joint) (loose_joints lens strides)) len (to-choice test len yes))
+    subst (λ j. Member (loose_joints (len ∷ lens) (s ∷ strides)) j) whole (member-left (if test then len ∷ [] else [])
+    (map (λ joint. len * joint) (loose_joints lens strides)) len (to-choice test len yes))
 member-at (len ∷ lens) (s ∷ strides) (suc k) (suc n) e l g long ones next apart =
     let test = nat_lt 1 len && is_loose s (first_longer lens strides) in
     member-right (if test then len ∷ [] else []) (map (λ joint. len * joint) (loose_joints lens strides)) (len * size (take n lens))
-    (member-times len (loose_joints lens strides) (size (take n lens)) (member-at lens strides k n (omega arith) (omega arith) (omega arith) long (λ i h f. ones (suc i) (omega arith) (omega arith)) next apart))
+    (member-times len (loose_joints lens strides) (size (take n lens)) (member-at lens strides k n (omega arith) (omega arith) (omega arith)
+    long (λ i h f. ones (suc i) (omega arith) (omega arith)) next apart))
 
-none-at : (lens : List ℕ) (strides : List ℤ) (k n : ℕ) → is_empty lens ≡ false → length lens ≡ length strides → k < n → n < length lens → 1 < get_or lens k 0 → ((i : ℕ) → k < i → i < n → get_or lens i 0 ≡ 1) → 1 < get_or lens n 0 → Member (loose_joints lens strides) (size (take n lens)) → get_or strides k (pos 0) ≢ pos (get_or lens n 0) *ℤ get_or strides n (pos 0)
+none-at : (lens : List ℕ) (strides : List ℤ) (k n : ℕ) → is_empty lens ≡ false → length lens ≡ length strides → k < n → n < length lens
+    → 1 < get_or lens k 0 → ((i : ℕ) → k < i → i < n → get_or lens i 0 ≡ 1) → 1 < get_or lens n 0
+    → Member (loose_joints lens strides) (size (take n lens)) → get_or strides k (pos 0) ≢ pos (get_or lens n 0) *ℤ get_or strides n (pos 0)
 none-at lens strides k zero w e l g long ones next m = absurd (omega arith)
 none-at [] strides k (suc n) w e l g long ones next m = absurd (omega arith)
 none-at (len ∷ lens) [] k (suc n) w e l g long ones next m = absurd (omega arith)
@@ -157,14 +176,15 @@ none-at (len ∷ lens) (s ∷ strides) zero (suc n) w e l g long ones next m =
     let one = size-ones lens n (omega arith) ones_after in
     let first = first-longer-at lens strides n (omega arith) (omega arith) ones_after next in
     let test = nat_lt 1 len && is_loose s (first_longer lens strides) in
-    elim (member-cases (if test then len ∷ [] else []) (map (λ joint. len * joint) (loose_joints lens strides)) (len * size (take n lens)) m) [
+    elim (member-cases (if test then len ∷ [] else []) (map (λ joint. len * joint) (loose_joints lens strides)) (len * size (take n lens))
+    m) [
       | inl c ↦
           let both = of-choice test len (len * size (take n lens)) c in
           let parts = and_parts (nat_lt 1 len) (is_loose s (first_longer lens strides)) both.0 in
           loose-apart s (get_or lens n 0, get_or strides n (pos 0)) (sym (ap (is_loose s) first) ∙ parts.1)
       | inr c ↦
           let t = times-member len (loose_joints lens strides) (len * size (take n lens)) c in
-          let same : size (take n lens) ≡ t.0 = cancel len (size (take n lens)) t.0 here t.1 in
+          let same : size (take n lens) ≡ t.0 = cancel len here t.1 in
           let more = joint-product lens strides t.0 none t.2 in
           let low = more.3 in
           absurd (omega arith)
@@ -174,7 +194,8 @@ none-at (len ∷ lens) (s ∷ strides) (suc k) (suc n) w e l g long ones next m 
     let here = some-len len lens w in
     let test = nat_lt 1 len && is_loose s (first_longer lens strides) in
     let several = long-take lens k n none (omega arith) (omega arith) long in
-    elim (member-cases (if test then len ∷ [] else []) (map (λ joint. len * joint) (loose_joints lens strides)) (len * size (take n lens)) m) [
+    elim (member-cases (if test then len ∷ [] else []) (map (λ joint. len * joint) (loose_joints lens strides)) (len * size (take n lens))
+    m) [
       | inl c ↦
           let both = of-choice test len (len * size (take n lens)) c in
           let same = both.1 in
@@ -182,20 +203,27 @@ none-at (len ∷ lens) (s ∷ strides) (suc k) (suc n) w e l g long ones next m 
           absurd (omega arith)
       | inr c ↦
           let t = times-member len (loose_joints lens strides) (len * size (take n lens)) c in
-          let same : t.0 ≡ size (take n lens) = sym (cancel len (size (take n lens)) t.0 here t.1) in
-          none-at lens strides k n none (omega arith) (omega arith) (omega arith) long (λ i h f. ones (suc i) (omega arith) (omega arith)) next (subst (Member (loose_joints lens strides)) same t.2)
+          let same : t.0 ≡ size (take n lens) = sym (cancel len here t.1) in
+          none-at lens strides k n none (omega arith) (omega arith) (omega arith) long (λ i h f. ones (suc i) (omega arith) (omega arith))
+          next (subst (Member (loose_joints lens strides)) same t.2)
     ]
 
--- where the strides of two longer axes, with none between, go together there is no joint, and else there is one
-pub joint-of-apart : (lens : List ℕ) (strides : List ℤ) (n : ℕ) (step : ℤ) → length lens ≡ length strides → n < length lens → LastLonger lens strides n step → 1 < get_or lens n 0 → step ≢ pos (get_or lens n 0) *ℤ get_or strides n (pos 0) → Member (loose_joints lens strides) (size (take n lens))
-joint-of-apart lens strides n step e l last next apart = member-at lens strides last.axis n e last.before l last.long last.ones next (λ same. apart (sym last.stride_is ∙ same))
+module _ {lens : List ℕ} {strides : List ℤ} {n : ℕ} {step : ℤ} where
+  -- where the strides of two longer axes, with none between, go together there is no joint, and else there is one
+  pub joint-of-apart : length lens ≡ length strides → n < length lens → LastLonger lens strides n step → 1 < get_or lens n 0
+      → step ≢ pos (get_or lens n 0) *ℤ get_or strides n (pos 0) → Member (loose_joints lens strides) (size (take n lens))
+  joint-of-apart e l last next apart = member-at lens strides last.axis n e last.before l last.long last.ones next
+      (λ same. apart (sym last.stride_is ∙ same))
 
-pub no-joint : (lens : List ℕ) (strides : List ℤ) (n : ℕ) (step : ℤ) → is_empty lens ≡ false → length lens ≡ length strides → n < length lens → LastLonger lens strides n step → 1 < get_or lens n 0 → step ≡ pos (get_or lens n 0) *ℤ get_or strides n (pos 0) → Member (loose_joints lens strides) (size (take n lens)) → ⊥
-no-joint lens strides n step w e l last next same m = none-at lens strides last.axis n w e last.before l last.long last.ones next m (last.stride_is ∙ same)
+  pub no-joint : is_empty lens ≡ false → length lens ≡ length strides → n < length lens → LastLonger lens strides n step
+      → 1 < get_or lens n 0 → step ≡ pos (get_or lens n 0) *ℤ get_or strides n (pos 0)
+      → Member (loose_joints lens strides) (size (take n lens)) → ⊥
+  no-joint w e l last next same m = none-at lens strides last.axis n w e last.before l last.long last.ones next m (last.stride_is ∙ same)
 
 -- ---- one more axis read
-below-next : (lens : List ℕ) (strides : List ℤ) (k j : ℕ) → is_empty lens ≡ false → Member (loose_joints lens strides) j → j < size (take (k + 1) lens) → (j < size (take k lens)) ⊎ (j ≡ size (take k lens))
-below-next lens strides k j h m l =
+below-next : (lens : List ℕ) (strides : List ℤ) (k : ℕ) {j : ℕ} → is_empty lens ≡ false → Member (loose_joints lens strides) j
+    → j < size (take (k + 1) lens) → (j < size (take k lens)) ⊎ (j ≡ size (take k lens))
+below-next lens strides k {j} h m l =
     let at = joint-product lens strides j h m in
     let i = at.0 in
     let e = at.2 in
@@ -211,15 +239,18 @@ below-next lens strides k j h m l =
           ]
     ]
 
-pub good-more : (from : List ℕ) (strides : List ℤ) (to : List ℕ) (k : ℕ) → is_empty from ≡ false → (Member (loose_joints from strides) (size (take k from)) → Member (cumulative_products to) (size (take k from))) → GoodBelow from strides to (size (take k from)) → GoodBelow from strides to (size (take (k + 1) from))
+pub good-more : (from : List ℕ) (strides : List ℤ) (to : List ℕ) (k : ℕ) → is_empty from ≡ false
+    → (Member (loose_joints from strides) (size (take k from)) → Member (cumulative_products to) (size (take k from)))
+    → GoodBelow from strides to (size (take k from)) → GoodBelow from strides to (size (take (k + 1) from))
 good-more from strides to k h at good j m l =
-    elim (below-next from strides k j h m l) [
+    elim (below-next from strides k h m l) [
       | inl below ↦ good j m below
       | inr same ↦ subst (Member (cumulative_products to)) (sym same) (at (subst (Member (loose_joints from strides)) same m))
     ]
 
 -- ---- faults
-pub bad-joint-fault : (from : List ℕ) (strides : List ℤ) (to : List ℕ) (j : ℕ) → Member (loose_joints from strides) j → j < size to → (Member (cumulative_products to) j → ⊥) → fault_as_read from strides to ≡ Some IncompatibleLayout
+pub bad-joint-fault : (from : List ℕ) (strides : List ℤ) (to : List ℕ) (j : ℕ) → Member (loose_joints from strides) j → j < size to
+    → (Member (cumulative_products to) j → ⊥) → fault_as_read from strides to ≡ Some IncompatibleLayout
 bad-joint-fault from strides to j m l none =
     let test = list_any (λ product. product == j) (cumulative_products to) in
     let no : test ≡ false = elim (cases_Bool test) [
@@ -229,9 +260,11 @@ bad-joint-fault from strides to j m l none =
       | inr missing ↦ missing
     ] in
     let bad : is_bad_joint to j ≡ true = and_from (nat_lt j (size to)) (not test) (lt-ltb j (size to) l) (not_from_false test no) in
-    cond-true (has_bad_joint from strides to) (Some IncompatibleLayout) (if size from == size to then None else Some IncompatibleShape) (any-of-member (is_bad_joint to) (loose_joints from strides) j m bad)
+    cond-true (has_bad_joint from strides to) (Some IncompatibleLayout) (if size from == size to then None else Some IncompatibleShape)
+    (any-of-member (is_bad_joint to) (loose_joints from strides) j m bad)
 
-good-of-below : (from : List ℕ) (strides : List ℤ) (to : List ℕ) (n : ℕ) → is_empty from ≡ false → GoodBelow from strides to n → (size from ≤ n) ⊎ (size to ≤ n) → has_bad_joint from strides to ≡ false
+good-of-below : (from : List ℕ) (strides : List ℤ) (to : List ℕ) (n : ℕ) → is_empty from ≡ false → GoodBelow from strides to n
+    → (size from ≤ n) ⊎ (size to ≤ n) → has_bad_joint from strides to ≡ false
 good-of-below from strides to n h good far =
     elim (cases_Bool (has_bad_joint from strides to)) [
       | inl bad ↦
@@ -243,21 +276,25 @@ good-of-below from strides to n h good far =
           let product = joint-product from strides j h found.1 in
           let within = product.4 in
           let below : j < n = elim far [ inl f ↦ omega arith | inr f ↦ omega arith ] in
-          absurd (both_ways test (not-true test parts.1) (any-of-member (λ product. product == j) (cumulative_products to) j (good j found.1 below) (eq-eqb j j refl)))
+          absurd (both_ways test (not-true test parts.1) (any-of-member (λ product. product == j) (cumulative_products to) j
+          (good j found.1 below) (eq-eqb j j refl)))
       | inr fine ↦ fine
     ]
 
-pub sizes-fault : (from : List ℕ) (strides : List ℤ) (to : List ℕ) (n : ℕ) → is_empty from ≡ false → GoodBelow from strides to n → (size from ≤ n) ⊎ (size to ≤ n) → size from ≢ size to → fault_as_read from strides to ≡ Some IncompatibleShape
+pub sizes-fault : (from : List ℕ) (strides : List ℤ) (to : List ℕ) (n : ℕ) → is_empty from ≡ false → GoodBelow from strides to n
+    → (size from ≤ n) ⊎ (size to ≤ n) → size from ≢ size to → fault_as_read from strides to ≡ Some IncompatibleShape
 sizes-fault from strides to n h good far differ =
     let other : (size from == size to) ≡ false = elim (cases_Bool (size from == size to)) [
       | inl same ↦ absurd (differ (eqb-true (size from) (size to) same))
       | inr apart ↦ apart
     ] in
-    cond-false (has_bad_joint from strides to) (Some IncompatibleLayout) (if size from == size to then None else Some IncompatibleShape) (good-of-below from strides to n h good far)
+    cond-false (has_bad_joint from strides to) (Some IncompatibleLayout) (if size from == size to then None else Some IncompatibleShape)
+    (good-of-below from strides to n h good far)
     ∙ cond-false (size from == size to) None (Some IncompatibleShape) other
 
 -- a number below a product, and none of those before, is no product
-pub no-product : (to : List ℕ) (k product : ℕ) → is_empty to ≡ false → ((i : ℕ) → i < k → size (take i to) ≢ product) → product < size (take k to) → Member (cumulative_products to) product → ⊥
+pub no-product : (to : List ℕ) (k product : ℕ) → is_empty to ≡ false → ((i : ℕ) → i < k → size (take i to) ≢ product)
+    → product < size (take k to) → Member (cumulative_products to) product → ⊥
 no-product to k product h before after m =
     let at = product-member to product m in
     let i = at.0 in

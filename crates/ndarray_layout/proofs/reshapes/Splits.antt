@@ -1,5 +1,6 @@
 -- Strides with which axes of other lengths have the places of a layout, where its loose tails are theirs.
-use Rattle.std.proofs.Common.{◌≡◌, ◌≢◌, ℕ, zero, suc, ◌+◌, ◌*◌, ◌/◌, ◌%◌, ◌<◌, ◌≤◌, ℤ, pos, ◌+ℤ◌, ◌*ℤ◌, List, [], ◌∷◌, length, refl, sym, ap, ◌∙◌, ◌⊎◌, inl, inr, arith, subst}
+use Rattle.std.proofs.Common.{◌≡◌, ◌≢◌, ℕ, zero, suc, ◌+◌, ◌*◌, ◌/◌, ◌%◌, ◌<◌, ◌≤◌, ℤ, pos, ◌+ℤ◌, ◌*ℤ◌, List, [], ◌∷◌, length, refl, sym}
+use Rattle.std.proofs.Common.{ap, ◌∙◌, ◌⊎◌, inl, inr, arith, subst}
 use Rattle.std.proofs.Math.Nat.{mul_assoc, mul_comm, mul-le-mul_left, mul-one, mul-zero}
 use Rattle.std.proofs.lemmas.Bool.{cases_eq, cases_Bool, both_ways}
 use Rattle.std.proofs.lemmas.Bool.Decides.{Decides-int_eq}
@@ -9,8 +10,8 @@ use Rattle.nd_base.specs.Size.{size}
 use Rattle.ndarray_layout.proofs.reshapes.Values.{Axes, count, AreLong}
 use Rattle.ndarray_layout.proofs.reshapes.Tails.{IsApart, IsLooseTail, IsTail, lens_of, merge, AreAlike, cancel, none-left}
 
-pub int_cases : (x y : ℤ) → (x ≡ y) ⊎ (x ≢ y)
-int_cases x y =
+pub int_cases : {x y : ℤ} → (x ≡ y) ⊎ (x ≢ y)
+int_cases {x} {y} =
     elim (cases_Bool (int_eq x y)) [
       | inl same ↦ inl ((Decides-int_eq x y).0 same)
       | inr differ ↦ inr (λ e. both_ways (int_eq x y) differ ((Decides-int_eq x y).1 e))
@@ -37,7 +38,7 @@ tail-rest : (len q : ℕ) (lens : List ℕ) → 1 < len → 0 < q → IsTail (le
 tail-rest len q lens h g (inl e) =
     let more : len * 1 ≤ len * q = mul-le-mul_left len g in
     absurd (omega arith)
-tail-rest len q lens h g (inr t) = subst (λ k. IsTail lens k) (sym (cancel len q t.0 (omega arith) t.1)) t.2
+tail-rest len q lens h g (inr t) = subst (λ k. IsTail lens k) (sym (cancel len (omega arith) t.1)) t.2
 
 loose-pos : (axes : Axes) (p : ℕ) → AreLong axes → IsLooseTail axes p → 0 < p
 loose-pos [] p h l = absurd l
@@ -53,18 +54,21 @@ loose-pos (axis ∷ axes) p h (inr l) =
     omega arith
 
 -- an axis of the length in front keeps what is alike
-alike-under : (len : ℕ) (stride : ℤ) (axes others : Axes) → 0 < len → AreAlike axes others → AreAlike ((len, stride) ∷ axes) ((len, stride) ∷ others)
+alike-under : (len : ℕ) (stride : ℤ) (axes others : Axes) → 0 < len → AreAlike axes others
+    → AreAlike ((len, stride) ∷ axes) ((len, stride) ∷ others)
 alike-under len stride axes others h alike r l =
     let below : r / len < count axes = div_below r len (count axes) h (omega (arith, mul_comm len (count axes))) in
     ap (λ z. (pos (r % len) *ℤ stride) +ℤ z) (alike (r / len) below)
 
 -- ---- one more length of the other shape
 -- where the first length is that of the first axis
-taken-whole : (len : ℕ) (stride : ℤ) (axes : Axes) (lens : List ℕ) → 0 < len → HasAlike axes lens → HasAlike ((len, stride) ∷ axes) (len ∷ lens)
+taken-whole : (len : ℕ) (stride : ℤ) (axes : Axes) (lens : List ℕ) → 0 < len → HasAlike axes lens
+    → HasAlike ((len, stride) ∷ axes) (len ∷ lens)
 taken-whole len stride axes lens h a = ((len, stride) ∷ a.0, ap (λ ls. len ∷ ls) a.1, alike-under len stride axes a.0 h a.2)
 
 -- where it is a part of it
-taken-part : (len q : ℕ) (stride : ℤ) (axes : Axes) (lens : List ℕ) → AreLong ((len, stride) ∷ (q, pos len *ℤ stride) ∷ axes) → HasAlike ((q, pos len *ℤ stride) ∷ axes) lens → HasAlike ((len * q, stride) ∷ axes) (len ∷ lens)
+taken-part : (len q : ℕ) (stride : ℤ) (axes : Axes) (lens : List ℕ) → AreLong ((len, stride) ∷ (q, pos len *ℤ stride) ∷ axes)
+    → HasAlike ((q, pos len *ℤ stride) ∷ axes) lens → HasAlike ((len * q, stride) ∷ axes) (len ∷ lens)
 taken-part len q stride axes lens h a =
     let one = h.0 in
     let m = merge len q stride (pos len *ℤ stride) axes h refl in
@@ -79,14 +83,16 @@ TailsFit axes lens = (p : ℕ) → IsLooseTail axes p → IsTail lens p
 
 -- as many axes and lengths as n have axes alike
 abbrev pub Reaches : ℕ → Type 0
-Reaches n = (axes : Axes) (lens : List ℕ) → length axes + length lens ≤ n → AreLong axes → AllLong lens → count axes ≡ size lens → TailsFit axes lens → HasAlike axes lens
+Reaches n = (axes : Axes) (lens : List ℕ) → length axes + length lens ≤ n → AreLong axes → AllLong lens → count axes ≡ size lens
+    → TailsFit axes lens → HasAlike axes lens
 
 -- the first axis is no part of a longer one
 abbrev pub StandsAlone : ℕ × ℤ → Axes → Type 0
 StandsAlone axis axes = (axes ≡ []) ⊎ IsApart axis.0 axis.1 axes
 
 -- so the first of the lengths goes into it a whole number of times
-first-part : (axis : ℕ × ℤ) (axes : Axes) (len : ℕ) (lens : List ℕ) → 1 < axis.0 → StandsAlone axis axes → count (axis ∷ axes) ≡ size (len ∷ lens) → TailsFit (axis ∷ axes) (len ∷ lens) → (q : ℕ) × (axis.0 ≡ len * q)
+first-part : (axis : ℕ × ℤ) (axes : Axes) (len : ℕ) (lens : List ℕ) → 1 < axis.0 → StandsAlone axis axes
+    → count (axis ∷ axes) ≡ size (len ∷ lens) → TailsFit (axis ∷ axes) (len ∷ lens) → (q : ℕ) × (axis.0 ≡ len * q)
 first-part axis axes len lens h (inl alone) e fit = (size lens, sym (ap (λ xs. axis.0 * count xs) alone ∙ mul-one axis.0) ∙ e)
 first-part axis axes len lens h (inr apart) e fit =
     elim (fit axis.0 (inl (refl, apart))) [
@@ -95,24 +101,33 @@ first-part axis axes len lens h (inr apart) e fit =
     ]
 
 -- a loose tail after it is a tail after the first length
-rest-fits : (len : ℕ) (stride : ℤ) (axes : Axes) (lens : List ℕ) → 1 < len → AreLong axes → TailsFit ((len, stride) ∷ axes) (len ∷ lens) → TailsFit axes lens
+rest-fits : (len : ℕ) (stride : ℤ) (axes : Axes) (lens : List ℕ) → 1 < len → AreLong axes → TailsFit ((len, stride) ∷ axes) (len ∷ lens)
+    → TailsFit axes lens
 rest-fits len stride axes lens h g fit p l = tail-rest len p lens h (loose-pos axes p g l) (fit (len * p) (inr (p, refl, l)))
 
-by-whole : (n : ℕ) → Reaches n → (len : ℕ) (stride : ℤ) (axes : Axes) (lens : List ℕ) → length axes + length lens ≤ n → AreLong ((len, stride) ∷ axes) → AllLong lens → count ((len, stride) ∷ axes) ≡ size (len ∷ lens) → TailsFit ((len, stride) ∷ axes) (len ∷ lens) → HasAlike ((len, stride) ∷ axes) (len ∷ lens)
-by-whole n reach len stride axes lens small h g e fit =
+by-whole : {n : ℕ} → Reaches n → (len : ℕ) (stride : ℤ) (axes : Axes) (lens : List ℕ) → length axes + length lens ≤ n
+    → AreLong ((len, stride) ∷ axes) → AllLong lens → count ((len, stride) ∷ axes) ≡ size (len ∷ lens)
+    → TailsFit ((len, stride) ∷ axes) (len ∷ lens) → HasAlike ((len, stride) ∷ axes) (len ∷ lens)
+by-whole reach len stride axes lens small h g e fit =
     let one = h.0 in
-    taken-whole len stride axes lens (omega arith) (reach axes lens small h.1 g (cancel len (count axes) (size lens) (omega arith) e) (rest-fits len stride axes lens h.0 h.1 fit))
+    taken-whole len stride axes lens (omega arith) (reach axes lens small h.1 g (cancel len (omega arith) e)
+    (rest-fits len stride axes lens h.0 h.1 fit))
 
-by-part : (n : ℕ) → Reaches n → (len q : ℕ) (stride : ℤ) (axes : Axes) (lens : List ℕ) → suc (length axes) + length lens ≤ n → 1 < len → 1 < q → AreLong axes → AllLong lens → count ((len * q, stride) ∷ axes) ≡ size (len ∷ lens) → TailsFit ((len * q, stride) ∷ axes) (len ∷ lens) → HasAlike ((len * q, stride) ∷ axes) (len ∷ lens)
-by-part n reach len q stride axes lens small h k g a e fit =
+by-part : {n : ℕ} → Reaches n → (len q : ℕ) (stride : ℤ) (axes : Axes) (lens : List ℕ) → suc (length axes) + length lens ≤ n → 1 < len
+    → 1 < q → AreLong axes → AllLong lens → count ((len * q, stride) ∷ axes) ≡ size (len ∷ lens)
+    → TailsFit ((len * q, stride) ∷ axes) (len ∷ lens) → HasAlike ((len * q, stride) ∷ axes) (len ∷ lens)
+by-part reach len q stride axes lens small h k g a e fit =
     let long : AreLong ((len, stride) ∷ (q, pos len *ℤ stride) ∷ axes) = (h, (k, g)) in
     let m = merge len q stride (pos len *ℤ stride) axes long refl in
     let apart : TailsFit ((len, stride) ∷ (q, pos len *ℤ stride) ∷ axes) (len ∷ lens) = λ p l. fit p (m.loose p l) in
-    let counts : q * count axes ≡ size lens = cancel len (q * count axes) (size lens) (omega arith) (sym (mul_assoc len q (count axes)) ∙ e) in
-    taken-part len q stride axes lens long (reach ((q, pos len *ℤ stride) ∷ axes) lens small (k, g) a counts (rest-fits len stride ((q, pos len *ℤ stride) ∷ axes) lens h (k, g) apart))
+    let counts : q * count axes ≡ size lens = cancel len (omega arith) (sym (mul_assoc len q (count axes)) ∙ e) in
+    taken-part len q stride axes lens long (reach ((q, pos len *ℤ stride) ∷ axes) lens small (k, g) a counts
+    (rest-fits len stride ((q, pos len *ℤ stride) ∷ axes) lens h (k, g) apart))
 
-by-first : (n : ℕ) → Reaches n → (axis : ℕ × ℤ) (axes : Axes) (len : ℕ) (lens : List ℕ) → length axes + length lens < n + 1 → suc (length axes) + length lens ≤ n → AreLong (axis ∷ axes) → AllLong (len ∷ lens) → StandsAlone axis axes → count (axis ∷ axes) ≡ size (len ∷ lens) → TailsFit (axis ∷ axes) (len ∷ lens) → HasAlike (axis ∷ axes) (len ∷ lens)
-by-first n reach axis axes len lens few small h g alone e fit =
+by-first : {n : ℕ} → Reaches n → (axis : ℕ × ℤ) (axes : Axes) (len : ℕ) (lens : List ℕ) → length axes + length lens < n + 1
+    → suc (length axes) + length lens ≤ n → AreLong (axis ∷ axes) → AllLong (len ∷ lens) → StandsAlone axis axes
+    → count (axis ∷ axes) ≡ size (len ∷ lens) → TailsFit (axis ∷ axes) (len ∷ lens) → HasAlike (axis ∷ axes) (len ∷ lens)
+by-first reach axis axes len lens few small h g alone e fit =
     let part = first-part axis axes len lens h.0 alone e fit in
     let q = part.0 in
     let one = h.0 in
@@ -122,13 +137,14 @@ by-first n reach axis axes len lens few small h g alone e fit =
       | inl lone ↦
           let whole : len * q ≡ len = ap (λ m. len * m) lone ∙ mul-one len in
           subst (λ m. HasAlike ((m, axis.1) ∷ axes) (len ∷ lens)) (sym whole)
-          (by-whole n reach len axis.1 axes lens (omega arith) (g.0, h.1) g.1 (ap (λ m. m * count axes) (sym whole) ∙ given) (subst (λ m. TailsFit ((m, axis.1) ∷ axes) (len ∷ lens)) whole fits))
+          (by-whole reach len axis.1 axes lens (omega arith) (g.0, h.1) g.1 (ap (λ m. m * count axes) (sym whole) ∙ given)
+          (subst (λ m. TailsFit ((m, axis.1) ∷ axes) (len ∷ lens)) whole fits))
       | inr several ↦
           elim (cases_eq q 0) [
             | inl none ↦
                 let nothing : len * q ≡ 0 = ap (λ m. len * m) none ∙ mul-zero len in
                 absurd (omega (arith, part.1))
-            | inr some ↦ by-part n reach len q axis.1 axes lens small g.0 (omega arith) h.1 g.1 given fits
+            | inr some ↦ by-part reach len q axis.1 axes lens small g.0 (omega arith) h.1 g.1 given fits
           ]
     ] in
     subst (λ m. HasAlike ((m, axis.1) ∷ axes) (len ∷ lens)) (sym part.1) made
@@ -143,14 +159,16 @@ reaches n [] (len ∷ lens) small h g e fit =
     absurd (omega arith)
 reaches n (axis ∷ axes) [] small h g e fit = absurd (none-left axis.0 axis.1 axes h e)
 reaches zero (axis ∷ axes) (len ∷ lens) small h g e fit = absurd (omega arith)
-reaches (suc n) (axis ∷ []) (len ∷ lens) small h g e fit = by-first n (reaches n) axis [] len lens (omega arith) (omega arith) h g (inl refl) e fit
+reaches (suc n) (axis ∷ []) (len ∷ lens) small h g e fit = by-first (reaches n) axis [] len lens (omega arith) (omega arith) h g (inl refl)
+    e fit
 reaches (suc n) (axis ∷ next ∷ axes) (len ∷ lens) small h g e fit =
-    elim (int_cases next.1 (pos axis.0 *ℤ axis.1)) [
+    elim (int_cases) [
       | inl same ↦
           let m = merge axis.0 next.0 axis.1 next.1 axes h same in
           let merged : Axes = (axis.0 * next.0, axis.1) ∷ axes in
-          let a : HasAlike merged (len ∷ lens) = reaches n merged (len ∷ lens) (omega arith) m.long g (m.entries ∙ e) (λ p l. fit p (m.loose_back p l)) in
+          let a : HasAlike merged (len ∷ lens) = reaches n merged (len ∷ lens) (omega arith) m.long g (m.entries ∙ e)
+          (λ p l. fit p (m.loose_back p l)) in
           let entries = m.entries in
           (a.0, a.1, λ r l. sym (m.places r) ∙ a.2 r (omega arith))
-      | inr differ ↦ by-first n (reaches n) axis (next ∷ axes) len lens (omega arith) (omega arith) h g (inr differ) e fit
+      | inr differ ↦ by-first (reaches n) axis (next ∷ axes) len lens (omega arith) (omega arith) h g (inr differ) e fit
     ]

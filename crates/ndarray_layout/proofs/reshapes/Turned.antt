@@ -1,26 +1,23 @@
 -- What the walk says of axes as they are read, said of them in order.
-use Rattle.std.proofs.Common.{◌≡◌, ℕ, ◌≤◌, false, ℤ, List, [], ◌∷◌, ◌++◌, length, map, reverse, refl, sym, ap, ap₂, ◌∙◌, arith, subst, None, Some, Result, Ok, Err}
+use Rattle.std.proofs.Common.{◌≡◌, ℕ, ◌≤◌, false, List, [], ◌∷◌, ◌++◌, length, map, reverse, refl, sym, ap, ap₂, ◌∙◌, arith, subst, None}
+use Rattle.std.proofs.Common.{Some, Result, Ok, Err}
 use Rattle.std.specs.Prelude.{IfOk, IfErr, OnOk}
 use Rattle.nd_base.specs.declared.error.ShapeError.{ShapeError}
 use Rattle.std.proofs.lemmas.List.{length-map, map-append, reverse-append}
 use Rattle.nd_base.specs.declared.order.Order.{Order}
-use Rattle.nd_base.specs.declared.order.Order.TheVariants.{RowMajor, ColumnMajor}
-use Rattle.nd_base.specs.Indices.{below}
-use Rattle.nd_base.specs.Signed.{signed, all_signed}
-use Rattle.nd_base.specs.Size.{size, nonzero_size, is_empty, limit}
-use Rattle.nd_base.specs.Span.{span, reach}
-use Rattle.nd_base.specs.ValidLayout.{IsValidLayout}
+use Rattle.nd_base.proofs.laws.Definitions.{below, as_read, all_signed, signed, is_empty, limit, nonzero_size, size, reach, span}
+use Rattle.nd_base.proofs.laws.Definitions.{IsValidLayout}
 use Rattle.nd_base.proofs.laws.NonzeroSize.{nonzero_size_of_nonempty}
-use Rattle.nd_base.proofs.laws.Span.{sum_over_axes-reverse}
 use Rattle.ndarray_layout.specs.reshape.ForcedStrides.{forced_strides, stride_at}
 use Rattle.ndarray_layout.specs.reshape.Joints.{has_bad_joint}
 use Rattle.ndarray_layout.specs.reshape.Keeps.{Keeps}
-use Rattle.nd_base.specs.Reading.{as_read}
 use Rattle.ndarray_layout.specs.reshape.ReshapeFault.{reshape_fault, fault_as_read}
 use Rattle.ndarray_layout.specs.private.ReshapeProgress.{CanWalk, PlacesAlike}
 use Rattle.ndarray_layout.proofs.reshapes.Complete.{good-of-alike}
 use Rattle.nd_base.proofs.laws.Reading.{length-as_read, as_read-as_read, size-as_read, is_empty-as_read}
 use Rattle.ndarray_layout.proofs.laws.Keeps.{fault-exactly, forced-keeps}
+use Rattle.nd_base.proofs.laws.Reading.{map-as_read}
+use Rattle.nd_base.proofs.laws.Reading.{sum_over_axes-as_read}
 
 signed-reverse : (items : List ℕ) → all_signed (reverse items) ≡ reverse (all_signed items)
 signed-reverse [] = refl
@@ -30,28 +27,22 @@ signed-reverse (item ∷ items) =
     ∙ ap (λ zs. zs ++ signed item ∷ []) (signed-reverse items)
     ∙ sym (reverse-append (signed item ∷ []) (all_signed items))
 
-signed-as_read : (order : Order) (items : List ℕ) → all_signed (as_read order items) ≡ as_read order (all_signed items)
-signed-as_read RowMajor items = refl
-signed-as_read ColumnMajor items = signed-reverse items
-
-span-as_read : (order : Order) (shape : List ℕ) (strides : List ℤ) → length shape ≡ length strides → span (as_read order shape) (as_read order strides) ≡ span shape strides
-span-as_read RowMajor shape strides e = refl
-span-as_read ColumnMajor shape strides e = sum_over_axes-reverse reach shape strides e
-
 -- a layout that is valid can be walked
-pub can-walk : (order : Order) (from strides to : List ℕ) → IsValidLayout from (all_signed strides) → is_empty from ≡ false → is_empty to ≡ false → nonzero_size to ≤ limit → CanWalk (as_read order from) (all_signed (as_read order strides)) (as_read order to)
-can-walk order from strides to valid some more fits =
+pub can-walk : (order : Order) {from : List ℕ} (strides to : List ℕ) → IsValidLayout from (all_signed strides) → is_empty from ≡ false
+    → is_empty to ≡ false → nonzero_size to ≤ limit → CanWalk (as_read order from) (all_signed (as_read order strides)) (as_read order to)
+can-walk order {from} strides to valid some more fits =
     let count = valid.same_count in
     let size_fits = valid.size_fits in
     let span_fits = valid.span_fits in
     let from_count = length-as_read order from in
     let strides_count = length-as_read order (all_signed strides) in
-    let turned = signed-as_read order strides in
+    let turned = map-as_read order signed strides in
     let from_size = size-as_read order from in
     let to_size = size-as_read order to in
     let from_whole = nonzero_size_of_nonempty from some in
     let to_whole = nonzero_size_of_nonempty to more in
-    let reached : span (as_read order from) (all_signed (as_read order strides)) ≡ span from (all_signed strides) = ap (span (as_read order from)) turned ∙ span-as_read order from (all_signed strides) count in
+    let reached : span (as_read order from) (all_signed (as_read order strides)) ≡ span from (all_signed strides) =
+    ap (span (as_read order from)) turned ∙ sum_over_axes-as_read order reach from (all_signed strides) count in
     record {
       same_count = from_count ∙ count ∙ sym strides_count ∙ sym (ap length turned);
       some = is_empty-as_read order from ∙ some;
@@ -61,51 +52,77 @@ can-walk order from strides to valid some more fits =
       span_fits = omega arith;
     }
 
-fault-read : (order : Order) (from strides to : List ℕ) → fault_as_read (as_read order from) (all_signed (as_read order strides)) (as_read order to) ≡ reshape_fault order from (all_signed strides) to
-fault-read order from strides to = ap (λ ss. fault_as_read (as_read order from) ss (as_read order to)) (signed-as_read order strides)
+fault-read : (order : Order) (from strides to : List ℕ)
+    → fault_as_read (as_read order from) (all_signed (as_read order strides)) (as_read order to) ≡ reshape_fault order from
+    (all_signed strides) to
+fault-read order from strides to = ap (λ ss. fault_as_read (as_read order from) ss (as_read order to)) (map-as_read order signed strides)
 
 -- strides that keep the places, as they are read, leave no fault
-none-read : (order : Order) (from strides to out : List ℕ) → CanWalk (as_read order from) (all_signed (as_read order strides)) (as_read order to) → length out ≡ length to → size (as_read order from) ≡ size (as_read order to) →
-    PlacesAlike (as_read order from) (all_signed (as_read order strides)) (as_read order to) (all_signed out) → reshape_fault order from (all_signed strides) to ≡ None
+none-read : (order : Order) (from strides to out : List ℕ)
+    → CanWalk (as_read order from) (all_signed (as_read order strides)) (as_read order to) → length out ≡ length to
+    → size (as_read order from) ≡ size (as_read order to) →
+    PlacesAlike (as_read order from) (all_signed (as_read order strides)) (as_read order to) (all_signed out) → reshape_fault order from
+    (all_signed strides) to ≡ None
 none-read order from strides to out w room sizes alike =
-    let turned = signed-as_read order strides in
+    let turned = map-as_read order signed strides in
     let count = length-map out signed in
     let equal : length (as_read order to) ≡ length (all_signed out) = length-as_read order to ∙ sym room ∙ sym count in
-    let good = good-of-alike (as_read order from) (all_signed (as_read order strides)) (as_read order to) (all_signed out) w.some w.more w.same_count equal sizes alike in
+    let good = good-of-alike (as_read order from) (all_signed (as_read order strides)) (as_read order to) (all_signed out) w.some w.more
+    w.same_count equal sizes alike in
     (fault-exactly order from (all_signed strides) to).1 (
       sym (size-as_read order from) ∙ sizes ∙ size-as_read order to,
       sym (ap (λ ss. has_bad_joint (as_read order from) ss (as_read order to)) turned) ∙ good,
     )
 
-forced-read : (order : Order) (from strides to out : List ℕ) → length out ≡ length to → all_signed out ≡ map (stride_at (as_read order from) (all_signed (as_read order strides)) (as_read order to)) (below (length (as_read order to))) → all_signed (as_read order out) ≡ forced_strides order from (all_signed strides) to
+forced-read : (order : Order) (from strides to out : List ℕ) → length out ≡ length to
+    → all_signed out ≡ map (stride_at (as_read order from) (all_signed (as_read order strides)) (as_read order to))
+    (below (length (as_read order to))) → all_signed (as_read order out) ≡ forced_strides order from (all_signed strides) to
 forced-read order from strides to out room e =
-    signed-as_read order out
-    ∙ ap (as_read order) (e ∙ ap₂ (λ ss n. map (stride_at (as_read order from) ss (as_read order to)) (below n)) (signed-as_read order strides) (length-as_read order to))
+    map-as_read order signed out
+    ∙ ap (as_read order) (e ∙ ap₂ (λ ss n. map (stride_at (as_read order from) ss (as_read order to)) (below n))
+    (map-as_read order signed strides) (length-as_read order to))
 
 -- ---- what is answered of a walk in an order
-pub filled-fault : {X : Type 0} (order read : Order) (from strides to : List ℕ) (result : Result X ShapeError) → order ≡ read → IfErr result (λ kind. fault_as_read (as_read read from) (all_signed (as_read read strides)) (as_read read to) ≡ Some kind) →
-    IfErr result (λ kind. reshape_fault order from (all_signed strides) to ≡ Some kind)
-filled-fault order read from strides to (Ok done) is fault = tt
-filled-fault order read from strides to (Err kind) is fault = ap (λ o. reshape_fault o from (all_signed strides) to) is ∙ sym (fault-read read from strides to) ∙ fault
+module _ {X : Type 0} {order read : Order} where
+  pub filled-fault : (from strides to : List ℕ) (result : Result X ShapeError) → order ≡ read
+      → IfErr result (λ kind. fault_as_read (as_read read from) (all_signed (as_read read strides)) (as_read read to) ≡ Some kind)
+      → IfErr result (λ kind. reshape_fault order from (all_signed strides) to ≡ Some kind)
+  filled-fault from strides to (Ok done) is fault = tt
+  filled-fault from strides to (Err kind) is fault = ap (λ o. reshape_fault o from (all_signed strides) to) is
+      ∙ sym (fault-read read from strides to) ∙ fault
 
-pub filled-fits : {X : Type 0} (order read : Order) (from strides to out : List ℕ) (result : Result X ShapeError) → order ≡ read → CanWalk (as_read read from) (all_signed (as_read read strides)) (as_read read to) → IfOk result (λ done. length (as_read read out) ≡ length (as_read read to)) →
-    IfOk result (λ done. size (as_read read from) ≡ size (as_read read to)) → IfOk result (λ done. PlacesAlike (as_read read from) (all_signed (as_read read strides)) (as_read read to) (all_signed (as_read read out))) → OnOk result (reshape_fault order from (all_signed strides) to ≡ None)
-filled-fits order read from strides to out (Ok done) is w room sizes alike =
-    ap (λ o. reshape_fault o from (all_signed strides) to) is ∙ none-read read from strides to (as_read read out) w (room ∙ length-as_read read to) sizes alike
-filled-fits order read from strides to out (Err kind) is w room sizes alike = tt
+  pub filled-fits : (from strides to out : List ℕ) (result : Result X ShapeError) → order ≡ read
+      → CanWalk (as_read read from) (all_signed (as_read read strides)) (as_read read to)
+      → IfOk result (λ done. length (as_read read out) ≡ length (as_read read to))
+      → IfOk result (λ done. size (as_read read from) ≡ size (as_read read to))
+      → IfOk result (λ done. PlacesAlike (as_read read from) (all_signed (as_read read strides)) (as_read read to)
+      (all_signed (as_read read out))) → OnOk result (reshape_fault order from (all_signed strides) to ≡ None)
+  filled-fits from strides to out (Ok done) is w room sizes alike =
+      ap (λ o. reshape_fault o from (all_signed strides) to) is ∙ none-read read from strides to (as_read read out) w
+      (room ∙ length-as_read read to) sizes alike
+  filled-fits from strides to out (Err kind) is w room sizes alike = tt
 
-pub filled-strides : {X : Type 0} (order read : Order) (from strides to out : List ℕ) (result : Result X ShapeError) → order ≡ read → IfOk result (λ done. length (as_read read out) ≡ length (as_read read to)) →
-    IfOk result (λ done. all_signed (as_read read out) ≡ map (stride_at (as_read read from) (all_signed (as_read read strides)) (as_read read to)) (below (length (as_read read to)))) → OnOk result (all_signed out ≡ forced_strides order from (all_signed strides) to)
-filled-strides order read from strides to out (Ok done) is room made =
-    sym (ap all_signed (as_read-as_read read out)) ∙ forced-read read from strides to (as_read read out) (room ∙ length-as_read read to) made ∙ sym (ap (λ o. forced_strides o from (all_signed strides) to) is)
-filled-strides order read from strides to out (Err kind) is room made = tt
+  pub filled-strides : (from strides to out : List ℕ) (result : Result X ShapeError) → order ≡ read
+      → IfOk result (λ done. length (as_read read out) ≡ length (as_read read to))
+      → IfOk result (λ done. all_signed (as_read read out) ≡ map (stride_at (as_read read from) (all_signed (as_read read strides))
+      (as_read read to)) (below (length (as_read read to)))) → OnOk result (all_signed out ≡ forced_strides order from (all_signed strides)
+      to)
+  filled-strides from strides to out (Ok done) is room made =
+      sym (ap all_signed (as_read-as_read read out)) ∙ forced-read read from strides to (as_read read out) (room ∙ length-as_read read to)
+      made ∙ sym (ap (λ o. forced_strides o from (all_signed strides) to) is)
+  filled-strides from strides to out (Err kind) is room made = tt
 
 -- strides that are those of the definition keep the places
-pub keeps-filled : (order : Order) (from strides to lens steps news given : List ℕ) → lens ≡ from → steps ≡ strides → news ≡ to → is_empty from ≡ false → is_empty to ≡ false → length from ≡ length (all_signed strides) → reshape_fault order lens (all_signed steps) news ≡ None →
-    all_signed given ≡ forced_strides order lens (all_signed steps) news → Keeps order from (all_signed strides) to (all_signed given)
-keeps-filled order from strides to lens steps news given e f g some more count none made =
+pub keeps-filled : {order : Order} {from strides to lens steps news : List ℕ} (given : List ℕ) → lens ≡ from → steps ≡ strides → news ≡ to
+    → is_empty from ≡ false → is_empty to ≡ false → length from ≡ length (all_signed strides)
+    → reshape_fault order lens (all_signed steps) news ≡ None → all_signed given ≡ forced_strides order lens (all_signed steps) news
+    → Keeps order from (all_signed strides) to (all_signed given)
+keeps-filled {order} {from} {strides} {to} {lens} {steps} given e f g some more count none made =
     let fault : reshape_fault order from (all_signed strides) to ≡ None = sym (ap (λ x. reshape_fault order x (all_signed strides) to) e)
-    ∙ sym (ap (λ x. reshape_fault order lens (all_signed x) to) f) ∙ sym (ap (λ x. reshape_fault order lens (all_signed steps) x) g) ∙ none in
-    let forced : all_signed given ≡ forced_strides order from (all_signed strides) to = made ∙ ap (λ x. forced_strides order lens (all_signed steps) x) g
+    ∙ sym (ap (λ x. reshape_fault order lens (all_signed x) to) f) ∙ sym (ap (λ x. reshape_fault order lens (all_signed steps) x) g)
+    ∙ none in
+    let forced : all_signed given ≡ forced_strides order from (all_signed strides) to = made
+    ∙ ap (λ x. forced_strides order lens (all_signed steps) x) g
     ∙ ap (λ x. forced_strides order lens (all_signed x) to) f ∙ ap (λ x. forced_strides order x (all_signed strides) to) e in
-    subst (Keeps order from (all_signed strides) to) (sym forced) (forced-keeps order from (all_signed strides) to some more count ((fault-exactly order from (all_signed strides) to).0 fault))
+    subst (Keeps order from (all_signed strides) to) (sym forced) (forced-keeps order from (all_signed strides) to some more count
+    ((fault-exactly order from (all_signed strides) to).0 fault))

@@ -1,5 +1,6 @@
 -- A reshape by what is known of the two shapes.
-use Rattle.std.proofs.Common.{◌≡◌, ◌≢◌, ℕ, zero, suc, ◌≤◌, pos, Bool, true, false, not, cond, ltb, Option, Some, None, Result, Ok, Err, List, ◌∷◌, length, replicate, refl, sym, ap, ◌∙◌}
+use Rattle.std.proofs.Common.{◌≡◌, ◌≢◌, ℕ, zero, suc, ◌≤◌, pos, Bool, true, false, not, cond, ltb, Option, Some, None, Result, Ok, Err}
+use Rattle.std.proofs.Common.{List, ◌∷◌, length, replicate, refl, sym, ap, ◌∙◌}
 use Rattle.std.proofs.Math.Bool.{beq}
 use Rattle.std.proofs.lemmas.Bool.{le-ltb, ltb-false}
 use Rattle.std.specs.Prelude.{◌&&◌, ◌||◌, IfErr}
@@ -7,20 +8,25 @@ use Rattle.nd_base.specs.declared.error.ErrorKind.TheVariants.{IncompatibleShape
 use Rattle.nd_base.specs.declared.error.LayoutError.{LayoutError}
 use Rattle.nd_base.specs.declared.error.LayoutError.TheVariants.{Shape, Memory}
 use Rattle.nd_base.specs.declared.order.Order.{Order}
-use Rattle.nd_base.specs.Lengths.{NeedsNoMemory}
-use Rattle.nd_base.specs.Signed.{all_signed}
-use Rattle.nd_base.specs.Size.{is_empty, nonzero_size, limit}
+use Rattle.nd_base.proofs.laws.Definitions.{NeedsNoMemory, all_signed, is_empty, limit, nonzero_size}
 use Rattle.ndarray_layout.specs.reshape.ForcedStrides.{forced_strides}
 use Rattle.ndarray_layout.specs.reshape.ReshapeFault.{IsOfShape, IsRefusedFor, reshape_fault}
 use Rattle.ndarray_layout.specs.ReshapedView.{IsReshapeRefusal, reshape_refusal, reshaped_strides}
 use Rattle.ndarray_layout.specs.View.{View}
 
 -- tests that don't differ are the same
-pub same_bits : (a b : Bool) → not (beq a b) ≡ false → a ≡ b
+same_bits : (a b : Bool) → not (beq a b) ≡ false → a ≡ b
 same_bits true true same = refl
 same_bits true false same = absurd (cc)
 same_bits false true same = absurd (cc)
 same_bits false false same = refl
+
+-- so where neither shape alone has an index, both have one or none has
+pub both_are : {here there b : Bool} {lens shape from to : List ℕ} → here ≡ is_empty lens → there ≡ is_empty shape
+    → lens ≡ from → shape ≡ to
+    → not (beq here there) ≡ false → here ≡ b → (is_empty from ≡ b) × (is_empty to ≡ b)
+both_are {here = here} {there = there} value also lens shape same is =
+    (ap is_empty (sym lens) ∙ sym value ∙ is, ap is_empty (sym shape) ∙ sym also ∙ sym (same_bits here there same) ∙ is)
 
 -- the test of the size
 pub within_limit : (n : ℕ) → None ≡ cond (ltb limit n) (Some Overflow) None → n ≤ limit
@@ -31,33 +37,44 @@ within_limit n none = by (ltb limit n) refl none
     by false e none = ltb-false limit n e
 
 -- shapes that both have an index
-pub refusal_between : (order : Order) (shape : List ℕ) (view : View) → nonzero_size shape ≤ limit → is_empty view.shape ≡ false → is_empty shape ≡ false → reshape_refusal order shape view ≡ reshape_fault order view.shape view.strides shape
+pub refusal_between : (order : Order) (shape : List ℕ) (view : View) → nonzero_size shape ≤ limit → is_empty view.shape ≡ false
+    → is_empty shape ≡ false → reshape_refusal order shape view ≡ reshape_fault order view.shape view.strides shape
 refusal_between order shape view fits some more = rw (le-ltb limit (nonzero_size shape) fits, some, more) refl
 
-pub refused_between : (X : Type 0) (result : Result X LayoutError) (fixed : Option ℕ) (order : Order) (shape : List ℕ) (view : View) → nonzero_size shape ≤ limit → is_empty view.shape ≡ false → is_empty shape ≡ false → IfErr result (λ e. IsRefusedFor (reshape_fault order view.shape view.strides shape) e) → (NeedsNoMemory fixed (length shape) → IfErr result IsOfShape) → IfErr result (λ e. IsReshapeRefusal fixed order shape view e)
+pub refused_between : (X : Type 0) (result : Result X LayoutError) (fixed : Option ℕ) (order : Order) (shape : List ℕ) (view : View)
+    → nonzero_size shape ≤ limit → is_empty view.shape ≡ false → is_empty shape ≡ false
+    → IfErr result (λ e. IsRefusedFor (reshape_fault order view.shape view.strides shape) e)
+    → (NeedsNoMemory fixed (length shape) → IfErr result IsOfShape) → IfErr result (λ e. IsReshapeRefusal fixed order shape view e)
 refused_between X (Ok x) fixed order shape view fits some more refused memory = tt
-refused_between X (Err (Shape kind)) fixed order shape view fits some more refused memory = refusal_between order shape view fits some more ∙ refused
+refused_between X (Err (Shape kind)) fixed order shape view fits some more refused memory = refusal_between order shape view fits some more
+    ∙ refused
 refused_between X (Err (Memory e)) fixed order shape view fits some more refused memory = ((fits, more ∙ sym some), memory)
 
-pub strides_between : (order : Order) (shape : List ℕ) (view : View) → is_empty shape ≡ false → reshaped_strides order shape view ≡ forced_strides order view.shape view.strides shape
+pub strides_between : (order : Order) (shape : List ℕ) (view : View) → is_empty shape ≡ false
+    → reshaped_strides order shape view ≡ forced_strides order view.shape view.strides shape
 strides_between order shape view more = rw more refl
 
 -- neither has one
-pub refusal_of_none : (order : Order) (shape : List ℕ) (view : View) → nonzero_size shape ≤ limit → is_empty view.shape ≡ true → is_empty shape ≡ true → reshape_refusal order shape view ≡ None
+pub refusal_of_none : (order : Order) (shape : List ℕ) (view : View) → nonzero_size shape ≤ limit → is_empty view.shape ≡ true
+    → is_empty shape ≡ true → reshape_refusal order shape view ≡ None
 refusal_of_none order shape view fits none nothing = rw (le-ltb limit (nonzero_size shape) fits, none, nothing) refl
 
 zeros_signed : (n : ℕ) → all_signed (replicate n 0) ≡ replicate n (pos 0)
 zeros_signed zero = refl
 zeros_signed (suc n) = ap (λ zs. pos 0 ∷ zs) (zeros_signed n)
 
-pub strides_of_none : (order : Order) (shape : List ℕ) (view : View) → is_empty shape ≡ true → all_signed (replicate (length shape) 0) ≡ reshaped_strides order shape view
+pub strides_of_none : (order : Order) (shape : List ℕ) (view : View) → is_empty shape ≡ true
+    → all_signed (replicate (length shape) 0) ≡ reshaped_strides order shape view
 strides_of_none order shape view nothing = rw nothing (zeros_signed (length shape))
 
 -- one has one, the other doesn't
-pub refusal_of_one : (order : Order) (shape : List ℕ) (view : View) → nonzero_size shape ≤ limit → is_empty view.shape ≢ is_empty shape → reshape_refusal order shape view ≡ Some IncompatibleShape
+pub refusal_of_one : (order : Order) (shape : List ℕ) (view : View) → nonzero_size shape ≤ limit → is_empty view.shape ≢ is_empty shape
+    → reshape_refusal order shape view ≡ Some IncompatibleShape
 refusal_of_one order shape view fits differ = rw (le-ltb limit (nonzero_size shape) fits) (by (is_empty view.shape) (is_empty shape) differ)
   where
-    by : (a b : Bool) → a ≢ b → cond (a && b) None (cond (a || b) (Some IncompatibleShape) (reshape_fault order view.shape view.strides shape)) ≡ Some IncompatibleShape
+    by : (a b : Bool) → a ≢ b
+        → cond (a && b) None (cond (a || b) (Some IncompatibleShape) (reshape_fault order view.shape view.strides shape))
+        ≡ Some IncompatibleShape
     by true true differ = absurd (differ refl)
     by true false differ = refl
     by false true differ = refl

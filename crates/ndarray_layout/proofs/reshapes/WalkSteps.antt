@@ -1,5 +1,6 @@
 -- One step of the walk: both shapes are read further by axes that step as one.
-use Rattle.std.proofs.Common.{◌≡◌, ℕ, ◌+◌, ◌-◌, ◌*◌, ◌<◌, ◌≤◌, false, ℤ, pos, ◌*ℤ◌, List, ◌++◌, length, get_or, take, drop, sym, ap, ap₂, ◌∙◌, arith, subst}
+use Rattle.std.proofs.Common.{◌≡◌, ℕ, ◌+◌, ◌-◌, ◌*◌, ◌<◌, ◌≤◌, false, ℤ, pos, ◌*ℤ◌, List, ◌++◌, length, get_or, take, drop, sym, ap, ap₂}
+use Rattle.std.proofs.Common.{◌∙◌, arith, subst}
 use Rattle.std.proofs.lemmas.List.{take-take, drop-take, take-append-drop, drop-drop, get_or-drop, get_or-take, length-take-le}
 use Rattle.nd_base.specs.Size.{size, is_empty}
 use Rattle.nd_base.proofs.laws.Size.{size_of_nonempty, size-append, drop_nonempty}
@@ -13,7 +14,8 @@ pub take-split : {A : Type 0} (start end : ℕ) (items : List A) → start ≤ e
 take-split start end items l =
     let whole : start + (end - start) ≡ end = omega arith in
     sym (take-append-drop start (take end items))
-    ∙ ap₂ (λ xs ys. xs ++ ys) (take-take start end items l) (ap (λ n. drop start (take n items)) (sym whole) ∙ drop-take start (end - start) items)
+    ∙ ap₂ (λ xs ys. xs ++ ys) (take-take start end items l) (ap (λ n. drop start (take n items)) (sym whole) ∙ drop-take start (end - start)
+    items)
 
 pub take-nonempty : (lens : List ℕ) (k : ℕ) → is_empty lens ≡ false → is_empty (take k lens) ≡ false
 take-nonempty lens k h = (nonempty-parts (take k lens) (drop k lens) (ap is_empty (take-append-drop k lens) ∙ h)).0
@@ -21,17 +23,22 @@ take-nonempty lens k h = (nonempty-parts (take k lens) (drop k lens) (ap is_empt
 pub segment-nonempty : (lens : List ℕ) (start end : ℕ) → is_empty lens ≡ false → is_empty (segment start end lens) ≡ false
 segment-nonempty lens start end h = take-nonempty (drop start lens) (end - start) (drop_nonempty lens start h)
 
-pub segments-size : (from to : List ℕ) (i i_end k k_end : ℕ) → is_empty from ≡ false → i ≤ i_end → k ≤ k_end → size (take i from) ≡ size (take k to) → size (take i_end from) ≡ size (take k_end to) → size (segment i i_end from) ≡ size (segment k k_end to)
+pub segments-size : (from to : List ℕ) (i i_end k k_end : ℕ) → is_empty from ≡ false → i ≤ i_end → k ≤ k_end
+    → size (take i from) ≡ size (take k to) → size (take i_end from) ≡ size (take k_end to)
+    → size (segment i i_end from) ≡ size (segment k k_end to)
 segments-size from to i i_end k k_end h l g e f =
     let some = size_of_nonempty (take i from) (take-nonempty from i h) in
     let from_parts = ap size (take-split i i_end from l) ∙ size-append (take i from) (segment i i_end from) in
     let to_parts = ap size (take-split k k_end to g) ∙ size-append (take k to) (segment k k_end to) in
-    cancel (size (take i from)) (size (segment i i_end from)) (size (segment k k_end to)) some
+    cancel (size (take i from)) some
     (sym from_parts ∙ f ∙ to_parts ∙ ap (λ n. n * size (segment k k_end to)) (sym e))
 
-pub alike-step : (from : List ℕ) (strides : List ℤ) (to : List ℕ) (others news : List ℤ) (i i_end k k_end : ℕ) (step : ℤ) → is_empty from ≡ false → is_empty to ≡ false → length from ≡ length strides → length to ≡ length news →
-    i ≤ i_end → k ≤ k_end → i_end ≤ length from → k_end ≤ length to → size (take i from) ≡ size (take k to) → size (take i_end from) ≡ size (take k_end to) → take k news ≡ take k others →
-    IsDense (segment i i_end from) (segment i i_end strides) step → IsDense (segment k k_end to) (segment k k_end news) step → PlacesAlike (take i from) (take i strides) (take k to) (take k others) →
+pub alike-step : (from : List ℕ) (strides : List ℤ) (to : List ℕ) (others news : List ℤ) (i i_end k k_end : ℕ) (step : ℤ)
+    → is_empty from ≡ false → is_empty to ≡ false → length from ≡ length strides → length to ≡ length news →
+    i ≤ i_end → k ≤ k_end → i_end ≤ length from → k_end ≤ length to → size (take i from) ≡ size (take k to) → size (take i_end from)
+    ≡ size (take k_end to) → take k news ≡ take k others →
+    IsDense (segment i i_end from) (segment i i_end strides) step → IsDense (segment k k_end to) (segment k k_end news) step
+    → PlacesAlike (take i from) (take i strides) (take k to) (take k others) →
     PlacesAlike (take i_end from) (take i_end strides) (take k_end to) (take k_end news)
 alike-step from strides to others news i i_end k k_end step h g c d l m f t e u kept dense news_dense alike =
     let lens = segment i i_end from in
@@ -40,13 +47,24 @@ alike-step from strides to others news i i_end k k_end step h g c d l m f t e u 
     let like : PlacesAlike lens (segment i i_end strides) new_lens (segment k k_end news) = λ r below.
     run-of-dense new_lens (segment k k_end news) step r (segment-nonempty to k k_end g) news_dense (omega arith)
     ∙ sym (run-of-dense lens (segment i i_end strides) step r (segment-nonempty from i i_end h) dense below) in
-    let front : PlacesAlike (take i from) (take i strides) (take k to) (take k news) = subst (PlacesAlike (take i from) (take i strides) (take k to)) (sym kept) alike in
-    let from_count : length (take i from) ≡ length (take i strides) = length-take-le i from (omega arith) ∙ sym (length-take-le i strides (omega arith)) in
-    let to_count : length (take k to) ≡ length (take k news) = length-take-le k to (omega arith) ∙ sym (length-take-le k news (omega arith)) in
-    let whole = places-append (take i from) (take i strides) (take k to) (take k news) lens (segment i i_end strides) new_lens (segment k k_end news) from_count to_count (take-nonempty from i h) (take-nonempty to k g) (segment-nonempty from i i_end h) e seg_size front like in
-    let first : PlacesAlike (take i_end from) (take i strides ++ segment i i_end strides) (take k to ++ new_lens) (take k news ++ segment k k_end news) = subst (λ xs. PlacesAlike xs (take i strides ++ segment i i_end strides) (take k to ++ new_lens) (take k news ++ segment k k_end news)) (sym (take-split i i_end from l)) whole in
-    let second : PlacesAlike (take i_end from) (take i_end strides) (take k to ++ new_lens) (take k news ++ segment k k_end news) = subst (λ xs. PlacesAlike (take i_end from) xs (take k to ++ new_lens) (take k news ++ segment k k_end news)) (sym (take-split i i_end strides l)) first in
-    let third : PlacesAlike (take i_end from) (take i_end strides) (take k_end to) (take k news ++ segment k k_end news) = subst (λ xs. PlacesAlike (take i_end from) (take i_end strides) xs (take k news ++ segment k k_end news)) (sym (take-split k k_end to m)) second in
+    let front : PlacesAlike (take i from) (take i strides) (take k to) (take k news) =
+    subst (PlacesAlike (take i from) (take i strides) (take k to)) (sym kept) alike in
+    let from_count : length (take i from) ≡ length (take i strides) = length-take-le i from (omega arith)
+    ∙ sym (length-take-le i strides (omega arith)) in
+    let to_count : length (take k to) ≡ length (take k news) = length-take-le k to (omega arith)
+    ∙ sym (length-take-le k news (omega arith)) in
+    let whole = places-append (take i from) (take i strides) (take k to) (take k news) lens (segment i i_end strides) new_lens
+    (segment k k_end news) from_count to_count (take-nonempty from i h) (take-nonempty to k g) (segment-nonempty from i i_end h) e
+    seg_size front like in
+    let first : PlacesAlike (take i_end from) (take i strides ++ segment i i_end strides) (take k to ++ new_lens)
+    (take k news ++ segment k k_end news) = subst (λ xs. PlacesAlike xs (take i strides ++ segment i i_end strides)
+    (take k to ++ new_lens) (take k news ++ segment k k_end news)) (sym (take-split i i_end from l)) whole in
+    let second : PlacesAlike (take i_end from) (take i_end strides) (take k to ++ new_lens) (take k news ++ segment k k_end news) =
+    subst (λ xs. PlacesAlike (take i_end from) xs (take k to ++ new_lens) (take k news ++ segment k k_end news))
+    (sym (take-split i i_end strides l)) first in
+    let third : PlacesAlike (take i_end from) (take i_end strides) (take k_end to) (take k news ++ segment k k_end news) =
+    subst (λ xs. PlacesAlike (take i_end from) (take i_end strides) xs (take k news ++ segment k k_end news))
+    (sym (take-split k k_end to m)) second in
     subst (λ xs. PlacesAlike (take i_end from) (take i_end strides) (take k_end to) xs) (sym (take-split k k_end news m)) third
 
 -- no axes step as one
@@ -56,7 +74,9 @@ none-dense lens strides k step =
     subst (λ n. IsDense (take n (drop k lens)) (take n (drop k strides)) step) (sym none) tt
 
 -- strides that are the products of the later lengths times a step
-pub written-dense : (to : List ℕ) (news : List ℤ) (k k_end : ℕ) (step : ℤ) → length to ≡ length news → k ≤ k_end → k_end ≤ length to → ((j : ℕ) → k ≤ j → j < k_end → get_or news j (pos 0) ≡ pos (size (drop (j + 1) (take k_end to))) *ℤ step) → IsDense (segment k k_end to) (segment k k_end news) step
+pub written-dense : (to : List ℕ) (news : List ℤ) (k k_end : ℕ) (step : ℤ) → length to ≡ length news → k ≤ k_end → k_end ≤ length to
+    → ((j : ℕ) → k ≤ j → j < k_end → get_or news j (pos 0) ≡ pos (size (drop (j + 1) (take k_end to))) *ℤ step)
+    → IsDense (segment k k_end to) (segment k k_end news) step
 written-dense to news k k_end step e l g written =
     let lens = length-seg k k_end to l g in
     let count = length-seg k k_end news l (omega arith) in

@@ -56,7 +56,8 @@ fn next_block<S: Sequence, T: Sequence>(
     to: &T,
     start: Reached,
 ) -> Result<Block, ShapeError>
-    requires can_walk { CanWalk (S.items from.now) (all_signed (S.items strides.now)) (T.items to.now) }
+    requires can_walk { CanWalk
+        (S.items from.now) (all_signed (S.items strides.now)) (T.items to.now) }
     requires reached { IsReached (S.items from.now) (all_signed (S.items strides.now))
         (T.items to.now) start.from_axes start.to_axes }
     requires from_count { length (S.items from.now) ≤ usize.MAX }
@@ -126,7 +127,8 @@ fn write_block<T: Sequence, O: SequenceMut>(
     requires room { length (O.items out.old) ≡ length (T.items to.now) }
     requires ahead { start < end }
     requires within { end ≤ length (T.items to.now) }
-    requires len_fits { (k : ℕ) → k < length (T.items to.now) → slice_index (T.items to.now) k ≤ limit }
+    requires len_fits { (k : ℕ) → k < length (T.items to.now) →
+        slice_index (T.items to.now) k ≤ limit }
     requires steps_fit { (k : ℕ) → start ≤ k → k < end →
         FitsSigned w64
         (pos (size (drop (k + 1) (take end (T.items to.now)))) *ℤ signed_reading step) }
@@ -157,7 +159,8 @@ fn advance<S: Sequence, T: Sequence, O: SequenceMut>(
     out: &mut O,
     at: Reached,
 ) -> Result<Reached, ShapeError>
-    requires can_walk { CanWalk (S.items from.now) (all_signed (S.items strides.now)) (T.items to.now) }
+    requires can_walk { CanWalk
+        (S.items from.now) (all_signed (S.items strides.now)) (T.items to.now) }
     requires from_count { length (S.items from.now) ≤ usize.MAX }
     requires to_count { length (T.items to.now) ≤ usize.MAX }
     requires from_left { at.from_axes < length (S.items from.now) }
@@ -245,7 +248,8 @@ fn walk<S: Sequence, T: Sequence, O: SequenceMut>(
     to: &T,
     out: &mut O,
 ) -> Result<(), ShapeError>
-    requires can_walk { CanWalk (S.items from.now) (all_signed (S.items strides.now)) (T.items to.now) }
+    requires can_walk { CanWalk
+        (S.items from.now) (all_signed (S.items strides.now)) (T.items to.now) }
     requires room { length (O.items out.old) ≡ length (T.items to.now) }
     ensures fault { IfErr result
         (λ kind. fault_as_read (S.items from.now) (all_signed (S.items strides.now))
@@ -293,7 +297,8 @@ pub(super) fn fill_reshaped<E: Lengths>(
     requires room { length (E.list out.old) ≡ length to.now }
     ensures fault { IfErr result
         (λ kind. reshape_fault order from.now (all_signed strides.now) to.now ≡ Some kind) }
-    ensures fits { OnOk result (reshape_fault order from.now (all_signed strides.now) to.now ≡ None) }
+    ensures fits { OnOk result
+        (reshape_fault order from.now (all_signed strides.now) to.now ≡ None) }
     ensures strides { OnOk result
         (all_signed (E.list out.new)
         ≡ forced_strides order from.now (all_signed strides.now) to.now) }

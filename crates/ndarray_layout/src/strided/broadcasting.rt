@@ -1,12 +1,11 @@
 //! Views stretched to a shape, and the strides that they have then.
-ghost use Rattle.std.specs.Prelude.{◌≡◌, ◌≤◌, None, length, IfOk, IsOk, ℕ, ◌<◌};
+ghost use Rattle.std.specs.Prelude.{◌≡◌, ◌≤◌, None, length, IfOk, IsOk};
 ghost use Rattle.std.specs.Result.{result_err};
 ghost use Rattle.nd_base.specs.Lengths.{NeedsNoMemory};
 ghost use Rattle.nd_base.specs.ShapeFault.{shape_fault};
 ghost use Rattle.nd_base.specs.Signed.{all_signed};
 ghost use Rattle.ndarray_layout.specs.BroadcastView.{broadcast_fault, broadcast_strides, takes_in, broadcast_of, broadcast_source};
-ghost use Rattle.ndarray_layout.specs.KeepsPlaces.{KeepsPlaces};
-ghost use Rattle.ndarray_layout.specs.View.{IsView, LiesWithin};
+ghost use Rattle.ndarray_layout.specs.Descends.{IsViewOf};
 
 use crate::strided::Strided;
 use nd_base::{ErrorKind, LayoutError, Lengths, ShapeError, from_kind};
@@ -127,13 +126,12 @@ impl<D: Lengths> Strided<D> {
     ///
     /// `[1,4]` with strides `[9,-1]` to `[2,3,4]`: strides `[0,0,-1]`. ndarray's `broadcast`.
     pub fn broadcast<E: Lengths>(&self, alloc: Global, shape: &E) -> Result<Strided<E>, LayoutError>
-        ensures refusal { shape_fault result ≡ broadcast_fault (E.list shape.now) self.now.shape }
+        ensures fault { shape_fault result ≡ broadcast_fault (E.list shape.now) self.now.shape }
         ensures memory { broadcast_fault (E.list shape.now) self.now.shape ≡ None →
             NeedsNoMemory E.NDIM (length (E.list shape.now)) → IsOk result }
         ensures broadcast { IfOk result (λ v. v ≡ broadcast_of (E.list shape.now) self.now) }
-        ensures is_view { IfOk result (λ v. IsView v) }
-        ensures places { IfOk result (λ v. KeepsPlaces (broadcast_source self.now.shape) self.now v) }
-        ensures inside { IfOk result (λ v. (len : ℕ) → LiesWithin len self.now → LiesWithin len v) }
+        ensures kept { IfOk result (λ v.
+            IsViewOf (broadcast_source self.now.shape) self.now v) }
     {
         let (dim, strides) = broadcast_axes(alloc, shape, self.dim.slice(), self.strides.slice())?;
         Ok(Strided {

@@ -1,10 +1,9 @@
 //! One entry of an axis.
-ghost use Rattle.std.specs.Prelude.{◌≡◌, ◌↔◌, IsTrue, None, ℕ, ◌<◌, OnErr, OnOk};
+ghost use Rattle.std.specs.Prelude.{◌≡◌, ◌↔◌, IsTrue, None, OnErr, OnOk};
 ghost use Rattle.std.specs.Result.{result_err};
 ghost use Rattle.ndarray_layout.specs.CollapsedView.{collapse_fault, collapse_of, collapse_source};
-ghost use Rattle.ndarray_layout.specs.DistinctPlaces.{HasDistinctPlaces};
-ghost use Rattle.ndarray_layout.specs.KeepsPlaces.{KeepsPlaces};
-ghost use Rattle.ndarray_layout.specs.View.{IsView, LiesWithin};
+ghost use Rattle.ndarray_layout.specs.Descends.{Descends};
+ghost use Rattle.ndarray_layout.specs.View.{IsView};
 
 use crate::strided::Strided;
 use crate::strided::places::offset_place;
@@ -30,12 +29,11 @@ impl<D: Lengths> Strided<D> {
     /// `collapse_axis`.
     pub fn collapse(&mut self, axis: Axis, index: usize) -> Result<(), ShapeError>
         ensures fault { result_err result ≡ collapse_fault self.old.shape axis.0 index }
-        ensures refusal { OnErr result (self.new ≡ self.old) }
+        ensures unchanged { OnErr result (self.new ≡ self.old) }
         ensures collapsed { OnOk result (self.new ≡ collapse_of axis.0 index self.old) }
         ensures is_view { IsView self.new }
-        ensures places { OnOk result (KeepsPlaces (collapse_source axis.0 index) self.old self.new) }
-        ensures inside { (len : ℕ) → LiesWithin len self.old → LiesWithin len self.new }
-        ensures distinct { HasDistinctPlaces self.old → HasDistinctPlaces self.new }
+        ensures kept { OnOk result
+            (Descends (collapse_source axis.0 index) self.old self.new) }
     {
         if !has_entry(self.dim.slice(), axis, index) {
             return Err(from_kind(ErrorKind::OutOfBounds));

@@ -37,7 +37,8 @@ impl LongerAxes {
 pub(super) fn longer_axes(shape: &[usize], strides: &[usize]) -> Option<LongerAxes>
     requires counts { length shape.now ≡ length strides.now }
     requires fits { nonzero_size shape.now ≤ limit }
-    ensures lens { IfSome result (λ axes. take axes.count axes.lens ≡ of_longer shape.now shape.now) }
+    ensures lens { IfSome result (λ axes.
+        take axes.count axes.lens ≡ of_longer shape.now shape.now) }
     ensures strides { IfSome result (λ axes.
         take axes.count axes.strides ≡ of_longer shape.now strides.now) }
     ensures empty { IfNone result (size shape.now ≡ 0) }

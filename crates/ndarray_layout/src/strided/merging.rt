@@ -1,10 +1,9 @@
 //! One axis merged into another.
-ghost use Rattle.std.specs.Prelude.{◌≡◌, ℕ, ◌<◌, IfOk, IsTrue, ◌↔◌, if◌then◌else◌, OnErr};
+ghost use Rattle.std.specs.Prelude.{◌≡◌, IfOk, IsTrue, ◌↔◌, if◌then◌else◌, OnErr};
 ghost use Rattle.std.specs.Result.{result_err};
-ghost use Rattle.ndarray_layout.specs.DistinctPlaces.{HasDistinctPlaces};
-ghost use Rattle.ndarray_layout.specs.KeepsPlaces.{KeepsPlaces};
+ghost use Rattle.ndarray_layout.specs.Descends.{Descends};
 ghost use Rattle.ndarray_layout.specs.MergedView.{axes_fault, HasMergedStride, merge_of, merge_source};
-ghost use Rattle.ndarray_layout.specs.View.{IsView, LiesWithin};
+ghost use Rattle.ndarray_layout.specs.View.{IsView};
 
 use crate::strided::Strided;
 use nd_base::{Axis, ErrorKind, Lengths, ShapeError, from_kind};
@@ -42,16 +41,14 @@ impl<D: Lengths> Strided<D> {
     /// `merge_axes`.
     pub fn merge(&mut self, take: Axis, into: Axis) -> Result<bool, ShapeError>
         ensures fault { result_err result ≡ axes_fault self.old.shape take.0 into.0 }
-        ensures refusal { OnErr result (self.new ≡ self.old) }
+        ensures unchanged { OnErr result (self.new ≡ self.old) }
         ensures fits { IfOk result (λ merged.
             IsTrue merged ↔ HasMergedStride take.0 into.0 self.old) }
         ensures merged { IfOk result (λ merged.
             self.new ≡ (if merged then merge_of take.0 into.0 self.old else self.old)) }
         ensures is_view { IsView self.new }
-        ensures places { IfOk result (λ merged. IsTrue merged →
-            KeepsPlaces (merge_source take.0 into.0 self.old.shape) self.old self.new) }
-        ensures inside { (len : ℕ) → LiesWithin len self.old → LiesWithin len self.new }
-        ensures distinct { HasDistinctPlaces self.old → HasDistinctPlaces self.new }
+        ensures kept { IfOk result (λ merged. IsTrue merged →
+            Descends (merge_source take.0 into.0 self.old.shape) self.old self.new) }
     {
         check_axes(self.dim.slice(), take, into)?;
         Ok(merge_axes(&mut self.dim, &mut self.strides, take, into))

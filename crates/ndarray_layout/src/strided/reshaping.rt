@@ -1,11 +1,10 @@
 //! Views that have the places of a view along another shape.
-ghost use Rattle.std.specs.Prelude.{◌≡◌, ◌↔◌, ℕ, None, length, IfErr, IfOk, IsOk, OnOk};
+ghost use Rattle.std.specs.Prelude.{◌≡◌, ◌↔◌, None, length, IfErr, IfOk, IsOk, OnOk};
 ghost use Rattle.nd_base.specs.Lengths.{NeedsNoMemory};
 ghost use Rattle.nd_base.specs.Signed.{all_signed};
-ghost use Rattle.ndarray_layout.specs.DistinctPlaces.{HasDistinctPlaces};
-ghost use Rattle.ndarray_layout.specs.KeepsPlaces.{KeepsPlaces};
+ghost use Rattle.ndarray_layout.specs.Descends.{Descends};
 ghost use Rattle.ndarray_layout.specs.ReshapedView.{IsReshapeRefusal, ReshapeFits, reshape_of, reshape_refusal, reshape_source, reshaped_strides as strides_of};
-ghost use Rattle.ndarray_layout.specs.View.{IsView, LiesWithin, view_places};
+ghost use Rattle.ndarray_layout.specs.View.{IsView, view_places};
 
 use crate::reshape::reshape_dim;
 use crate::strided::Strided;
@@ -23,7 +22,7 @@ impl<D: Lengths> Strided<D> {
         order: Order,
     ) -> Result<E, LayoutError>
         ensures fits { OnOk result (reshape_refusal order (E.list shape.now) self.now ≡ None) }
-        ensures refused { IfErr result (λ e.
+        ensures fault { IfErr result (λ e.
             IsReshapeRefusal E.NDIM order (E.list shape.now) self.now e) }
         ensures strides { IfOk result (λ d.
             all_signed (E.list d) ≡ strides_of order (E.list shape.now) self.now) }
@@ -65,19 +64,16 @@ impl<D: Lengths> Strided<D> {
         order: Order,
     ) -> Result<Strided<E>, LayoutError>
         ensures fits { OnOk result (reshape_refusal order (E.list shape.now) self.now ≡ None) }
-        ensures refused { IfErr result (λ e.
+        ensures fault { IfErr result (λ e.
             IsReshapeRefusal E.NDIM order (E.list shape.now) self.now e) }
         ensures memory { reshape_refusal order (E.list shape.now) self.now ≡ None →
             NeedsNoMemory E.NDIM (length (E.list shape.now)) → IsOk result }
         ensures complete { (reshape_refusal order (E.list shape.now) self.now ≡ None)
             ↔ ReshapeFits order (E.list shape.now) self.now }
         ensures reshaped { IfOk result (λ v. v ≡ reshape_of order (E.list shape.now) self.now) }
-        ensures is_view { IfOk result (λ v. IsView v) }
         ensures same_places { IfOk result (λ v. view_places order v ≡ view_places order self.now) }
-        ensures places { IfOk result (λ v.
-            KeepsPlaces (reshape_source order self.now.shape (E.list shape.now)) self.now v) }
-        ensures inside { IfOk result (λ v. (len : ℕ) → LiesWithin len self.now → LiesWithin len v) }
-        ensures distinct { IfOk result (λ v. HasDistinctPlaces self.now → HasDistinctPlaces v) }
+        ensures kept { IfOk result (λ v.
+            Descends (reshape_source order self.now.shape (E.list shape.now)) self.now v) }
     {
         let strides = self.reshaped_strides(alloc, shape, order)?;
         Ok(Strided {

@@ -14,10 +14,8 @@ ghost use Rattle.nd_slice.specs.Picks.{picks};
 ghost use Rattle.nd_slice.specs.Selected.{selected};
 ghost use Rattle.nd_slice.specs.SliceFault.{slice_fault};
 ghost use Rattle.nd_slice.specs.Sliced.{sliced_shape, sliced_strides, sliced_offset};
-ghost use Rattle.ndarray_layout.specs.DistinctPlaces.{HasDistinctPlaces};
-ghost use Rattle.ndarray_layout.specs.KeepsPlaces.{KeepsPlaces};
+ghost use Rattle.ndarray_layout.specs.Descends.{Descends};
 ghost use Rattle.ndarray_layout.specs.SlicedView.{slice_of, slice_refusal};
-ghost use Rattle.ndarray_layout.specs.View.{IsView, LiesWithin};
 
 use crate::strided::Strided;
 use crate::strided::places::offset_place;
@@ -209,16 +207,13 @@ impl<D: Lengths> Strided<D> {
         slices: &S,
         fit: Fit,
     ) -> Result<Strided<E>, LayoutError>
-        ensures refusal { shape_fault result ≡
+        ensures fault { shape_fault result ≡
             slice_refusal fit E.NDIM self.now.shape (S.list slices.now) }
         ensures memory { slice_refusal fit E.NDIM self.now.shape (S.list slices.now) ≡ None →
             NeedsNoMemory E.NDIM (out_count (S.list slices.now)) → IsOk result }
         ensures sliced { IfOk result (λ v. v ≡ slice_of fit (S.list slices.now) self.now) }
-        ensures is_view { IfOk result (λ v. IsView v) }
-        ensures places { IfOk result (λ v.
-            KeepsPlaces (selected fit (S.list slices.now) self.now.shape) self.now v) }
-        ensures inside { IfOk result (λ v. (len : ℕ) → LiesWithin len self.now → LiesWithin len v) }
-        ensures distinct { IfOk result (λ v. HasDistinctPlaces self.now → HasDistinctPlaces v) }
+        ensures kept { IfOk result (λ v.
+            Descends (selected fit (S.list slices.now) self.now.shape) self.now v) }
     {
         let (shape, strides) = (self.dim.slice(), self.strides.slice());
         let (dim, strides, offset) = sliced_axes(alloc, slices.elems(), shape, strides, fit)?;

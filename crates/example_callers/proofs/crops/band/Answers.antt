@@ -25,7 +25,7 @@ from_zero view top (Err e) by = tt
 pub returns-clause-place : goal.returns-clause-place
 returns-clause-place c =
     from_zero c.args.picture.now c.args.rows.start c.slice.result
-    (place_in_crop c.args.picture.now _ c.args.rows.start 0 (Some (pos c.args.rows.end)) None c.slice.result (argument c) c.slice.ensures.sliced c.slice.ensures.places)
+    (place_in_crop c.args.picture.now _ c.args.rows.start 0 (Some (pos c.args.rows.end)) None c.slice.result (argument c) c.slice.ensures.sliced c.slice.ensures.kept)
 
 pub returns-clause-shape : goal.returns-clause-shape
-returns-clause-shape c = shape_of_band c.args.picture.now _ c.args.rows.start c.args.rows.end c.slice.result (argument c) c.slice.ensures.refusal c.slice.ensures.sliced
+returns-clause-shape c = shape_of_band c.args.picture.now _ c.args.rows.start c.args.rows.end c.slice.result (argument c) c.slice.ensures.fault c.slice.ensures.sliced

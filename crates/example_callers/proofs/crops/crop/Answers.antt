@@ -15,7 +15,7 @@ argument c =
     rw (c.into.ensures, c.into-2.ensures, top, bottom, left, right) refl
 
 pub returns-clause-place : goal.returns-clause-place
-returns-clause-place c = place_in_crop c.args.picture.now _ c.args.rows.start c.args.columns.start (Some (pos c.args.rows.end)) (Some (pos c.args.columns.end)) c.slice.result (argument c) c.slice.ensures.sliced c.slice.ensures.places
+returns-clause-place c = place_in_crop c.args.picture.now _ c.args.rows.start c.args.columns.start (Some (pos c.args.rows.end)) (Some (pos c.args.columns.end)) c.slice.result (argument c) c.slice.ensures.sliced c.slice.ensures.kept
 
 pub returns-clause-shape : goal.returns-clause-shape
-returns-clause-shape c = shape_of_crop c.args.picture.now _ c.args.rows.start c.args.rows.end c.args.columns.start c.args.columns.end c.slice.result (argument c) c.slice.ensures.refusal c.slice.ensures.sliced
+returns-clause-shape c = shape_of_crop c.args.picture.now _ c.args.rows.start c.args.rows.end c.args.columns.start c.args.columns.end c.slice.result (argument c) c.slice.ensures.fault c.slice.ensures.sliced

@@ -11,7 +11,7 @@ use Rattle.example_callers.proofs.rows.grid.Goals as goal
 row_after_row : (rows columns : ℕ) (shape : List ℕ) (made : Result View LayoutError) → shape ≡ rows ∷ columns ∷ [] → IfOk made IsView → IfOk made (λ grid. grid ≡ standard_view RowMajor shape)
     → IfOk made (λ grid. (i j : ℕ) → IsTrue (is_index (rows ∷ columns ∷ []) (i ∷ j ∷ [])) → place_at grid (i ∷ j ∷ []) ≡ pos (i * columns + j))
 row_after_row rows columns shape (Ok grid) lens is_view is = λ i j here.
-    place_in_row rows columns i j grid is_view (is ∙ ap (standard_view RowMajor) lens) here
+    place_in_row rows columns i j is_view (is ∙ ap (standard_view RowMajor) lens) here
 row_after_row rows columns shape (Err e) lens is_view is = tt
 
 pub returns-clause-place : goal.returns-clause-place

@@ -11,7 +11,7 @@ use Rattle.example_callers.proofs.rows.in_shape.Goals as goal
 
 at_ranks : (shape : List ℕ) (made : Result View LayoutError) → IfOk made IsView → IfOk made (λ view. view ≡ standard_view RowMajor shape)
     → IfOk made (λ view. (index : List ℕ) → IsTrue (is_index shape index) → place_at view index ≡ pos (rank_in RowMajor shape index))
-at_ranks shape (Ok view) is_view is = λ index here. place_at_rank RowMajor shape index view is_view is here
+at_ranks shape (Ok view) is_view is = λ index here. place_at_rank RowMajor shape index is_view is here
 at_ranks shape (Err e) is_view is = tt
 
 pub returns-clause-place : goal.returns-clause-place

@@ -7,7 +7,7 @@ use Rattle.ndarray_layout.specs.declared.LayoutError.{LayoutError}
 use Rattle.ndarray_layout.specs.declared.SliceInfoElem.{SliceInfoElem}
 use Rattle.ndarray_layout.specs.declared.SliceInfoElem.TheVariants as elem
 use Rattle.ndarray_layout.specs.Indices.{is_index}
-use Rattle.ndarray_layout.specs.KeepsPlaces.{KeepsPlaces}
+use Rattle.ndarray_layout.specs.Descends.{Descends}
 use Rattle.ndarray_layout.specs.Picks.{slice_with, picks}
 use Rattle.ndarray_layout.specs.Selected.{selected}
 use Rattle.ndarray_layout.specs.Sliced.{sliced_shape}
@@ -34,16 +34,16 @@ source (rows ∷ columns ∷ more) i j here =
     let column = pick_of_all Strict columns j inside in
     cc
 
-moved : (view : View) (elems : List SliceInfoElem) (made : Result View LayoutError) → elems ≡ part → IfOk made (λ rows. rows ≡ slice_of Strict elems view) → IfOk made (λ rows. KeepsPlaces (selected Strict elems view.shape) view rows)
+moved : (view : View) (elems : List SliceInfoElem) (made : Result View LayoutError) → elems ≡ part → IfOk made (λ rows. rows ≡ slice_of Strict elems view) → IfOk made (λ rows. Descends (selected Strict elems view.shape) view rows)
     → IfOk made (λ rows. (i j : ℕ) → IsTrue (is_index rows.shape (i ∷ j ∷ [])) → place_at rows (i ∷ j ∷ []) ≡ place_at view ((slice_index view.shape 0 - 1 - 2 * i) ∷ j ∷ []))
-moved view elems (Ok rows) are is keeps = λ i j here.
+moved view elems (Ok rows) are is kept = λ i j here.
     let of_part = rw (is, are) at here in
-    (keeps (i ∷ j ∷ []) here).1
+    (kept.places (i ∷ j ∷ []) here).1
     ∙ ap (λ all. place_at view (selected Strict all view.shape (i ∷ j ∷ []))) are
     ∙ ap (place_at view) (source view.shape i j of_part)
-moved view elems (Err e) are is keeps = tt
+moved view elems (Err e) are is kept = tt
 
 pub returns-clause-place : goal.returns-clause-place
 returns-clause-place c =
     let are : (c.into.result ∷ c.into-2.result ∷ []) ≡ part = rw (c.into.ensures, c.into-2.ensures, c.new.ensures) refl in
-    moved c.args.picture.now _ c.slice.result are c.slice.ensures.sliced c.slice.ensures.places
+    moved c.args.picture.now _ c.slice.result are c.slice.ensures.sliced c.slice.ensures.kept

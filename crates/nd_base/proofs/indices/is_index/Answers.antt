@@ -13,7 +13,8 @@ by_entries : (shape index : List ℕ) (test : Bool) → length shape ≡ length 
     → (IsTrue test ↔ ((axis : ℕ) → axis < length shape → slice_index index axis < slice_index shape axis))
     → test ≡ is_index_of_shape shape index
 by_entries shape index test e h =
-    same_from_decides {P = (axis : ℕ) → axis < length shape → slice_index index axis < slice_index shape axis} test (is_index_of_shape shape index) h
+    same_from_decides {P = (axis : ℕ) → axis < length shape → slice_index index axis < slice_index shape axis} test
+    (is_index_of_shape shape index) h
     (λ here axis l. entry_of_index shape index axis here l, λ f. is_index_from_entries shape index (sym e) f)
 
 pub returns-then-shape-index : goal.returns-then-shape-index

@@ -13,7 +13,8 @@ returns-then-magnitude_at-size_before c =
     let k = c.loop-axis.axis in
     let fails : is_packed_at lens strides k ≡ false =
     or_from _ _ (ne_eqb (get_or lens k 0) 1 c.if-len-ne1.true)
-    (ne_eqb (magnitude_at strides k) (size (lens_before lens strides k)) (λ e. c.if-magnitude_at-size_before.true (c.magnitude_at.ensures ∙ e ∙ sym c.size_before.ensures))) in
+    (ne_eqb (magnitude_at strides k) (size (lens_before lens strides k))
+    (λ e. c.if-magnitude_at-size_before.true (c.magnitude_at.ensures ∙ e ∙ sym c.size_before.ensures))) in
     sym (not_all_below (is_packed_at lens strides) (length lens) k c.loop-axis-test.true fails)
 
 pub returns : goal.returns

@@ -10,7 +10,7 @@ pub overflow_mul-size : goal.overflow_mul-size
 overflow_mul-size c =
     let lens = c.args.lens.now in
     let i = c.loop-other.other in
-    let room : (c.loop-other.size * get_or lens i 0) * nonzero_size (drop (i + 1) lens) ≤ limit = room_taken lens i c.loop-other.size limit (omega arith) c.loop-other.invariant.room in
+    let room = room_taken lens i c.loop-other.size limit (omega arith) c.loop-other.invariant.room in
     let within = within_room (drop (i + 1) lens) (c.loop-other.size * get_or lens i 0) limit room in
     omega arith
 
@@ -21,11 +21,13 @@ loop-other-preserved c =
     let p = λ (other : ℕ). comes_before (all_signed c.args.strides.now) other c.args.axis in
     elim c.if-comes_before.branch [
       | then-comes_before w ↦ rw w.size-is (record {
-        product = chosen_taken p lens i c.loop-other.size (sym c.comes_before.ensures ∙ w.if-comes_before.true) c.loop-other.invariant.product;
+        product = chosen_taken p lens i c.loop-other.size (sym c.comes_before.ensures ∙ w.if-comes_before.true)
+            c.loop-other.invariant.product;
         room = room_taken lens i c.loop-other.size limit c.loop-other-test.true c.loop-other.invariant.room;
       })
       | else-comes_before w ↦ rw w.size-is (record {
-        product = chosen_left p lens i c.loop-other.size (sym c.comes_before.ensures ∙ w.if-comes_before.false) c.loop-other.invariant.product;
+        product = chosen_left p lens i c.loop-other.size (sym c.comes_before.ensures ∙ w.if-comes_before.false)
+            c.loop-other.invariant.product;
         room = room_left lens i c.loop-other.size limit c.loop-other-test.true c.loop-other.invariant.room;
       })
     ]

@@ -10,8 +10,10 @@ pub overflow_mul-size : goal.overflow_mul-size
 overflow_mul-size c =
     let i = c.loop-len.len-index in
     let lens = c.args.lens.now in
-    let from : size (drop i lens) ≡ get_or lens i 0 * size (drop (i + 1) lens) = size_from lens i (omega arith) in
-    let rest : 0 < size (drop (i + 1) lens) = size_of_nonempty _ (drop_nonempty lens (i + 1) (sym c.contains.ensures.value ∙ c.if-contains.false)) in
+    let from = size_from lens i (omega arith) in
+    let rest : 0 < size (drop (i + 1) lens) =
+    size_of_nonempty _ (drop_nonempty lens (i + 1) (sym c.contains.ensures.value ∙ c.if-contains.false)) in
     let whole : (c.loop-len.size * get_or lens i 0) * size (drop (i + 1) lens) ≡ size lens = rw (mul_assoc, ← from) c.loop-len.invariant in
-    let part : c.loop-len.size * get_or lens i 0 ≤ (c.loop-len.size * get_or lens i 0) * size (drop (i + 1) lens) = le-mul_of_pos_right _ rest in
+    let part : c.loop-len.size * get_or lens i 0 ≤ (c.loop-len.size * get_or lens i 0) * size (drop (i + 1) lens) =
+    le-mul_of_pos_right _ rest in
     omega (arith, c.requires, whole, part)

@@ -8,5 +8,6 @@ returns-then-lens-least-gt1 c =
       long = λ other h. (omega (arith, known.exists, c.requires.same_count), c.if-lens-least-gt1.true);
       leading = λ other h. known.leading other (omega (arith, h.0, c.requires.same_count));
       of_equals = λ other h e. known.of_equals other (omega (arith, h.0, c.requires.same_count)) e;
-      without_long = λ none. absurd (none c.least_of_all-least.result (omega (arith, known.exists, c.requires.same_count), c.if-lens-least-gt1.true));
+      without_long = λ none. absurd
+          (none c.least_of_all-least.result (omega (arith, known.exists, c.requires.same_count), c.if-lens-least-gt1.true));
     }

@@ -11,11 +11,14 @@ pub returns : goal.returns
 returns c =
     let strides = all_signed c.args.strides.now in
     let order = c.sort_unstable_by_key.new.self in
-    let count : length strides ≡ length c.args.order.now = length-map c.args.strides.now signed ∙ c.requires in
-    let numbers : c.loop-axis.order ≡ below (length strides) = numbers_in_place c.loop-axis.order (length strides) (omega arith) (λ k h. c.loop-axis.invariant k (omega arith)) in
-    let moved : IsPermutation (below (length strides)) order = subst (λ xs. IsPermutation xs order) numbers c.sort_unstable_by_key.ensures.permutation in
-    let sorted = c.sort_unstable_by_key.ensures.sorted (λ axis. (magnitude_at strides axis, axis)) (always_returns_same _ _ _ (λ a r f h. search rules)) in
+    let count = length-map c.args.strides.now signed ∙ c.requires in
+    let numbers = numbers_in_place c.loop-axis.order (length strides) (omega arith) (λ k h. c.loop-axis.invariant k (omega arith)) in
+    let moved : IsPermutation (below (length strides)) order =
+    subst (λ xs. IsPermutation xs order) numbers c.sort_unstable_by_key.ensures.permutation in
+    let sorted = c.sort_unstable_by_key.ensures.sorted (λ axis. (magnitude_at strides axis, axis))
+    (always_returns_same _ _ _ (λ a r f h. search rules)) in
     record {
       each_once = moved;
-      in_order = λ place h. before_from_not_after strides (get_or order place 0) (get_or order (place + 1) 0) (sorted place 0 (omega arith) h) (places_differ (length strides) moved place (place + 1) (omega arith) h);
+      in_order = λ place h. before_from_not_after strides (get_or order place 0) (get_or order (place + 1) 0)
+          (sorted place 0 (omega arith) h) (places_differ (length strides) moved place (place + 1) (omega arith) h);
     }

@@ -10,8 +10,8 @@ pub overflow_mul-size : goal.overflow_mul-size
 overflow_mul-size c =
     let lens = c.args.lens.now in
     let k = c.loop-axis.axis - 1 in
-    let some : is_empty lens ≡ false = sym c.contains.ensures.value ∙ c.if-contains.false in
-    let whole : c.loop-axis.size * get_or lens k 0 ≡ size (drop k lens) = size_drop_more lens c.loop-axis.axis c.loop-axis.size (omega arith) (omega arith) c.loop-axis.invariant.product in
+    let some = sym c.contains.ensures.value ∙ c.if-contains.false in
+    let whole = size_drop_more lens c.loop-axis.axis c.loop-axis.size (omega arith) (omega arith) c.loop-axis.invariant.product in
     let less = size_drop_le lens k some in
     let fits : Fits w64 (size (drop k lens)) = omega arith in
     rw whole fits
@@ -19,6 +19,7 @@ overflow_mul-size c =
 pub returns : goal.returns
 returns c =
     let lens = c.args.lens.now in
-    let some : is_empty lens ≡ false = sym c.contains.ensures.value ∙ c.if-contains.false in
-    let all : (k : ℕ) → k < length lens → get_or c.loop-axis.strides k 0 ≡ size_after lens k = λ k h. c.loop-axis.invariant.written k (omega arith) h in
+    let some = sym c.contains.ensures.value ∙ c.if-contains.false in
+    let all : (k : ℕ) → k < length lens
+    → get_or c.loop-axis.strides k 0 ≡ size_after lens k = λ k h. c.loop-axis.invariant.written k (omega arith) h in
     fill_by_all (size_after lens) c.loop-axis.strides (length lens) 0 (omega arith) all ∙ sym (cond-false (is_empty lens) _ _ some)

@@ -11,9 +11,9 @@ pub overflow_mul-size : goal.overflow_mul-size
 overflow_mul-size c =
     let lens = c.args.lens.now in
     let k = c.loop-axis.axis in
-    let some : is_empty lens ≡ false = sym c.contains.ensures.value ∙ c.if-contains.false in
+    let some = sym c.contains.ensures.value ∙ c.if-contains.false in
     let less = size_take_le lens (k + 1) some in
-    let next : size (take (k + 1) lens) ≡ size (take k lens) * get_or lens k 0 = size_take_more lens k (omega arith) in
+    let next = size_take_more lens k (omega arith) in
     let fits : Fits w64 (size (take (k + 1) lens)) = omega arith in
     rw (c.loop-axis.invariant.product, ← next) fits
 
@@ -21,15 +21,17 @@ pub loop-axis-preserved : goal.loop-axis-preserved
 loop-axis-preserved c =
     let lens = c.args.lens.now in
     let k = c.loop-axis.axis in
-    let next : size (take (k + 1) lens) ≡ size (take k lens) * get_or lens k 0 = size_take_more lens k (omega arith) in
+    let next = size_take_more lens k (omega arith) in
     record {
       product = ap (λ s. s * get_or lens k 0) c.loop-axis.invariant.product ∙ sym next;
-      written = rw c.loop-axis.invariant.product (fill_by_more (size_until lens) c.loop-axis.strides k 0 (omega arith) c.loop-axis.invariant.written);
+      written = rw c.loop-axis.invariant.product
+          (fill_by_more (size_until lens) c.loop-axis.strides k 0 (omega arith) c.loop-axis.invariant.written);
     }
 
 pub returns : goal.returns
 returns c =
     let lens = c.args.lens.now in
-    let some : is_empty lens ≡ false = sym c.contains.ensures.value ∙ c.if-contains.false in
-    let all : (k : ℕ) → k < length lens → get_or c.loop-axis.strides k 0 ≡ size_until lens k = λ k h. c.loop-axis.invariant.written k (omega arith) in
+    let some = sym c.contains.ensures.value ∙ c.if-contains.false in
+    let all : (k : ℕ) → k < length lens
+    → get_or c.loop-axis.strides k 0 ≡ size_until lens k = λ k h. c.loop-axis.invariant.written k (omega arith) in
     fill_by_all (size_until lens) c.loop-axis.strides (length lens) 0 (omega arith) all ∙ sym (cond-false (is_empty lens) _ _ some)

@@ -2,4 +2,4 @@
 use Rattle.nd_owned.proofs.rows.rows_of.Goals as goal
 
 pub returns-clause-inside : goal.returns-clause-inside
-returns-clause-inside g c = λ len within. c.in_ok-rows_of_view.ensures.inside len (c.in_ok-slice.ensures.inside len within)
+returns-clause-inside g c = λ len within. c.in_ok-rows_of_view.ensures.inside len (c.in_ok-slice.ensures.kept.inside len within)

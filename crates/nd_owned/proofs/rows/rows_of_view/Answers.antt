@@ -25,5 +25,5 @@ returns-clause-fits g c =
       length-rows (signed stride) len starts.items,
       ap length (c.take_last_axis-stride.ensures.places starts.items c.in_ok-starts.ensures.items),
       length-view_places RowMajor c.args.view,
-      size_fits c.args.view c.take_last_axis-stride.ensures.is_view,
+      size_fits c.take_last_axis-stride.ensures.is_view,
     )

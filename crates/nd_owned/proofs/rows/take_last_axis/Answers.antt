@@ -11,9 +11,9 @@ returns-in_default-clause-places g c = λ starts same. rows_of_one starts ∙ sa
 pub returns-clause-places : goal.returns-clause-places
 returns-clause-places g c =
     rows_left c.args.view.now c.collapse.new.self c.in-Some.axis.0 (signed c.in-Some.stride) c.in-Some.len c.collapse.result c.in-Some.ensures.is_view c.in-Some.ensures.last
-    c.collapse.ensures.fault c.collapse.ensures.refusal c.collapse.ensures.collapsed
+    c.collapse.ensures.fault c.collapse.ensures.unchanged c.collapse.ensures.collapsed
 
 pub returns-clause-none : goal.returns-clause-none
 returns-clause-none g c =
     none_left c.args.view.now c.collapse.new.self c.in-Some.axis.0 (signed c.in-Some.stride) c.in-Some.len c.collapse.result c.in-Some.ensures.last
-    c.collapse.ensures.fault c.collapse.ensures.refusal c.collapse.ensures.collapsed
+    c.collapse.ensures.fault c.collapse.ensures.unchanged c.collapse.ensures.collapsed

@@ -4,11 +4,12 @@ use Rattle.nd_shape.specs.CommonShape.{common_shape_fault}
 use Rattle.nd_shape.proofs.laws.CommonShape.{common_shape-commutes, common_shape_fault-commutes}
 use Rattle.nd_shape.proofs.broadcast.co_broadcast.Goals as goal
 
-pub returns-then-lens-others-clause-refusal : goal.returns-then-lens-others-clause-refusal
-returns-then-lens-others-clause-refusal g c =
+pub returns-then-lens-others-clause-fault : goal.returns-then-lens-others-clause-fault
+returns-then-lens-others-clause-fault g c =
     let lens = g.D1.Lengths.list c.args.shape1.now in
     let others = g.D2.Lengths.list c.args.shape2.now in
-    let turned : shape_fault c.common_of.result ≡ common_shape_fault others lens = rw (c.slice-lens.ensures.list, c.slice-others.ensures.list) at c.common_of.ensures.refusal in
+    let turned : shape_fault c.common_of.result ≡ common_shape_fault others lens =
+    rw (c.slice-lens.ensures.list, c.slice-others.ensures.list) at c.common_of.ensures.fault in
     turned ∙ common_shape_fault-commutes others lens
 
 pub returns-then-lens-others-clause-common : goal.returns-then-lens-others-clause-common
@@ -23,4 +24,5 @@ returns-then-lens-others-clause-memory g c none room =
     let others = g.D2.Lengths.list c.args.shape2.now in
     let less : length lens < length others = rw (c.slice-lens.ensures.list, c.slice-others.ensures.list) at c.if-lens-others.true in
     let count : max (length lens) (length others) ≡ length others = omega arith in
-    (rw (c.slice-lens.ensures.list, c.slice-others.ensures.list) at c.common_of.ensures.memory) (common_shape_fault-commutes others lens ∙ none) (rw count at room)
+    (rw (c.slice-lens.ensures.list, c.slice-others.ensures.list) at c.common_of.ensures.memory)
+    (common_shape_fault-commutes others lens ∙ none) (rw count at room)

@@ -8,4 +8,5 @@ stretched-requires c =
 
 pub returns : goal.returns
 returns c =
-    common_shape_by_axes c.args.longer.now c.args.shorter.now c.loop-axis.common c.requires.shorter c.loop-axis.invariant.count c.loop-axis.invariant.front (λ k h. c.loop-axis.invariant.after_front k (omega arith))
+    common_shape_by_axes c.args.longer.now c.args.shorter.now c.loop-axis.common c.requires.shorter c.loop-axis.invariant.count
+    c.loop-axis.invariant.front (λ k h. c.loop-axis.invariant.after_front k (omega arith))

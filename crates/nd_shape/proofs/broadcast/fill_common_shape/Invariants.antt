@@ -7,5 +7,7 @@ abbrev pub invariant-loop-axis : goal.invariant-loop-axis
 invariant-loop-axis l = record {
   count : length l.common ≡ length l.longer;
   front : (k : ℕ) → k < length l.longer - length l.shorter → get_or l.common k 0 ≡ get_or l.longer k 0;
-  after_front : (k : ℕ) → k < l.axis → common_length (get_or l.longer (length l.longer - length l.shorter + k) 0) (get_or l.shorter k 0) ≡ Some (get_or l.common (length l.longer - length l.shorter + k) 0);
+  after_front : (k : ℕ) → k < l.axis
+      → common_length (get_or l.longer (length l.longer - length l.shorter + k) 0) (get_or l.shorter k 0)
+      ≡ Some (get_or l.common (length l.longer - length l.shorter + k) 0);
 }

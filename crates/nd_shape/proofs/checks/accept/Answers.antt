@@ -14,10 +14,15 @@ pub returns-clause-fault : goal.returns-clause-fault
 returns-clause-fault c = search rules depth 3
 
 pub returns-clause-valid : goal.returns-clause-valid
-returns-clause-valid c = accepted_valid c.args.elem_size c.args.len c.args.mode c.args.shape.now (all_signed c.args.strides.now) (sym (returns-clause-fault c))
+returns-clause-valid c = accepted_valid c.args.elem_size c.args.len c.args.mode c.args.shape.now (all_signed c.args.strides.now)
+    (sym (returns-clause-fault c))
 
 pub returns-clause-inside : goal.returns-clause-inside
-returns-clause-inside c = accepted_lies_inside c.args.elem_size c.args.len c.args.mode c.args.shape.now (all_signed c.args.strides.now) (sym (returns-clause-fault c))
+returns-clause-inside c =
+    accepted_lies_inside c.args.elem_size c.args.len c.args.mode c.args.shape.now (all_signed c.args.strides.now)
+    (sym (returns-clause-fault c))
 
 pub returns-clause-distinct : goal.returns-clause-distinct
-returns-clause-distinct c owned = accepted_distinct c.args.elem_size c.args.len c.args.shape.now (all_signed c.args.strides.now) (rw owned at (sym (returns-clause-fault c)))
+returns-clause-distinct c owned =
+    accepted_distinct c.args.elem_size c.args.len c.args.shape.now (all_signed c.args.strides.now)
+    (rw owned at (sym (returns-clause-fault c)))

@@ -1,7 +1,8 @@
 use Rattle.std.proofs.Common.{◌≡◌, None, arith}
 use Rattle.std.proofs.lemmas.Grind.{common_steps}
 use Rattle.nd_shape.specs.AcceptanceByStrides.{acceptance_of_standard}
-use Rattle.nd_shape.proofs.laws.AcceptanceByStrides.{standard_accepted_distinct, standard_accepted_inside, standard_accepted_rule, standard_accepted_valid}
+use Rattle.nd_shape.proofs.laws.AcceptanceByStrides.{standard_accepted_distinct, standard_accepted_inside, standard_accepted_rule}
+use Rattle.nd_shape.proofs.laws.AcceptanceByStrides.{standard_accepted_valid}
 use Rattle.nd_shape.proofs.checks.can_index_slice_not_custom.Goals as goal
 
 pub returns-clause-valid : goal.returns-clause-valid

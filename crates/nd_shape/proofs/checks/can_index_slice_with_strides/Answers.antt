@@ -9,19 +9,25 @@ pub returns-in-C-clause-valid : goal.returns-in-C-clause-valid
 returns-in-C-clause-valid g c =
     let list = g.D.Lengths.list in
     let shape = list c.args.dim.now in
-    let fault : result_err c.can_index_slice_not_custom.result ≡ acceptance_by_strides list c.args.elem_size c.args.len c.args.mode shape c.args.strides.now = search rules in
-    OnOk-without_error c.can_index_slice_not_custom.result (λ none. by_strides_valid list c.args.elem_size c.args.len c.args.mode shape c.args.strides.now (sym fault ∙ none))
+    let fault : result_err c.can_index_slice_not_custom.result
+    ≡ acceptance_by_strides list c.args.elem_size c.args.len c.args.mode shape c.args.strides.now = search rules in
+    OnOk-without_error c.can_index_slice_not_custom.result
+    (λ none. by_strides_valid list c.args.elem_size c.args.len c.args.mode shape c.args.strides.now (sym fault ∙ none))
 
 pub returns-in-C-clause-inside : goal.returns-in-C-clause-inside
 returns-in-C-clause-inside g c =
     let list = g.D.Lengths.list in
     let shape = list c.args.dim.now in
-    let fault : result_err c.can_index_slice_not_custom.result ≡ acceptance_by_strides list c.args.elem_size c.args.len c.args.mode shape c.args.strides.now = search rules in
-    OnOk-without_error c.can_index_slice_not_custom.result (λ none. by_strides_inside list c.args.elem_size c.args.len c.args.mode shape c.args.strides.now (sym fault ∙ none))
+    let fault : result_err c.can_index_slice_not_custom.result
+    ≡ acceptance_by_strides list c.args.elem_size c.args.len c.args.mode shape c.args.strides.now = search rules in
+    OnOk-without_error c.can_index_slice_not_custom.result
+    (λ none. by_strides_inside list c.args.elem_size c.args.len c.args.mode shape c.args.strides.now (sym fault ∙ none))
 
 pub returns-in-C-clause-distinct : goal.returns-in-C-clause-distinct
 returns-in-C-clause-distinct g c owned =
     let list = g.D.Lengths.list in
     let shape = list c.args.dim.now in
-    let fault : result_err c.can_index_slice_not_custom.result ≡ acceptance_by_strides list c.args.elem_size c.args.len c.args.mode shape c.args.strides.now = search rules in
-    OnOk-without_error c.can_index_slice_not_custom.result (λ none. by_strides_distinct list c.args.elem_size c.args.len shape c.args.strides.now (rw owned at (sym fault ∙ none)))
+    let fault : result_err c.can_index_slice_not_custom.result
+    ≡ acceptance_by_strides list c.args.elem_size c.args.len c.args.mode shape c.args.strides.now = search rules in
+    OnOk-without_error c.can_index_slice_not_custom.result
+    (λ none. by_strides_distinct list c.args.elem_size c.args.len shape c.args.strides.now (rw owned at (sym fault ∙ none)))

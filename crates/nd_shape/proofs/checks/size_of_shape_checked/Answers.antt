@@ -9,13 +9,13 @@ use Rattle.nd_shape.proofs.checks.size_of_shape_checked.Goals.{then-contains, el
 pub returns-clause-ok : goal.returns-clause-ok
 returns-clause-ok g c =
     let shape = c.slice-shape.result.now in
-    let given : size shape ≡ size (g.D.Lengths.list c.args.dim.now) = ap size c.slice-shape.ensures.list in
+    let given = ap size c.slice-shape.ensures.list in
     elim c.if-contains.branch [
       | then-contains w ↦
-          let none : is_empty shape ≡ true = sym c.contains.ensures.value ∙ w.if-contains.true in
+          let none = sym c.contains.ensures.value ∙ w.if-contains.true in
           w.result-is ∙ sym (size_of_empty shape none) ∙ given
       | else-contains w ↦
-          let some : is_empty shape ≡ false = sym c.contains.ensures.value ∙ w.if-contains.false in
+          let some = sym c.contains.ensures.value ∙ w.if-contains.false in
           let product : c.in_ok-size.size ≡ nonzero_size shape = grind (arith, common_steps, c.in_ok-size.ensures) in
           w.result-is ∙ product ∙ nonzero_size_of_nonempty shape some ∙ given
     ]

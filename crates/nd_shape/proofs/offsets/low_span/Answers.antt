@@ -9,14 +9,18 @@ use Rattle.nd_shape.proofs.offsets.low_span.Goals.{In-Some}
 pub returns : goal.returns
 returns c =
     let end : sum_from reach_down c.args.shape.now c.args.strides.now (length c.loop-len.yielded) ≡ 0 =
-    sum_at_end reach_down c.args.shape.now c.args.strides.now c.loop-len.yielded c.into_iter-len-iterator.result c.loop-len.len-iterator c.next.new.self c.next.result
+    sum_at_end reach_down c.args.shape.now c.args.strides.now c.loop-len.yielded c.into_iter-len-iterator.result c.loop-len.len-iterator
+    c.next.new.self c.next.result
     (search rules) (search rules) c.loop-len.yielded_by c.in-None.is c.next.ensures.steps in
     omega arith
 
 -- the reach of this axis, and that of those after it
-step : (c : In-Some) → sum_from reach_down c.args.shape.now c.args.strides.now (length c.loop-len.yielded) ≡ reach_down c.in-Some.len.now (signed c.in-Some.stride.now) + sum_from reach_down c.args.shape.now c.args.strides.now (length c.loop-len.yielded + 1)
+step : (c : In-Some) → sum_from reach_down c.args.shape.now c.args.strides.now (length c.loop-len.yielded)
+    ≡ reach_down c.in-Some.len.now (signed c.in-Some.stride.now) + sum_from reach_down c.args.shape.now c.args.strides.now
+    (length c.loop-len.yielded + 1)
 step c =
-    sum_at_turn reach_down c.args.shape.now c.args.strides.now c.loop-len.yielded c.into_iter-len-iterator.result c.loop-len.len-iterator c.next.new.self c.next.result
+    sum_at_turn reach_down c.args.shape.now c.args.strides.now c.loop-len.yielded c.into_iter-len-iterator.result c.loop-len.len-iterator
+    c.next.new.self c.next.result
     (search rules) (search rules) c.loop-len.yielded_by (c.in-Some.len, c.in-Some.stride) c.in-Some.is c.next.ensures.steps
 
 pub reach_down-total-requires : goal.reach_down-total-requires

@@ -11,12 +11,16 @@ use Rattle.nd_shape.proofs.laws.OwnedWalk.{walk_answers_rule}
 use Rattle.nd_shape.proofs.overlap.has_overlap.Goals as goal
 
 -- the test by the rule is the test by the walk
-by_walk : (shape strides order : List ℕ) → length shape ≡ length strides → IsStrideOrder (all_signed strides) order → (not (is_empty shape) && not (meets_owned_rule shape (all_signed strides))) ≡ (not (is_empty shape) && not (meets_owned_walk shape (all_signed strides) order))
+by_walk : (shape strides order : List ℕ) → length shape ≡ length strides → IsStrideOrder (all_signed strides) order
+    → (not (is_empty shape) && not (meets_owned_rule shape (all_signed strides)))
+    ≡ (not (is_empty shape) && not (meets_owned_walk shape (all_signed strides) order))
 by_walk shape strides order count h =
-    ap (λ met. not (is_empty shape) && not met) (sym (walk_answers_rule shape (all_signed strides) order (count ∙ sym (length-map strides signed)) h))
+    ap (λ met. not (is_empty shape) && not met)
+    (sym (walk_answers_rule shape (all_signed strides) order (count ∙ sym (length-map strides signed)) h))
 
 -- and where it fails, no two indices have one offset
-apart_distinct : (shape strides : List ℕ) → length shape ≡ length strides → (not (is_empty shape) && not (meets_owned_rule shape (all_signed strides))) ≡ false → HasDistinctOffsets shape (all_signed strides)
+apart_distinct : (shape strides : List ℕ) → length shape ≡ length strides
+    → (not (is_empty shape) && not (meets_owned_rule shape (all_signed strides))) ≡ false → HasDistinctOffsets shape (all_signed strides)
 apart_distinct shape strides count = distinct_without_overlap shape (all_signed strides) (count ∙ sym (length-map strides signed))
 
 pub returns-then-breaks_owned_rule-clause-rule : goal.returns-then-breaks_owned_rule-clause-rule
@@ -34,13 +38,17 @@ returns-else-breaks_owned_rule-clause-walk c order h =
     returns-else-breaks_owned_rule-clause-rule c ∙ by_walk c.args.shape.now c.args.strides.now order c.requires.same_count h
 
 pub returns-then-breaks_owned_rule-clause-apart : goal.returns-then-breaks_owned_rule-clause-apart
-returns-then-breaks_owned_rule-clause-apart c = rw (returns-then-breaks_owned_rule-clause-rule c) (no_overlap c.args.shape.now (all_signed c.args.strides.now))
+returns-then-breaks_owned_rule-clause-apart c =
+    rw (returns-then-breaks_owned_rule-clause-rule c) (no_overlap c.args.shape.now (all_signed c.args.strides.now))
 
 pub returns-then-breaks_owned_rule-clause-distinct : goal.returns-then-breaks_owned_rule-clause-distinct
-returns-then-breaks_owned_rule-clause-distinct c none = apart_distinct c.args.shape.now c.args.strides.now c.requires.same_count (sym (returns-then-breaks_owned_rule-clause-rule c) ∙ none)
+returns-then-breaks_owned_rule-clause-distinct c none =
+    apart_distinct c.args.shape.now c.args.strides.now c.requires.same_count (sym (returns-then-breaks_owned_rule-clause-rule c) ∙ none)
 
 pub returns-else-breaks_owned_rule-clause-apart : goal.returns-else-breaks_owned_rule-clause-apart
-returns-else-breaks_owned_rule-clause-apart c = rw (returns-else-breaks_owned_rule-clause-rule c) (no_overlap c.args.shape.now (all_signed c.args.strides.now))
+returns-else-breaks_owned_rule-clause-apart c =
+    rw (returns-else-breaks_owned_rule-clause-rule c) (no_overlap c.args.shape.now (all_signed c.args.strides.now))
 
 pub returns-else-breaks_owned_rule-clause-distinct : goal.returns-else-breaks_owned_rule-clause-distinct
-returns-else-breaks_owned_rule-clause-distinct c none = apart_distinct c.args.shape.now c.args.strides.now c.requires.same_count (sym (returns-else-breaks_owned_rule-clause-rule c) ∙ none)
+returns-else-breaks_owned_rule-clause-distinct c none =
+    apart_distinct c.args.shape.now c.args.strides.now c.requires.same_count (sym (returns-else-breaks_owned_rule-clause-rule c) ∙ none)

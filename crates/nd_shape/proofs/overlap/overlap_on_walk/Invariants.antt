@@ -13,6 +13,7 @@ invariant-loop-place l = record {
   reached : l.reached ≡ sum_by (reach_at l.shape (all_signed l.strides)) (take l.place (walk_order (length l.shape) l.order));
   longest : l.longest ≤ l.reached;
   walk : (k : ℕ) → k < l.place → 1 < get_or l.shape (get_or (walk_order (length l.shape) l.order) k 0) 0
-      → (sum_by (reach_at l.shape (all_signed l.strides)) (take k (walk_order (length l.shape) l.order)) < magnitude_at (all_signed l.strides) (get_or (walk_order (length l.shape) l.order) k 0))
+      → (sum_by (reach_at l.shape (all_signed l.strides)) (take k (walk_order (length l.shape) l.order))
+      < magnitude_at (all_signed l.strides) (get_or (walk_order (length l.shape) l.order) k 0))
       × (magnitude_at (all_signed l.strides) (get_or (walk_order (length l.shape) l.order) k 0) ≤ l.longest);
 }

@@ -9,18 +9,19 @@ pub returns : goal.returns
 returns c =
     let shape = c.args.shape.now in
     let strides = all_signed c.args.strides.now in
-    let met : meets_owned_rule shape strides ≡ true = rule_met shape strides (λ axis below. c.loop-axis.invariant axis (omega arith)) in
+    let met = rule_met shape strides (λ axis below. c.loop-axis.invariant axis (omega arith)) in
     sym (not_from_true (meets_owned_rule shape strides) met)
 
 pub returns-then-overlaps_others : goal.returns-then-overlaps_others
 returns-then-overlaps_others c =
     let shape = c.args.shape.now in
     let strides = all_signed c.args.strides.now in
-    let broken : steps_over_others shape strides c.loop-axis.axis ≡ false = not-true (steps_over_others shape strides c.loop-axis.axis) (sym c.overlaps_others.ensures ∙ c.if-overlaps_others.true) in
-    let rule : meets_owned_rule shape strides ≡ false = rule_broken shape strides c.loop-axis.axis (omega arith) broken in
+    let broken = not-true (steps_over_others shape strides c.loop-axis.axis) (sym c.overlaps_others.ensures ∙ c.if-overlaps_others.true) in
+    let rule = rule_broken shape strides c.loop-axis.axis (omega arith) broken in
     sym (not_from_false (meets_owned_rule shape strides) rule)
 
 pub loop-axis-preserved : goal.loop-axis-preserved
 loop-axis-preserved c =
     below_more _ _ c.loop-axis.invariant
-    (not-false (steps_over_others c.args.shape.now (all_signed c.args.strides.now) c.loop-axis.axis) (sym c.overlaps_others.ensures ∙ c.if-overlaps_others.false))
+    (not-false (steps_over_others c.args.shape.now (all_signed c.args.strides.now) c.loop-axis.axis)
+    (sym c.overlaps_others.ensures ∙ c.if-overlaps_others.false))

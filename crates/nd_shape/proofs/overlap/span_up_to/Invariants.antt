@@ -8,6 +8,7 @@ use Rattle.nd_shape.proofs.overlap.span_up_to.Given as goal
 
 abbrev pub invariant-loop-len : goal.invariant-loop-len
 invariant-loop-len l = record {
-  sum : l.total + sum_from (reach_up_to l.magnitude) l.shape l.strides (length l.yielded) ≡ span_up_to l.magnitude l.shape (all_signed l.strides);
+  sum : l.total + sum_from (reach_up_to l.magnitude) l.shape l.strides (length l.yielded)
+      ≡ span_up_to l.magnitude l.shape (all_signed l.strides);
   rest : sum_from reach l.shape l.strides (length l.yielded) ≤ limit;
 }

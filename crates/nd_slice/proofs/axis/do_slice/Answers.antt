@@ -79,5 +79,5 @@ returns-clause-within c j below =
     let entry = between_below (step_of known) x.start x.end j (step_moves known) (omega (arith, c.pick_count.ensures)) in
     omega (arith, ap (λ xs. get_or xs j 0) (are_picks known), entry, x.ensures.within)
 
-pub returns-in_err-start-clause-refusal : goal.returns-in_err-start-clause-refusal
-returns-in_err-start-clause-refusal c = search rules depth 3
+pub returns-in_err-start-clause-unchanged : goal.returns-in_err-start-clause-unchanged
+returns-in_err-start-clause-unchanged c = search rules depth 3

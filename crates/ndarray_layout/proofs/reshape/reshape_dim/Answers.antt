@@ -1,26 +1,28 @@
-use Rattle.nd_base.specs.Signed.{all_signed}
 use Rattle.ndarray_layout.proofs.reshapes.Turned.{keeps-filled}
 use Rattle.ndarray_layout.proofs.laws.Keeps.{fault-complete, keeps-agree}
 use Rattle.ndarray_layout.proofs.reshape.reshape_dim.Goals as goal
 
 pub returns-in_err-others-clause-complete : goal.returns-in_err-others-clause-complete
-returns-in_err-others-clause-complete g c = fault-complete c.args.order (g.D.Lengths.list c.args.from.now) (all_signed (g.D.Lengths.list c.args.strides.now)) (g.E.Lengths.list c.args.to.now) c.requires.from_some c.requires.to_some c.requires.valid.same_count
+returns-in_err-others-clause-complete g c = fault-complete _ _ _ _ c.requires.from_some c.requires.to_some c.requires.valid.same_count
 
 pub returns-in_err-others-clause-forced : goal.returns-in_err-others-clause-forced
-returns-in_err-others-clause-forced g c = λ others k. keeps-agree c.args.order (g.D.Lengths.list c.args.from.now) (all_signed (g.D.Lengths.list c.args.strides.now)) (g.E.Lengths.list c.args.to.now) others c.requires.from_some c.requires.to_some c.requires.valid.same_count k
+returns-in_err-others-clause-forced g c = λ others k. keeps-agree c.requires.from_some c.requires.to_some c.requires.valid.same_count k
 
 pub returns-in_err-fill_reshaped-clause-complete : goal.returns-in_err-fill_reshaped-clause-complete
-returns-in_err-fill_reshaped-clause-complete g c = fault-complete c.args.order (g.D.Lengths.list c.args.from.now) (all_signed (g.D.Lengths.list c.args.strides.now)) (g.E.Lengths.list c.args.to.now) c.requires.from_some c.requires.to_some c.requires.valid.same_count
+returns-in_err-fill_reshaped-clause-complete g c = fault-complete _ _ _ _ c.requires.from_some c.requires.to_some
+    c.requires.valid.same_count
 
 pub returns-in_err-fill_reshaped-clause-forced : goal.returns-in_err-fill_reshaped-clause-forced
-returns-in_err-fill_reshaped-clause-forced g c = λ others k. keeps-agree c.args.order (g.D.Lengths.list c.args.from.now) (all_signed (g.D.Lengths.list c.args.strides.now)) (g.E.Lengths.list c.args.to.now) others c.requires.from_some c.requires.to_some c.requires.valid.same_count k
+returns-in_err-fill_reshaped-clause-forced g c = λ others k. keeps-agree c.requires.from_some c.requires.to_some c.requires.valid.same_count
+    k
 
 pub returns-clause-complete : goal.returns-clause-complete
-returns-clause-complete g c = fault-complete c.args.order (g.D.Lengths.list c.args.from.now) (all_signed (g.D.Lengths.list c.args.strides.now)) (g.E.Lengths.list c.args.to.now) c.requires.from_some c.requires.to_some c.requires.valid.same_count
+returns-clause-complete g c = fault-complete _ _ _ _ c.requires.from_some c.requires.to_some c.requires.valid.same_count
 
 pub returns-clause-forced : goal.returns-clause-forced
-returns-clause-forced g c = λ others k. keeps-agree c.args.order (g.D.Lengths.list c.args.from.now) (all_signed (g.D.Lengths.list c.args.strides.now)) (g.E.Lengths.list c.args.to.now) others c.requires.from_some c.requires.to_some c.requires.valid.same_count k
+returns-clause-forced g c = λ others k. keeps-agree c.requires.from_some c.requires.to_some c.requires.valid.same_count k
 
 pub returns-clause-keeps : goal.returns-clause-keeps
-returns-clause-keeps g c = keeps-filled c.args.order (g.D.Lengths.list c.args.from.now) (g.D.Lengths.list c.args.strides.now) (g.E.Lengths.list c.args.to.now) c.slice.result.now c.slice-2.result.now c.slice-3.result.now (g.E.Lengths.list c.fill_reshaped.new.out)
-    c.slice.ensures.list c.slice-2.ensures.list c.slice-3.ensures.list c.requires.from_some c.requires.to_some c.requires.valid.same_count c.in_ok-fill_reshaped.ensures.fits c.in_ok-fill_reshaped.ensures.strides
+returns-clause-keeps g c = keeps-filled (g.E.Lengths.list c.fill_reshaped.new.out)
+    c.slice.ensures.list c.slice-2.ensures.list c.slice-3.ensures.list c.requires.from_some c.requires.to_some c.requires.valid.same_count
+    c.in_ok-fill_reshaped.ensures.fits c.in_ok-fill_reshaped.ensures.strides

@@ -3,21 +3,25 @@ use Rattle.std.proofs.lemmas.Bool.{both_ways}
 use Rattle.std.proofs.Math.ListN.{get_or-map}
 use Rattle.nd_base.specs.Signed.{signed, all_signed}
 use Rattle.ndarray_layout.proofs.reshapes.Inside.{inside-first, inside-to, inside-from}
-use Rattle.ndarray_layout.proofs.reshapes.Halfway.{IsHalfway, product-fits, len-fits, sizes-below, halfway-first, halfway-to, halfway-one, halfway-longer, halfway-to-end, halfway-from-end, halfway-apart, halfway-reached}
+use Rattle.ndarray_layout.proofs.reshapes.Halfway.{IsHalfway, product-fits, len-fits, sizes-below, halfway-first, halfway-to, halfway-one}
+use Rattle.ndarray_layout.proofs.reshapes.Halfway.{halfway-longer, halfway-to-end, halfway-from-end, halfway-apart, halfway-reached}
 use Rattle.ndarray_layout.proofs.reshape.walk.next_block.Goals as goal
 use Rattle.ndarray_layout.proofs.reshape.walk.next_block.Goals.{then-len-gt1+else-not-is_whole, else-len-gt1}
 
-stride-read : (strides : List ℕ) (k stride : ℕ) → stride ≡ get_or strides k 0 → signed stride ≡ get_or (all_signed strides) k (pos 0)
-stride-read strides k stride e = ap signed e ∙ sym (get_or-map signed strides k 0)
+stride-read : (strides : List ℕ) (k : ℕ) {stride : ℕ} → stride ≡ get_or strides k 0 → signed stride ≡ get_or (all_signed strides) k (pos 0)
+stride-read strides k e = ap signed e ∙ sym (get_or-map signed strides k 0)
 
 pub loop-from_product-init : goal.loop-from_product-init
 loop-from_product-init g c =
     let from_left = c.requires.from_left in
     let to_left = c.requires.to_left in
     record {
-      half = halfway-first (g.S.Sequence.items c.args.from.now) (all_signed (g.S.Sequence.items c.args.strides.now)) (g.T.Sequence.items c.args.to.now) c.args.start.from_axes c.args.start.to_axes c.item-from_product.result c.item-to_product.result (signed c.item-step.result) c.requires.can_walk c.requires.reached from_left to_left (inr (c.requires.from_longer, c.requires.to_longer)) c.item-from_product.ensures c.item-to_product.ensures
-          (stride-read (g.S.Sequence.items c.args.strides.now) c.args.start.from_axes c.item-step.result c.item-step.ensures);
-      inside = inside-first (g.S.Sequence.items c.args.from.now) (g.T.Sequence.items c.args.to.now) c.args.start.from_axes c.args.start.to_axes c.requires.can_walk.some c.requires.can_walk.more from_left to_left c.requires.reached.sizes c.requires.from_longer c.requires.to_longer;
+      half = halfway-first c.item-from_product.result c.item-to_product.result (signed c.item-step.result) c.requires.can_walk
+          c.requires.reached from_left to_left (inr (c.requires.from_longer, c.requires.to_longer)) c.item-from_product.ensures
+          c.item-to_product.ensures
+          (stride-read (g.S.Sequence.items c.args.strides.now) c.args.start.from_axes c.item-step.ensures);
+      inside = inside-first c.args.start.from_axes c.requires.can_walk.some c.requires.can_walk.more from_left to_left
+          c.requires.reached.sizes c.requires.from_longer c.requires.to_longer;
     }
 
 pub returns-then-to_end-len-clause-fault : goal.returns-then-to_end-len-clause-fault
@@ -26,7 +30,7 @@ returns-then-to_end-len-clause-fault g c =
     let less = c.if-from_product-to_product.true in
     let count = c.len.ensures in
     let end = c.if-to_end-len.true in
-    halfway-to-end (g.S.Sequence.items c.args.from.now) (all_signed (g.S.Sequence.items c.args.strides.now)) (g.T.Sequence.items c.args.to.now) c.args.start.from_axes c.args.start.to_axes l.from_end l.to_end l.from_product l.to_product (signed l.step) c.requires.can_walk l.invariant.half (omega arith) (omega arith)
+    halfway-to-end c.requires.can_walk l.invariant.half (omega arith) (omega arith)
     ∙ ap Some (sym c.from_kind.ensures)
 
 pub overflow_mul-to_product : goal.overflow_mul-to_product
@@ -36,7 +40,9 @@ overflow_mul-to_product g c =
     let within = l.invariant.half.to_in in
     let count = c.len.ensures in
     let end = c.if-to_end-len.false in
-    let fits = product-fits (g.T.Sequence.items c.args.to.now) (g.S.Sequence.items c.args.from.now) c.args.start.from_axes l.to_end l.to_product at.result c.requires.can_walk.more c.requires.can_walk.some c.requires.can_walk.to_fits (omega arith) l.invariant.half.to_size at.ensures in
+    let fits = product-fits (g.T.Sequence.items c.args.to.now) (g.S.Sequence.items c.args.from.now) c.args.start.from_axes l.to_end
+    l.to_product c.requires.can_walk.more c.requires.can_walk.some c.requires.can_walk.to_fits (omega arith) l.invariant.half.to_size
+    at.ensures in
     omega (arith, fits)
 
 pub loop-from_product-preserved-then-from_product-to_product : goal.loop-from_product-preserved-then-from_product-to_product
@@ -49,10 +55,11 @@ loop-from_product-preserved-then-from_product-to_product g c =
     let end = c.if-to_end-len.false in
     let from_size = l.invariant.half.from_size in
     let to_size = l.invariant.half.to_size in
-    let below = sizes-below (g.S.Sequence.items c.args.from.now) c.args.start.from_axes l.to_product l.from_product c.requires.can_walk.some (omega arith) in
+    let below = sizes-below (g.S.Sequence.items c.args.from.now) c.args.start.from_axes l.to_product l.from_product c.requires.can_walk.some
+    (omega arith) in
     record {
-      half = halfway-to (g.S.Sequence.items c.args.from.now) (all_signed (g.S.Sequence.items c.args.strides.now)) (g.T.Sequence.items c.args.to.now) c.args.start.from_axes c.args.start.to_axes l.from_end l.to_end l.from_product l.to_product at.result (signed l.step) c.requires.can_walk l.invariant.half (omega arith) (omega arith) at.ensures;
-      inside = inside-to (g.S.Sequence.items c.args.from.now) (g.T.Sequence.items c.args.to.now) c.args.start.to_axes l.from_end l.to_end c.requires.can_walk.some c.requires.can_walk.more (omega arith) l.invariant.inside;
+      half = halfway-to c.requires.can_walk l.invariant.half (omega arith) (omega arith) at.ensures;
+      inside = inside-to c.requires.can_walk.some c.requires.can_walk.more (omega arith) l.invariant.inside;
     }
 
 pub returns-then-from_end-len-clause-fault : goal.returns-then-from_end-len-clause-fault
@@ -62,7 +69,7 @@ returns-then-from_end-len-clause-fault g c =
     let other = c.loop-from_product-test.true in
     let count = c.len-in-loop-from_product.ensures in
     let end = c.if-from_end-len.true in
-    halfway-from-end (g.S.Sequence.items c.args.from.now) (all_signed (g.S.Sequence.items c.args.strides.now)) (g.T.Sequence.items c.args.to.now) c.args.start.from_axes c.args.start.to_axes l.from_end l.to_end l.from_product l.to_product (signed l.step) c.requires.can_walk l.invariant.half (omega arith) (omega arith)
+    halfway-from-end c.requires.can_walk l.invariant.half (omega arith) (omega arith)
     ∙ ap Some (sym c.from_kind-then-from_end-len.ensures)
 
 pub is_whole-requires : goal.is_whole-requires
@@ -71,7 +78,8 @@ is_whole-requires g c =
     let within = l.invariant.half.from_in in
     let count = c.len-in-loop-from_product.ensures in
     let end = c.if-from_end-len.false in
-    let fits = len-fits (g.S.Sequence.items c.args.from.now) l.from_end c.requires.can_walk.some c.requires.can_walk.from_fits (omega arith) in
+    let fits = len-fits (g.S.Sequence.items c.args.from.now) l.from_end c.requires.can_walk.some c.requires.can_walk.from_fits
+    (omega arith) in
     let same = c.item-len.ensures in
     omega (arith, fits, same)
 
@@ -83,8 +91,8 @@ returns-then-not-is_whole-clause-fault g c =
     let other = c.loop-from_product-test.true in
     let count = c.len-in-loop-from_product.ensures in
     let end = c.if-from_end-len.false in
-    halfway-apart (g.S.Sequence.items c.args.from.now) (all_signed (g.S.Sequence.items c.args.strides.now)) (g.T.Sequence.items c.args.to.now) c.args.start.from_axes c.args.start.to_axes l.from_end l.to_end l.from_product l.to_product c.item-len.result (signed l.step) (signed c.item-next.result) c.requires.can_walk l.invariant.half (omega arith) (omega arith) c.item-len.ensures c.if-len-gt1.true
-    (stride-read (g.S.Sequence.items c.args.strides.now) l.from_end c.item-next.result c.item-next.ensures)
+    halfway-apart c.requires.can_walk l.invariant.half (omega arith) (omega arith) c.item-len.ensures c.if-len-gt1.true
+    (stride-read (g.S.Sequence.items c.args.strides.now) l.from_end c.item-next.ensures)
     (λ same. both_ways c.is_whole.result c.if-not-is_whole.true (c.is_whole.ensures.1 same))
     ∙ ap Some (sym c.from_kind-then-not-is_whole.ensures)
 
@@ -94,7 +102,9 @@ overflow_mul-from_product g c =
     let within = l.invariant.half.from_in in
     let count = c.len-in-loop-from_product.ensures in
     let end = c.if-from_end-len.false in
-    let fits = product-fits (g.S.Sequence.items c.args.from.now) (g.S.Sequence.items c.args.from.now) c.args.start.from_axes l.from_end l.from_product c.item-len.result c.requires.can_walk.some c.requires.can_walk.some c.requires.can_walk.from_fits (omega arith) l.invariant.half.from_size c.item-len.ensures in
+    let fits = product-fits (g.S.Sequence.items c.args.from.now) (g.S.Sequence.items c.args.from.now) c.args.start.from_axes l.from_end
+    l.from_product c.requires.can_walk.some c.requires.can_walk.some c.requires.can_walk.from_fits (omega arith)
+    l.invariant.half.from_size c.item-len.ensures in
     omega (arith, fits)
 
 pub loop-from_product-preserved : goal.loop-from_product-preserved
@@ -116,18 +126,20 @@ loop-from_product-preserved g c =
     record {
       half = elim c.if-len-gt1.branch [
         | then-len-gt1+else-not-is_whole w ↦
-            subst (λ s. IsHalfway from strides to c.args.start.from_axes c.args.start.to_axes (l.from_end + 1) l.to_end (l.from_product * c.item-len.result) l.to_product (signed s)) (sym w.step-is)
-            (halfway-longer from strides to c.args.start.from_axes c.args.start.to_axes l.from_end l.to_end l.from_product l.to_product c.item-len.result (signed l.step) (signed w.item-next.result) c.requires.can_walk l.invariant.half below left c.item-len.ensures w.if-len-gt1.true
-            (stride-read (g.S.Sequence.items c.args.strides.now) l.from_end w.item-next.result w.item-next.ensures)
+            subst (λ s. IsHalfway from strides to c.args.start.from_axes c.args.start.to_axes (l.from_end + 1) l.to_end
+            (l.from_product * c.item-len.result) l.to_product (signed s)) (sym w.step-is)
+            (halfway-longer c.requires.can_walk l.invariant.half below left c.item-len.ensures w.if-len-gt1.true
+            (stride-read (g.S.Sequence.items c.args.strides.now) l.from_end w.item-next.ensures)
             (w.is_whole.ensures.0 w.if-not-is_whole.false))
         | else-len-gt1 w ↦
-            subst (λ s. IsHalfway from strides to c.args.start.from_axes c.args.start.to_axes (l.from_end + 1) l.to_end (l.from_product * c.item-len.result) l.to_product (signed s)) (sym w.step-is)
-            (halfway-one from strides to c.args.start.from_axes c.args.start.to_axes l.from_end l.to_end l.from_product l.to_product c.item-len.result (signed l.step) c.requires.can_walk l.invariant.half below left c.item-len.ensures w.if-len-gt1.false)
+            subst (λ s. IsHalfway from strides to c.args.start.from_axes c.args.start.to_axes (l.from_end + 1) l.to_end
+            (l.from_product * c.item-len.result) l.to_product (signed s)) (sym w.step-is)
+            (halfway-one c.requires.can_walk l.invariant.half below left c.item-len.ensures w.if-len-gt1.false)
       ];
-      inside = inside-from from to c.args.start.to_axes l.from_end l.to_end c.requires.can_walk.some (omega arith) l.invariant.inside;
+      inside = inside-from c.requires.can_walk.some (omega arith) l.invariant.inside;
     }
 
 pub returns-clause-reached : goal.returns-clause-reached
 returns-clause-reached g c =
     let l = c.loop-from_product in
-    halfway-reached (g.S.Sequence.items c.args.from.now) (all_signed (g.S.Sequence.items c.args.strides.now)) (g.T.Sequence.items c.args.to.now) c.args.start.from_axes c.args.start.to_axes l.from_end l.to_end l.from_product l.to_product (signed l.step) l.invariant.half c.loop-from_product-test.false
+    halfway-reached l.invariant.half c.loop-from_product-test.false

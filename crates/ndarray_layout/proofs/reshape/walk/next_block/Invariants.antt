@@ -7,7 +7,8 @@ use Rattle.ndarray_layout.proofs.reshape.walk.next_block.Given as goal
 
 abbrev pub invariant-loop-from_product : goal.invariant-loop-from_product
 invariant-loop-from_product g l = record {
-  half : IsHalfway (g.S.Sequence.items l.from) (all_signed (g.S.Sequence.items l.strides)) (g.T.Sequence.items l.to) l.fn.start.from_axes l.fn.start.to_axes l.from_end l.to_end l.from_product l.to_product (signed l.step);
+  half : IsHalfway (g.S.Sequence.items l.from) (all_signed (g.S.Sequence.items l.strides)) (g.T.Sequence.items l.to) l.fn.start.from_axes
+      l.fn.start.to_axes l.from_end l.to_end l.from_product l.to_product (signed l.step);
   inside : IsInside (g.S.Sequence.items l.from) (g.T.Sequence.items l.to) l.fn.start.to_axes l.from_end l.to_end;
 }
 

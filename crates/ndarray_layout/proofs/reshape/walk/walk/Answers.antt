@@ -1,72 +1,72 @@
 use Rattle.std.proofs.Common.{◌<◌, ◌≤◌, Some, length, inl, inr, arith, sym, ap, ◌∙◌}
 use Rattle.std.proofs.lemmas.Bool.{cases_lt}
-use Rattle.nd_base.specs.Signed.{all_signed}
+use Rattle.nd_base.proofs.laws.Definitions.{all_signed}
 use Rattle.ndarray_layout.proofs.reshapes.Advance.{from-left-fault, to-left-fault}
 use Rattle.ndarray_layout.proofs.reshapes.Written.{written-first, written-whole, whole-sizes, whole-alike, whole-strides}
+use Rattle.ndarray_layout.specs.private.ReshapeProgress.{HasStridesUpTo}
+use Rattle.ndarray_layout.proofs.reshape.walk.walk.Given.{Over}
 use Rattle.ndarray_layout.proofs.reshape.walk.walk.Goals as goal
-use Rattle.ndarray_layout.proofs.reshape.walk.walk.Goals.{then-loop-at-test+else-at-len, else-loop-at-test, then-not-only_ones-via-then-not-only_ones, then-not-only_ones-via-else-not-only_ones+then-not-only_ones-2}
+use Rattle.ndarray_layout.proofs.reshape.walk.walk.Goals.{then-loop-at-test+else-at-len, else-loop-at-test}
+use Rattle.ndarray_layout.proofs.reshape.walk.walk.Goals.{then-not-only_ones-via-then-not-only_ones}
+use Rattle.ndarray_layout.proofs.reshape.walk.walk.Goals.{then-not-only_ones-via-else-not-only_ones+then-not-only_ones-2}
 
 pub loop-at-init : goal.loop-at-init
 loop-at-init g c = record {
   room = c.requires.room;
-  written = written-first (g.S.Sequence.items c.args.from.now) (all_signed (g.S.Sequence.items c.args.strides.now)) (g.T.Sequence.items c.args.to.now) (g.O.Sequence.items c.args.out.now) c.requires.can_walk;
+  written = written-first (g.O.Sequence.items c.args.out.now) c.requires.can_walk;
   target = g.met.O.SequenceMut.same_target_now c.args.out.now;
 }
 
 pub returns-then-not-only_ones-clause-fault : goal.returns-then-not-only_ones-clause-fault
 returns-then-not-only_ones-clause-fault g c =
     let l = c.loop-at in
-    let over : l.at.from_axes < length (g.S.Sequence.items c.args.from.now) → length (g.T.Sequence.items c.args.to.now) ≤ l.at.to_axes = elim c.loop-at-test.branch [
+    let at = l.invariant.written.reached in
+    let over : c.loop-at.at.from_axes < length (g.S.Sequence.items c.args.from.now)
+    → length (g.T.Sequence.items c.args.to.now) ≤ c.loop-at.at.to_axes =
+    elim c.loop-at-test.branch [
       | then-loop-at-test+else-at-len w ↦ λ some. let end = w.if-at-len.false in let count = w.len-in-loop-at.ensures in omega arith
       | else-loop-at-test w ↦ λ some. let end = w.loop-at-test.false in let count = c.len.ensures in absurd (omega arith)
     ] in
-    let at = l.invariant.written.reached in
     elim c.then-not-only_ones.branch [
       | then-not-only_ones-via-then-not-only_ones w ↦
           let left = c.only_ones.ensures.longer w.if-not-only_ones.true in
-          let above = left.1 in
-          let under = left.2 in
-          from-left-fault (g.S.Sequence.items c.args.from.now) (all_signed (g.S.Sequence.items c.args.strides.now)) (g.T.Sequence.items c.args.to.now) l.at.from_axes l.at.to_axes left.0 c.requires.can_walk at (over (omega arith)) above under left.3
+          from-left-fault left.0 c.requires.can_walk at (over (omega (arith, left.1, left.2))) left.1 left.2 left.3
       | then-not-only_ones-via-else-not-only_ones+then-not-only_ones-2 w ↦
           let left = w.only_ones-else-not-only_ones.ensures.longer w.if-not-only_ones-2.true in
-          let above = left.1 in
-          let under = left.2 in
-          to-left-fault (g.S.Sequence.items c.args.from.now) (all_signed (g.S.Sequence.items c.args.strides.now)) (g.T.Sequence.items c.args.to.now) l.at.from_axes l.at.to_axes left.0 c.requires.can_walk at (elim (cases_lt l.at.from_axes (length (g.S.Sequence.items c.args.from.now))) [ inl some ↦ absurd (let end = over some in omega arith) | inr past ↦ past ]) above under left.3
+          to-left-fault left.0 c.requires.can_walk at (elim (cases_lt l.at.from_axes (length (g.S.Sequence.items c.args.from.now)))
+          [ inl some ↦ absurd (let end = over some in omega (arith, left.1, left.2)) | inr past ↦ past ]) left.1 left.2 left.3
     ]
     ∙ ap Some (sym c.from_kind.ensures)
 
-pub returns-clause-sizes : goal.returns-clause-sizes
-returns-clause-sizes g c =
+-- at the end both shapes are read whole, and all strides are written
+whole : (g : Over) (c : goal.After-write_ones g) → HasStridesUpTo (g.S.Sequence.items c.args.from.now)
+    (all_signed (g.S.Sequence.items c.args.strides.now)) (g.T.Sequence.items c.args.to.now)
+    (all_signed (g.O.Sequence.items c.write_ones.new.out)) (length (g.S.Sequence.items c.args.from.now))
+    (length (g.T.Sequence.items c.args.to.now))
+whole g c =
     let l = c.loop-at in
-    let over : l.at.from_axes < length (g.S.Sequence.items c.args.from.now) → length (g.T.Sequence.items c.args.to.now) ≤ l.at.to_axes = elim c.loop-at-test.branch [
+    let count = c.write_ones.ensures.room in
+    let over : c.loop-at.at.from_axes < length (g.S.Sequence.items c.args.from.now)
+    → length (g.T.Sequence.items c.args.to.now) ≤ c.loop-at.at.to_axes =
+    elim c.loop-at-test.branch [
       | then-loop-at-test+else-at-len w ↦ λ some. let end = w.if-at-len.false in let count = w.len-in-loop-at.ensures in omega arith
       | else-loop-at-test w ↦ λ some. let end = w.loop-at-test.false in let count = c.len.ensures in absurd (omega arith)
     ] in
-    let room = l.invariant.room in
-    let whole = written-whole (g.S.Sequence.items c.args.from.now) (all_signed (g.S.Sequence.items c.args.strides.now)) (g.T.Sequence.items c.args.to.now) (g.O.Sequence.items l.out) (g.O.Sequence.items c.write_ones.new.out) l.at.from_axes l.at.to_axes c.requires.can_walk over (c.only_ones.ensures.ones c.if-not-only_ones.false) (c.only_ones-else-not-only_ones.ensures.ones c.if-not-only_ones-2.false)
-    room (c.write_ones.ensures.room ∙ room) c.write_ones.ensures.kept (λ j above below. c.write_ones.ensures.written j above (let count = c.write_ones.ensures.room in omega arith)) l.invariant.written in
-    whole-sizes (g.S.Sequence.items c.args.from.now) (all_signed (g.S.Sequence.items c.args.strides.now)) (g.T.Sequence.items c.args.to.now) (all_signed (g.O.Sequence.items c.write_ones.new.out)) whole
+    let from_ones = c.only_ones.ensures.ones c.if-not-only_ones.false in
+    let to_ones = c.only_ones-else-not-only_ones.ensures.ones c.if-not-only_ones-2.false in
+    written-whole (g.O.Sequence.items l.out) (g.O.Sequence.items c.write_ones.new.out) l.at.from_axes l.at.to_axes c.requires.can_walk
+    over from_ones to_ones l.invariant.room (count ∙ l.invariant.room) c.write_ones.ensures.kept
+    (λ j above below. c.write_ones.ensures.written j above (omega (arith, count, below))) l.invariant.written
+
+pub returns-clause-sizes : goal.returns-clause-sizes
+returns-clause-sizes g c = whole-sizes (whole g c)
 
 pub returns-clause-alike : goal.returns-clause-alike
 returns-clause-alike g c =
-    let l = c.loop-at in
-    let over : l.at.from_axes < length (g.S.Sequence.items c.args.from.now) → length (g.T.Sequence.items c.args.to.now) ≤ l.at.to_axes = elim c.loop-at-test.branch [
-      | then-loop-at-test+else-at-len w ↦ λ some. let end = w.if-at-len.false in let count = w.len-in-loop-at.ensures in omega arith
-      | else-loop-at-test w ↦ λ some. let end = w.loop-at-test.false in let count = c.len.ensures in absurd (omega arith)
-    ] in
-    let room = l.invariant.room in
-    let whole = written-whole (g.S.Sequence.items c.args.from.now) (all_signed (g.S.Sequence.items c.args.strides.now)) (g.T.Sequence.items c.args.to.now) (g.O.Sequence.items l.out) (g.O.Sequence.items c.write_ones.new.out) l.at.from_axes l.at.to_axes c.requires.can_walk over (c.only_ones.ensures.ones c.if-not-only_ones.false) (c.only_ones-else-not-only_ones.ensures.ones c.if-not-only_ones-2.false)
-    room (c.write_ones.ensures.room ∙ room) c.write_ones.ensures.kept (λ j above below. c.write_ones.ensures.written j above (let count = c.write_ones.ensures.room in omega arith)) l.invariant.written in
-    whole-alike (g.S.Sequence.items c.args.from.now) (all_signed (g.S.Sequence.items c.args.strides.now)) (g.T.Sequence.items c.args.to.now) (g.O.Sequence.items c.write_ones.new.out) c.requires.can_walk (c.write_ones.ensures.room ∙ room) whole
+    whole-alike (g.O.Sequence.items c.write_ones.new.out) c.requires.can_walk
+    (c.write_ones.ensures.room ∙ c.loop-at.invariant.room) (whole g c)
 
 pub returns-clause-strides : goal.returns-clause-strides
 returns-clause-strides g c =
-    let l = c.loop-at in
-    let over : l.at.from_axes < length (g.S.Sequence.items c.args.from.now) → length (g.T.Sequence.items c.args.to.now) ≤ l.at.to_axes = elim c.loop-at-test.branch [
-      | then-loop-at-test+else-at-len w ↦ λ some. let end = w.if-at-len.false in let count = w.len-in-loop-at.ensures in omega arith
-      | else-loop-at-test w ↦ λ some. let end = w.loop-at-test.false in let count = c.len.ensures in absurd (omega arith)
-    ] in
-    let room = l.invariant.room in
-    let whole = written-whole (g.S.Sequence.items c.args.from.now) (all_signed (g.S.Sequence.items c.args.strides.now)) (g.T.Sequence.items c.args.to.now) (g.O.Sequence.items l.out) (g.O.Sequence.items c.write_ones.new.out) l.at.from_axes l.at.to_axes c.requires.can_walk over (c.only_ones.ensures.ones c.if-not-only_ones.false) (c.only_ones-else-not-only_ones.ensures.ones c.if-not-only_ones-2.false)
-    room (c.write_ones.ensures.room ∙ room) c.write_ones.ensures.kept (λ j above below. c.write_ones.ensures.written j above (let count = c.write_ones.ensures.room in omega arith)) l.invariant.written in
-    whole-strides (g.S.Sequence.items c.args.from.now) (all_signed (g.S.Sequence.items c.args.strides.now)) (g.T.Sequence.items c.args.to.now) (g.O.Sequence.items c.write_ones.new.out) c.requires.can_walk (c.write_ones.ensures.room ∙ room) whole
+    whole-strides (g.O.Sequence.items c.write_ones.new.out) c.requires.can_walk
+    (c.write_ones.ensures.room ∙ c.loop-at.invariant.room) (whole g c)

@@ -1,18 +1,19 @@
-use Rattle.std.proofs.Common.{set, ap₂, to_z, ℤ, length-set, ◌≡◌, ◌<◌, ◌≤◌, ◌+◌, ◌-◌, ◌*◌, pos, ◌*ℤ◌, ℕ, List, length, drop, take, get_or, w64, arith, sym, ap, refl, ◌∙◌, subst, get_or-set_other, get_or-set_same, inl, inr}
+use Rattle.std.proofs.Common.{set, ap₂, to_z, ℤ, length-set, ◌≡◌, ◌<◌, ◌≤◌, ◌+◌, ◌-◌, ◌*◌, pos, ◌*ℤ◌, ℕ, List, length, drop, take, get_or}
+use Rattle.std.proofs.Common.{w64, arith, sym, ap, refl, ◌∙◌, subst, get_or-set_other, get_or-set_same, inl, inr}
 use Rattle.std.specs.Int.RustNames.{FitsSigned}
 use Rattle.std.proofs.Math.IntN.{*ℤ_comm}
 use Rattle.std.proofs.Math.Nat.{mul_comm}
 use Rattle.std.proofs.lemmas.Bool.{cases_eq}
 use Rattle.std.proofs.lemmas.List.{length-take-le, get_or-take}
 use Rattle.std.proofs.lemmas.Int.{to_z-of_z, to_z_pos}
-use Rattle.nd_base.specs.Size.{size, limit}
-use Rattle.nd_base.specs.Signed.{signed}
+use Rattle.nd_base.proofs.laws.Definitions.{signed, limit, size}
 use Rattle.nd_base.proofs.laws.Size.{size_from}
 use Rattle.nd_base.proofs.laws.Times.{times_times}
 use Rattle.ndarray_layout.proofs.reshape.walk.write_block.Goals as goal
 
 -- the product from an axis on is its length times the product of the later ones
-more : (lens : List ℕ) (end k rest : ℕ) → end ≤ length lens → 0 < k → k ≤ end → rest ≡ size (drop k (take end lens)) → rest * get_or lens (k - 1) 0 ≡ size (drop (k - 1) (take end lens))
+more : (lens : List ℕ) (end k rest : ℕ) → end ≤ length lens → 0 < k → k ≤ end → rest ≡ size (drop k (take end lens))
+    → rest * get_or lens (k - 1) 0 ≡ size (drop (k - 1) (take end lens))
 more lens end k rest l g h e =
     let long = length-take-le end lens l in
     let next : k - 1 + 1 ≡ k = omega arith in
@@ -24,8 +25,10 @@ more lens end k rest l g h e =
     ∙ sym whole
 
 -- the next stride, as the code has it
-next-stride : (lens : List ℕ) (end k bits len step : ℕ) → end ≤ length lens → 0 < k → k ≤ end → len ≤ limit → to_z w64 bits ≡ pos (size (drop k (take end lens))) *ℤ signed step → len ≡ get_or lens (k - 1) 0 → to_z w64 bits *ℤ to_z w64 len ≡ pos (size (drop (k - 1) (take end lens))) *ℤ signed step
-next-stride lens end k bits len step l g h small e f =
+next-stride : (lens : List ℕ) (end k bits : ℕ) {len : ℕ} (step : ℕ) → end ≤ length lens → 0 < k → k ≤ end → len ≤ limit
+    → to_z w64 bits ≡ pos (size (drop k (take end lens))) *ℤ signed step → len ≡ get_or lens (k - 1) 0
+    → to_z w64 bits *ℤ to_z w64 len ≡ pos (size (drop (k - 1) (take end lens))) *ℤ signed step
+next-stride lens end k bits {len} step l g h small e f =
     let rest = size (drop k (take end lens)) in
     ap₂ (λ x y. x *ℤ y) e (to_z_pos w64 len (omega arith))
     ∙ *ℤ_comm (pos rest *ℤ signed step) (pos len)
@@ -33,8 +36,10 @@ next-stride lens end k bits len step l g h small e f =
     ∙ ap (λ n. pos n *ℤ signed step) (mul_comm len rest ∙ ap (λ n. rest * n) f ∙ more lens end k rest l g h refl)
 
 -- and it is among those that fit
-next-fits : (lens : List ℕ) (end k : ℕ) (step : ℕ) (z : ℤ) → 1 < k → FitsSigned w64 (pos (size (drop (k - 1 - 1 + 1) (take end lens))) *ℤ signed step) → z ≡ pos (size (drop (k - 1) (take end lens))) *ℤ signed step → FitsSigned w64 z
-next-fits lens end k step z l h e =
+next-fits : (lens : List ℕ) (end k step : ℕ) {z : ℤ} → 1 < k
+    → FitsSigned w64 (pos (size (drop (k - 1 - 1 + 1) (take end lens))) *ℤ signed step)
+    → z ≡ pos (size (drop (k - 1) (take end lens))) *ℤ signed step → FitsSigned w64 z
+next-fits lens end k step l h e =
     let next : k - 1 - 1 + 1 ≡ k - 1 = omega arith in
     subst (λ x. FitsSigned w64 x) (ap (λ n. pos (size (drop n (take end lens))) *ℤ signed step) next ∙ sym e) h
 
@@ -47,8 +52,9 @@ overflow_mul-stride g c =
     let within = c.requires.within in
     let low = c.loop-k-test.true in
     let high = v.high in
-    let z = next-stride lens c.args.end k l.stride-bits c.item.result c.args.step within (omega arith) high (let small = c.requires.len_fits (k - 1) (omega arith) in let same = c.item.ensures in omega (arith, small, same)) v.stride_is c.item.ensures in
-    next-fits lens c.args.end k c.args.step (to_z w64 l.stride-bits *ℤ to_z w64 c.item.result) (omega arith) (c.requires.steps_fit (k - 1 - 1) (omega arith) (omega arith)) z
+    let z = next-stride lens c.args.end k l.stride-bits c.args.step within (omega arith) high (let small = c.requires.len_fits (k - 1)
+    (omega arith) in let same = c.item.ensures in omega (arith, small, same)) v.stride_is c.item.ensures in
+    next-fits lens c.args.end k c.args.step (omega arith) (c.requires.steps_fit (k - 1 - 1) (omega arith) (omega arith)) z
 
 pub loop-k-preserved : goal.loop-k-preserved
 loop-k-preserved g c =
@@ -61,10 +67,12 @@ loop-k-preserved g c =
     let high = v.high in
     let room = v.room in
     let product = to_z w64 l.stride-bits *ℤ to_z w64 c.item.result in
-    let z = next-stride lens c.args.end k l.stride-bits c.item.result c.args.step within (omega arith) high (let small = c.requires.len_fits (k - 1) (omega arith) in let same = c.item.ensures in omega (arith, small, same)) v.stride_is c.item.ensures in
-    let fits = next-fits lens c.args.end k c.args.step product (omega arith) (c.requires.steps_fit (k - 1 - 1) (omega arith) (omega arith)) z in
+    let z = next-stride lens c.args.end k l.stride-bits c.args.step within (omega arith) high (let small = c.requires.len_fits (k - 1)
+    (omega arith) in let same = c.item.ensures in omega (arith, small, same)) v.stride_is c.item.ensures in
+    let fits = next-fits lens c.args.end k c.args.step (omega arith) (c.requires.steps_fit (k - 1 - 1) (omega arith) (omega arith)) z in
     let kept = to_z-of_z w64 product fits in
-    let value : signed c.unsigned.result ≡ pos (size (drop (k - 1) (take c.args.end lens))) *ℤ signed c.args.step = c.unsigned.ensures.back ∙ kept ∙ z in
+    let value : signed c.unsigned.result ≡ pos (size (drop (k - 1) (take c.args.end lens))) *ℤ signed c.args.step = c.unsigned.ensures.back
+    ∙ kept ∙ z in
     let out = g.O.Sequence.items l.out in
     let made = c.set-in-loop-k.ensures.items in
     let inside : k - 1 - 1 < length out = omega arith in
@@ -86,6 +94,7 @@ loop-k-preserved g c =
             ∙ ap signed (get_or-set_other out (k - 1 - 1) j c.unsigned.result 0 other)
             ∙ v.written j (omega arith) below
       ];
-      kept = λ j before. ap (λ xs. get_or xs j 0) made ∙ get_or-set_other out (k - 1 - 1) j c.unsigned.result 0 (λ e. omega arith) ∙ v.kept j before;
+      kept = λ j before. ap (λ xs. get_or xs j 0) made ∙ get_or-set_other out (k - 1 - 1) j c.unsigned.result 0 (λ e. omega arith)
+          ∙ v.kept j before;
       target = g.met.O.SequenceMut.same_target_on c.args.out.now l.out c.set-in-loop-k.new.self v.target c.set-in-loop-k.ensures.target;
     }

@@ -1,9 +1,6 @@
 -- The first index lies as far on as the layout reaches down.
 use Rattle.std.proofs.Common.{◌≡◌, ℕ, ◌≤◌, List, arith, subst, sym}
-use Rattle.nd_base.specs.Signed.{all_signed}
-use Rattle.nd_base.specs.Size.{nonzero_size, limit}
-use Rattle.nd_base.specs.Span.{low_span}
-use Rattle.nd_base.specs.ValidLayout.{IsValidLayout}
+use Rattle.nd_base.proofs.laws.Definitions.{all_signed, limit, nonzero_size, low_span, IsValidLayout}
 use Rattle.nd_base.proofs.laws.NonzeroSize.{size_le_nonzero_size}
 use Rattle.ndarray_layout.specs.View.{IsView, view_of}
 use Rattle.nd_shape.specs.OwnedRule.{MeetsOwnedRule}
@@ -18,18 +15,22 @@ strides_for_dim-requires-clause-size_fits g c =
     omega (arith, size_le_nonzero_size shape)
 
 -- a layout along strides that are known to be valid ones
-view_along : (start : ℕ) (shape strides known : List ℕ) → start ≡ low_span shape (all_signed strides) → strides ≡ known → IsValidLayout shape (all_signed known) → IsView (view_of start shape strides)
-view_along start shape strides known low same valid = rw (low, same) (lowest_view shape (all_signed known) valid)
+view_along : {start : ℕ} {shape strides known : List ℕ} → start ≡ low_span shape (all_signed strides) → strides ≡ known
+    → IsValidLayout shape (all_signed known) → IsView (view_of start shape strides)
+view_along low same valid = rw (low, same) (lowest_view valid)
 
 pub invariant_of-result : goal.invariant_of-result
 invariant_of-result g c =
-    view_along c.offset_from_low_addr_ptr_to_logical_ptr-start.result (g.D.Lengths.list c.args.shape.dim) (g.D.Lengths.list c.in_ok-strides.strides) _ c.offset_from_low_addr_ptr_to_logical_ptr-start.ensures c.in_ok-strides.ensures.list c.in_ok-can_index_slice_with_strides.ensures.valid
+    view_along c.offset_from_low_addr_ptr_to_logical_ptr-start.ensures c.in_ok-strides.ensures.list
+    c.in_ok-can_index_slice_with_strides.ensures.valid
 
 pub returns-clause-is_view : goal.returns-clause-is_view
 returns-clause-is_view g c =
-    view_along c.offset_from_low_addr_ptr_to_logical_ptr-start.result (g.D.Lengths.list c.args.shape.dim) (g.D.Lengths.list c.in_ok-strides.strides) _ c.offset_from_low_addr_ptr_to_logical_ptr-start.ensures c.in_ok-strides.ensures.list c.in_ok-can_index_slice_with_strides.ensures.valid
+    view_along c.offset_from_low_addr_ptr_to_logical_ptr-start.ensures c.in_ok-strides.ensures.list
+    c.in_ok-can_index_slice_with_strides.ensures.valid
 
 pub returns-clause-rule : goal.returns-clause-rule
 returns-clause-rule g c = λ why some.
     subst (λ strides. MeetsOwnedRule (g.D.Lengths.list c.args.shape.dim) (all_signed strides)) (sym c.in_ok-strides.ensures.list)
-    (by_strides_meet g.D.Lengths.list c.args.elem_size c.args.len c.args.mode (g.D.Lengths.list c.args.shape.dim) c.args.shape.strides (sym c.in_ok-can_index_slice_with_strides.ensures.fault) why some)
+    (by_strides_meet g.D.Lengths.list c.args.elem_size c.args.len (g.D.Lengths.list c.args.shape.dim) c.args.shape.strides
+    (sym c.in_ok-can_index_slice_with_strides.ensures.fault) why some)

@@ -1,5 +1,5 @@
 -- Where both arguments fit and the view's places are distinct, the slices meet exactly where they share a place.
-use Rattle.std.proofs.Common.{◌≡◌, ◌↔◌, Bool, Option, None, Some, List, refl, sym, subst}
+use Rattle.std.proofs.Common.{◌≡◌, ◌↔◌, Bool, List, sym, subst}
 use Rattle.std.specs.Option.{option_or}
 use Rattle.std.specs.Prelude.{IsTrue, IfOk, Result, Ok, Err}
 use Rattle.std.specs.Result.{result_err}
@@ -11,30 +11,27 @@ use Rattle.nd_slice.specs.Meet.{Meet}
 use Rattle.ndarray_layout.specs.DistinctPlaces.{HasDistinctPlaces}
 use Rattle.ndarray_layout.specs.SharePlace.{SharePlace}
 use Rattle.ndarray_layout.specs.SlicedView.{slice_of}
-use Rattle.ndarray_layout.specs.View.{View, IsView, view_of}
+use Rattle.ndarray_layout.specs.View.{View, IsView}
 use Rattle.ndarray_layout.proofs.laws.SharePlace.{meet_is_shared_place}
 use Rattle.ndarray_layout.proofs.laws.View.{lens_fit}
 use Rattle.ndarray_layout.proofs.strided.Strided.meets.Goals as goal
+use Rattle.nd_base.proofs.laws.Options.{option_or_none}
 
-both_none : (first second : Option ErrorKind) → option_or first second ≡ None → (first ≡ None) × (second ≡ None)
-both_none None second none = (refl, none)
-both_none (Some fault) second none = absurd (cc)
-
-by_places : (fit : Fit) (one other : List SliceInfoElem) (view : View) (answer : Result Bool ErrorKind) → IsView view
+by_places : (fit : Fit) (one other : List SliceInfoElem) {view : View} (answer : Result Bool ErrorKind) → IsView view
     → result_err answer ≡ option_or (argument_fault fit view.shape one) (argument_fault fit view.shape other)
     → IfOk answer (λ meet. IsTrue meet ↔ Meet fit view.shape one other)
     → IfOk answer (λ meet. HasDistinctPlaces view → IsTrue meet ↔ SharePlace (slice_of fit one view) (slice_of fit other view))
-by_places fit one other view (Ok meet) v fault is = λ distinct.
-    let fits = both_none (argument_fault fit view.shape one) (argument_fault fit view.shape other) (sym fault) in
-    let places = meet_is_shared_place fit one other view v fits.0 fits.1 distinct in
+by_places fit one other {view} (Ok meet) v fault is = λ distinct.
+    let fits = option_or_none (argument_fault fit view.shape one) (sym fault) in
+    let places = meet_is_shared_place fit one other v fits.0 fits.1 distinct in
     (λ true. places.0 (is.0 true), λ share. is.1 (places.1 share))
-by_places fit one other view (Err fault) v same is = tt
+by_places fit one other (Err fault) v same is = tt
 
 pub slices_intersect-requires : goal.slices_intersect-requires
-slices_intersect-requires g c = lens_fit (view_of c.self.inside.start (g.D.Lengths.list c.self.inside.dim) (g.D.Lengths.list c.self.inside.strides)) c.self.invariant
+slices_intersect-requires g c = lens_fit c.self.invariant
 
 pub returns-clause-places : goal.returns-clause-places
 returns-clause-places g c =
     let v = subst IsView c.self.view_is c.self.invariant in
-    by_places c.args.fit (g.A.SliceElems.list c.args.first.now) (g.B.SliceElems.list c.args.second.now) c.args.self.now c.slices_intersect.result v
+    by_places c.args.fit (g.A.SliceElems.list c.args.first.now) (g.B.SliceElems.list c.args.second.now) c.slices_intersect.result v
     (rw (← c.self.view_is) c.slices_intersect.ensures.fault) (rw (← c.self.view_is) c.slices_intersect.ensures.meet)

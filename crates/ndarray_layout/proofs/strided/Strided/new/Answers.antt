@@ -6,11 +6,13 @@ use Rattle.ndarray_layout.proofs.laws.DistinctPlaces.{distinct_from_acceptance}
 use Rattle.ndarray_layout.proofs.strided.Strided.new.Goals as goal
 
 pub invariant_of-result : goal.invariant_of-result
-invariant_of-result g c = rw c.offset_from_low_addr_ptr_to_logical_ptr-start.ensures (lowest_view (g.D.Lengths.list c.args.dim) (all_signed (g.D.Lengths.list c.args.strides)) c.in_ok-can_index_slice.ensures.valid)
+invariant_of-result g c = rw c.offset_from_low_addr_ptr_to_logical_ptr-start.ensures (lowest_view c.in_ok-can_index_slice.ensures.valid)
 
 pub returns-clause-is_view : goal.returns-clause-is_view
-returns-clause-is_view g c = rw c.offset_from_low_addr_ptr_to_logical_ptr-start.ensures (lowest_view (g.D.Lengths.list c.args.dim) (all_signed (g.D.Lengths.list c.args.strides)) c.in_ok-can_index_slice.ensures.valid)
+returns-clause-is_view g c = rw c.offset_from_low_addr_ptr_to_logical_ptr-start.ensures (lowest_view c.in_ok-can_index_slice.ensures.valid)
 
 pub returns-clause-distinct : goal.returns-clause-distinct
 returns-clause-distinct g c = λ owned.
-    distinct_from_acceptance c.args.elem_size c.args.len c.offset_from_low_addr_ptr_to_logical_ptr-start.result (g.D.Lengths.list c.args.dim) (all_signed (g.D.Lengths.list c.args.strides)) (rw owned at (sym c.in_ok-can_index_slice.ensures.fault))
+    distinct_from_acceptance c.args.elem_size c.args.len c.offset_from_low_addr_ptr_to_logical_ptr-start.result
+    (g.D.Lengths.list c.args.dim) (all_signed (g.D.Lengths.list c.args.strides))
+    (rw owned at (sym c.in_ok-can_index_slice.ensures.fault))

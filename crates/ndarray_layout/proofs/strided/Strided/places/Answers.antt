@@ -1,13 +1,12 @@
 use Rattle.std.proofs.Common.{◌≡◌, pos, map, ap, ◌∙◌, arith, refl}
-use Rattle.nd_base.specs.Signed.{all_signed}
-use Rattle.nd_base.specs.Size.{size}
+use Rattle.nd_base.proofs.laws.Definitions.{size}
 use Rattle.ndarray_layout.specs.View.{View, view_of, view_places}
 use Rattle.ndarray_layout.proofs.laws.View.{item_at_rank, items_lie_within, size_fits}
 use Rattle.ndarray_layout.proofs.strided.Strided.places.Goals as goal
 
 pub product-size-requires : goal.product-size-requires
 product-size-requires g c =
-    rw (c.slice.ensures.list) (size_fits (record { start = c.self.inside.start; shape = g.D.Lengths.list c.self.inside.dim; strides = all_signed (g.D.Lengths.list c.self.inside.strides) }) c.self.invariant)
+    rw (c.slice.ensures.list) (size_fits c.self.invariant)
 
 pub returns : goal.returns
 returns g c =
@@ -16,7 +15,11 @@ returns g c =
     let view : View = view_of c.self.inside.start shape (g.D.Lengths.list c.self.inside.strides) in
     let items = c.push_places.result.items in
     let known : c.product-size.result ≡ size shape = c.product-size.ensures ∙ ap size c.slice.ensures.list in
-    let same : map pos items ≡ view_places order view = rw (c.in_ok-places.ensures.items, c.slice-shape.ensures.list, c.slice-strides.ensures.list) at c.push_places.ensures.items in
+    let same : map pos items ≡ view_places order view = rw (
+      c.in_ok-places.ensures.items,
+      c.slice-shape.ensures.list,
+      c.slice-strides.ensures.list,
+    ) at c.push_places.ensures.items in
     let whole : size c.slice-shape.result.now ≡ size shape = ap size c.slice-shape.ensures.list in
     rw (← c.self.view_is) (record {
       items = same;

@@ -6,5 +6,7 @@ abbrev pub invariant-loop-axis : goal.invariant-loop-axis
 invariant-loop-axis l = record {
   count : length l.new_strides ≡ length l.shape;
   front : (k : ℕ) → k < length l.shape - length l.view_shape → get_or l.new_strides k 0 ≡ 0;
-  after : (k : ℕ) → k < l.axis → get_or l.new_strides (length l.shape - length l.view_shape + k) 0 ≡ cond (eqb (get_or l.shape (length l.shape - length l.view_shape + k) 0) (get_or l.view_shape k 0)) (get_or l.strides k 0) 0;
+  after : (k : ℕ) → k < l.axis
+      → get_or l.new_strides (length l.shape - length l.view_shape + k) 0
+      ≡ cond (eqb (get_or l.shape (length l.shape - length l.view_shape + k) 0) (get_or l.view_shape k 0)) (get_or l.strides k 0) 0;
 }

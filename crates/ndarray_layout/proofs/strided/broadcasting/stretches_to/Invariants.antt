@@ -3,4 +3,5 @@ use Rattle.std.proofs.Common.{◌≡◌, ◌⊎◌, ℕ, ◌+◌, ◌-◌, ◌<�
 use Rattle.ndarray_layout.proofs.strided.broadcasting.stretches_to.Given as goal
 
 abbrev pub invariant-loop-axis : goal.invariant-loop-axis
-invariant-loop-axis l = (k : ℕ) → k < l.axis → (get_or l.view_shape k 0 ≡ get_or l.shape (length l.shape - length l.view_shape + k) 0) ⊎ (get_or l.view_shape k 0 ≡ 1)
+invariant-loop-axis l = (k : ℕ) → k < l.axis → (get_or l.view_shape k 0 ≡ get_or l.shape (length l.shape - length l.view_shape + k) 0) ⊎
+    (get_or l.view_shape k 0 ≡ 1)

@@ -3,8 +3,8 @@ use Rattle.std.proofs.Common.{◌≡◌, ◌≢◌, ◌+◌, ◌*◌, ◌<◌, �
 use Rattle.std.proofs.Math.ListN.{length-set}
 use Rattle.nd_base.specs.Size.{nonzero_size}
 use Rattle.nd_base.proofs.laws.NonzeroSize.{nonzero_size_pos, nonzero_size_from_other}
-use Rattle.ndarray_layout.specs.private.LongerAxes.{of_longer}
-use Rattle.ndarray_layout.proofs.LongerSteps.{few_of_room, of_longer_at_one, of_longer_at_other, room_at, room_more, size_of_zero_at, whole_at_end, written_more}
+use Rattle.ndarray_layout.proofs.LongerSteps.{few_of_room, of_longer_at_one, of_longer_at_other, room_at, room_more, size_of_zero_at}
+use Rattle.ndarray_layout.proofs.LongerSteps.{whole_at_end, written_more}
 use Rattle.ndarray_layout.proofs.strided.longer.longer_axes.Goals as goal
 use Rattle.ndarray_layout.proofs.strided.longer.longer_axes.Goals.{then-len-gt1, else-len-gt1}
 
@@ -16,19 +16,33 @@ returns-then-len-eq0-clause-empty c = size_of_zero_at c.args.shape.now c.loop-ax
 
 -- there is room for one more
 pub bounds-lens-count : goal.bounds-lens-count
-bounds-lens-count c = room_at c.args.shape.now c.loop-axis.axis c.loop-axis.count c.loop-axis-test.true c.if-len-eq0.false c.if-len-gt1.true c.loop-axis.invariant.room c.requires.fits
+bounds-lens-count c = room_at c.args.shape.now c.loop-axis.axis c.loop-axis.count c.loop-axis-test.true c.if-len-eq0.false c.if-len-gt1.true
+    c.loop-axis.invariant.room c.requires.fits
 
 pub offset_bounds-lens-count : goal.offset_bounds-lens-count
-offset_bounds-lens-count c = omega (arith, room_at c.args.shape.now c.loop-axis.axis c.loop-axis.count c.loop-axis-test.true c.if-len-eq0.false c.if-len-gt1.true c.loop-axis.invariant.room c.requires.fits)
+offset_bounds-lens-count c = omega (
+  arith,
+  room_at c.args.shape.now c.loop-axis.axis c.loop-axis.count c.loop-axis-test.true
+      c.if-len-eq0.false c.if-len-gt1.true c.loop-axis.invariant.room c.requires.fits,
+)
 
 pub bounds-kept-count : goal.bounds-kept-count
-bounds-kept-count c = room_at c.args.shape.now c.loop-axis.axis c.loop-axis.count c.loop-axis-test.true c.if-len-eq0.false c.if-len-gt1.true c.loop-axis.invariant.room c.requires.fits
+bounds-kept-count c = room_at c.args.shape.now c.loop-axis.axis c.loop-axis.count c.loop-axis-test.true c.if-len-eq0.false c.if-len-gt1.true
+    c.loop-axis.invariant.room c.requires.fits
 
 pub offset_bounds-kept-count : goal.offset_bounds-kept-count
-offset_bounds-kept-count c = omega (arith, room_at c.args.shape.now c.loop-axis.axis c.loop-axis.count c.loop-axis-test.true c.if-len-eq0.false c.if-len-gt1.true c.loop-axis.invariant.room c.requires.fits)
+offset_bounds-kept-count c = omega (
+  arith,
+  room_at c.args.shape.now c.loop-axis.axis c.loop-axis.count c.loop-axis-test.true
+      c.if-len-eq0.false c.if-len-gt1.true c.loop-axis.invariant.room c.requires.fits,
+)
 
 pub overflow_add-count : goal.overflow_add-count
-overflow_add-count c = omega (arith, room_at c.args.shape.now c.loop-axis.axis c.loop-axis.count c.loop-axis-test.true c.if-len-eq0.false c.if-len-gt1.true c.loop-axis.invariant.room c.requires.fits)
+overflow_add-count c = omega (
+  arith,
+  room_at c.args.shape.now c.loop-axis.axis c.loop-axis.count c.loop-axis-test.true c.if-len-eq0.false
+      c.if-len-gt1.true c.loop-axis.invariant.room c.requires.fits,
+)
 
 pub loop-axis-preserved : goal.loop-axis-preserved
 loop-axis-preserved c =
@@ -44,30 +58,45 @@ loop-axis-preserved c =
           let other : get_or shape axis 0 ≢ 1 = λ one. absurd (omega (arith, long, one)) in
           let room : count < 62 = room_at shape axis count below c.if-len-eq0.false long c.loop-axis.invariant.room c.requires.fits in
           rw (w.count-is, w.lens-is, w.kept-is) (record {
-            sizes = (length-set c.loop-axis.lens count (get_or shape axis 0) ∙ c.loop-axis.invariant.sizes.0, length-set c.loop-axis.kept count (get_or strides axis 0) ∙ c.loop-axis.invariant.sizes.1);
-            lens = written_more c.loop-axis.lens count (get_or shape axis 0) (of_longer (drop (axis + 1) shape) (drop (axis + 1) shape)) (of_longer (drop axis shape) (drop axis shape)) (of_longer shape shape) (omega (arith, c.loop-axis.invariant.sizes.0)) (of_longer_at_other shape shape axis below refl other) c.loop-axis.invariant.lens;
-            strides = written_more c.loop-axis.kept count (get_or strides axis 0) (of_longer (drop (axis + 1) shape) (drop (axis + 1) strides)) (of_longer (drop axis shape) (drop axis strides)) (of_longer shape strides) (omega (arith, c.loop-axis.invariant.sizes.1)) (of_longer_at_other shape strides axis below c.requires.counts other) c.loop-axis.invariant.strides;
-            room = room_more count (get_or shape axis 0) (nonzero_size (drop (axis + 1) shape)) (nonzero_size (drop axis shape)) (nonzero_size shape) long next c.loop-axis.invariant.room;
+            sizes = (
+              length-set c.loop-axis.lens count (get_or shape axis 0) ∙ c.loop-axis.invariant.sizes.0,
+              length-set c.loop-axis.kept
+                  count (get_or strides axis 0) ∙ c.loop-axis.invariant.sizes.1,
+            );
+            lens = written_more c.loop-axis.lens count (omega (arith, c.loop-axis.invariant.sizes.0))
+                (of_longer_at_other shape shape axis below refl other) c.loop-axis.invariant.lens;
+            strides = written_more c.loop-axis.kept count (omega (arith, c.loop-axis.invariant.sizes.1))
+                (of_longer_at_other shape strides axis below c.requires.counts other) c.loop-axis.invariant.strides;
+            room = room_more count (get_or shape axis 0) (nonzero_size (drop (axis + 1) shape)) (nonzero_size shape) long next
+                c.loop-axis.invariant.room;
           })
       | else-len-gt1 w ↦
           let one : get_or shape axis 0 ≡ 1 = omega (arith, w.if-len-gt1.false, c.if-len-eq0.false) in
-          let same : nonzero_size (drop axis shape) ≡ nonzero_size (drop (axis + 1) shape) = next ∙ ap (λ n. n * nonzero_size (drop (axis + 1) shape)) one ∙ omega arith in
+          let same : nonzero_size (drop axis shape) ≡ nonzero_size (drop (axis + 1) shape) = next
+          ∙ ap (λ n. n * nonzero_size (drop (axis + 1) shape)) one ∙ omega arith in
           rw (w.count-is, w.lens-is, w.kept-is) (record {
             sizes = c.loop-axis.invariant.sizes;
-            lens = ap (λ rest. take count c.loop-axis.lens ++ rest) (sym (of_longer_at_one shape shape axis below refl one)) ∙ c.loop-axis.invariant.lens;
-            strides = ap (λ rest. take count c.loop-axis.kept ++ rest) (sym (of_longer_at_one shape strides axis below c.requires.counts one)) ∙ c.loop-axis.invariant.strides;
+            lens = ap (λ rest. take count c.loop-axis.lens ++ rest) (sym (of_longer_at_one shape shape axis below refl one))
+                ∙ c.loop-axis.invariant.lens;
+            strides = ap (λ rest. take count c.loop-axis.kept ++ rest)
+                (sym (of_longer_at_one shape strides axis below c.requires.counts one)) ∙ c.loop-axis.invariant.strides;
             room = rw (← same) c.loop-axis.invariant.room;
           })
     ]
 
 pub invariant_of-result : goal.invariant_of-result
 invariant_of-result c =
-    record { few = few_of_room c.loop-axis.count (nonzero_size (drop c.loop-axis.axis c.args.shape.now)) (nonzero_size c.args.shape.now) (nonzero_size_pos (drop c.loop-axis.axis c.args.shape.now)) c.loop-axis.invariant.room c.requires.fits }
+    record {
+      few = few_of_room c.loop-axis.count (nonzero_size (drop c.loop-axis.axis c.args.shape.now)) (nonzero_size c.args.shape.now)
+          (nonzero_size_pos (drop c.loop-axis.axis c.args.shape.now)) c.loop-axis.invariant.room c.requires.fits;
+    }
 
 pub returns-clause-lens : goal.returns-clause-lens
 returns-clause-lens c =
-    whole_at_end (take c.loop-axis.count c.loop-axis.lens) c.args.shape.now c.args.shape.now c.loop-axis.axis (omega (arith, c.loop-axis-test.false, c.loop-axis.auto.axis-end)) ∙ c.loop-axis.invariant.lens
+    whole_at_end c.args.shape.now c.args.shape.now c.loop-axis.axis (omega (arith, c.loop-axis-test.false, c.loop-axis.auto.axis-end))
+    ∙ c.loop-axis.invariant.lens
 
 pub returns-clause-strides : goal.returns-clause-strides
 returns-clause-strides c =
-    whole_at_end (take c.loop-axis.count c.loop-axis.kept) c.args.shape.now c.args.strides.now c.loop-axis.axis (omega (arith, c.loop-axis-test.false, c.loop-axis.auto.axis-end)) ∙ c.loop-axis.invariant.strides
+    whole_at_end c.args.shape.now c.args.strides.now c.loop-axis.axis (omega (arith, c.loop-axis-test.false, c.loop-axis.auto.axis-end))
+    ∙ c.loop-axis.invariant.strides

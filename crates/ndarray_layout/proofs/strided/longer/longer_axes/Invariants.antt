@@ -1,4 +1,5 @@
--- What is written so far, followed by what the axes to come add, is the whole; each axis that is kept doubles the product of lengths at least.
+-- What is written so far, followed by what the axes to come add, is the whole; each axis that is kept doubles the product of lengths
+-- at least.
 use Rattle.std.proofs.Common.{◌≡◌, ◌≤◌, ◌*◌, ◌^◌, ◌++◌, length, take, drop}
 use Rattle.nd_base.specs.Size.{nonzero_size}
 use Rattle.ndarray_layout.specs.private.LongerAxes.{of_longer}

@@ -1,19 +1,21 @@
 -- Each entry of the slowest axis gives the places of the rest of the view from its own start on.
-use Rattle.std.proofs.Common.{◌≡◌, ℕ, List, length, ◌∷◌, sym, subst, ◌+◌, ◌*◌, ◌≤◌, ◌<◌, pos, map, vec_len, vec_capacity, ◌++◌, arith, ap, ◌∙◌}
+use Rattle.std.proofs.Common.{◌≡◌, ℕ, List, length, ◌∷◌, sym, subst, ◌+◌, ◌*◌, ◌≤◌, ◌<◌, pos, map, vec_len, vec_capacity, ◌++◌, arith, ap}
+use Rattle.std.proofs.Common.{◌∙◌}
 use Rattle.std.proofs.Math.Nat.{mul-le-mul_right}
-use Rattle.nd_base.specs.Signed.{signed, all_signed}
-use Rattle.nd_base.specs.Size.{size}
+use Rattle.nd_base.proofs.laws.Definitions.{as_read, all_signed, signed, size}
 use Rattle.std.proofs.lemmas.Grind.{common_steps}
 use Rattle.nd_base.specs.declared.order.Order.{Order}
 use Rattle.nd_base.specs.declared.order.Order.TheVariants.{RowMajor}
 use Rattle.ndarray_layout.specs.View.{IsView, view_places}
-use Rattle.nd_base.specs.Reading.{as_read}
 use Rattle.ndarray_layout.specs.private.ReadView.{view_as_read, row_view}
 use Rattle.ndarray_layout.proofs.Walks.{IsEntry, entry_of, as_read_signed, places_more, row_after, view_of_row, size_of_row, walk_whole}
 use Rattle.ndarray_layout.proofs.strided.places.+push_entries.Goals as goal
 
-entry : (t : ℕ) (c : goal.In-loop-i t) → IsEntry c.args.start c.in-Some-Some.len (as_read c.args.order c.in-Some-Some.lens.now) (signed c.in-Some-Some.stride) (all_signed (as_read c.args.order c.in-Some-Some.rest.now)) c.loop-i.i
-entry t c = entry_of c.args.order c.args.start c.in-Some-Some.len c.in-Some-Some.stride c.loop-i.i c.args.shape.now c.in-Some-Some.lens.now c.args.strides.now c.in-Some-Some.rest.now c.in-Some-Some.ensures.0 c.in-Some-Some.ensures'.0 c.requires.view c.loop-i-test.true
+entry : (t : ℕ) (c : goal.In-loop-i t)
+    → IsEntry c.args.start c.in-Some-Some.len (as_read c.args.order c.in-Some-Some.lens.now) (signed c.in-Some-Some.stride)
+    (all_signed (as_read c.args.order c.in-Some-Some.rest.now)) c.loop-i.i
+entry t c = entry_of c.args.order c.args.start c.loop-i.i c.args.shape.now c.in-Some-Some.lens.now c.args.strides.now
+    c.in-Some-Some.rest.now c.in-Some-Some.ensures.0 c.in-Some-Some.ensures'.0 c.requires.view c.loop-i-test.true
 
 pub entry_place-requires-clause-small : goal.entry_place-requires-clause-small
 entry_place-requires-clause-small t c = omega (arith, (entry t c).small)
@@ -25,20 +27,27 @@ pub entry_place-requires-clause-high : goal.entry_place-requires-clause-high
 entry_place-requires-clause-high t c = (entry t c).high
 
 -- there is room for one entry more
-room_for : (length_before i len rest capacity whole : ℕ) → i < len → whole ≡ len * rest → length_before + whole ≤ capacity → length_before + i * rest + rest ≤ capacity
-room_for length_before i len rest capacity whole h e room = omega (arith, mul-le-mul_right rest h)
+room_for : (length_before i len rest capacity : ℕ) {whole : ℕ} → i < len → whole ≡ len * rest → length_before + whole ≤ capacity
+    → length_before + i * rest + rest ≤ capacity
+room_for length_before i len rest capacity h e room = omega (arith, mul-le-mul_right rest h)
 
 pub push_entries-places-requires : goal.push_entries-places-requires
 push_entries-places-requires t c =
     let order = c.args.order in
-    let known = entry_of order c.args.start c.in-Some-Some.len c.in-Some-Some.stride c.loop-i.i c.args.shape.now c.in-Some-Some.lens.now c.args.strides.now c.in-Some-Some.rest.now c.in-Some-Some.ensures.0 c.in-Some-Some.ensures'.0 c.requires.view c.loop-i-test.true in
-    let whole : size (as_read order c.args.shape.now) ≡ c.in-Some-Some.len * size (as_read order c.in-Some-Some.lens.now) = ap size c.in-Some-Some.ensures.0 in (
+    let known = entry_of order c.args.start c.loop-i.i c.args.shape.now c.in-Some-Some.lens.now c.args.strides.now c.in-Some-Some.rest.now
+    c.in-Some-Some.ensures.0 c.in-Some-Some.ensures'.0 c.requires.view c.loop-i-test.true in
+    let whole : size (as_read order c.args.shape.now) ≡ c.in-Some-Some.len * size (as_read order c.in-Some-Some.lens.now) =
+    ap size c.in-Some-Some.ensures.0 in (
       omega (arith, c.in-Some-Some.ensures.1),
       (
         omega (arith, c.in-Some-Some.ensures.1, c.requires.few),
         (
           rw (as_read_signed order c.in-Some-Some.rest.now) (known.inner c.entry_place.result c.entry_place.ensures),
-          omega (arith, room_for (vec_len c.args.places) c.loop-i.i c.in-Some-Some.len (size (as_read order c.in-Some-Some.lens.now)) (vec_capacity c.args.places) (size (as_read order c.args.shape.now)) c.loop-i-test.true whole c.requires.room),
+          omega (
+            arith,
+            room_for (vec_len c.args.places) c.loop-i.i c.in-Some-Some.len (size (as_read order c.in-Some-Some.lens.now))
+                (vec_capacity c.args.places) c.loop-i-test.true whole c.requires.room,
+          ),
         ),
       ),
     )
@@ -47,9 +56,10 @@ pub loop-i-preserved : goal.loop-i-preserved
 loop-i-preserved t c =
     let order = c.args.order in
     let inner = rw (as_read_signed order c.in-Some-Some.rest.now) at c.push_entries-places.ensures.items in
-    let more = places_more c.args.start c.loop-i.i c.entry_place.result (as_read order c.in-Some-Some.lens.now) (signed c.in-Some-Some.stride) (all_signed (as_read order c.in-Some-Some.rest.now)) c.entry_place.ensures in
+    let more = places_more c.args.start c.loop-i.i (as_read order c.in-Some-Some.lens.now) (signed c.in-Some-Some.stride)
+    (all_signed (as_read order c.in-Some-Some.rest.now)) c.entry_place.ensures in
     record {
-      items = row_after _ _ _ _ _ _ inner c.loop-i.invariant.items more;
+      items = row_after _ _ _ inner c.loop-i.invariant.items more;
       len = omega (arith, c.push_entries-places.ensures.len, c.loop-i.invariant.len);
       capacity = c.push_entries-places.ensures.capacity ∙ c.loop-i.invariant.capacity;
     }
@@ -57,23 +67,32 @@ loop-i-preserved t c =
 pub returns-after-loop-i-clause-items : goal.returns-after-loop-i-clause-items
 returns-after-loop-i-clause-items t c =
     let all : c.loop-i.i ≡ c.in-Some-Some.len = omega arith in
-    let whole = walk_whole c.args.order c.args.start c.in-Some-Some.len c.in-Some-Some.stride c.loop-i.i c.args.shape.now c.in-Some-Some.lens.now c.args.strides.now c.in-Some-Some.rest.now c.in-Some-Some.ensures.0 c.in-Some-Some.ensures'.0 all in
+    let whole = walk_whole c.args.order c.args.start c.args.shape.now c.in-Some-Some.lens.now c.args.strides.now c.in-Some-Some.rest.now
+    c.in-Some-Some.ensures.0 c.in-Some-Some.ensures'.0 all in
     c.loop-i.invariant.items ∙ ap (λ xs. map pos c.args.places.items ++ xs) whole
 
 -- where one axis is left the whole view is one row
-row_of : (order : Order) (start len stride : ℕ) (shape lens strides rest : List ℕ) → as_read order shape ≡ len ∷ as_read order lens → as_read order strides ≡ stride ∷ as_read order rest → IsView (view_as_read order start shape (all_signed strides)) → length lens ≡ 0 → (view_as_read order start shape (all_signed strides) ≡ row_view start len (signed stride)) × (size (as_read order shape) ≡ len)
-row_of order start len stride shape lens strides rest e f view none = (view_of_row order start len stride shape lens strides rest e f none view, size_of_row order len shape lens e none)
+row_of : (order : Order) (start : ℕ) {len stride : ℕ} (shape lens strides rest : List ℕ) → as_read order shape ≡ len ∷ as_read order lens
+    → as_read order strides ≡ stride ∷ as_read order rest → IsView (view_as_read order start shape (all_signed strides)) → length lens ≡ 0
+    → (view_as_read order start shape (all_signed strides) ≡ row_view start len (signed stride)) × (size (as_read order shape) ≡ len)
+row_of order start shape lens strides rest e f view none = (
+  view_of_row order start shape lens strides rest e f none view,
+  size_of_row order
+      shape lens e none,
+)
 
 pub push_row-requires : goal.push_row-requires
 push_row-requires t c =
     let none : length c.in-Some-Some.lens.now ≡ 0 = grind (arith, common_steps) in
-    let row = row_of c.args.order c.args.start c.in-Some-Some.len c.in-Some-Some.stride c.args.shape.now c.in-Some-Some.lens.now c.args.strides.now c.in-Some-Some.rest.now c.in-Some-Some.ensures.0 c.in-Some-Some.ensures'.0 c.requires.view none in
+    let row = row_of c.args.order c.args.start c.args.shape.now c.in-Some-Some.lens.now c.args.strides.now c.in-Some-Some.rest.now
+    c.in-Some-Some.ensures.0 c.in-Some-Some.ensures'.0 c.requires.view none in
     record { view = subst IsView row.0 c.requires.view; room = omega (arith, c.requires.room, row.1) }
 
 pub returns-then-is_empty : goal.returns-then-is_empty
 returns-then-is_empty t c =
     let none : length c.in-Some-Some.lens.now ≡ 0 = grind (arith, common_steps) in
-    let row = row_of c.args.order c.args.start c.in-Some-Some.len c.in-Some-Some.stride c.args.shape.now c.in-Some-Some.lens.now c.args.strides.now c.in-Some-Some.rest.now c.in-Some-Some.ensures.0 c.in-Some-Some.ensures'.0 c.requires.view none in
+    let row = row_of c.args.order c.args.start c.args.shape.now c.in-Some-Some.lens.now c.args.strides.now c.in-Some-Some.rest.now
+    c.in-Some-Some.ensures.0 c.in-Some-Some.ensures'.0 c.requires.view none in
     record {
       items = c.push_row.ensures.items ∙ ap (λ view. map pos c.args.places.items ++ view_places RowMajor view) (sym row.0);
       len = omega (arith, c.push_row.ensures.len, row.1);

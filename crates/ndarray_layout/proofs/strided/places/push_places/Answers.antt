@@ -3,11 +3,9 @@ use Rattle.std.proofs.Common.{◌≡◌, ℕ, List, ◌++◌, pos, map, sym, ap,
 use Rattle.std.proofs.lemmas.List.{append-nil}
 use Rattle.nd_base.specs.declared.order.Order.{Order}
 use Rattle.nd_base.specs.declared.order.Order.TheVariants.{RowMajor}
-use Rattle.nd_base.specs.Signed.{all_signed}
-use Rattle.nd_base.specs.Size.{size}
+use Rattle.nd_base.proofs.laws.Definitions.{as_read, all_signed, size}
 use Rattle.ndarray_layout.specs.private.LongerAxes.{of_longer}
 use Rattle.ndarray_layout.specs.View.{IsView, view_of, view_places}
-use Rattle.nd_base.specs.Reading.{as_read}
 use Rattle.ndarray_layout.specs.private.ReadView.{view_as_read}
 use Rattle.ndarray_layout.proofs.LongerAxes.{all_signed-of_longer, IsView-longer_view, size-of_longer, view_places-longer_view}
 use Rattle.ndarray_layout.proofs.laws.View.{no_places}
@@ -16,25 +14,29 @@ use Rattle.ndarray_layout.proofs.ReadView.{places-as_read, IsView-as_read}
 use Rattle.ndarray_layout.proofs.strided.places.push_places.Goals as goal
 
 -- what is walked is the view without its axes of length 1
-walked : (order : Order) (start : ℕ) (shape strides lens kept : List ℕ) → lens ≡ of_longer shape shape → kept ≡ of_longer shape strides
-    → view_as_read order start lens (all_signed kept) ≡ view_as_read order start (of_longer shape shape) (of_longer shape (all_signed strides))
-walked order start shape strides lens kept e f = rw (e, f, all_signed-of_longer shape strides) refl
+walked : (order : Order) (start : ℕ) (shape strides : List ℕ) {lens kept : List ℕ} → lens ≡ of_longer shape shape
+    → kept ≡ of_longer shape strides
+    → view_as_read order start lens (all_signed kept) ≡ view_as_read order start (of_longer shape shape)
+    (of_longer shape (all_signed strides))
+walked order start shape strides e f = rw (e, f, all_signed-of_longer shape strides) refl
 
-walked_view : (order : Order) (start : ℕ) (shape strides lens kept : List ℕ) → lens ≡ of_longer shape shape → kept ≡ of_longer shape strides → IsView (view_of start shape strides)
-    → IsView (view_as_read order start lens (all_signed kept))
-walked_view order start shape strides lens kept e f view =
-    subst IsView (sym (walked order start shape strides lens kept e f)) (IsView-as_read order start (of_longer shape shape) (of_longer shape (all_signed strides)) (IsView-longer_view (view_of start shape strides) view))
+walked_view : (order : Order) (start : ℕ) (shape strides : List ℕ) {lens kept : List ℕ} → lens ≡ of_longer shape shape
+    → kept ≡ of_longer shape strides → IsView (view_of start shape strides) → IsView (view_as_read order start lens (all_signed kept))
+walked_view order start shape strides e f view =
+    subst IsView (sym (walked order start shape strides e f)) (IsView-as_read order start (of_longer shape shape)
+    (of_longer shape (all_signed strides)) (IsView-longer_view view))
 
-walked_places : (order : Order) (start : ℕ) (shape strides lens kept : List ℕ) → lens ≡ of_longer shape shape → kept ≡ of_longer shape strides → IsView (view_of start shape strides)
+walked_places : (order : Order) (start : ℕ) (shape strides : List ℕ) {lens kept : List ℕ} → lens ≡ of_longer shape shape
+    → kept ≡ of_longer shape strides → IsView (view_of start shape strides)
     → view_places RowMajor (view_as_read order start lens (all_signed kept)) ≡ view_places order (view_of start shape strides)
-walked_places order start shape strides lens kept e f view =
-    let left = IsView-longer_view (view_of start shape strides) view in
-    ap (view_places RowMajor) (walked order start shape strides lens kept e f)
+walked_places order start shape strides e f view =
+    let left = IsView-longer_view view in
+    ap (view_places RowMajor) (walked order start shape strides e f)
     ∙ places-as_read order start (of_longer shape shape) (of_longer shape (all_signed strides)) left.valid.same_count
     ∙ view_places-longer_view order (view_of start shape strides) view.valid.same_count
 
-walked_size : (order : Order) (shape lens : List ℕ) → lens ≡ of_longer shape shape → size (as_read order lens) ≡ size shape
-walked_size order shape lens e = size-as_read order lens ∙ ap size e ∙ size-of_longer shape
+walked_size : (order : Order) (shape : List ℕ) {lens : List ℕ} → lens ≡ of_longer shape shape → size (as_read order lens) ≡ size shape
+walked_size order shape {lens} e = size-as_read order lens ∙ ap size e ∙ size-of_longer shape
 
 pub push_entries-requires : goal.push_entries-requires
 push_entries-requires c =
@@ -42,20 +44,21 @@ push_entries-requires c =
     let kept = c.strides.ensures ∙ c.in-Some.ensures.strides in
     record {
       few = c.lens.ensures.few;
-      view = walked_view c.args.order c.args.start c.args.shape.now c.args.strides.now c.lens.result.now c.strides.result.now lens kept c.requires.view;
-      room = omega (arith, c.requires.room, walked_size c.args.order c.args.shape.now c.lens.result.now lens);
+      view = walked_view c.args.order c.args.start c.args.shape.now c.args.strides.now lens kept c.requires.view;
+      room = omega (arith, c.requires.room, walked_size c.args.order c.args.shape.now lens);
     }
 
 pub returns-in-Some-clause-items : goal.returns-in-Some-clause-items
 returns-in-Some-clause-items c =
     let lens = c.lens.ensures.list ∙ c.in-Some.ensures.lens in
     let kept = c.strides.ensures ∙ c.in-Some.ensures.strides in
-    c.push_entries.ensures.items ∙ ap (λ xs. map pos c.args.places.items ++ xs) (walked_places c.args.order c.args.start c.args.shape.now c.args.strides.now c.lens.result.now c.strides.result.now lens kept c.requires.view)
+    c.push_entries.ensures.items ∙ ap (λ xs. map pos c.args.places.items ++ xs) (walked_places c.args.order c.args.start c.args.shape.now
+    c.args.strides.now lens kept c.requires.view)
 
 pub returns-in-Some-clause-len : goal.returns-in-Some-clause-len
 returns-in-Some-clause-len c =
     let lens = c.lens.ensures.list ∙ c.in-Some.ensures.lens in
-    omega (arith, c.push_entries.ensures.len, walked_size c.args.order c.args.shape.now c.lens.result.now lens)
+    omega (arith, c.push_entries.ensures.len, walked_size c.args.order c.args.shape.now lens)
 
 pub returns-in-None-clause-items : goal.returns-in-None-clause-items
 returns-in-None-clause-items c =

@@ -1,20 +1,22 @@
-use Rattle.std.proofs.Common.{rules, ◌≡◌, Some, FitsSigned, arith, sym, ◌∙◌, to_z, of_z}
+use Rattle.std.proofs.Common.{rules, ◌≡◌, Some, FitsSigned, arith, sym, ◌∙◌}
 use Rattle.std.specs.Int.{w64}
 use Rattle.std.specs.Result.{result_err}
 use Rattle.std.proofs.lemmas.Int.{to_z-of_z}
-use Rattle.nd_base.specs.Signed.{all_signed}
-use Rattle.ndarray_layout.proofs.SliceSteps.{none_sliced, all_sliced, axis_there, room_there, at_elem, at_both, slice_arm, slice_at_fault, index_arm, index_at_fault, index_within, new_axis_step}
+use Rattle.ndarray_layout.proofs.SliceSteps.{none_sliced, all_sliced, axis_there, room_there, at_elem, at_both, slice_arm, slice_at_fault}
+use Rattle.ndarray_layout.proofs.SliceSteps.{index_arm, index_at_fault, index_within, new_axis_step}
 use Rattle.ndarray_layout.proofs.strided.slicing.write_axes.Goals as goal
 use Rattle.ndarray_layout.proofs.strided.slicing.write_axes.Goals.{in-Slice+in_ok-len-in-Slice, in-Index+in_ok-entry-in-Index, in-NewAxis}
 
 pub slice_axis-requires-clause-len_fits : goal.slice_axis-requires-clause-len_fits
 slice_axis-requires-clause-len_fits c =
-    let at = at_both c.args.fit c.args.elems.now c.args.shape.now c.args.strides.now _ _ c.loop-elem.elem-index c.loop-elem.old_axis c.loop-elem.new_axis c.loop-elem.new_shape c.loop-elem.new_strides (to_z w64 c.loop-elem.offset-bits) c.requires.valid c.loop-elem-test.true c.in-Slice.is (omega arith) c.loop-elem.invariant in
+    let at = at_both c.args.strides.now _ c.loop-elem.elem-index c.loop-elem.old_axis c.requires.valid c.loop-elem-test.true c.in-Slice.is
+    (omega arith) c.loop-elem.invariant in
     omega (arith, at.len_fits)
 
 pub slice_axis-requires-clause-span_fits : goal.slice_axis-requires-clause-span_fits
 slice_axis-requires-clause-span_fits c =
-    let at = at_both c.args.fit c.args.elems.now c.args.shape.now c.args.strides.now _ _ c.loop-elem.elem-index c.loop-elem.old_axis c.loop-elem.new_axis c.loop-elem.new_shape c.loop-elem.new_strides (to_z w64 c.loop-elem.offset-bits) c.requires.valid c.loop-elem-test.true c.in-Slice.is (omega arith) c.loop-elem.invariant in
+    let at = at_both c.args.strides.now _ c.loop-elem.elem-index c.loop-elem.old_axis c.requires.valid c.loop-elem-test.true c.in-Slice.is
+    (omega arith) c.loop-elem.invariant in
     at.reach_fits
 
 pub overflow_add-offset : goal.overflow_add-offset
@@ -23,40 +25,46 @@ overflow_add-offset c =
     let g : FitsSigned w64 c.in-Slice.step = search rules in
     let h : FitsSigned w64 c.in_ok-len-in-Slice.moved = search rules in
     let known = rw (to_z-of_z w64 c.in-Slice.start f, to_z-of_z w64 c.in-Slice.step g) at c.in_ok-len-in-Slice.ensures in
-    let at = at_both c.args.fit c.args.elems.now c.args.shape.now c.args.strides.now _ _ c.loop-elem.elem-index c.loop-elem.old_axis c.loop-elem.new_axis c.loop-elem.new_shape c.loop-elem.new_strides (to_z w64 c.loop-elem.offset-bits) c.requires.valid c.loop-elem-test.true c.in-Slice.is (omega arith) c.loop-elem.invariant in
-    (slice_arm c.args.fit c.args.elems.now c.args.shape.now c.args.strides.now (record { start = c.in-Slice.start; end = c.in-Slice.end; step = c.in-Slice.step }) c.loop-elem.elem-index c.loop-elem.old_axis c.loop-elem.new_axis c.loop-elem.new_shape c.loop-elem.new_strides (to_z w64 c.loop-elem.offset-bits) c.in_ok-len-in-Slice.len c.in_ok-len-in-Slice.stride (to_z w64 (of_z w64 c.in_ok-len-in-Slice.moved)) c.requires.valid at known.count known.stride (to_z-of_z w64 c.in_ok-len-in-Slice.moved h ∙ known.offset) (sym known.fault)).fits
+    let at = at_both c.args.strides.now _ c.loop-elem.elem-index c.loop-elem.old_axis c.requires.valid c.loop-elem-test.true c.in-Slice.is
+    (omega arith) c.loop-elem.invariant in
+    (slice_arm (record { start = c.in-Slice.start; end = c.in-Slice.end; step = c.in-Slice.step }) c.in_ok-len-in-Slice.stride
+    c.requires.valid at known.count known.stride (to_z-of_z w64 c.in_ok-len-in-Slice.moved h ∙ known.offset) (sym known.fault)).fits
 
 pub returns-in_err-len-in-Slice-clause-fault : goal.returns-in_err-len-in-Slice-clause-fault
 returns-in_err-len-in-Slice-clause-fault c =
     let f : FitsSigned w64 c.in-Slice.start = search rules in
     let g : FitsSigned w64 c.in-Slice.step = search rules in
     let known = rw (to_z-of_z w64 c.in-Slice.start f, to_z-of_z w64 c.in-Slice.step g) at c.in_err-len-in-Slice.ensures in
-    let at = at_both c.args.fit c.args.elems.now c.args.shape.now c.args.strides.now _ _ c.loop-elem.elem-index c.loop-elem.old_axis c.loop-elem.new_axis c.loop-elem.new_shape c.loop-elem.new_strides (to_z w64 c.loop-elem.offset-bits) c.requires.valid c.loop-elem-test.true c.in-Slice.is (omega arith) c.loop-elem.invariant in
+    let at = at_both c.args.strides.now _ c.loop-elem.elem-index c.loop-elem.old_axis c.requires.valid c.loop-elem-test.true c.in-Slice.is
+    (omega arith) c.loop-elem.invariant in
     let same : result_err c.from_residual.result ≡ Some c.in_err-len-in-Slice.field-0.0 = search rules in
-    same ∙ slice_at_fault _ _ _ _ _ _ _ _ _ _ _ (record { start = c.in-Slice.start; end = c.in-Slice.end; step = c.in-Slice.step }) _ _ c.in_err-len-in-Slice.field-0.0 known.fault at.so_far
+    same ∙ slice_at_fault (record { start = c.in-Slice.start; end = c.in-Slice.end; step = c.in-Slice.step }) known.fault at.so_far
 
 pub returns-in_err-entry-in-Index-clause-fault : goal.returns-in_err-entry-in-Index-clause-fault
 returns-in_err-entry-in-Index-clause-fault c =
     let f : FitsSigned w64 c.in-Index.index = search rules in
     let known = rw (to_z-of_z w64 c.in-Index.index f) at c.in_err-entry-in-Index.ensures in
-    let at = at_both c.args.fit c.args.elems.now c.args.shape.now c.args.strides.now _ _ c.loop-elem.elem-index c.loop-elem.old_axis c.loop-elem.new_axis c.loop-elem.new_shape c.loop-elem.new_strides (to_z w64 c.loop-elem.offset-bits) c.requires.valid c.loop-elem-test.true c.in-Index.is (omega arith) c.loop-elem.invariant in
+    let at = at_both c.args.strides.now _ c.loop-elem.elem-index c.loop-elem.old_axis c.requires.valid c.loop-elem-test.true c.in-Index.is
+    (omega arith) c.loop-elem.invariant in
     let same : result_err c.from_residual-in_err-entry-in-Index.result ≡ Some c.in_err-entry-in-Index.field-0.0 = search rules in
-    same ∙ index_at_fault _ _ _ _ _ _ _ _ _ _ _ _ _ _ c.in_err-entry-in-Index.field-0.0 known.fault at.so_far
+    same ∙ index_at_fault _ known.fault at.so_far
 
 pub stride_offset-offset-requires-clause-small : goal.stride_offset-offset-requires-clause-small
 stride_offset-offset-requires-clause-small c =
     let f : FitsSigned w64 c.in-Index.index = search rules in
     let known = rw (to_z-of_z w64 c.in-Index.index f) at c.in_ok-entry-in-Index.ensures in
-    let at = at_both c.args.fit c.args.elems.now c.args.shape.now c.args.strides.now _ _ c.loop-elem.elem-index c.loop-elem.old_axis c.loop-elem.new_axis c.loop-elem.new_shape c.loop-elem.new_strides (to_z w64 c.loop-elem.offset-bits) c.requires.valid c.loop-elem-test.true c.in-Index.is (omega arith) c.loop-elem.invariant in
-    let entry = index_within _ _ _ _ _ _ _ _ _ _ _ at (sym known.fault) in
+    let at = at_both c.args.strides.now _ c.loop-elem.elem-index c.loop-elem.old_axis c.requires.valid c.loop-elem-test.true c.in-Index.is
+    (omega arith) c.loop-elem.invariant in
+    let entry = index_within at (sym known.fault) in
     omega (arith, entry.small c.in_ok-entry-in-Index.entry known.entry)
 
 pub stride_offset-offset-requires-clause-fits : goal.stride_offset-offset-requires-clause-fits
 stride_offset-offset-requires-clause-fits c =
     let f : FitsSigned w64 c.in-Index.index = search rules in
     let known = rw (to_z-of_z w64 c.in-Index.index f) at c.in_ok-entry-in-Index.ensures in
-    let at = at_both c.args.fit c.args.elems.now c.args.shape.now c.args.strides.now _ _ c.loop-elem.elem-index c.loop-elem.old_axis c.loop-elem.new_axis c.loop-elem.new_shape c.loop-elem.new_strides (to_z w64 c.loop-elem.offset-bits) c.requires.valid c.loop-elem-test.true c.in-Index.is (omega arith) c.loop-elem.invariant in
-    let entry = index_within _ _ _ _ _ _ _ _ _ _ _ at (sym known.fault) in
+    let at = at_both c.args.strides.now _ c.loop-elem.elem-index c.loop-elem.old_axis c.requires.valid c.loop-elem-test.true c.in-Index.is
+    (omega arith) c.loop-elem.invariant in
+    let entry = index_within at (sym known.fault) in
     entry.offset_fits c.in_ok-entry-in-Index.entry known.entry
 
 pub overflow_add-offset-in-Index : goal.overflow_add-offset-in-Index
@@ -64,9 +72,10 @@ overflow_add-offset-in-Index c =
     let h : FitsSigned w64 c.stride_offset-offset.result = search rules in
     let f : FitsSigned w64 c.in-Index.index = search rules in
     let known = rw (to_z-of_z w64 c.in-Index.index f) at c.in_ok-entry-in-Index.ensures in
-    let at = at_both c.args.fit c.args.elems.now c.args.shape.now c.args.strides.now _ _ c.loop-elem.elem-index c.loop-elem.old_axis c.loop-elem.new_axis c.loop-elem.new_shape c.loop-elem.new_strides (to_z w64 c.loop-elem.offset-bits) c.requires.valid c.loop-elem-test.true c.in-Index.is (omega arith) c.loop-elem.invariant in
+    let at = at_both c.args.strides.now _ c.loop-elem.elem-index c.loop-elem.old_axis c.requires.valid c.loop-elem-test.true c.in-Index.is
+    (omega arith) c.loop-elem.invariant in
     let moved = rw known.entry at c.stride_offset-offset.ensures in
-    (index_arm _ _ _ _ _ _ _ _ _ _ _ (to_z w64 (of_z w64 c.stride_offset-offset.result)) c.requires.valid at (to_z-of_z w64 c.stride_offset-offset.result h ∙ moved) (sym known.fault)).fits
+    (index_arm _ c.requires.valid at (to_z-of_z w64 c.stride_offset-offset.result h ∙ moved) (sym known.fault)).fits
 
 pub loop-elem-preserved : goal.loop-elem-preserved
 loop-elem-preserved c =
@@ -76,55 +85,69 @@ loop-elem-preserved c =
           let g : FitsSigned w64 w.in-Slice.step = search rules in
           let h : FitsSigned w64 w.in_ok-len-in-Slice.moved = search rules in
           let known = rw (to_z-of_z w64 w.in-Slice.start f, to_z-of_z w64 w.in-Slice.step g) at w.in_ok-len-in-Slice.ensures in
-          let at = at_both c.args.fit c.args.elems.now c.args.shape.now c.args.strides.now _ _ c.loop-elem.elem-index c.loop-elem.old_axis c.loop-elem.new_axis c.loop-elem.new_shape c.loop-elem.new_strides (to_z w64 c.loop-elem.offset-bits) c.requires.valid c.loop-elem-test.true w.in-Slice.is (omega arith) c.loop-elem.invariant in
-          rw (w.old_axis-is, w.new_axis-is, w.new_shape-is, w.new_strides-is, w.offset-is) (slice_arm c.args.fit c.args.elems.now c.args.shape.now c.args.strides.now (record { start = w.in-Slice.start; end = w.in-Slice.end; step = w.in-Slice.step }) c.loop-elem.elem-index c.loop-elem.old_axis c.loop-elem.new_axis c.loop-elem.new_shape c.loop-elem.new_strides (to_z w64 c.loop-elem.offset-bits) w.in_ok-len-in-Slice.len w.in_ok-len-in-Slice.stride (to_z w64 (of_z w64 w.in_ok-len-in-Slice.moved)) c.requires.valid at known.count known.stride (to_z-of_z w64 w.in_ok-len-in-Slice.moved h ∙ known.offset) (sym known.fault)).next
+          let at = at_both c.args.strides.now _ c.loop-elem.elem-index c.loop-elem.old_axis c.requires.valid c.loop-elem-test.true
+          w.in-Slice.is (omega arith) c.loop-elem.invariant in
+          rw (w.old_axis-is, w.new_axis-is, w.new_shape-is, w.new_strides-is, w.offset-is)
+          (slice_arm (record { start = w.in-Slice.start; end = w.in-Slice.end; step = w.in-Slice.step }) w.in_ok-len-in-Slice.stride
+          c.requires.valid at known.count known.stride (to_z-of_z w64 w.in_ok-len-in-Slice.moved h ∙ known.offset)
+          (sym known.fault)).next
       | in-Index+in_ok-entry-in-Index w ↦
           let h : FitsSigned w64 w.stride_offset-offset.result = search rules in
           let f : FitsSigned w64 w.in-Index.index = search rules in
           let known = rw (to_z-of_z w64 w.in-Index.index f) at w.in_ok-entry-in-Index.ensures in
-          let at = at_both c.args.fit c.args.elems.now c.args.shape.now c.args.strides.now _ _ c.loop-elem.elem-index c.loop-elem.old_axis c.loop-elem.new_axis c.loop-elem.new_shape c.loop-elem.new_strides (to_z w64 c.loop-elem.offset-bits) c.requires.valid c.loop-elem-test.true w.in-Index.is (omega arith) c.loop-elem.invariant in
+          let at = at_both c.args.strides.now _ c.loop-elem.elem-index c.loop-elem.old_axis c.requires.valid c.loop-elem-test.true
+          w.in-Index.is (omega arith) c.loop-elem.invariant in
           let moved = rw known.entry at w.stride_offset-offset.ensures in
-          rw (w.old_axis-is, w.new_axis-is, w.new_shape-is, w.new_strides-is, w.offset-is) (index_arm _ _ _ _ _ _ _ _ _ _ _ (to_z w64 (of_z w64 w.stride_offset-offset.result)) c.requires.valid at (to_z-of_z w64 w.stride_offset-offset.result h ∙ moved) (sym known.fault)).next
+          rw (w.old_axis-is, w.new_axis-is, w.new_shape-is, w.new_strides-is, w.offset-is)
+          (index_arm _ c.requires.valid at (to_z-of_z w64 w.stride_offset-offset.result h ∙ moved) (sym known.fault)).next
       | in-NewAxis w ↦
-          let here = at_elem c.args.fit c.args.elems.now c.args.shape.now (all_signed c.args.strides.now) c.loop-elem.elem-index _ _ _ _ _ _ _ _ c.loop-elem-test.true w.in-NewAxis.is c.loop-elem.invariant in
-          rw (w.old_axis-is, w.new_axis-is, w.new_shape-is, w.new_strides-is, w.offset-is) (new_axis_step _ _ _ _ _ _ _ _ _ _ _ here)
+          let here = at_elem c.loop-elem.elem-index _ c.loop-elem-test.true w.in-NewAxis.is c.loop-elem.invariant in
+          rw (w.old_axis-is, w.new_axis-is, w.new_shape-is, w.new_strides-is, w.offset-is) (new_axis_step here)
     ]
 
 pub loop-elem-init : goal.loop-elem-init
-loop-elem-init c = none_sliced c.args.fit c.args.elems.now c.args.shape.now (all_signed c.args.strides.now) c.args.new_shape.now c.args.new_strides.now c.requires.valid c.requires.counts c.requires.shape_room c.requires.strides_room
+loop-elem-init c = none_sliced c.requires.valid c.requires.counts c.requires.shape_room c.requires.strides_room
 
 pub returns-clause-fault : goal.returns-clause-fault
-returns-clause-fault c = (all_sliced c.args.fit c.args.elems.now c.args.shape.now (all_signed c.args.strides.now) c.loop-elem.elem-index _ _ _ _ _ _ c.loop-elem-test.false c.loop-elem.invariant).fault
+returns-clause-fault c = (all_sliced c.loop-elem.elem-index c.loop-elem-test.false c.loop-elem.invariant).fault
 
 pub returns-clause-shape : goal.returns-clause-shape
-returns-clause-shape c = (all_sliced c.args.fit c.args.elems.now c.args.shape.now (all_signed c.args.strides.now) c.loop-elem.elem-index _ _ _ _ _ _ c.loop-elem-test.false c.loop-elem.invariant).shape_is
+returns-clause-shape c = (all_sliced c.loop-elem.elem-index c.loop-elem-test.false c.loop-elem.invariant).shape_is
 
 pub returns-clause-strides : goal.returns-clause-strides
-returns-clause-strides c = (all_sliced c.args.fit c.args.elems.now c.args.shape.now (all_signed c.args.strides.now) c.loop-elem.elem-index _ _ _ _ _ _ c.loop-elem-test.false c.loop-elem.invariant).strides_is
+returns-clause-strides c = (all_sliced c.loop-elem.elem-index c.loop-elem-test.false c.loop-elem.invariant).strides_is
 
 pub returns-clause-offset : goal.returns-clause-offset
-returns-clause-offset c = (all_sliced c.args.fit c.args.elems.now c.args.shape.now (all_signed c.args.strides.now) c.loop-elem.elem-index _ _ _ _ _ _ c.loop-elem-test.false c.loop-elem.invariant).offset_is
+returns-clause-offset c = (all_sliced c.loop-elem.elem-index c.loop-elem-test.false c.loop-elem.invariant).offset_is
 
 pub bounds-shape-old_axis : goal.bounds-shape-old_axis
-bounds-shape-old_axis c = (axis_there c.args.fit c.args.elems.now c.args.shape.now c.args.strides.now _ _ c.loop-elem.elem-index c.loop-elem.old_axis c.loop-elem.new_axis c.loop-elem.new_shape c.loop-elem.new_strides _ c.requires.valid c.loop-elem-test.true c.in-Slice.is (omega arith) c.loop-elem.invariant).0
+bounds-shape-old_axis c = (axis_there c.args.strides.now _ c.loop-elem.elem-index c.loop-elem.old_axis c.requires.valid
+    c.loop-elem-test.true c.in-Slice.is (omega arith) c.loop-elem.invariant).0
 
 pub bounds-strides-old_axis : goal.bounds-strides-old_axis
-bounds-strides-old_axis c = (axis_there c.args.fit c.args.elems.now c.args.shape.now c.args.strides.now _ _ c.loop-elem.elem-index c.loop-elem.old_axis c.loop-elem.new_axis c.loop-elem.new_shape c.loop-elem.new_strides _ c.requires.valid c.loop-elem-test.true c.in-Slice.is (omega arith) c.loop-elem.invariant).1
+bounds-strides-old_axis c = (axis_there c.args.strides.now _ c.loop-elem.elem-index c.loop-elem.old_axis c.requires.valid
+    c.loop-elem-test.true c.in-Slice.is (omega arith) c.loop-elem.invariant).1
 
 pub bounds-new_shape-new_axis : goal.bounds-new_shape-new_axis
-bounds-new_shape-new_axis c = (room_there c.args.fit c.args.elems.now c.args.shape.now (all_signed c.args.strides.now) _ _ c.loop-elem.elem-index _ _ c.loop-elem.new_axis c.loop-elem.new_shape c.loop-elem.new_strides _ c.loop-elem-test.true c.in-Slice.is (omega arith) c.loop-elem.invariant).0
+bounds-new_shape-new_axis c = (room_there _ c.loop-elem.elem-index c.loop-elem-test.true c.in-Slice.is (omega arith)
+    c.loop-elem.invariant).0
 
 pub bounds-new_strides-new_axis : goal.bounds-new_strides-new_axis
-bounds-new_strides-new_axis c = (room_there c.args.fit c.args.elems.now c.args.shape.now (all_signed c.args.strides.now) _ _ c.loop-elem.elem-index _ _ c.loop-elem.new_axis c.loop-elem.new_shape c.loop-elem.new_strides _ c.loop-elem-test.true c.in-Slice.is (omega arith) c.loop-elem.invariant).1
+bounds-new_strides-new_axis c = (room_there _ c.loop-elem.elem-index c.loop-elem-test.true c.in-Slice.is (omega arith)
+    c.loop-elem.invariant).1
 
 pub bounds-shape-old_axis-in-Index : goal.bounds-shape-old_axis-in-Index
-bounds-shape-old_axis-in-Index c = (axis_there c.args.fit c.args.elems.now c.args.shape.now c.args.strides.now _ _ c.loop-elem.elem-index c.loop-elem.old_axis c.loop-elem.new_axis c.loop-elem.new_shape c.loop-elem.new_strides _ c.requires.valid c.loop-elem-test.true c.in-Index.is (omega arith) c.loop-elem.invariant).0
+bounds-shape-old_axis-in-Index c = (axis_there c.args.strides.now _ c.loop-elem.elem-index c.loop-elem.old_axis c.requires.valid
+    c.loop-elem-test.true c.in-Index.is (omega arith) c.loop-elem.invariant).0
 
 pub bounds-strides-old_axis-in-Index : goal.bounds-strides-old_axis-in-Index
-bounds-strides-old_axis-in-Index c = (axis_there c.args.fit c.args.elems.now c.args.shape.now c.args.strides.now _ _ c.loop-elem.elem-index c.loop-elem.old_axis c.loop-elem.new_axis c.loop-elem.new_shape c.loop-elem.new_strides _ c.requires.valid c.loop-elem-test.true c.in-Index.is (omega arith) c.loop-elem.invariant).1
+bounds-strides-old_axis-in-Index c = (axis_there c.args.strides.now _ c.loop-elem.elem-index c.loop-elem.old_axis c.requires.valid
+    c.loop-elem-test.true c.in-Index.is (omega arith) c.loop-elem.invariant).1
 
 pub bounds-new_shape-new_axis-in-NewAxis : goal.bounds-new_shape-new_axis-in-NewAxis
-bounds-new_shape-new_axis-in-NewAxis c = (room_there c.args.fit c.args.elems.now c.args.shape.now (all_signed c.args.strides.now) _ _ c.loop-elem.elem-index _ _ c.loop-elem.new_axis c.loop-elem.new_shape c.loop-elem.new_strides _ c.loop-elem-test.true c.in-NewAxis.is (omega arith) c.loop-elem.invariant).0
+bounds-new_shape-new_axis-in-NewAxis c = (room_there _ c.loop-elem.elem-index c.loop-elem-test.true c.in-NewAxis.is (omega arith)
+    c.loop-elem.invariant).0
 
 pub bounds-new_strides-new_axis-in-NewAxis : goal.bounds-new_strides-new_axis-in-NewAxis
-bounds-new_strides-new_axis-in-NewAxis c = (room_there c.args.fit c.args.elems.now c.args.shape.now (all_signed c.args.strides.now) _ _ c.loop-elem.elem-index _ _ c.loop-elem.new_axis c.loop-elem.new_shape c.loop-elem.new_strides _ c.loop-elem-test.true c.in-NewAxis.is (omega arith) c.loop-elem.invariant).1
+bounds-new_strides-new_axis-in-NewAxis c = (room_there _ c.loop-elem.elem-index c.loop-elem-test.true c.in-NewAxis.is (omega arith)
+    c.loop-elem.invariant).1

@@ -12,8 +12,10 @@ returns-clause-steps c =
     let same : length c.in_ok-len.lens.now ≡ length c.in_ok-stride.strides.now = search rules in
     ap (λ xs. axes_from c.args.self.now.first xs (all_signed c.args.self.now.strides.now)) lens
     ∙ ap (λ ys. axes_from c.args.self.now.first (c.in_ok-len.lens.now ++ c.in_ok-len.len.now ∷ []) (all_signed ys)) strides
-    ∙ axes_left-push c.args.self.now.first c.in_ok-len.lens.now c.in_ok-stride.strides.now c.in_ok-len.len.now c.in_ok-stride.stride.now same
-    ∙ ap (λ s. axes_from c.args.self.now.first c.in_ok-len.lens.now (all_signed c.in_ok-stride.strides.now) ++ description (c.args.self.now.first + length c.in_ok-len.lens.now) c.in_ok-len.len.now s ∷ []) (search rules)
+    ∙ axes_left-push c.args.self.now.first c.in_ok-len.lens.now c.in_ok-stride.strides.now c.in_ok-len.len.now c.in_ok-stride.stride.now
+    same
+    ∙ ap (λ s. axes_from c.args.self.now.first c.in_ok-len.lens.now (all_signed c.in_ok-stride.strides.now) ++ description
+    (c.args.self.now.first + length c.in_ok-len.lens.now) c.in_ok-len.len.now s ∷ []) (search rules)
 
 pub returns-clause-goes : goal.returns-clause-goes
 returns-clause-goes c =

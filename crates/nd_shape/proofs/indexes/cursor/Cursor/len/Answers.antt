@@ -8,4 +8,6 @@ use Rattle.nd_shape.proofs.indexes.cursor.Cursor.len.Goals as goal
 pub returns : goal.returns
 returns g c =
     let shape = lengths c.self.inside.dim in
-    sym (length-indices_left g.O.WalkOrder.order shape c.self.inside.left (after_within g.O.WalkOrder.order shape (lengths c.self.inside.index) c.self.inside.is_lent c.self.inside.left c.self.invariant)) ∙ ap length c.self.view_is
+    sym (length-indices_left g.O.WalkOrder.order shape c.self.inside.left
+    (after_within g.O.WalkOrder.order shape (lengths c.self.inside.index) c.self.inside.is_lent c.self.inside.left c.self.invariant))
+    ∙ ap length c.self.view_is

@@ -20,12 +20,12 @@ zeros g c some = elim c.if-left-eq0.branch [
 
 pub invariant_of-result : goal.invariant_of-result
 invariant_of-result g c =
-    let whole : c.product-left.result ≡ size (lengths c.args.dim) = c.product-left.ensures ∙ ap size c.slice.ensures.list in
+    let whole = c.product-left.ensures ∙ ap size c.slice.ensures.list in
     starts g.O.WalkOrder.order (lengths c.args.dim) (lengths c.in_ok-index.index) c.product-left.result (zeros g c) whole
 
 pub returns-in_err-index-clause-no_index : goal.returns-in_err-index-clause-no_index
 returns-in_err-index-clause-no_index g c none =
-    let empty : c.product-left.result ≡ 0 = c.product-left.ensures ∙ ap size c.slice.ensures.list ∙ size_of_empty (lengths c.args.dim) none in
+    let empty = c.product-left.ensures ∙ ap size c.slice.ensures.list ∙ size_of_empty (lengths c.args.dim) none in
     let few : c.if-left-eq0.axes ≤ INLINE_AXES = elim c.if-left-eq0.branch [
       | then-left-eq0 w ↦ omega (arith, w.axes-is)
       | else-left-eq0 w ↦ absurd (omega (arith, w.if-left-eq0.false, empty))
@@ -34,4 +34,5 @@ returns-in_err-index-clause-no_index g c none =
 
 pub returns-clause-items : goal.returns-clause-items
 returns-clause-items g c =
-    ap (indices_left g.O.WalkOrder.order (lengths c.args.dim)) (c.product-left.ensures ∙ ap size c.slice.ensures.list) ∙ indices_left-whole g.O.WalkOrder.order (lengths c.args.dim)
+    ap (indices_left g.O.WalkOrder.order (lengths c.args.dim)) (c.product-left.ensures ∙ ap size c.slice.ensures.list)
+    ∙ indices_left-whole g.O.WalkOrder.order (lengths c.args.dim)

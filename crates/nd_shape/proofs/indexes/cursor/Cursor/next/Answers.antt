@@ -16,8 +16,11 @@ returns-then-self-eq0 g c =
 pub step-requires : goal.step-requires
 step-requires g c =
     let at : StandsAt g.O.WalkOrder.order (lengths c.self.inside.dim) (c.self.inside.left + 1) (lengths c.self.inside.index) =
-    subst (λ b. StandsAt g.O.WalkOrder.order (lengths c.self.inside.dim) (cond b (c.self.inside.left + 1) c.self.inside.left) (lengths c.self.inside.index)) c.if-self.true c.self.invariant in
-    rw (c.slice.ensures.list, c.slice_mut.ensures.list) (stands_at_index g.O.WalkOrder.order (lengths c.self.inside.dim) (lengths c.self.inside.index) (c.self.inside.left + 1) (omega arith) at)
+    subst (λ b. StandsAt g.O.WalkOrder.order (lengths c.self.inside.dim) (cond b (c.self.inside.left + 1) c.self.inside.left)
+    (lengths c.self.inside.index)) c.if-self.true c.self.invariant in
+    rw (c.slice.ensures.list, c.slice_mut.ensures.list)
+    (stands_at_index g.O.WalkOrder.order (lengths c.self.inside.dim) (lengths c.self.inside.index) (c.self.inside.left + 1)
+    (omega arith) at)
 
 pub invariant_of-self-2 : goal.invariant_of-self-2
 invariant_of-self-2 g c =
@@ -25,10 +28,17 @@ invariant_of-self-2 g c =
     let n = c.self.inside.left in
     let after = λ (b : Bool). StandsAt g.O.WalkOrder.order shape (cond b (n + 1) n) (lengths c.self.inside.index) in
     let same : n ≡ n - 1 + 1 = omega arith in
-    let Stands = λ (inside : Inside g.row.O.Denot). StandsAt g.O.WalkOrder.order (lengths inside.dim) (inside.left - 1 + 1) (lengths inside.index) in
+    let Stands = λ (inside : Inside g.row.O.Denot). StandsAt g.O.WalkOrder.order (lengths inside.dim) (inside.left - 1 + 1)
+    (lengths inside.index) in
     elim c.if-self.branch [
-      | then-self w ↦ subst Stands (sym w.self-inside-is) (subst (λ m. StandsAt g.O.WalkOrder.order shape m (lengths (rewritten c.self.inside.index w.step.new.index))) same (moved_kept g.O.WalkOrder.order shape c.self.inside.index n w.step.result (subst after w.if-self.true c.self.invariant) (rw (← w.slice.ensures.list, ← w.slice_mut.ensures.list) w.step.ensures.more) (rw (← w.slice.ensures.list, ← w.slice_mut.ensures.list) w.step.ensures.next) (omega arith)))
-      | else-self w ↦ subst Stands (sym w.self-inside-is) (subst (λ m. StandsAt g.O.WalkOrder.order shape m (lengths c.self.inside.index)) same (subst after w.if-self.false c.self.invariant))
+      | then-self w ↦ subst Stands (sym w.self-inside-is)
+          (subst (λ m. StandsAt g.O.WalkOrder.order shape m (lengths (rewritten c.self.inside.index w.step.new.index))) same
+          (moved_kept g.O.WalkOrder.order shape c.self.inside.index n w.step.result (subst after w.if-self.true c.self.invariant)
+          (rw (← w.slice.ensures.list, ← w.slice_mut.ensures.list) w.step.ensures.more)
+          (rw (← w.slice.ensures.list, ← w.slice_mut.ensures.list) w.step.ensures.next) (omega arith)))
+      | else-self w ↦ subst Stands (sym w.self-inside-is)
+          (subst (λ m. StandsAt g.O.WalkOrder.order shape m (lengths c.self.inside.index)) same
+          (subst after w.if-self.false c.self.invariant))
     ]
 
 pub returns : goal.returns
@@ -36,9 +46,17 @@ returns g c =
     let shape = lengths c.self.inside.dim in
     let n = c.self.inside.left in
     let after = λ (b : Bool). StandsAt g.O.WalkOrder.order shape (cond b (n + 1) n) (lengths c.self.inside.index) in
-    let Lends = λ (inside : Inside g.row.O.Denot). (indices_left g.O.WalkOrder.order (lengths inside.dim) (inside.left - 1) ≡ drop 1 c.args.self.now) × (Some (lengths inside.index) ≡ slice_get c.args.self.now 0) in
+    let Lends = λ (inside : Inside g.row.O.Denot).
+    (indices_left g.O.WalkOrder.order (lengths inside.dim) (inside.left - 1) ≡ drop 1 c.args.self.now)
+    × (Some (lengths inside.index) ≡ slice_get c.args.self.now 0) in
     let lent : Lends c.if-self.self-inside = elim c.if-self.branch [
-      | then-self w ↦ subst Lends (sym w.self-inside-is) (lends g.O.WalkOrder.order shape (lengths (rewritten c.self.inside.index w.step.new.index)) n c.args.self.now (omega arith) (moved_kept g.O.WalkOrder.order shape c.self.inside.index n w.step.result (subst after w.if-self.true c.self.invariant) (rw (← w.slice.ensures.list, ← w.slice_mut.ensures.list) w.step.ensures.more) (rw (← w.slice.ensures.list, ← w.slice_mut.ensures.list) w.step.ensures.next) (omega arith)) c.self.view_is)
-      | else-self w ↦ subst Lends (sym w.self-inside-is) (lends g.O.WalkOrder.order shape (lengths c.self.inside.index) n c.args.self.now (omega arith) (subst after w.if-self.false c.self.invariant) c.self.view_is)
+      | then-self w ↦ subst Lends (sym w.self-inside-is)
+          (lends g.O.WalkOrder.order shape (lengths (rewritten c.self.inside.index w.step.new.index)) n c.args.self.now (omega arith)
+          (moved_kept g.O.WalkOrder.order shape c.self.inside.index n w.step.result (subst after w.if-self.true c.self.invariant)
+          (rw (← w.slice.ensures.list, ← w.slice_mut.ensures.list) w.step.ensures.more)
+          (rw (← w.slice.ensures.list, ← w.slice_mut.ensures.list) w.step.ensures.next) (omega arith)) c.self.view_is)
+      | else-self w ↦ subst Lends (sym w.self-inside-is)
+          (lends g.O.WalkOrder.order shape (lengths c.self.inside.index) n c.args.self.now (omega arith)
+          (subst after w.if-self.false c.self.invariant) c.self.view_is)
     ] in
     ((refl, λ _. tt, lent.0), record { rest = tt; index = ap Some c.slice-2.ensures.list ∙ lent.1 })

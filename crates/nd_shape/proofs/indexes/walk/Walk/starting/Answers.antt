@@ -9,9 +9,13 @@ use Rattle.nd_shape.proofs.indexes.walk.Walk.starting.Goals as goal
 pub invariant_of-result : goal.invariant_of-result
 invariant_of-result g c =
     let shape = g.D.Lengths.list c.args.dim in
-    starts_at g.O.WalkOrder.order shape (g.D.Lengths.list c.args.first) c.product-left.result c.requires.first (c.product-left.ensures ∙ ap size c.slice.ensures.list)
+    starts_at g.O.WalkOrder.order shape (g.D.Lengths.list c.args.first) c.product-left.result c.requires.first
+    (c.product-left.ensures ∙ ap size c.slice.ensures.list)
 
 pub returns : goal.returns
 returns g c =
     let shape = g.D.Lengths.list c.args.dim in
-    record { items = ap (indices_left g.O.WalkOrder.order shape) (c.product-left.ensures ∙ ap size c.slice.ensures.list) ∙ indices_left-whole g.O.WalkOrder.order shape }
+    record {
+      items = ap (indices_left g.O.WalkOrder.order shape) (c.product-left.ensures ∙ ap size c.slice.ensures.list)
+          ∙ indices_left-whole g.O.WalkOrder.order shape;
+    }

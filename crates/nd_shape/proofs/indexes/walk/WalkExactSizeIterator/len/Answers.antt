@@ -5,4 +5,6 @@ use Rattle.nd_shape.proofs.indexes.walk.WalkExactSizeIterator.len.Goals as goal
 
 pub returns-clause-value : goal.returns-clause-value
 returns-clause-value g c =
-    sym (length-indices_left g.O.WalkOrder.order (g.D.Lengths.list c.self.inside.dim) c.self.inside.left (within_shape g.O.WalkOrder.order (g.D.Lengths.list c.self.inside.dim) c.self.inside.left (cond c.self.inside.has_remaining (Some (g.D.Lengths.list c.self.inside.index)) None) c.self.invariant)) ∙ ap length c.self.view_is
+    sym (length-indices_left g.O.WalkOrder.order (g.D.Lengths.list c.self.inside.dim) c.self.inside.left
+    (within_shape g.O.WalkOrder.order (g.D.Lengths.list c.self.inside.dim) c.self.inside.left
+    (cond c.self.inside.has_remaining (Some (g.D.Lengths.list c.self.inside.index)) None) c.self.invariant)) ∙ ap length c.self.view_is

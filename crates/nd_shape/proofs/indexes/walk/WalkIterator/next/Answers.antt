@@ -9,7 +9,8 @@ pub returns-then-not-self-clause-steps : goal.returns-then-not-self-clause-steps
 returns-then-not-self-clause-steps g c =
     let shape = g.D.Lengths.list c.self.inside.dim in
     let index = Some (g.D.Lengths.list c.self.inside.index) in
-    let none = none_left g.O.WalkOrder.order shape c.self.inside.left (cond c.self.inside.has_remaining index None) c.self.invariant (ap (λ b. cond b index None) c.if-not-self.true) in
+    let none = none_left g.O.WalkOrder.order shape c.self.inside.left (cond c.self.inside.has_remaining index None) c.self.invariant
+    (ap (λ b. cond b index None) c.if-not-self.true) in
     let nothing = gives_none g.O.WalkOrder.order shape c.self.inside.left c.args.self.now none c.self.view_is in
     (nothing, nothing)
 
@@ -28,8 +29,11 @@ invariant_of-self-then-self g c =
     let next = c.step-self-inside.new.index in
     let more = c.step-self-inside.result in
     let at = stands_at g.O.WalkOrder.order shape index c.self.inside.left _ c.self.invariant c.if-not-self.false in
-    let there = goes_on_to g.O.WalkOrder.order shape next more at.0 at.1 (rw (← c.slice.ensures.list, ← c.slice_mut.ensures.list) c.step-self-inside.ensures.more) (rw (← c.slice.ensures.list, ← c.slice_mut.ensures.list) c.step-self-inside.ensures.next) in
-    let kept = g.met.D.Lengths.list_of_with_list c.self.inside.index next (c.step-self-inside.auto.index ∙ ap length c.slice_mut.ensures.list) in
+    let there = goes_on_to g.O.WalkOrder.order shape next more at.0 at.1
+    (rw (← c.slice.ensures.list, ← c.slice_mut.ensures.list) c.step-self-inside.ensures.more)
+    (rw (← c.slice.ensures.list, ← c.slice_mut.ensures.list) c.step-self-inside.ensures.next) in
+    let kept = g.met.D.Lengths.list_of_with_list c.self.inside.index next
+    (c.step-self-inside.auto.index ∙ ap length c.slice_mut.ensures.list) in
     subst (λ xs. StandsAtFirst g.O.WalkOrder.order shape (c.self.inside.left - 1) (cond more (Some xs) None)) (sym kept) there
 
 -- (after the last index the flag says that there is no next one)
@@ -41,7 +45,9 @@ invariant_of-self g c =
     let next = c.step-self-inside.new.index in
     let more = c.step-self-inside.result in
     let at = stands_at g.O.WalkOrder.order shape index c.self.inside.left _ c.self.invariant c.if-not-self.false in
-    let there = goes_on_to g.O.WalkOrder.order shape next more at.0 at.1 (rw (← c.slice.ensures.list, ← c.slice_mut.ensures.list) c.step-self-inside.ensures.more) (rw (← c.slice.ensures.list, ← c.slice_mut.ensures.list) c.step-self-inside.ensures.next) in
+    let there = goes_on_to g.O.WalkOrder.order shape next more at.0 at.1
+    (rw (← c.slice.ensures.list, ← c.slice_mut.ensures.list) c.step-self-inside.ensures.more)
+    (rw (← c.slice.ensures.list, ← c.slice_mut.ensures.list) c.step-self-inside.ensures.next) in
     let ends = λ (b : Bool) (xs : List ℕ). StandsAtFirst g.O.WalkOrder.order shape (c.self.inside.left - 1) (cond b (Some xs) None) in
     subst (λ b. ends b index) (sym c.if-self.false) (subst (λ b. ends b next) c.if-self.false there)
 

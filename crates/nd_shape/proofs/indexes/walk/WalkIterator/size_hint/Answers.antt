@@ -5,7 +5,10 @@ use Rattle.nd_shape.proofs.indexes.walk.WalkIterator.size_hint.Goals as goal
 
 pub returns-clause-exact : goal.returns-clause-exact
 returns-clause-exact g c =
-    let left = sym (length-indices_left g.O.WalkOrder.order (g.D.Lengths.list c.self.inside.dim) c.self.inside.left (within_shape g.O.WalkOrder.order (g.D.Lengths.list c.self.inside.dim) c.self.inside.left (cond c.self.inside.has_remaining (Some (g.D.Lengths.list c.self.inside.index)) None) c.self.invariant)) ∙ ap length c.self.view_is in
+    let left = sym (length-indices_left g.O.WalkOrder.order (g.D.Lengths.list c.self.inside.dim) c.self.inside.left
+    (within_shape g.O.WalkOrder.order (g.D.Lengths.list c.self.inside.dim) c.self.inside.left
+    (cond c.self.inside.has_remaining (Some (g.D.Lengths.list c.self.inside.index)) None) c.self.invariant))
+    ∙ ap length c.self.view_is in
     (left, ap Some left)
 
 pub returns-clause-lower : goal.returns-clause-lower
