@@ -72,7 +72,10 @@ picks_of c e = elem_picks c.args.fit (get_or c.args.shape.now c.loop-len.len-ind
 on_axis : (c : After-picks_intersect) → (c.picks_intersect.result ≡ true) ↔ PicksMeet
     (picks_of c (get_or c.args.first.now c.next_for_axis-first_place.result none))
     (picks_of c (get_or c.args.second.now c.next_for_axis-second_place.result none))
-on_axis c = rw (c.slice_of-first_slice.ensures.picks c.args.fit, c.slice_of-second_slice.ensures.picks c.args.fit) at c.picks_intersect.ensures
+on_axis c =
+    let one = c.slice_of-first_slice.ensures.picks c.args.fit in
+    let other = c.slice_of-second_slice.ensures.picks c.args.fit in
+    rw (one, other) at c.picks_intersect.ensures
 
 pub returns-then-not-picks_intersect : goal.returns-then-not-picks_intersect
 returns-then-not-picks_intersect c =
