@@ -1,9 +1,10 @@
 -- Items whose positions are multiples of a step, as a walk that passes over the items between them.
-use Rattle.std.proofs.Common.{◌≡◌, ℕ, zero, suc, ◌+◌, ◌-◌, ◌*◌, ◌/◌, ◌%◌, ◌<◌, ◌≤◌, true, false, eqb, map, filter, List, [], ◌∷◌, length, refl, ap, subst, arith, eq-eqb, ne_eqb, div-add-mod', inl, inr}
-use Rattle.std.proofs.Math.Nat.{mod-zero, mul-mod_left, mul-le-mul_right}
+use Rattle.std.proofs.Common.{◌≡◌, ℕ, zero, suc, ◌+◌, ◌-◌, ◌*◌, ◌/◌, ◌%◌, ◌<◌, ◌≤◌, true, false, eqb, map, filter, List, [], ◌∷◌, length}
+use Rattle.std.proofs.Common.{refl, ap, subst, arith, eq-eqb, ne_eqb, div-add-mod', inl, inr, mul-le-mul_right}
+use Rattle.std.proofs.Math.Nat.{mod-zero, mul-mod_left}
 use Rattle.std.proofs.lemmas.Bool.{cases_lt}
 use Rattle.std.specs.List.{enumerate_from}
-use Rattle.nd_slice.specs.Picks.{every}
+use Rattle.nd_slice.proofs.Definitions.{every}
 
 -- the items that lie step apart, after so many to pass over
 abbrev pub every_after : ℕ → ℕ → List ℕ → List ℕ

@@ -1,10 +1,10 @@
 -- What `picks` gives, entry by entry.
 use Rattle.std.proofs.Common.{◌≡◌, ℕ, zero, suc, ◌+◌, ◌-◌, ◌*◌, ◌<◌, ◌≤◌, List, [], ◌∷◌, length, get_or, arith, refl, ap, ◌∙◌, inl, inr}
+use Rattle.std.proofs.Common.{mul-le-mul_right}
 use Rattle.std.proofs.lemmas.Bool.{cases_lt}
-use Rattle.std.proofs.Math.Nat.{mul-le-mul_right}
 use Rattle.std.specs.Int.{div_ceil}
 use Rattle.std.proofs.lemmas.Grind.{div_ceil_times}
-use Rattle.nd_slice.specs.Picks.{every}
+use Rattle.nd_slice.proofs.Definitions.{every}
 use Rattle.nd_slice.proofs.Every.{every_after, every_is}
 
 -- the count c of the picks from n items, by its bounds
@@ -18,12 +18,13 @@ ceil_more n m k (suc c) p e h = (omega arith, omega arith)
 
 pub count_every_after : (k skip : ℕ) (xs : List ℕ) → 0 < k → IsCeil (length xs - skip) k (length (every_after k skip xs))
 count_every_after k skip [] p = (omega arith, omega arith)
-count_every_after k zero (x ∷ xs) p = ceil_more (suc (length xs) - 0) (length xs) k (length (every_after k (k - 1) xs)) p (omega arith) (count_every_after k (k - 1) xs p)
+count_every_after k zero (x ∷ xs) p =
+    ceil_more (suc (length xs) - 0) (length xs) k (length (every_after k (k - 1) xs)) p (omega arith) (count_every_after k (k - 1) xs p)
 count_every_after k (suc skip) (x ∷ xs) p = let h = count_every_after k skip xs p in (omega arith, omega arith)
 
 -- the bounds leave one count
-ceil_le : (n m k c d : ℕ) → n ≡ m → IsCeil n k c → IsCeil m k d → c ≤ d
-ceil_le n m k c d e h g = elim (cases_lt d c) [
+ceil_le : (k : ℕ) {n c d : ℕ} → n ≤ c * k → d * k < n + k → d ≤ c
+ceil_le k {c = c} {d = d} above below = elim (cases_lt c d) [
   | inl lt ↦ absurd (omega (arith, mul-le-mul_right k lt))
   | inr le ↦ le
 ]
@@ -31,17 +32,17 @@ ceil_le n m k c d e h g = elim (cases_lt d c) [
 -- so many of the items, rounded up
 pub length-every : (k : ℕ) (xs : List ℕ) → 0 < k → length (every k xs) ≡ div_ceil (length xs) k
 length-every k xs p =
-    let same : length (every k xs) ≡ length (every_after k 0 xs) = ap length (every_is k xs p) in
+    let same = ap length (every_is k xs p) in
     let h = count_every_after k 0 xs p in
     let g : IsCeil (length xs) k (div_ceil (length xs) k) = div_ceil_times (length xs) k p in
-    let up : length (every_after k 0 xs) ≤ div_ceil (length xs) k = ceil_le (length xs - 0) (length xs) k _ _ (omega arith) h g in
-    let down : div_ceil (length xs) k ≤ length (every_after k 0 xs) = ceil_le (length xs) (length xs - 0) k _ _ (omega arith) g h in
+    let up : length (every_after k 0 xs) ≤ div_ceil (length xs) k = ceil_le k g.0 (omega (arith, h.1)) in
+    let down : div_ceil (length xs) k ≤ length (every_after k 0 xs) = ceil_le k {n = length xs} (omega (arith, h.0)) g.1 in
     omega arith
 
 -- a pick is within the items
 pub every_within : (k : ℕ) (xs : List ℕ) (j : ℕ) → 0 < k → j < length (every k xs) → j * k < length xs
 every_within k xs j p below =
-    let same : length (every k xs) ≡ length (every_after k 0 xs) = ap length (every_is k xs p) in
+    let same = ap length (every_is k xs p) in
     let h = count_every_after k 0 xs p in
     let below_after : suc j ≤ length (every_after k 0 xs) = omega arith in
     omega (arith, mul-le-mul_right k below_after)

@@ -1,19 +1,12 @@
 -- Facts for one axis that is sliced between two bounds.
 use Rattle.std.proofs.Common.{◌≡◌, ℕ, ◌-◌, ◌*◌, ◌<◌, ◌≤◌, max, List, [], ◌∷◌, length, get_or, arith, refl, sym, ap, ◌∙◌, inl, inr, None}
+use Rattle.std.proofs.Common.{ℤ, pos, ◌+ℤ◌, ◌*ℤ◌, FitsSigned, if◌then◌else◌, w64}
 use Rattle.std.proofs.lemmas.Bool.{cases_lt, le-leb, lt-leb}
 use Rattle.std.proofs.lemmas.Int.{ints, fits_signed_mul}
-use Rattle.std.proofs.Math.IntN.{ℤ, pos, ◌+ℤ◌, ◌*ℤ◌, *ℤ-zero}
-use Rattle.std.specs.Prelude.{FitsSigned, if◌then◌else◌}
+use Rattle.std.proofs.Math.IntN.{*ℤ-zero}
 use Rattle.std.specs.List.{range_with_len}
-use Rattle.std.specs.Int.{w64}
-use Rattle.nd_base.specs.Signed.{magnitude}
-use Rattle.nd_base.specs.Size.{limit}
-use Rattle.nd_base.specs.Span.{reach}
-use Rattle.nd_slice.specs.declared.fit.Fit.{Fit}
-use Rattle.nd_slice.specs.declared.slice.Slice.{Slice}
-use Rattle.nd_slice.specs.Picks.{every, directed, start_meaning, end_meaning, picks, between}
-use Rattle.nd_slice.specs.SliceFault.{slice_fault}
-use Rattle.nd_slice.specs.Picked.{first_offset, picked_stride}
+use Rattle.nd_slice.proofs.Definitions.{Fit, Slice, between, directed, end_meaning, every, first_offset, limit, magnitude, picked_stride}
+use Rattle.nd_slice.proofs.Definitions.{picks, reach, slice_fault, start_meaning}
 use Rattle.nd_slice.proofs.laws.SliceFault.{fits_of_no_fault, step_moves}
 use Rattle.nd_slice.proofs.laws.Between.{between_steps, between_below, between_within, some_between}
 
@@ -75,7 +68,8 @@ module _ (step : ℤ) (start end : ℕ) where
             ∙ ap (λ x. (pos (get_or xs 0 0) *ℤ s) +ℤ (pos j *ℤ x)) (picked_many count s step many))
         | inr few ↦
             let here : pos (get_or xs j 0) *ℤ s ≡ pos (get_or xs 0 0) *ℤ s = ap (λ n. pos (get_or xs n 0) *ℤ s) (omega arith) in
-            let still : pos j *ℤ picked_stride count s step ≡ pos 0 = ap (λ x. pos j *ℤ x) (picked_few count s step few) ∙ *ℤ-zero (pos j) in
+            let still : pos j *ℤ picked_stride count s step ≡ pos 0 = ap (λ x. pos j *ℤ x) (picked_few count s step few)
+            ∙ *ℤ-zero (pos j) in
             omega (arith, ints, here, still, first)
       ]
 

@@ -1,16 +1,15 @@
 -- Equations in whole numbers, by the multiples of one magnitude that a rest completes to multiples of the other.
-use Rattle.std.proofs.Common.{◌≡◌, ℕ, zero, suc, ◌+◌, ◌-◌, ◌*◌, ◌/◌, ◌%◌, ◌<◌, true, not, arith, ap, sym, ◌∙◌, refl, subst, div-add-mod', inl, inr, ℤ, pos, negsuc, ◌+ℤ◌, ◌*ℤ◌}
+use Rattle.std.proofs.Common.{◌≡◌, ℕ, zero, suc, ◌+◌, ◌-◌, ◌*◌, ◌/◌, ◌%◌, ◌<◌, true, not, arith, ap, sym, ◌∙◌, refl, subst, div-add-mod'}
+use Rattle.std.proofs.Common.{inl, inr, ℤ, pos, negsuc, ◌+ℤ◌, ◌*ℤ◌, mul_comm, ◌≤ℤ◌, ◌↔◌, neg_ℤ}
 use Rattle.std.proofs.Math.Bool.{beq}
 use Rattle.std.proofs.Math.IntN.{pos-*ℤ-pos}
-use Rattle.std.proofs.Math.Nat.{mul_comm, div-mul_cancel, dvd-mul_left, dvd-mul_right, dvd-add_iff_left, dvd-add_iff_right}
+use Rattle.std.proofs.Math.Nat.{div-mul_cancel, dvd-mul_left, dvd-mul_right, dvd-add_iff_left, dvd-add_iff_right}
 use Rattle.std.proofs.lemmas.Bool.{cases_lt}
 use Rattle.std.proofs.lemmas.Nat.{mod_below}
 use Rattle.std.proofs.lemmas.Nat.Gcd.{dvd_refl, dvd_trans}
 use Rattle.std.proofs.lemmas.Int.{ints, unsigned_abs-mul}
-use Rattle.std.specs.Prelude.{◌≤ℤ◌, ◌↔◌, neg_ℤ}
 use Rattle.std.specs.Int.{◌∣◌, int_rem_euclid}
-use Rattle.nd_base.specs.Signed.{magnitude}
-use Rattle.nd_slice.specs.Equation.{with_sign_of, Solves, IsLeastSolution, IsLeastMultiplier, added_of}
+use Rattle.nd_slice.proofs.Definitions.{IsLeastMultiplier, IsLeastSolution, Solves, added_of, magnitude, with_sign_of}
 use Rattle.nd_slice.proofs.intersection.Signs.{sign_of, product, second_way, magnitude-with_sign_of}
 use lib.Signed.{lt_z}
 
@@ -64,13 +63,13 @@ module _ (d whole : ℕ) (h : d ∣ whole) where
 
   remains : (m rest : ℕ) (z : ℤ) → 0 < whole → pos rest ≡ int_rem_euclid z (pos whole) → (d ∣ magnitude (pos m +ℤ z)) ↔ (d ∣ m + rest)
   remains m rest (pos n) some e =
-      let split : n / whole * whole + n % whole ≡ n = div-add-mod' n whole in
+      let split = div-add-mod' n whole in
       let left : rest ≡ n % whole = omega (arith, ints, e) in
       let same : m + rest + n / whole * whole ≡ m + n = omega arith in
       let both = rw same at (over (m + rest) (n / whole)) in
       (λ p. both.1 p, λ p. both.0 p)
   remains m rest (negsuc n) some e =
-      let split : n / whole * whole + n % whole ≡ n = div-add-mod' n whole in
+      let split = div-add-mod' n whole in
       let small : n % whole < whole = mod_below n whole some in
       let left : rest ≡ whole - 1 - n % whole = omega (arith, ints, e) in
       let sum : rest + suc n ≡ whole + n / whole * whole = omega arith in

@@ -1,18 +1,12 @@
 -- A walk along the axes of a shape, with a place among the elements of each of two slice arguments.
-use Rattle.std.proofs.Common.{suc, ◌+◌, refl, ap, sym, ◌∙◌, subst, arith, true, false, drop, get_or, inl, inr}
-use Rattle.std.proofs.Math.Seq.{drop-cons}
+use Rattle.std.proofs.Common.{suc, ◌+◌, refl, ap, sym, ◌∙◌, subst, arith, drop, get_or, inl, inr, drop-cons, ◌≡◌, ℕ, ◌<◌, ◌↔◌, None, List}
+use Rattle.std.proofs.Common.{[], ◌∷◌, length}
 use Rattle.std.proofs.lemmas.Bool.{cases_lt}
 use Rattle.std.proofs.lemmas.List.{drop_all}
-use Rattle.std.specs.Prelude.{◌≡◌, ℕ, ◌<◌, ◌↔◌, None, List, [], ◌∷◌, length}
 use Rattle.std.specs.List.{AllZip}
-use Rattle.nd_slice.specs.declared.fit.Fit.{Fit}
-use Rattle.nd_slice.specs.Picks.{slice_with}
-use Rattle.nd_slice.specs.PicksMeet.{PicksMeet}
-use Rattle.nd_slice.specs.declared.elem.SliceInfoElem.{SliceInfoElem}
+use Rattle.nd_slice.proofs.Definitions.{ElemFits, Fit, IndexFitsIn, PicksMeet, SliceInfoElem, axis_picks, elem_picks, first_fault}
+use Rattle.nd_slice.proofs.Definitions.{in_count, slice_with, without_new_axes}
 use Rattle.nd_slice.specs.declared.elem.SliceInfoElem.TheVariants as elem
-use Rattle.nd_slice.specs.ArgumentFault.{in_count, first_fault}
-use Rattle.nd_slice.specs.Kinds.{is_new_axis}
-use Rattle.nd_slice.specs.Meet.{elem_picks, axis_picks, ElemFits, IndexFitsIn, without_new_axes}
 use Rattle.nd_slice.proofs.laws.ArgumentFault.{slice_of_no_fault, index_of_no_fault}
 use Rattle.nd_slice.proofs.laws.Meet.{axis_picks-no_axes}
 
@@ -28,7 +22,8 @@ pub record AreLeft (fit : Fit) (shape : List ℕ) (elems : List SliceInfoElem) :
   pub none : first_fault fit shape elems ≡ None
 
 -- the element for the next axis, and those after it
-pub record IsNext (fit : Fit) (len : ℕ) (shape : List ℕ) (elems : List SliceInfoElem) (e : SliceInfoElem) (others : List SliceInfoElem) : Type 0 where
+pub record IsNext (fit : Fit) (len : ℕ) (shape : List ℕ) (elems : List SliceInfoElem) (e : SliceInfoElem)
+    (others : List SliceInfoElem) : Type 0 where
   pub fits : ElemFits fit len e
   pub left : AreLeft fit shape others
   pub picks : axis_picks fit (len ∷ shape) elems ≡ elem_picks fit len e ∷ axis_picks fit shape others
@@ -41,6 +36,9 @@ module _ (fit : Fit) (len : ℕ) (shape : List ℕ) where
       let after : rest ≡ others = cc in
       subst (IsNext fit len shape elems e) after (subst (λ x. IsNext fit len shape elems x rest) first next)
 
+  after : (elems : List SliceInfoElem) → 1 + in_count elems ≡ 1 + length shape → first_fault fit shape elems ≡ None → AreLeft fit shape elems
+  after elems count none = record { count = omega arith; none = none }
+
   -- the first element that is no new axis is for the next axis
   next_of : (elems others : List SliceInfoElem) (e : SliceInfoElem) → e ∷ others ≡ without_new_axes elems
       → AreLeft fit (len ∷ shape) elems → IsNext fit len shape elems e others
@@ -51,18 +49,19 @@ module _ (fit : Fit) (len : ℕ) (shape : List ℕ) where
   next_of (elem.Slice start end step ∷ elems) others e same left =
       let parts = slice_of_no_fault fit len shape (slice_with start end step) elems left.none in
       same_next (elem.Slice start end step ∷ elems) others elems e (elem.Slice start end step) same
-      (record { fits = parts.0; left = record { count = omega (arith, left.count); none = parts.1 }; picks = refl })
+      (record { fits = parts.0; left = after elems (omega (arith, left.count)) parts.1; picks = refl })
   next_of (elem.Index index ∷ elems) others e same left =
       let parts = index_of_no_fault fit len shape index elems left.none in
       same_next (elem.Index index ∷ elems) others elems e (elem.Index index) same
-      (record { fits = parts.0; left = record { count = omega (arith, left.count); none = parts.1 }; picks = refl })
+      (record { fits = parts.0; left = after elems (omega (arith, left.count)) parts.1; picks = refl })
 
 -- the place of that element, found from where the elements that are left begin
 pub record IsPlace (fit : Fit) (len : ℕ) (shape : List ℕ) (elems : List SliceInfoElem) (before place : ℕ) : Type 0 where
   pub left : AreLeft fit (len ∷ shape) (drop before elems)
   pub next : drop place elems ≡ without_new_axes (drop before elems)
 
-module _ {fit : Fit} {len : ℕ} {shape : List ℕ} {elems : List SliceInfoElem} {before place : ℕ} (at : IsPlace fit len shape elems before place) where
+module _ {fit : Fit} {len : ℕ} {shape : List ℕ} {elems : List SliceInfoElem} {before place : ℕ}
+    (at : IsPlace fit len shape elems before place) where
   pub place_below : place < length elems
   place_below = elim (cases_lt place (length elems)) [
     | inl below ↦ below
@@ -83,7 +82,8 @@ abbrev pub ShareEach : Fit → List ℕ → List SliceInfoElem → List SliceInf
 ShareEach fit shape one other = AllZip PicksMeet (axis_picks fit shape one) (axis_picks fit shape other)
 
 -- what is left of two arguments decides whether they meet
-pub record IsDecided (fit : Fit) (shape : List ℕ) (first second : List SliceInfoElem) (rest : List ℕ) (one other : List SliceInfoElem) : Type 0 where
+pub record IsDecided (fit : Fit) (shape : List ℕ) (first second : List SliceInfoElem) (rest : List ℕ)
+    (one other : List SliceInfoElem) : Type 0 where
   pub first_left : AreLeft fit rest one
   pub second_left : AreLeft fit rest other
   pub same : ShareEach fit shape first second ↔ ShareEach fit rest one other

@@ -1,11 +1,13 @@
 -- Which multiples of a factor a rest completes to multiples of a modulus.
 use Rattle.std.proofs.Common.{◌≡◌, ℕ, ◌+◌, ◌-◌, ◌*◌, ◌/◌, ◌%◌, ◌<◌, ◌≤◌, arith, ap, sym, ◌∙◌, subst, div-add-mod', inl, inr}
-use Rattle.std.proofs.Math.Nat.{add_assoc, mul_left_comm, div-mul_cancel, mul-sub, pos_of_dvd_of_pos, dvd-mul_left, dvd-mul_right, dvd-mul_left_of_dvd, dvd-add, dvd-add_iff_left, dvd-add_iff_right, dvd-mul_right_of_dvd, dvd-sub, mul-dvd-mul_left, dvd_of_mul-dvd-mul_right}
+use Rattle.std.proofs.Math.Nat.{add_assoc, mul_left_comm, div-mul_cancel, mul-sub, pos_of_dvd_of_pos, dvd-mul_left}
+use Rattle.std.proofs.Math.Nat.{dvd-mul_left_of_dvd, dvd-add, dvd-add_iff_left, dvd-add_iff_right, dvd-mul_right_of_dvd, dvd-sub}
+use Rattle.std.proofs.Math.Nat.{mul-dvd-mul_left, dvd_of_mul-dvd-mul_right}
 use Rattle.std.proofs.lemmas.Bool.{cases_lt}
 use Rattle.std.proofs.lemmas.Nat.{le-div}
 use Rattle.std.proofs.lemmas.Nat.Gcd.{dvd_trans, le_of_dvd, mod-eq-zero_of_dvd, same_from_IsGcd}
 use Rattle.std.specs.Int.{IsGcd, ◌∣◌}
-use Rattle.nd_slice.specs.Equation.{IsLeastMultiplier}
+use Rattle.nd_slice.proofs.Definitions.{IsLeastMultiplier}
 
 pub divisor_some : (a b g : ℕ) → 0 < a → IsGcd a b g → 0 < g
 divisor_some a b g some h = pos_of_dvd_of_pos h.0 some
@@ -22,7 +24,7 @@ module _ (first second g : ℕ) where
     ap (λ n. first * n) ea,
     ap (λ n. n * more) ea,
     ap (λ n. second * n) eb,
-    ap (λ n. other * n) eb
+    ap (λ n. other * n) eb,
   )
 
   -- where the multiple of the first number is the smaller one, what is left of the other number's part serves
@@ -88,7 +90,8 @@ module _ {factor modulus rest gcd multiplier times back : ℕ} (at : IsFound fac
       let times_it : modulus ∣ multiplier * (factor * far) = dvd-mul_left_of_dvd modulus multiple multiplier in
       let e : multiplier * (factor * far) ≡ far * gcd + times * far * modulus =
       mul_left_comm multiplier factor far ∙ spread factor multiplier times modulus gcd at.inverse far in
-      let rest_of : modulus ∣ far * gcd = (dvd-add_iff_left modulus (dvd-mul_left modulus (times * far))).1 (subst (λ n. modulus ∣ n) e times_it) in
+      let rest_of : modulus ∣ far * gcd =
+      (dvd-add_iff_left modulus (dvd-mul_left modulus (times * far))).1 (subst (λ n. modulus ∣ n) e times_it) in
       let whole : modulus / gcd * gcd ≡ modulus = div-mul_cancel gcd at.divisor.1 in
       let some : 0 < gcd = divisor_some factor modulus gcd at.factor_some at.divisor in
       dvd_of_mul-dvd-mul_right (modulus / gcd) some (subst (λ n. n ∣ far * gcd) (sym whole) rest_of)

@@ -1,17 +1,16 @@
 -- When two lists of numbers that lie a step apart share a number.
 use Rattle.std.proofs.Common.{◌≡◌, ℕ, ◌+◌, ◌*◌, ◌/◌, ◌<◌, ◌≤◌, true, arith, ap, sym, ◌∙◌, refl, subst, ℤ, pos, ◌+ℤ◌, ◌-ℤ◌}
-use Rattle.std.proofs.Math.Nat.{div-mul_cancel, dvd-mul_right, le-div_iff_mul-le, mul-le-mul_right}
+use Rattle.std.proofs.Common.{le-div_iff_mul-le, mul-le-mul_right, ◌≤ℤ◌, ◌<ℤ◌, ◌↔◌, nat_le}
+use Rattle.std.proofs.Math.Nat.{div-mul_cancel, dvd-mul_right}
 use Rattle.std.proofs.lemmas.Bool.{leb-true, le-leb}
 use Rattle.std.proofs.lemmas.Int.{ints, clamps}
-use Rattle.std.specs.Prelude.{◌≤ℤ◌, ◌<ℤ◌, ◌↔◌, nat_le}
 use Rattle.std.specs.Int.{◌∣◌, int_max, int_min}
-use Rattle.nd_base.specs.Signed.{magnitude}
-use Rattle.nd_slice.specs.Equation.{IsLeastMultiplier}
-use Rattle.nd_slice.specs.Sequence.{InSequence, SequencesMeet, MeetsWithin}
+use Rattle.nd_slice.proofs.Definitions.{InSequence, IsLeastMultiplier, MeetsWithin, SequencesMeet, magnitude}
 use Rattle.nd_slice.proofs.intersection.Signs.{of_non_negative, of_non_positive}
 
 -- the least multiple that serves decides
-pub meets_by_least : {ahead first_step second_step least : ℕ} (room : ℕ) → 0 < second_step → IsLeastMultiplier second_step first_step ahead least
+pub meets_by_least : {ahead first_step second_step least : ℕ} (room : ℕ) → 0 < second_step
+    → IsLeastMultiplier second_step first_step ahead least
     → (nat_le least (room / second_step) ≡ true) ↔ MeetsWithin ahead first_step second_step room
 meets_by_least {ahead = ahead} {first_step = first_step} {second_step = second_step} {least = least} room some at = (
   λ is.
@@ -125,4 +124,15 @@ module _ {one other : ℤ × ℤ × ℤ} {first last : ℤ} {ahead room : ℕ} (
 -- where one list ends before the other begins they share none
 pub meets_none : {one other : ℤ × ℤ × ℤ} {first last : ℤ} → IsShared one other first last → last <ℤ first → SequencesMeet one other → ⊥
 meets_none at order meets =
-    omega (arith, ints, clamps, at.first_is, at.last_is, order, meets.1.not_before, meets.1.not_after, meets.2.not_before, meets.2.not_after)
+    omega (
+      arith,
+      ints,
+      clamps,
+      at.first_is,
+      at.last_is,
+      order,
+      meets.1.not_before,
+      meets.1.not_after,
+      meets.2.not_before,
+      meets.2.not_after,
+    )

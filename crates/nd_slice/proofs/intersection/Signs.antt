@@ -1,15 +1,14 @@
 -- Numbers by magnitude and sign, and what Euclid's steps on two magnitudes say of the numbers themselves.
-use Rattle.std.proofs.Common.{◌≡◌, ℕ, zero, suc, ◌*◌, ◌/◌, ◌<◌, ◌≤◌, Bool, true, false, not, arith, ap, sym, ◌∙◌, refl, subst, ℤ, pos, negsuc, ◌+ℤ◌, ◌*ℤ◌}
+use Rattle.std.proofs.Common.{◌≡◌, ℕ, zero, suc, ◌*◌, ◌/◌, ◌<◌, ◌≤◌, Bool, true, false, not, arith, ap, sym, ◌∙◌, refl, subst, ℤ, pos}
+use Rattle.std.proofs.Common.{negsuc, ◌+ℤ◌, ◌*ℤ◌, zero-mul, mul-zero, ◌≤ℤ◌, neg_ℤ}
 use Rattle.std.proofs.Math.Bool.{beq}
 use Rattle.std.proofs.Math.IntN.{zero-*ℤ, *ℤ-zero, negsuc-*ℤ-negsuc, negsuc-*ℤ-pos, pos-*ℤ-negsuc, pos-*ℤ-pos}
-use Rattle.std.proofs.Math.Nat.{pos_of_dvd_of_pos, zero-mul, mul-zero}
+use Rattle.std.proofs.Math.Nat.{pos_of_dvd_of_pos}
 use Rattle.std.proofs.lemmas.Nat.{le-div}
 use Rattle.std.proofs.lemmas.Nat.Gcd.{IsGcd-from_zero, IsGcd-swap}
 use Rattle.std.proofs.lemmas.Int.{ints}
-use Rattle.std.specs.Prelude.{◌≤ℤ◌, neg_ℤ}
 use Rattle.std.specs.Int.{IsGcd}
-use Rattle.nd_base.specs.Signed.{magnitude}
-use Rattle.nd_slice.specs.Equation.{with_sign_of}
+use Rattle.nd_slice.proofs.Definitions.{magnitude, with_sign_of}
 use Rattle.nd_slice.proofs.intersection.Steps.{AreApart, IsEnd}
 use lib.Signed.{lt_z}
 

@@ -1,9 +1,8 @@
 -- Euclid's steps: each keeps the common divisors, and the multiples that the numbers are of the two first ones.
-use Rattle.std.proofs.Common.{◌≡◌, ℕ, ◌+◌, ◌*◌, ◌/◌, ◌%◌, ◌<◌, ◌≤◌, Bool, true, false, not, arith, ap, sym, refl, subst, div-add-mod', inl, inr}
+use Rattle.std.proofs.Common.{◌≡◌, ℕ, ◌+◌, ◌*◌, ◌/◌, ◌%◌, ◌<◌, ◌≤◌, Bool, true, false, not, arith, ap, sym, refl, subst, div-add-mod'}
+use Rattle.std.proofs.Common.{inl, inr, mul-le-mul_right, le-mul_of_pos_right, if◌then◌else◌}
 use Rattle.std.proofs.lemmas.Bool.{cases_lt}
-use Rattle.std.proofs.Math.Nat.{mul-le-mul_right, le-mul_of_pos_right}
 use Rattle.std.proofs.lemmas.Nat.Gcd.{IsGcd-from_zero, IsGcd-from_mod}
-use Rattle.std.specs.Prelude.{if◌then◌else◌}
 use Rattle.std.specs.Int.{IsGcd}
 
 -- a multiple of a and one of b differ by number, and which of them is the greater one

@@ -1,40 +1,37 @@
 -- What no fault of a slice argument means: an element for each axis, of which each fits.
-use Rattle.std.proofs.Common.{true, false, refl}
+use Rattle.std.proofs.Common.{true, false, refl, ◌≡◌, ℕ, ℤ, Bool, ◌==◌, if◌then◌else◌, Option, Some, None, List, ◌∷◌, length}
 use Rattle.std.proofs.lemmas.Bool.{eqb-true}
-use Rattle.std.specs.Option.{option_or}
-use Rattle.std.specs.Prelude.{◌≡◌, ℕ, ℤ, Bool, ◌==◌, if◌then◌else◌, Option, Some, None, List, ◌∷◌, length}
 use Rattle.nd_base.specs.declared.error.ErrorKind.{ErrorKind}
 use Rattle.nd_base.specs.declared.error.ErrorKind.TheVariants.{IncompatibleShape}
-use Rattle.nd_slice.specs.declared.fit.Fit.{Fit}
-use Rattle.nd_slice.specs.declared.slice.Slice.{Slice}
-use Rattle.nd_slice.specs.SliceFault.{SliceFits, IndexFits, slice_fault, index_fault}
-use Rattle.nd_slice.specs.declared.elem.SliceInfoElem.{SliceInfoElem}
+use Rattle.nd_slice.proofs.Definitions.{Fit, IndexFits, Slice, SliceFits, SliceInfoElem, argument_fault, first_fault, in_count}
+use Rattle.nd_slice.proofs.Definitions.{index_fault, slice_fault}
 use Rattle.nd_slice.specs.declared.elem.SliceInfoElem.TheVariants as elem
-use Rattle.nd_slice.specs.ArgumentFault.{in_count, first_fault, argument_fault}
+use Rattle.nd_base.proofs.laws.Options.{option_or_none}
 use Rattle.nd_slice.proofs.laws.SliceFault.{fits_of_no_fault, index_fits_of_no_fault}
 
-both_none : (first second : Option ErrorKind) → option_or first second ≡ None → (first ≡ None) × (second ≡ None)
-both_none None second none = (refl, none)
-both_none (Some fault) second none = absurd (cc)
-
 -- an argument whose first element is a slice
-pub slice_of_no_fault : (fit : Fit) (len : ℕ) (shape : List ℕ) (slice : Slice) (elems : List SliceInfoElem) → first_fault fit (len ∷ shape) (elem.Slice slice.start slice.end slice.step ∷ elems) ≡ None → SliceFits fit len slice × (first_fault fit shape elems ≡ None)
+pub slice_of_no_fault : (fit : Fit) (len : ℕ) (shape : List ℕ) (slice : Slice) (elems : List SliceInfoElem)
+    → first_fault fit (len ∷ shape) (elem.Slice slice.start slice.end slice.step ∷ elems) ≡ None
+    → SliceFits fit len slice × (first_fault fit shape elems ≡ None)
 slice_of_no_fault fit len shape slice elems none =
-    let parts = both_none (slice_fault fit len slice) (first_fault fit shape elems) none in
+    let parts = option_or_none (slice_fault fit len slice) none in
     (fits_of_no_fault fit len slice parts.0, parts.1)
 
 -- an argument whose first element is an index
-pub index_of_no_fault : (fit : Fit) (len : ℕ) (shape : List ℕ) (index : ℤ) (elems : List SliceInfoElem) → first_fault fit (len ∷ shape) (elem.Index index ∷ elems) ≡ None → IndexFits len index × (first_fault fit shape elems ≡ None)
+pub index_of_no_fault : (fit : Fit) (len : ℕ) (shape : List ℕ) (index : ℤ) (elems : List SliceInfoElem)
+    → first_fault fit (len ∷ shape) (elem.Index index ∷ elems) ≡ None → IndexFits len index × (first_fault fit shape elems ≡ None)
 index_of_no_fault fit len shape index elems none =
-    let parts = both_none (index_fault len index) (first_fault fit shape elems) none in
+    let parts = option_or_none (index_fault len index) none in
     (index_fits_of_no_fault len index parts.0, parts.1)
 
-counted : (same : Bool) (first : Option ErrorKind) → (if same then first else Some IncompatibleShape) ≡ None → (same ≡ true) × (first ≡ None)
+counted : (same : Bool) (first : Option ErrorKind) → (if same then first else Some IncompatibleShape) ≡ None
+    → (same ≡ true) × (first ≡ None)
 counted true first none = (refl, none)
 counted false first none = absurd (cc)
 
 -- an argument without fault has an element for each axis, and none of them is at fault
-pub elements_of_no_fault : (fit : Fit) (shape : List ℕ) (elems : List SliceInfoElem) → argument_fault fit shape elems ≡ None → (in_count elems ≡ length shape) × (first_fault fit shape elems ≡ None)
+pub elements_of_no_fault : (fit : Fit) (shape : List ℕ) (elems : List SliceInfoElem) → argument_fault fit shape elems ≡ None
+    → (in_count elems ≡ length shape) × (first_fault fit shape elems ≡ None)
 elements_of_no_fault fit shape elems none =
     let parts = counted (in_count elems == length shape) (first_fault fit shape elems) none in
     (eqb-true (in_count elems) (length shape) parts.0, parts.1)

@@ -7,8 +7,7 @@ use Rattle.std.proofs.lemmas.Int.{ints}
 use Rattle.std.proofs.Math.IntN.{ℤ, pos, negsuc, ◌+ℤ◌, ◌*ℤ◌, zero-*ℤ, +ℤ_idr}
 use Rattle.std.proofs.Math.Nat.{eq_of_mul-eq-mul_right}
 use Rattle.std.specs.Int.{div_ceil}
-use Rattle.nd_base.specs.Signed.{magnitude}
-use Rattle.nd_slice.specs.Picks.{directed, range, between}
+use Rattle.nd_slice.proofs.Definitions.{between, directed, magnitude, range}
 use Rattle.nd_slice.proofs.Every.{one_of_zero}
 use Rattle.nd_slice.proofs.Times.{times_up, times_down}
 use Rattle.nd_slice.proofs.EveryItems.{length-every, get-every, every_within}
@@ -17,76 +16,89 @@ length-directed : (step : ℤ) (start end : ℕ) → length (directed step (rang
 length-directed (pos k) start end = length-range_with_len start (end - start)
 length-directed (negsuc k) start end = length-reverse (range start end) ∙ length-range_with_len start (end - start)
 
-pub length-between : (step : ℤ) (start end : ℕ) → 0 < magnitude step → length (between step start end) ≡ div_ceil (end - start) (magnitude step)
-length-between step start end p = length-every (magnitude step) (directed step (range start end)) p ∙ ap (λ n. div_ceil n (magnitude step)) (length-directed step start end)
+module _ (step : ℤ) (start end : ℕ) where
+  pub length-between : 0 < magnitude step → length (between step start end) ≡ div_ceil (end - start) (magnitude step)
+  length-between p =
+      length-every (magnitude step) (directed step (range start end)) p
+      ∙ ap (λ n. div_ceil n (magnitude step)) (length-directed step start end)
 
--- the entries are inside the bounds
-pub between_within : (step : ℤ) (start end j : ℕ) → 0 < magnitude step → j < length (between step start end) → j * magnitude step < end - start
-between_within step start end j p below = omega (arith, every_within (magnitude step) (directed step (range start end)) j p below, length-directed step start end)
+  -- the entries are inside the bounds
+  pub between_within : (j : ℕ) → 0 < magnitude step → j < length (between step start end) → j * magnitude step < end - start
+  between_within j p below =
+      omega (arith, every_within (magnitude step) (directed step (range start end)) j p below, length-directed step start end)
 
--- upward, from the start
-pub pick_up : (k start end j : ℕ) → 0 < k → j < length (between (pos k) start end) → get_or (between (pos k) start end) j 0 ≡ start + j * k
-pick_up k start end j p below = get-every k (range start end) j p ∙ get_or-range_with_len start (end - start) (j * k) 0 (between_within (pos k) start end j p below)
+module _ (k start end : ℕ) where
+  -- upward, from the start
+  pub pick_up : (j : ℕ) → 0 < k → j < length (between (pos k) start end) → get_or (between (pos k) start end) j 0 ≡ start + j * k
+  pick_up j p below =
+      get-every k (range start end) j p
+      ∙ get_or-range_with_len start (end - start) (j * k) 0 (between_within (pos k) start end j p below)
 
--- downward, from the entry before the end
-pub pick_down : (k start end j : ℕ) → j < length (between (negsuc k) start end) → get_or (between (negsuc k) start end) j 0 + j * suc k + 1 ≡ end
-pick_down k start end j below =
-    let p : 0 < suc k = omega arith in
-    let inside : j * suc k < end - start = between_within (negsuc k) start end j p below in
-    let count : length (range start end) ≡ end - start = length-range_with_len start (end - start) in
-    let at : get_or (between (negsuc k) start end) j 0 ≡ get_or (reverse (range start end)) (j * suc k) 0 = get-every (suc k) (reverse (range start end)) j p in
-    let turned : get_or (reverse (range start end)) (j * suc k) 0 ≡ get_or (range start end) (length (range start end) - 1 - j * suc k) 0 = get_or-reverse (range start end) (j * suc k) 0 (omega arith) in
-    let item : get_or (range start end) (length (range start end) - 1 - j * suc k) 0 ≡ start + (length (range start end) - 1 - j * suc k) = get_or-range_with_len start (end - start) (length (range start end) - 1 - j * suc k) 0 (omega arith) in
-    omega arith
+  -- downward, from the entry before the end
+  pub pick_down : (j : ℕ) → j < length (between (negsuc k) start end) → get_or (between (negsuc k) start end) j 0 + j * suc k + 1 ≡ end
+  pick_down j below =
+      let entries = range start end in
+      let place = length entries - 1 - j * suc k in
+      let p : 0 < suc k = omega arith in
+      let inside : j * suc k < end - start = between_within (negsuc k) start end j p below in
+      let count : length entries ≡ end - start = length-range_with_len start (end - start) in
+      let at : get_or (between (negsuc k) start end) j 0 ≡ get_or (reverse entries) (j * suc k) 0 =
+      get-every (suc k) (reverse entries) j p in
+      let turned : get_or (reverse entries) (j * suc k) 0 ≡ get_or entries place 0 = get_or-reverse entries (j * suc k) 0 (omega arith) in
+      let item : get_or entries place 0 ≡ start + place = get_or-range_with_len start (end - start) place 0 (omega arith) in
+      omega arith
+
+  -- so many steps on from the first pick, or back
+  down_from_first : (j : ℕ) → j < length (between (negsuc k) start end)
+      → get_or (between (negsuc k) start end) j 0 + j * suc k ≡ get_or (between (negsuc k) start end) 0 0
+  down_from_first j below = omega (arith, pick_down 0 (omega arith), pick_down j below)
+
+up_from_first : (k start end j : ℕ) → j < length (between (pos (suc k)) start end)
+    → get_or (between (pos (suc k)) start end) j 0 ≡ get_or (between (pos (suc k)) start end) 0 0 + j * suc k
+up_from_first k start end j below =
+    omega (arith, pick_up (suc k) start end 0 (omega arith) (omega arith), pick_up (suc k) start end j (omega arith) below)
 
 -- a step of 0 picks no more than the first
 still_first : (start end j : ℕ) → j < length (between (pos zero) start end) → j ≡ 0
 still_first start end j below = omega (arith, one_of_zero (range start end))
 
 -- the distance from the first entry to the pick at j is j times the step's distance
-pub between_steps : (step : ℤ) (start end j : ℕ) (s : ℤ) → j < length (between step start end) → pos (get_or (between step start end) j 0) *ℤ s ≡ (pos (get_or (between step start end) 0 0) *ℤ s) +ℤ (pos j *ℤ (s *ℤ step))
+pub between_steps : (step : ℤ) (start end j : ℕ) (s : ℤ) → j < length (between step start end)
+    → pos (get_or (between step start end) j 0) *ℤ s ≡ (pos (get_or (between step start end) 0 0) *ℤ s) +ℤ (pos j *ℤ (s *ℤ step))
 between_steps (pos zero) start end j s below =
     let zeroth : j ≡ 0 = still_first start end j below in
-    rw zeroth (sym (ap (λ z. (pos (get_or (between (pos zero) start end) 0 0) *ℤ s) +ℤ z) (zero-*ℤ (s *ℤ pos zero)) ∙ +ℤ_idr (pos (get_or (between (pos zero) start end) 0 0) *ℤ s)))
+    let first = pos (get_or (between (pos zero) start end) 0 0) *ℤ s in
+    rw zeroth (sym (ap (λ z. first +ℤ z) (zero-*ℤ (s *ℤ pos zero)) ∙ +ℤ_idr first))
 between_steps (pos (suc k)) start end j s below =
-    let first : get_or (between (pos (suc k)) start end) 0 0 ≡ start + 0 * suc k = pick_up (suc k) start end 0 (omega arith) (omega arith) in
-    let here : get_or (between (pos (suc k)) start end) j 0 ≡ start + j * suc k = pick_up (suc k) start end j (omega arith) below in
-    ap (λ n. pos n *ℤ s) (omega arith) ∙ times_up (get_or (between (pos (suc k)) start end) 0 0) j (suc k) s
+    ap (λ n. pos n *ℤ s) (up_from_first k start end j below) ∙ times_up (get_or (between (pos (suc k)) start end) 0 0) j (suc k) s
 between_steps (negsuc k) start end j s below =
-    let first : get_or (between (negsuc k) start end) 0 0 + 0 * suc k + 1 ≡ end = pick_down k start end 0 (omega arith) in
-    let here : get_or (between (negsuc k) start end) j 0 + j * suc k + 1 ≡ end = pick_down k start end j below in
-    sym (ap (λ n. (pos n *ℤ s) +ℤ (pos j *ℤ (s *ℤ negsuc k))) (omega arith) ∙ times_down (get_or (between (negsuc k) start end) j 0) j k s)
+    sym (ap (λ n. (pos n *ℤ s) +ℤ (pos j *ℤ (s *ℤ negsuc k))) (sym (down_from_first k start end j below))
+    ∙ times_down (get_or (between (negsuc k) start end) j 0) j k s)
 
 -- each pick is an entry
-pub between_below : (step : ℤ) (start end j : ℕ) → 0 < magnitude step → j < length (between step start end) → get_or (between step start end) j 0 < end
+pub between_below : (step : ℤ) (start end j : ℕ) → 0 < magnitude step → j < length (between step start end)
+    → get_or (between step start end) j 0 < end
 between_below (pos k) start end j p below = omega (arith, pick_up k start end j p below, between_within (pos k) start end j p below)
 between_below (negsuc k) start end j p below = omega (arith, pick_down k start end j below)
 
 -- the pick at j lies j steps from the first
-pub between_apart : (step : ℤ) (start end j : ℕ) → j < length (between step start end) → pos (get_or (between step start end) j 0) ≡ pos (get_or (between step start end) 0 0) +ℤ (pos j *ℤ step)
+pub between_apart : (step : ℤ) (start end j : ℕ) → j < length (between step start end)
+    → pos (get_or (between step start end) j 0) ≡ pos (get_or (between step start end) 0 0) +ℤ (pos j *ℤ step)
 between_apart (pos zero) start end j below =
     let zeroth : j ≡ 0 = still_first start end j below in
     rw zeroth (omega (arith, ints))
-between_apart (pos (suc k)) start end j below =
-    let first : get_or (between (pos (suc k)) start end) 0 0 ≡ start + 0 * suc k = pick_up (suc k) start end 0 (omega arith) (omega arith) in
-    let here : get_or (between (pos (suc k)) start end) j 0 ≡ start + j * suc k = pick_up (suc k) start end j (omega arith) below in
-    omega (arith, ints)
-between_apart (negsuc k) start end j below =
-    let first : get_or (between (negsuc k) start end) 0 0 + 0 * suc k + 1 ≡ end = pick_down k start end 0 (omega arith) in
-    let here : get_or (between (negsuc k) start end) j 0 + j * suc k + 1 ≡ end = pick_down k start end j below in
-    omega (arith, ints)
+between_apart (pos (suc k)) start end j below = omega (arith, ints, up_from_first k start end j below)
+between_apart (negsuc k) start end j below = omega (arith, ints, down_from_first k start end j below)
 
 -- no entry is picked twice
-pub between_once : (step : ℤ) (start end i j : ℕ) → i < length (between step start end) → j < length (between step start end) → get_or (between step start end) i 0 ≡ get_or (between step start end) j 0 → i ≡ j
-between_once (pos zero) start end i j p q e = omega (arith, still_first start end i p, still_first start end j q)
-between_once (pos (suc k)) start end i j p q e =
-    let at_i : get_or (between (pos (suc k)) start end) i 0 ≡ start + i * suc k = pick_up (suc k) start end i (omega arith) p in
-    let at_j : get_or (between (pos (suc k)) start end) j 0 ≡ start + j * suc k = pick_up (suc k) start end j (omega arith) q in
-    eq_of_mul-eq-mul_right (suc k) (omega arith) i j (omega arith)
-between_once (negsuc k) start end i j p q e =
-    let at_i : get_or (between (negsuc k) start end) i 0 + i * suc k + 1 ≡ end = pick_down k start end i p in
-    let at_j : get_or (between (negsuc k) start end) j 0 + j * suc k + 1 ≡ end = pick_down k start end j q in
-    eq_of_mul-eq-mul_right (suc k) (omega arith) i j (omega arith)
+module _ (start end i j : ℕ) where
+  pub between_once : (step : ℤ) → i < length (between step start end) → j < length (between step start end)
+      → get_or (between step start end) i 0 ≡ get_or (between step start end) j 0 → i ≡ j
+  between_once (pos zero) p q e = omega (arith, still_first start end i p, still_first start end j q)
+  between_once (pos (suc k)) p q e =
+      eq_of_mul-eq-mul_right (suc k) (omega arith) i j (omega (arith, up_from_first k start end i p, up_from_first k start end j q))
+  between_once (negsuc k) p q e =
+      eq_of_mul-eq-mul_right (suc k) (omega arith) i j (omega (arith, down_from_first k start end i p, down_from_first k start end j q))
 
 -- a count rounded up
 count_of_some : (n k c : ℕ) → n ≤ c * k → 0 < n → 0 < c
@@ -101,8 +113,11 @@ count_of_none n k (suc c) h e = absurd (omega arith)
 pub some_between : (step : ℤ) (start end : ℕ) → 0 < magnitude step → start < end → 0 < length (between step start end)
 some_between step start end p h =
     let count = length-between step start end p in
-    omega (arith, count, count_of_some (end - start) (magnitude step) (div_ceil (end - start) (magnitude step)) (div_ceil_times (end - start) (magnitude step) p).0 (omega arith))
+    let bounds = div_ceil_times (end - start) (magnitude step) p in
+    omega (arith, count, count_of_some (end - start) (magnitude step) (div_ceil (end - start) (magnitude step)) bounds.0 (omega arith))
 
 pub none_between : (step : ℤ) (start end : ℕ) → 0 < magnitude step → end ≤ start → length (between step start end) ≡ 0
 none_between step start end p h =
-    length-between step start end p ∙ count_of_none (end - start) (magnitude step) (div_ceil (end - start) (magnitude step)) (div_ceil_times (end - start) (magnitude step) p).1 (omega arith)
+    let bounds = div_ceil_times (end - start) (magnitude step) p in
+    length-between step start end p
+    ∙ count_of_none (end - start) (magnitude step) (div_ceil (end - start) (magnitude step)) bounds.1 (omega arith)

@@ -1,25 +1,16 @@
 -- Two slice arguments meet exactly where they share an entry on every axis, and exactly where an index of each slice stands for one
 -- index of the shape.
-use Rattle.std.proofs.Common.{refl, ap, sym, ◌∙◌, subst, arith, get_or}
+use Rattle.std.proofs.Common.{refl, ap, sym, ◌∙◌, subst, arith, get_or, ◌≡◌, ℕ, zero, suc, ℤ, ◌<◌, ◌↔◌, IsTrue, nat_lt, None, List, []}
+use Rattle.std.proofs.Common.{◌∷◌, length, Contains}
 use Rattle.std.proofs.lemmas.Bool.{and_parts, and_from, lt-ltb}
-use Rattle.std.specs.Prelude.{◌≡◌, ℕ, zero, suc, ℤ, ◌<◌, ◌↔◌, IsTrue, nat_lt, Option, None, List, [], ◌∷◌, length}
-use Rattle.std.specs.List.{AllZip, Contains}
-use Rattle.nd_base.specs.Indices.{is_index}
-use Rattle.nd_base.specs.Signed.{magnitude}
-use Rattle.nd_slice.specs.declared.fit.Fit.{Fit}
-use Rattle.nd_slice.specs.Picks.{slice_with, meaning, picks}
-use Rattle.nd_slice.specs.SliceFault.{SliceFits, IndexFits}
+use Rattle.std.specs.List.{AllZip}
+use Rattle.nd_slice.proofs.Definitions.{Fit, IndexFits, Meet, PicksMeet, SliceInfoElem, argument_fault, axis_picks, first_fault, in_count}
+use Rattle.nd_slice.proofs.Definitions.{is_index, magnitude, meaning, selected, slice_with}
 use Rattle.nd_slice.proofs.laws.PickSequences.{contained_below}
 use Rattle.nd_slice.proofs.laws.SliceFault.{entry_below}
-use Rattle.nd_slice.specs.PicksMeet.{PicksMeet}
-use Rattle.nd_slice.specs.declared.elem.SliceInfoElem.{SliceInfoElem}
 use Rattle.nd_slice.specs.declared.elem.SliceInfoElem.TheVariants as elem
-use Rattle.nd_slice.specs.ArgumentFault.{in_count, first_fault, argument_fault}
-use Rattle.nd_slice.specs.Meet.{axis_picks, Meet}
-use Rattle.nd_slice.specs.Selected.{selected}
-use Rattle.nd_slice.specs.Sliced.{sliced_shape}
 use Rattle.nd_slice.proofs.laws.ArgumentFault.{elements_of_no_fault, slice_of_no_fault, index_of_no_fault}
-use Rattle.nd_slice.proofs.laws.Selected.{selected_is_index, selected_is_picked, picked_is_selected}
+use Rattle.nd_slice.proofs.laws.Selected.{IsOfSlice, selected_is_index, selected_is_picked, picked_is_selected}
 
 -- what lists pick of each axis is inside a shape
 abbrev pub AreInside : List ℕ → List (List ℕ) → Type 0
@@ -28,15 +19,12 @@ AreInside [] (xs ∷ lists) = ⊥
 AreInside (len ∷ shape) [] = ⊥
 AreInside (len ∷ shape) (xs ∷ lists) = ((pick : ℕ) → Contains xs pick → pick < len) × AreInside shape lists
 
-slice_inside : (fit : Fit) (len : ℕ) (start : ℤ) (end : Option ℤ) (step : ℤ) → SliceFits fit len (slice_with start end step)
-    → (pick : ℕ) → Contains (picks fit len (slice_with start end step)) pick → pick < len
-slice_inside fit len start end step fits pick h = contained_below fit len (slice_with start end step) pick fits h
-
 index_inside : (len : ℕ) (index : ℤ) → IndexFits len index → (pick : ℕ) → Contains (magnitude (meaning len index) ∷ []) pick → pick < len
 index_inside len index fits pick (zero, below, at) = omega (arith, at, (entry_below len index fits).1)
 index_inside len index fits pick (suc k, below, at) = absurd (omega (arith, below))
 
-inside : (fit : Fit) (shape : List ℕ) (elems : List SliceInfoElem) → in_count elems ≡ length shape → first_fault fit shape elems ≡ None → AreInside shape (axis_picks fit shape elems)
+inside : (fit : Fit) (shape : List ℕ) (elems : List SliceInfoElem) → in_count elems ≡ length shape → first_fault fit shape elems ≡ None
+    → AreInside shape (axis_picks fit shape elems)
 inside fit [] [] count none = tt
 inside fit (len ∷ shape) [] count none = absurd (omega arith)
 inside fit shape (elem.NewAxis ∷ elems) count none = inside fit shape elems count none
@@ -44,7 +32,7 @@ inside fit [] (elem.Slice start end step ∷ elems) count none = absurd (omega a
 inside fit [] (elem.Index index ∷ elems) count none = absurd (omega arith)
 inside fit (len ∷ shape) (elem.Slice start end step ∷ elems) count none =
     let fits = slice_of_no_fault fit len shape (slice_with start end step) elems none in
-    (slice_inside fit len start end step fits.0, inside fit shape elems (omega arith) fits.1)
+    (λ pick h. contained_below fit len (slice_with start end step) pick fits.0 h, inside fit shape elems (omega arith) fits.1)
 inside fit (len ∷ shape) (elem.Index index ∷ elems) count none =
     let fits = index_of_no_fault fit len shape index elems none in
     (index_inside len index fits.0, inside fit shape elems (omega arith) fits.1)
@@ -108,34 +96,46 @@ meet_no_axes fit one other = (
 )
 
 -- where an argument picks nothing of an axis it meets none
-pub not_picked : (lists : List (List ℕ)) (index : List ℕ) (axis : ℕ) → axis < length lists → get_or lists axis [] ≡ [] → AllZip Contains lists index → ⊥
+pub not_picked : (lists : List (List ℕ)) (index : List ℕ) (axis : ℕ) → axis < length lists → get_or lists axis [] ≡ []
+    → AllZip Contains lists index → ⊥
 not_picked [] index axis below nothing all = omega (arith, below)
 not_picked (xs ∷ lists) [] axis below nothing all = all
 not_picked (xs ∷ lists) (i ∷ index) zero below nothing all = omega (arith, (all.0).1, ap (λ ys. length ys) nothing)
 not_picked (xs ∷ lists) (i ∷ index) (suc axis) below nothing all = not_picked lists index axis (omega (arith, below)) nothing all.1
 
-pub meet_empty : (fit : Fit) (shape : List ℕ) (one other : List SliceInfoElem) (axis : ℕ) → axis < length (axis_picks fit shape one)
-    → get_or (axis_picks fit shape one) axis [] ≡ [] → Meet fit shape one other → ⊥
-meet_empty fit shape one other axis below nothing meet = not_picked (axis_picks fit shape one) meet.0 axis below nothing meet.2
+module _ (fit : Fit) (shape : List ℕ) (one other : List SliceInfoElem) where
+  pub meet_empty : (axis : ℕ) → axis < length (axis_picks fit shape one) → get_or (axis_picks fit shape one) axis [] ≡ []
+      → Meet fit shape one other → ⊥
+  meet_empty axis below nothing meet = not_picked (axis_picks fit shape one) meet.0 axis below nothing meet.2
 
 -- an index of each slice stands for one index of the shape
 pub record ShareSource (fit : Fit) (shape : List ℕ) (one other : List SliceInfoElem) : Type 0 where
   pub index : List ℕ
-  pub within : IsTrue (is_index (sliced_shape fit one shape) index)
+  pub within : IsOfSlice fit one shape index
   pub at : List ℕ
-  pub at_within : IsTrue (is_index (sliced_shape fit other shape) at)
+  pub at_within : IsOfSlice fit other shape at
   pub same : selected fit one shape index ≡ selected fit other shape at
 
-pub meet_of_sources : (fit : Fit) (shape : List ℕ) (one other : List SliceInfoElem) → argument_fault fit shape one ≡ None → ShareSource fit shape one other → Meet fit shape one other
+pub meet_of_sources : (fit : Fit) (shape : List ℕ) (one other : List SliceInfoElem) → argument_fault fit shape one ≡ None
+    → ShareSource fit shape one other → Meet fit shape one other
 meet_of_sources fit shape one other none share = (
   selected fit one shape share.index,
   selected_is_index fit one shape share.index none share.within,
   selected_is_picked fit one shape share.index share.within,
-  subst (λ index. AllZip Contains (axis_picks fit shape other) index) (sym share.same) (selected_is_picked fit other shape share.at share.at_within),
+  subst (λ index. AllZip Contains (axis_picks fit shape other) index) (sym share.same)
+      (selected_is_picked fit other shape share.at share.at_within),
 )
 
-pub sources_of_meet : (fit : Fit) (shape : List ℕ) (one other : List SliceInfoElem) → argument_fault fit shape one ≡ None → argument_fault fit shape other ≡ None → Meet fit shape one other → ShareSource fit shape one other
+pub sources_of_meet : (fit : Fit) (shape : List ℕ) (one other : List SliceInfoElem) → argument_fault fit shape one ≡ None
+    → argument_fault fit shape other ≡ None → Meet fit shape one other → ShareSource fit shape one other
 sources_of_meet fit shape one other none also meet =
     let first = picked_is_selected fit one shape meet.0 none meet.2 in
     let second = picked_is_selected fit other shape meet.0 also meet.3 in
-    record { index = first.of_slice; within = first.within; at = second.of_slice; at_within = second.within; same = first.stands ∙ sym second.stands }
+    record {
+      index = first.of_slice;
+      within = first.within;
+      at = second.of_slice;
+      at_within = second.within;
+      same = first.stands
+          ∙ sym second.stands;
+    }

@@ -1,10 +1,6 @@
 -- Where the picks of a slice lie.
-use Rattle.std.specs.Prelude.{◌≡◌, ℕ, ◌<◌, ℤ, pos, ◌+ℤ◌, ◌*ℤ◌, length, slice_index}
-use Rattle.nd_base.specs.Signed.{magnitude}
-use Rattle.nd_slice.specs.declared.fit.Fit.{Fit}
-use Rattle.nd_slice.specs.declared.slice.Slice.{Slice}
-use Rattle.nd_slice.specs.Picks.{start_meaning, end_meaning, picks}
-use Rattle.nd_slice.specs.Picked.{first_offset, picked_stride}
+use Rattle.std.proofs.Common.{◌≡◌, ℕ, ◌<◌, ℤ, pos, ◌+ℤ◌, ◌*ℤ◌, length, slice_index}
+use Rattle.nd_slice.proofs.Definitions.{Fit, Slice, end_meaning, first_offset, magnitude, picked_stride, picks, start_meaning}
 use Rattle.nd_slice.proofs.Slicing.{picked_steps}
 
 -- pick j lies j new strides after the first

@@ -1,15 +1,13 @@
 -- What no fault means: a slice that fits, and an index that is an entry.
-use Rattle.std.proofs.Common.{◌<◌, ◌≤◌, pos, negsuc, true, false, refl, pos_of_ne-zero}
+use Rattle.std.proofs.Common.{◌<◌, ◌≤◌, pos, negsuc, true, false, refl, pos_of_ne-zero, ◌≡◌, ℕ, ℤ, IsTrue, Bool, ◌==◌, not, if◌then◌else◌}
+use Rattle.std.proofs.Common.{Some, None}
 use Rattle.std.proofs.lemmas.Bool.{and_parts, eqb-false, leb-true, ltb-true}
-use Rattle.std.specs.Prelude.{◌≡◌, ℕ, ℤ, IsTrue, Bool, ◌==◌, not, if◌then◌else◌, Some, None}
 use Rattle.nd_base.specs.declared.error.ErrorKind.TheVariants.{OutOfBounds, Unsupported}
-use Rattle.nd_base.specs.Signed.{magnitude}
-use Rattle.nd_slice.specs.declared.fit.Fit.{Fit}
-use Rattle.nd_slice.specs.declared.slice.Slice.{Slice}
-use Rattle.nd_slice.specs.Picks.{meaning, is_bound, is_entry, start_meaning, end_meaning}
-use Rattle.nd_slice.specs.SliceFault.{is_within, SliceFits, IndexFits, slice_fault, index_fault}
+use Rattle.nd_slice.proofs.Definitions.{Fit, IndexFits, Slice, SliceFits, end_meaning, index_fault, is_bound, is_entry, is_within}
+use Rattle.nd_slice.proofs.Definitions.{magnitude, meaning, slice_fault, start_meaning}
 
-neither : (within zero_step : Bool) → (if not within then Some OutOfBounds else if zero_step then Some Unsupported else None) ≡ None → (within ≡ true) × (zero_step ≡ false)
+neither : (within zero_step : Bool) → (if not within then Some OutOfBounds else if zero_step then Some Unsupported else None) ≡ None
+    → (within ≡ true) × (zero_step ≡ false)
 neither true true none = absurd (cc)
 neither true false none = (refl, refl)
 neither false zero_step none = absurd (cc)
@@ -50,5 +48,6 @@ entry_at len (pos entry) is = (refl, ltb-true entry len is)
 entry_at len (negsuc entry) is = absurd (cc)
 
 -- the entry that an index means is on the axis
-pub entry_below : (len : ℕ) (index : ℤ) → IndexFits len index → (meaning len index ≡ pos (magnitude (meaning len index))) × (magnitude (meaning len index) < len)
+pub entry_below : (len : ℕ) (index : ℤ) → IndexFits len index
+    → (meaning len index ≡ pos (magnitude (meaning len index))) × (magnitude (meaning len index) < len)
 entry_below len index fits = entry_at len (meaning len index) fits

@@ -1,21 +1,17 @@
 -- What a slice with a step of 1 picks: every entry of its range, so that pick j is the start plus j. A crop is such a slice of each axis.
-use Rattle.std.proofs.Common.{◌≡◌, ℕ, ◌+◌, ◌-◌, ◌<◌, ◌≤◌, min, ℤ, pos, negsuc, Option, Some, None, List, [], ◌∷◌, length, refl, ap, ◌∙◌, arith}
+use Rattle.std.proofs.Common.{◌≡◌, ℕ, ◌+◌, ◌-◌, ◌<◌, ◌≤◌, min, ℤ, pos, negsuc, Option, Some, None, List, [], ◌∷◌, length, refl, ap, ◌∙◌}
+use Rattle.std.proofs.Common.{arith, IsTrue, nat_lt, slice_index}
 use Rattle.std.specs.List.{range_with_len}
-use Rattle.std.specs.Prelude.{IsTrue, nat_lt, slice_index}
 use Rattle.std.proofs.lemmas.Bool.{and_parts, ltb-true}
 use Rattle.std.proofs.lemmas.Grind.{div_ceil_times}
 use Rattle.std.proofs.lemmas.List.{ext_get_or}
 use Rattle.std.proofs.lemmas.List.FromFn.{length-range_with_len, get_or-range_with_len}
 use Rattle.nd_base.specs.Entrywise.{sums}
-use Rattle.nd_base.specs.Indices.{below, is_index}
-use Rattle.nd_base.specs.Signed.{magnitude}
-use Rattle.nd_slice.specs.declared.fit.Fit.{Fit}
+use Rattle.nd_base.specs.Indices.{below}
+use Rattle.nd_slice.proofs.Definitions.{Fit, Slice, SliceInfoElem, between, end_meaning, is_index, magnitude, nearest, picks, range}
+use Rattle.nd_slice.proofs.Definitions.{selected, slice_with, sliced_shape, start_meaning}
 use Rattle.nd_slice.specs.declared.fit.Fit.TheVariants.{Strict, Clamp}
-use Rattle.nd_slice.specs.declared.elem.SliceInfoElem.{SliceInfoElem}
 use Rattle.nd_slice.specs.declared.elem.SliceInfoElem.TheVariants as elem
-use Rattle.nd_slice.specs.Picks.{slice_with, nearest, start_meaning, end_meaning, range, between, picks}
-use Rattle.nd_slice.specs.Selected.{selected}
-use Rattle.nd_slice.specs.Sliced.{sliced_shape}
 use Rattle.nd_slice.proofs.laws.Between.{length-between, pick_up}
 
 -- ---- of a range
@@ -28,17 +24,27 @@ length-between_one start end =
 pub between_one : (start end : ℕ) → between (pos 1) start end ≡ range start end
 between_one start end =
     let count = length-between_one start end in
-    ext_get_or 0 (between (pos 1) start end) (range start end) (omega (arith, count, length-range_with_len start (end - start))) (λ j inside.
+    ext_get_or 0 (between (pos 1) start end) (range start end) (omega (arith, count, length-range_with_len start (end - start)))
+    (λ j inside.
     omega (arith, pick_up 1 start end j (omega arith) inside, get_or-range_with_len start (end - start) j 0 (omega (arith, count))))
 
 -- ---- of an axis
--- a slice with a step of 1 picks as many entries as its range has
-pub length-picks_by_one : (fit : Fit) (len : ℕ) (start : ℤ) (end : Option ℤ) → length (picks fit len (slice_with start end (pos 1))) ≡ magnitude (end_meaning fit len (slice_with start end (pos 1))) - magnitude (start_meaning fit len (slice_with start end (pos 1)))
-length-picks_by_one fit len start end = length-between_one (magnitude (start_meaning fit len (slice_with start end (pos 1)))) (magnitude (end_meaning fit len (slice_with start end (pos 1))))
+module _ (fit : Fit) (len : ℕ) (start : ℤ) (end : Option ℤ) where
+  abbrev by_one : Slice
+  by_one = slice_with start end (pos 1)
 
--- pick j is the entry where its range begins plus j
-pub pick_by_one : (fit : Fit) (len : ℕ) (start : ℤ) (end : Option ℤ) (j : ℕ) → j < length (picks fit len (slice_with start end (pos 1))) → slice_index (picks fit len (slice_with start end (pos 1))) j ≡ magnitude (start_meaning fit len (slice_with start end (pos 1))) + j
-pick_by_one fit len start end j inside = omega (arith, pick_up 1 (magnitude (start_meaning fit len (slice_with start end (pos 1)))) (magnitude (end_meaning fit len (slice_with start end (pos 1)))) j (omega arith) inside)
+  -- a slice with a step of 1 picks as many entries as its range has
+  pub length-picks_by_one : length (picks fit len (slice_with start end (pos 1)))
+      ≡ magnitude (end_meaning fit len (slice_with start end (pos 1))) - magnitude (start_meaning fit len (slice_with start end (pos 1)))
+  length-picks_by_one = length-between_one (magnitude (start_meaning fit len by_one)) (magnitude (end_meaning fit len by_one))
+
+  -- pick j is the entry where its range begins plus j
+  pub pick_by_one : (j : ℕ) → j < length (picks fit len (slice_with start end (pos 1)))
+      → slice_index (picks fit len (slice_with start end (pos 1))) j ≡ magnitude (start_meaning fit len (slice_with start end (pos 1))) + j
+  pick_by_one j inside = omega (
+    arith,
+    pick_up 1 (magnitude (start_meaning fit len by_one)) (magnitude (end_meaning fit len by_one)) j (omega arith) inside,
+  )
 
 range_from_zero : (len : ℕ) → range 0 len ≡ below len
 range_from_zero len = let count : len - 0 ≡ len = omega arith in ap (range_with_len 0) count
@@ -46,7 +52,8 @@ range_from_zero len = let count : len - 0 ≡ len = omega arith in ap (range_wit
 -- `..` picks every entry, in order
 pub picks_of_all : (fit : Fit) (len : ℕ) → picks fit len (slice_with (pos 0) None (pos 1)) ≡ below len
 picks_of_all Strict len = between_one 0 len ∙ range_from_zero len
-picks_of_all Clamp len = let first : min 0 len ≡ 0 = omega arith in ap (λ start. between (pos 1) start len) first ∙ between_one 0 len ∙ range_from_zero len
+picks_of_all Clamp len = let first : min 0 len ≡ 0 = omega arith in ap (λ start. between (pos 1) start len) first ∙ between_one 0 len
+    ∙ range_from_zero len
 
 -- pick j of `..` is entry j
 pub pick_of_all : (fit : Fit) (len j : ℕ) → j < len → slice_index (picks fit len (slice_with (pos 0) None (pos 1))) j ≡ j
@@ -61,7 +68,8 @@ end_below len start None = omega arith
 end_below len start (Some end) = nearest_below len _
 
 -- where a range that begins at an entry counted from the front picks anything, pick j is that entry plus j
-pub pick_of_range : (fit : Fit) (len start : ℕ) (end : Option ℤ) (j : ℕ) → j < length (picks fit len (slice_with (pos start) end (pos 1))) → slice_index (picks fit len (slice_with (pos start) end (pos 1))) j ≡ start + j
+pub pick_of_range : (fit : Fit) (len start : ℕ) (end : Option ℤ) (j : ℕ) → j < length (picks fit len (slice_with (pos start) end (pos 1)))
+    → slice_index (picks fit len (slice_with (pos start) end (pos 1))) j ≡ start + j
 pick_of_range Strict len start end j inside = pick_by_one Strict len (pos start) end j inside
 pick_of_range Clamp len start end j inside =
     let room = length-picks_by_one Clamp len (pos start) end in
@@ -75,7 +83,9 @@ ranges (start ∷ starts) [] = []
 ranges (start ∷ starts) (end ∷ ends) = elem.Slice (pos start) end (pos 1) ∷ ranges starts ends
 
 -- an index of a crop stands for the index of the whole that is the starts plus it
-pub selected_by_ranges : (fit : Fit) (starts : List ℕ) (ends : List (Option ℤ)) (shape index : List ℕ) → IsTrue (is_index (sliced_shape fit (ranges starts ends) shape) index) → selected fit (ranges starts ends) shape index ≡ sums starts index
+pub selected_by_ranges : (fit : Fit) (starts : List ℕ) (ends : List (Option ℤ)) (shape index : List ℕ)
+    → IsTrue (is_index (sliced_shape fit (ranges starts ends) shape) index)
+    → selected fit (ranges starts ends) shape index ≡ sums starts index
 selected_by_ranges fit [] ends shape index here = refl
 selected_by_ranges fit (start ∷ starts) [] shape [] here = refl
 selected_by_ranges fit (start ∷ starts) [] shape (j ∷ index) here = absurd (cc)

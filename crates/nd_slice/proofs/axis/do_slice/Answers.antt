@@ -1,11 +1,9 @@
-use Rattle.std.proofs.Common.{rules, ◌≡◌, ◌<◌, arith, ap, sym, ◌∙◌, length, get_or, pos, ℤ, ◌+ℤ◌, ◌*ℤ◌, to_z, of_z}
-use Rattle.std.specs.Int.{w64}
+use Rattle.std.proofs.Common.{rules, ◌≡◌, ◌<◌, arith, ap, sym, ◌∙◌, length, get_or, pos, ℤ, ◌+ℤ◌, ◌*ℤ◌, to_z, of_z, w64}
 use Rattle.std.proofs.lemmas.Int.{to_z-of_z}
-use Rattle.nd_base.specs.Signed.{magnitude, signed}
-use Rattle.nd_slice.specs.Picks.{picks, between}
-use Rattle.nd_slice.specs.Picked.{picked_stride, first_offset}
+use Rattle.nd_slice.proofs.Definitions.{between, first_offset, magnitude, picked_stride, picks, signed}
 use Rattle.nd_slice.proofs.laws.Between.{between_below, some_between, none_between}
-use Rattle.nd_slice.proofs.Slicing.{moves, picks_between, first_below, offset_fits, stride_fits, picked_steps, offset_of_some, offset_of_none}
+use Rattle.nd_slice.proofs.Slicing.{moves, picks_between, first_below, offset_fits, stride_fits, picked_steps, offset_of_some}
+use Rattle.nd_slice.proofs.Slicing.{offset_of_none}
 use Rattle.nd_slice.proofs.axis.do_slice.Goals as goal
 use Rattle.nd_slice.proofs.axis.do_slice.Goals.{In_ok-start, After-first_pick, then-start-end, else-start-end}
 
@@ -46,7 +44,7 @@ stepped_stride-requires c =
     let x = c.in_ok-start in
     let at = (goal.at.stepped_stride-requires c).In_ok-start in
     λ many. stride_fits (step_of at) x.start x.end c.args.dim.now (signed c.args.stride.now)
-        (step_moves at) x.ensures.within c.requires.span_fits (omega (arith, c.pick_count.ensures))
+    (step_moves at) x.ensures.within c.requires.span_fits (omega (arith, c.pick_count.ensures))
 
 pub returns-clause-steps : goal.returns-clause-steps
 returns-clause-steps c j below =

@@ -1,6 +1,6 @@
 -- What was counted and what is left come to the whole count, and no element was counted twice.
 use Rattle.std.proofs.Common.{◌≡◌, ◌+◌, ◌≤◌, drop}
-use Rattle.nd_slice.specs.ArgumentFault.{in_count}
+use Rattle.nd_slice.proofs.Definitions.{in_count}
 use Rattle.nd_slice.proofs.checks.in_ndim_of.Given as goal
 
 abbrev pub invariant-loop-elem : goal.invariant-loop-elem

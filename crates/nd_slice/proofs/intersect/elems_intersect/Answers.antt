@@ -1,11 +1,8 @@
-use Rattle.std.proofs.Common.{◌≡◌, ◌+◌, ◌<◌, ℕ, List, suc, true, refl, arith, ap, ◌∙◌, subst, get_or, drop, length, pos, [], ◌∷◌, drop-cons}
+use Rattle.std.proofs.Common.{◌≡◌, ◌+◌, ℕ, List, suc, true, refl, arith, ap, ◌∙◌, subst, get_or, drop, pos, [], ◌∷◌, drop-cons, ◌↔◌, None}
 use Rattle.std.proofs.lemmas.Bool.{both_ways}
 use Rattle.std.proofs.lemmas.List.{drop_all}
-use Rattle.std.specs.Prelude.{◌↔◌, None}
-use Rattle.nd_slice.specs.PicksMeet.{PicksMeet}
-use Rattle.nd_slice.specs.declared.elem.SliceInfoElem.{SliceInfoElem}
+use Rattle.nd_slice.proofs.Definitions.{PicksMeet, SliceInfoElem, elem_picks}
 use Rattle.nd_slice.specs.declared.elem.SliceInfoElem.TheVariants as elem
-use Rattle.nd_slice.specs.Meet.{elem_picks}
 use Rattle.nd_slice.proofs.laws.Meet.{meet_by_axis}
 use Rattle.nd_slice.proofs.intersection.Meeting.{IsPlace, IsDecided, place_below, next_at, fits_in, go_on, stop, at_end}
 use Rattle.nd_slice.proofs.intersect.elems_intersect.Goals as goal
@@ -30,7 +27,7 @@ decided c =
     let one_more : suc axis ≡ axis + 1 = omega arith in
     subst
     (λ rest. IsDecided c.args.fit shape c.args.first.now c.args.second.now rest
-        (drop c.loop-len.first_place c.args.first.now) (drop c.loop-len.second_place c.args.second.now))
+    (drop c.loop-len.first_place c.args.first.now) (drop c.loop-len.second_place c.args.second.now))
     (drop-cons shape axis 0 (omega arith) ∙ ap (λ n. get_or shape axis 0 ∷ drop n shape) one_more) c.loop-len.invariant.decided
 
 -- the element of each argument for that axis
@@ -69,10 +66,16 @@ picks_intersect-requires-clause-second_fits c =
     c.slice_of-second_slice.ensures.fits c.args.fit (next_at (second_place at) none).fits
 
 -- the answer for the axis
+abbrev picks_of : After-picks_intersect → SliceInfoElem → List ℕ
+picks_of c e = elem_picks c.args.fit (get_or c.args.shape.now c.loop-len.len-index 0) e
+
 on_axis : (c : After-picks_intersect) → (c.picks_intersect.result ≡ true) ↔ PicksMeet
-    (elem_picks c.args.fit (get_or c.args.shape.now c.loop-len.len-index 0) (get_or c.args.first.now c.next_for_axis-first_place.result none))
-    (elem_picks c.args.fit (get_or c.args.shape.now c.loop-len.len-index 0) (get_or c.args.second.now c.next_for_axis-second_place.result none))
-on_axis c = rw (c.slice_of-first_slice.ensures.picks c.args.fit, c.slice_of-second_slice.ensures.picks c.args.fit) at c.picks_intersect.ensures
+    (picks_of c (get_or c.args.first.now c.next_for_axis-first_place.result none))
+    (picks_of c (get_or c.args.second.now c.next_for_axis-second_place.result none))
+on_axis c =
+    let one = c.slice_of-first_slice.ensures.picks c.args.fit in
+    let other = c.slice_of-second_slice.ensures.picks c.args.fit in
+    rw (one, other) at c.picks_intersect.ensures
 
 pub returns-then-not-picks_intersect : goal.returns-then-not-picks_intersect
 returns-then-not-picks_intersect c =

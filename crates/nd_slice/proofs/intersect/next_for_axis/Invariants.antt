@@ -1,6 +1,6 @@
 -- The elements passed so far are new axes.
 use Rattle.std.proofs.Common.{◌≡◌, ◌-◌, ◌≤◌, length, drop}
-use Rattle.nd_slice.specs.Meet.{without_new_axes}
+use Rattle.nd_slice.proofs.Definitions.{without_new_axes}
 use Rattle.nd_slice.proofs.intersect.next_for_axis.Given as goal
 
 abbrev pub invariant-loop-place : goal.invariant-loop-place

@@ -1,6 +1,5 @@
 -- The last pick lies as many steps from the first as there are other picks.
-use Rattle.std.proofs.Common.{arith}
-use Rattle.std.specs.Int.{w64}
+use Rattle.std.proofs.Common.{arith, w64}
 use Rattle.std.proofs.lemmas.Int.{ints, to_z-of_z}
 use Rattle.nd_slice.proofs.laws.Between.{some_between}
 use Rattle.nd_slice.proofs.Ends.{IsExtent, ends_back, ends_on}
@@ -18,10 +17,11 @@ far c =
 
 pub returns-then-step-lt0 : goal.returns-then-step-lt0
 returns-then-step-lt0 c =
-    let ends = ends_back c.args.step c.args.start c.args.end c.pick_extent-extent.result (omega (arith, ints, c.if-step-lt0.true)) c.requires.order (far c.before) in
-    record { least = ends.least_in; greatest = ends.greatest_in; between = ends.all }
+    let ends = ends_back c.args.start c.args.end c.requires.order c.args.step (omega (arith, ints, c.if-step-lt0.true)) (far c.before) in
+    record { least = ends.0; greatest = ends.1; between = ends.2 }
 
 pub returns-else-step-lt0 : goal.returns-else-step-lt0
 returns-else-step-lt0 c =
-    let ends = ends_on c.args.step c.args.start c.args.end c.pick_extent-extent.result (omega (arith, ints, c.if-step-lt0.false)) c.requires.moves c.requires.order (far c.before) in
-    record { least = ends.least_in; greatest = ends.greatest_in; between = ends.all }
+    let ends = ends_on c.args.start c.args.end c.requires.order c.args.step
+    (omega (arith, ints, c.if-step-lt0.false)) c.requires.moves (far c.before) in
+    record { least = ends.0; greatest = ends.1; between = ends.2 }

@@ -1,9 +1,7 @@
-use Rattle.std.proofs.Common.{rules, ◌≡◌, arith, ap, sym, ◌∙◌, refl, subst, pos, to_z, of_z}
-use Rattle.std.specs.Prelude.{◌≤ℤ◌}
+use Rattle.std.proofs.Common.{rules, ◌≡◌, arith, ap, sym, ◌∙◌, refl, subst, pos, to_z, of_z, ◌≤ℤ◌}
 use Rattle.std.specs.Int.{w128, int_rem_euclid}
-use Rattle.std.proofs.lemmas.Int.{ints, to_z-of_z, to_z_pos}
-use Rattle.nd_base.specs.Signed.{magnitude}
-use Rattle.nd_slice.specs.Equation.{added_of, IsLeastSolution}
+use Rattle.std.proofs.lemmas.Int.{ints, to_z_pos, to_z-of_z}
+use Rattle.nd_slice.proofs.Definitions.{IsLeastSolution, added_of, magnitude}
 use Rattle.nd_slice.proofs.intersection.Signs.{of_non_negative}
 use Rattle.nd_slice.proofs.intersection.Equations.{IsRest, least_solution, rest_divisors}
 use Rattle.nd_slice.proofs.intersect.equation.solve_linear_diophantine_eq.Goals as goal
@@ -15,7 +13,8 @@ first_size c = c.unsigned_abs.ensures.value ∙ ap magnitude (to_z-of_z w128 c.a
 second_size : (c : After-least_multiplier-found) → c.unsigned_abs-2.result ≡ magnitude c.args.b
 second_size c = c.unsigned_abs-2.ensures.value ∙ ap magnitude (to_z-of_z w128 c.args.b c.ranges.b)
 
-rest_of : (c : After-least_multiplier-found) → IsRest c.args.a c.args.b c.args.c (magnitude (to_z w128 (of_z w128 c.rem_euclid-rest.result)))
+rest_of : (c : After-least_multiplier-found)
+    → IsRest c.args.a c.args.b c.args.c (magnitude (to_z w128 (of_z w128 c.rem_euclid-rest.result)))
 rest_of c =
     let r = c.rem_euclid-rest.result in
     let kept : to_z w128 (of_z w128 r) ≡ r = to_z-of_z w128 r (search rules) in
@@ -26,7 +25,8 @@ rest_of c =
     let size : to_z w128 (of_z w128 c.abs.result) ≡ pos (magnitude c.args.b) =
     to_z-of_z w128 c.abs.result (search rules) ∙ c.abs.ensures.value ∙ ap (λ n. pos (magnitude n)) (to_z-of_z w128 c.args.b c.ranges.b) in
     let value : r ≡ int_rem_euclid (added_of c.args.a c.args.c) (pos (magnitude c.args.b)) =
-    c.rem_euclid-rest.ensures.value ∙ ap (λ n. int_rem_euclid n (to_z w128 (of_z w128 c.abs.result))) added ∙ ap (λ n. int_rem_euclid (added_of c.args.a c.args.c) n) size in
+    c.rem_euclid-rest.ensures.value ∙ ap (λ n. int_rem_euclid n (to_z w128 (of_z w128 c.abs.result))) added
+    ∙ ap (λ n. int_rem_euclid (added_of c.args.a c.args.c) n) size in
     let on : pos 0 ≤ℤ r = omega (arith, ints, c.rem_euclid-rest.ensures.lower_bound) in
     record {
       some = omega (arith, ints, c.ranges.b, c.requires.second_some);

@@ -6,7 +6,11 @@ pub overflow_add-after_second : goal.overflow_add-after_second
 overflow_add-after_second c =
     let at = c.loop-rest in
     let next = step at.invariant (omega arith) in
-    omega (arith, part_within (at.second + at.gcd / at.rest * at.next_second) (at.next_second * (at.gcd % at.rest)) next.some next.second_area)
+    omega (
+      arith,
+      part_within (at.second + at.gcd / at.rest * at.next_second) (at.next_second * (at.gcd % at.rest)) next.some
+          next.second_area,
+    )
 
 pub overflow_add-after_first : goal.overflow_add-after_first
 overflow_add-after_first c =

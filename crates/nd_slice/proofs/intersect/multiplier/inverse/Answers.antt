@@ -6,7 +6,8 @@ use Rattle.nd_slice.proofs.intersect.multiplier.inverse.Goals as goal
 use Rattle.nd_slice.proofs.intersect.multiplier.inverse.Goals.{After-common_divisor-found}
 
 some_of : (c : After-common_divisor-found) → 0 < c.common_divisor-found.result.gcd
-some_of c = divisor_some c.args.factor c.args.modulus c.common_divisor-found.result.gcd c.requires.factor_some c.common_divisor-found.ensures.gcd
+some_of c = divisor_some c.args.factor c.args.modulus c.common_divisor-found.result.gcd c.requires.factor_some
+    c.common_divisor-found.ensures.gcd
 
 pub nonzero_div-result : goal.nonzero_div-result
 nonzero_div-result c = some_of ((goal.at.nonzero_div-result c).After-common_divisor-found)
@@ -14,7 +15,8 @@ nonzero_div-result c = some_of ((goal.at.nonzero_div-result c).After-common_divi
 pub overflow_sub-result : goal.overflow_sub-result
 overflow_sub-result c =
     let some = some_of ((goal.at.overflow_sub-result c).After-common_divisor-found) in
-    le-div c.common_divisor-found.result.first c.args.modulus c.common_divisor-found.result.gcd some c.common_divisor-found.ensures.first_within
+    le-div c.common_divisor-found.result.first c.args.modulus c.common_divisor-found.result.gcd some
+    c.common_divisor-found.ensures.first_within
 
 pub returns-else-found-clause-inverse : goal.returns-else-found-clause-inverse
 returns-else-found-clause-inverse c =

@@ -2,7 +2,8 @@ use Rattle.std.proofs.Common.{◌+◌, ◌-◌, ◌*◌, ◌/◌, ◌<◌, ◌�
 use Rattle.std.proofs.lemmas.Nat.{mod_below}
 use Rattle.std.proofs.lemmas.Nat.Gcd.{dvd_refl, dvd-zero, dvd_of_mod-eq-zero}
 use Rattle.std.specs.Int.{◌∣◌, IsGcd}
-use Rattle.nd_slice.proofs.intersection.Multiples.{IsFound, divisor_some, quotient_some, found_least, same_quotient, no_divisor, that_divisor, rest_divided}
+use Rattle.nd_slice.proofs.intersection.Multiples.{IsFound, divisor_some, quotient_some, found_least, same_quotient, no_divisor}
+use Rattle.nd_slice.proofs.intersection.Multiples.{that_divisor, rest_divided}
 use Rattle.nd_slice.proofs.intersect.multiplier.least_multiplier.Goals as goal
 use Rattle.nd_slice.proofs.intersect.multiplier.least_multiplier.Goals.{After-inverse-gcd, After-multiply_mod-back}
 
@@ -27,7 +28,8 @@ multiply_mod-back-requires c = apart_some ((goal.at.multiply_mod-back-requires c
 pub returns-then-rest-gcd-ne0-clause-solvable : goal.returns-then-rest-gcd-ne0-clause-solvable
 returns-then-rest-gcd-ne0-clause-solvable c = λ g h. (
   λ is. absurd (cc),
-  λ divides. absurd (no_divisor c.args.factor c.args.modulus c.inverse-gcd.result.0 g c.inverse-gcd.ensures.gcd h c.args.rest (omega arith) divides),
+  λ divides. absurd (no_divisor c.args.factor c.args.modulus c.inverse-gcd.result.0 g c.inverse-gcd.ensures.gcd h c.args.rest
+      (omega arith) divides),
 )
 
 pub returns-then-rest-gcd-ne0-clause-none : goal.returns-then-rest-gcd-ne0-clause-none
@@ -85,7 +87,8 @@ returns-else-back-eq0 c =
     let at = (goal.at.returns-else-back-eq0 c).After-multiply_mod-back in
     let apart = c.args.modulus / c.inverse-gcd.result.0 in
     let here : c.multiply_mod-back.result < apart = below at in
-    let back : apart ∣ apart - c.multiply_mod-back.result + c.multiply_mod-back.result = subst (λ n. apart ∣ n) (omega arith) (dvd_refl apart) in
+    let back : apart ∣ apart - c.multiply_mod-back.result + c.multiply_mod-back.result =
+    subst (λ n. apart ∣ n) (omega arith) (dvd_refl apart) in
     record {
       solvable = λ g h. (λ is. solvable at g h, λ divides. refl);
       least = found_least (found at) (apart - c.multiply_mod-back.result) back (omega arith);

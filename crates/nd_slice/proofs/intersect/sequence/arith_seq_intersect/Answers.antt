@@ -1,50 +1,47 @@
-use Rattle.std.proofs.Common.{rules, ◌≡◌, arith, ap, ◌∙◌, true, ◌-ℤ◌, to_z, of_z}
-use Rattle.std.specs.Prelude.{◌≤ℤ◌, ◌<ℤ◌, ◌↔◌}
-use Rattle.std.specs.Int.{w64}
+use Rattle.std.proofs.Common.{rules, ◌≡◌, arith, ap, ◌∙◌, true, to_z, of_z, ◌≤ℤ◌, ◌<ℤ◌, w64}
 use Rattle.std.proofs.lemmas.Int.{ints, to_z-of_z}
-use Rattle.nd_base.specs.Signed.{magnitude}
-use Rattle.nd_slice.specs.Sequence.{MeetsWithin}
+use Rattle.nd_slice.proofs.Definitions.{magnitude}
 use Rattle.nd_slice.proofs.intersection.Sequences.{IsShared, IsMeasured, meets_on, meets_back, meets_none}
 use Rattle.nd_slice.proofs.intersect.sequence.arith_seq_intersect.Goals as goal
 use Rattle.nd_slice.proofs.intersect.sequence.arith_seq_intersect.Goals.{After-min-greatest, After-abs_diff-ahead}
 
+-- numbers are kept as they are read
+first_kept : (c : After-min-greatest)
+    → (to_z w64 (of_z w64 c.args.first.0) ≡ c.args.first.0) × (to_z w64 (of_z w64 c.args.second.0) ≡ c.args.second.0)
+first_kept c = (to_z-of_z w64 c.args.first.0 (search rules), to_z-of_z w64 c.args.second.0 (search rules))
+
+ends_kept : (c : After-min-greatest)
+    → (to_z w64 (of_z w64 c.max-least.result) ≡ c.max-least.result) × (to_z w64 (of_z w64 c.min-greatest.result) ≡ c.min-greatest.result)
+ends_kept c = (to_z-of_z w64 c.max-least.result (search rules), to_z-of_z w64 c.min-greatest.result (search rules))
+
 shared : (c : After-min-greatest) → IsShared c.args.first c.args.second c.max-least.result c.min-greatest.result
 shared c =
-    let one_first : to_z w64 (of_z w64 c.args.first.0) ≡ c.args.first.0 = to_z-of_z w64 c.args.first.0 (search rules) in
+    let firsts = first_kept c in
     let one_last : to_z w64 (of_z w64 c.args.first.1) ≡ c.args.first.1 = to_z-of_z w64 c.args.first.1 (search rules) in
-    let other_first : to_z w64 (of_z w64 c.args.second.0) ≡ c.args.second.0 = to_z-of_z w64 c.args.second.0 (search rules) in
     let other_last : to_z w64 (of_z w64 c.args.second.1) ≡ c.args.second.1 = to_z-of_z w64 c.args.second.1 (search rules) in
     record {
-      first_is = rw (one_first, other_first) at c.max-least.ensures.value;
+      first_is = rw (firsts.0, firsts.1) at c.max-least.ensures.value;
       last_is = rw (one_last, other_last) at c.min-greatest.ensures.value;
     }
 
 pub returns-then-least-greatest : goal.returns-then-least-greatest
 returns-then-least-greatest c =
-    let least = c.max-least.result in
-    let greatest = c.min-greatest.result in
-    let least_kept : to_z w64 (of_z w64 least) ≡ least = to_z-of_z w64 least (search rules) in
-    let greatest_kept : to_z w64 (of_z w64 greatest) ≡ greatest = to_z-of_z w64 greatest (search rules) in
-    let at = shared ((goal.at.returns-then-least-greatest c).After-min-greatest) in
-    let order : greatest <ℤ least = grind (arith, ints, c.if-least-greatest.true) in
-    (λ is. absurd (cc), λ meets. absurd (meets_none at order meets))
+    let at = (goal.at.returns-then-least-greatest c).After-min-greatest in
+    let ends = ends_kept at in
+    let order : c.min-greatest.result <ℤ c.max-least.result = grind (arith, ints, c.if-least-greatest.true) in
+    (λ is. absurd (cc), λ meets. absurd (meets_none (shared at) order meets))
 
 measured : (c : After-abs_diff-ahead)
     → IsMeasured c.args.first c.args.second c.max-least.result c.min-greatest.result c.abs_diff-ahead.result c.abs_diff-room.result
 measured c =
-    let one = c.args.first in
-    let other = c.args.second in
-    let least = c.max-least.result in
-    let greatest = c.min-greatest.result in
-    let least_kept : to_z w64 (of_z w64 least) ≡ least = to_z-of_z w64 least (search rules) in
-    let greatest_kept : to_z w64 (of_z w64 greatest) ≡ greatest = to_z-of_z w64 greatest (search rules) in
-    let one_first : to_z w64 (of_z w64 one.0) ≡ one.0 = to_z-of_z w64 one.0 (search rules) in
-    let other_first : to_z w64 (of_z w64 other.0) ≡ other.0 = to_z-of_z w64 other.0 (search rules) in
+    let at = (goal.at.After-abs_diff-ahead c).After-min-greatest in
+    let firsts = first_kept at in
+    let ends = ends_kept at in
     record {
-      ends = shared ((goal.at.After-abs_diff-ahead c).After-min-greatest);
+      ends = shared at;
       order = grind (arith, ints, c.if-least-greatest.false);
-      room_is = rw (greatest_kept, least_kept) at c.abs_diff-room.ensures;
-      ahead_is = rw (one_first, other_first) at c.abs_diff-ahead.ensures;
+      room_is = rw (ends.1, ends.0) at c.abs_diff-room.ensures;
+      ahead_is = rw (firsts.0, firsts.1) at c.abs_diff-ahead.ensures;
     }
 
 first_size : (c : After-abs_diff-ahead) → c.unsigned_abs-first_step.result ≡ magnitude c.args.first.2
@@ -56,8 +53,7 @@ second_size c = c.unsigned_abs-second_step.ensures.value ∙ ap magnitude (to_z-
 pub returns-then-first-second : goal.returns-then-first-second
 returns-then-first-second c =
     let at = (goal.at.returns-then-first-second c).After-abs_diff-ahead in
-    let one_first : to_z w64 (of_z w64 c.args.first.0) ≡ c.args.first.0 = to_z-of_z w64 c.args.first.0 (search rules) in
-    let other_first : to_z w64 (of_z w64 c.args.second.0) ≡ c.args.second.0 = to_z-of_z w64 c.args.second.0 (search rules) in
+    let firsts = first_kept ((goal.at.returns-then-first-second c).After-min-greatest) in
     let way : c.args.first.0 ≤ℤ c.args.second.0 = grind (arith, ints, c.if-first-second.true) in
     let meets = meets_on (measured at) way in
     let known = rw (first_size at, second_size at) at c.meets_within.ensures in
@@ -66,8 +62,7 @@ returns-then-first-second c =
 pub returns-else-first-second : goal.returns-else-first-second
 returns-else-first-second c =
     let at = (goal.at.returns-else-first-second c).After-abs_diff-ahead in
-    let one_first : to_z w64 (of_z w64 c.args.first.0) ≡ c.args.first.0 = to_z-of_z w64 c.args.first.0 (search rules) in
-    let other_first : to_z w64 (of_z w64 c.args.second.0) ≡ c.args.second.0 = to_z-of_z w64 c.args.second.0 (search rules) in
+    let firsts = first_kept ((goal.at.returns-else-first-second c).After-min-greatest) in
     let way : c.args.second.0 ≤ℤ c.args.first.0 = grind (arith, ints, c.if-first-second.false) in
     let meets = meets_back (measured at) way in
     let known = rw (first_size at, second_size at) at c.meets_within-else-first-second.ensures in
