@@ -36,7 +36,8 @@ module _ (fit : Fit) (len : ℕ) (shape : List ℕ) where
       let after : rest ≡ others = cc in
       subst (IsNext fit len shape elems e) after (subst (λ x. IsNext fit len shape elems x rest) first next)
 
-  after : (elems : List SliceInfoElem) → 1 + in_count elems ≡ 1 + length shape → first_fault fit shape elems ≡ None → AreLeft fit shape elems
+  after : (elems : List SliceInfoElem) → 1 + in_count elems ≡ 1 + length shape → first_fault fit shape elems ≡ None
+      → AreLeft fit shape elems
   after elems count none = record { count = omega arith; none = none }
 
   -- the first element that is no new axis is for the next axis
@@ -48,12 +49,14 @@ module _ (fit : Fit) (len : ℕ) (shape : List ℕ) where
       record { fits = next.fits; left = next.left; picks = next.picks }
   next_of (elem.Slice start end step ∷ elems) others e same left =
       let parts = slice_of_no_fault fit len shape (slice_with start end step) elems left.none in
+      let rest = after elems (omega (arith, left.count)) parts.1 in
       same_next (elem.Slice start end step ∷ elems) others elems e (elem.Slice start end step) same
-      (record { fits = parts.0; left = after elems (omega (arith, left.count)) parts.1; picks = refl })
+      (record { fits = parts.0; left = rest; picks = refl })
   next_of (elem.Index index ∷ elems) others e same left =
       let parts = index_of_no_fault fit len shape index elems left.none in
+      let rest = after elems (omega (arith, left.count)) parts.1 in
       same_next (elem.Index index ∷ elems) others elems e (elem.Index index) same
-      (record { fits = parts.0; left = after elems (omega (arith, left.count)) parts.1; picks = refl })
+      (record { fits = parts.0; left = rest; picks = refl })
 
 -- the place of that element, found from where the elements that are left begin
 pub record IsPlace (fit : Fit) (len : ℕ) (shape : List ℕ) (elems : List SliceInfoElem) (before place : ℕ) : Type 0 where

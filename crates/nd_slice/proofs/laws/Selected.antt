@@ -112,7 +112,8 @@ module _ (fit : Fit) where
       (Contains-get_or (magnitude (meaning len i) ∷ []) 0 0 (omega arith), selected_is_picked elems shape index here)
 
   picked : (elems : List SliceInfoElem) (shape index : List ℕ) → in_count elems ≡ length shape
-      → AllZip Contains (axis_picks fit shape elems) index → StandsFor fit elems shape index
+      → AllZip Contains (axis_picks fit shape elems) index
+      → StandsFor fit elems shape index
   picked [] [] [] count all = record { of_slice = []; within = refl; stands = refl }
   picked [] [] (i ∷ index) count all = absurd all
   picked [] (len ∷ shape) index count all = absurd (omega arith)
