@@ -1,9 +1,10 @@
 //! Callers over pixels. A row is the call, a shape, its strides, a count of pixels, and what else is given to the call.
 use crate::arrays::are_written;
+use crate::assertions::hold;
 use crate::numbers::pixels;
 use crate::views::{of_picture, of_view};
 use std::alloc::Global;
-use test_tables::{Asked, List, Row, hold};
+use test_tables::{Asked, List, Row};
 
 /// The shape and the strides of a row.
 #[derive(Clone, Copy)]

@@ -5,6 +5,8 @@
 #[cfg(test)]
 mod arrays;
 #[cfg(test)]
+mod assertions;
+#[cfg(test)]
 mod callers;
 #[cfg(test)]
 mod numbers;

@@ -1,7 +1,8 @@
 //! What is printed of texts of pictures, and of words that spell edits of them.
+use crate::assertions::hold;
 use example_tiles_edits::{Edit, edited, read_edits, read_picture, text_of_picture};
 use std::alloc::{AllocError, Global};
-use test_tables::{Asked, Row, hold};
+use test_tables::{Asked, Row};
 
 /// The text of the picture that edits make of the one that a text spells, or the message of why there is none.
 fn printed(alloc: Global, edits: &[Edit], text: &str) -> Result<String, AllocError> {

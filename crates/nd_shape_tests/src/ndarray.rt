@@ -5,8 +5,8 @@
 //! checks and debug assertions, and each row was asked of them at `IxDyn`, with strides read and written as signed
 //! numbers. Left out is what this layer answers otherwise on purpose: strides of `isize::MIN` where the crate takes
 //! their magnitude, axes of at most one entry with the least stride, and sizes that overflow before a length of 0.
+use crate::assertions::hold;
 use crate::calls::Calls;
-use test_tables::hold;
 
 const ANSWERS: &str = "\
 size_checked 0 => 0

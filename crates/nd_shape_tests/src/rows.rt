@@ -3,8 +3,8 @@
 //! Strides are written with their sign. `can_index_slice` and `max_abs_offset_check_overflow` take a shape, strides,
 //! and then the size of an element, with the count of elements where the call takes one; where nothing is refused the
 //! answer is `none`.
+use crate::assertions::hold;
 use crate::calls::Calls;
-use test_tables::hold;
 
 /// Layouts without an index, and one whose places are shared.
 const R1: &str = "\

@@ -1,6 +1,6 @@
 //! What ndarray 0.17.2 answers of arguments on two to four axes, with new axes and indices.
+use crate::assertions::hold;
 use crate::calls::Calls;
-use test_tables::hold;
 
 #[test]
 fn answers_of_ndarray(rt: HostRuntime) {

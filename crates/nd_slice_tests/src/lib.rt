@@ -7,6 +7,8 @@ mod answers;
 #[cfg(test)]
 mod arguments;
 #[cfg(test)]
+mod assertions;
+#[cfg(test)]
 mod axis;
 #[cfg(test)]
 mod calls;

@@ -1,6 +1,7 @@
 //! Rows of the calls.
+use crate::assertions::hold;
 use crate::calls::Calls;
-use test_tables::{hold, row_holds};
+use test_tables::row_holds;
 
 #[test]
 fn r1_rows(rt: HostRuntime) {

@@ -1,6 +1,6 @@
 //! What ndarray 0.17.2 answers of layouts of one to five axes, with gaps, steps back and strides of 0.
+use crate::assertions::hold;
 use crate::calls::Calls;
-use test_tables::hold;
 
 #[test]
 fn answers_of_ndarray(rt: HostRuntime) {

@@ -1,6 +1,6 @@
 //! Rows of arrays that own their items, 0 and so on.
+use crate::assertions::hold;
 use crate::calls::Calls;
-use test_tables::hold;
 
 /// Two rows of three items, with a spare one.
 const TWO_ROWS: &str = "\

@@ -9,6 +9,8 @@ mod array_rows;
 #[cfg(test)]
 mod arrays;
 #[cfg(test)]
+mod assertions;
+#[cfg(test)]
 mod calls;
 #[cfg(test)]
 mod items;

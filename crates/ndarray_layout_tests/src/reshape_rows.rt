@@ -1,6 +1,6 @@
 //! Rows of reshapes: strides along another shape, or the fault.
+use crate::assertions::hold;
 use crate::calls::Calls;
-use test_tables::hold;
 
 /// Shapes as they are read by rows.
 const BY_ROWS: &str = "\

@@ -1,6 +1,6 @@
 //! Rows of views: how they are made, what is made of them, and runs of steps.
+use crate::assertions::hold;
 use crate::calls::Calls;
-use test_tables::hold;
 
 #[test]
 fn r1_rows(rt: HostRuntime) {

@@ -1,10 +1,11 @@
 //! Sessions over devices that move a few bytes at a time, and whose calls go wrong; and calls of a watched device.
+use crate::assertions::hold;
 use crate::fakes::{Fake, Fault, FaultyCall};
 use crate::sessions::{status_of, written_out};
 use ndl_session::{Watched, session};
 use std::alloc::Global;
 use std::io::{ErrorKind, Write};
-use test_tables::{Asked, Row, hold};
+use test_tables::{Asked, Row};
 
 /// An input, and the text of its answer.
 #[derive(Clone, Copy)]

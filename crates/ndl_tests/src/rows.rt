@@ -1,6 +1,6 @@
 //! Rows of scripts: of each kind of line, of lines that can't be read, and long ones.
+use crate::assertions::hold;
 use crate::sessions::Sessions;
-use test_tables::hold;
 
 const LAYOUTS: &str = "\
 session data 4 owned 4 1|slice 1..;-2| => shape 2|strides -2|places 3 1|

@@ -22,6 +22,6 @@ pub use faults::{fault_of, layout_fault_name, name_of, or_fault};
 pub use lists::{List, Lists, made};
 pub use memory::grants;
 pub use row::{Reading, Row, Words};
-pub use tables::{Asked, hold, meaning, row_holds};
+pub use tables::{Asked, first_failing, meaning, row_holds};
 pub use texts::is_printed;
 pub use types::{AtType, at_each_type, at_type};

@@ -1,7 +1,6 @@
 //! Tables, and what is asked of their rows.
 use crate::row::Row;
 use std::alloc::Global;
-use std::process::Abort;
 
 /// What is asked of each row of a table.
 pub trait Asked {
@@ -17,12 +16,17 @@ pub fn row_holds(alloc: Global, line: &str, asked: &impl Asked) -> bool {
     }
 }
 
-/// All rows of a table hold, and there is one at least. One that doesn't is named.
-pub fn hold(rt: &impl Abort, alloc: Global, table: &str, asked: &impl Asked) {
-    assert!(rt; table != "", "no rows");
-    for line in table.lines() {
-        assert!(rt; row_holds(alloc, line, asked), "{line}");
+/// The first line of a table that is no row that holds, or `no rows` where the table is empty; `None` where every row holds.
+pub fn first_failing<'a>(alloc: Global, table: &'a str, asked: &impl Asked) -> Option<&'a str> {
+    if table == "" {
+        return Some("no rows");
     }
+    for line in table.lines() {
+        if !row_holds(alloc, line, asked) {
+            return Some(line);
+        }
+    }
+    None
 }
 
 /// What a word means by a table of words; `None` where it isn't there.
