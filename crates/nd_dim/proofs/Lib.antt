@@ -3,7 +3,6 @@ pub mod FirstAxes
 pub mod Packed
 pub mod PackedLayouts
 pub mod Products
-pub mod Rearranged
 pub mod Stepped
 pub mod StrideAxes
 pub mod StrideOrder

@@ -1,3 +1,4 @@
+pub mod AxesInOrder
 pub mod AxisOrder
 pub mod Contiguous
 pub mod LastLen

@@ -4,6 +4,7 @@ pub mod DistinctPlaces
 pub mod Keeps
 pub mod KeepsPlaces
 pub mod MergedView
+pub mod PermutedView
 pub mod ReshapedView
 pub mod RowMajor
 pub mod Run
@@ -32,8 +33,10 @@ pub use Rattle.nd_base.proofs.laws.Size
 pub use Rattle.nd_base.proofs.laws.Span
 pub use Rattle.nd_base.proofs.laws.Times
 pub use Rattle.nd_base.proofs.laws.Turned
+pub use Rattle.nd_dim.proofs.laws.AxesInOrder
 pub use Rattle.nd_dim.proofs.laws.Contiguous
 pub use Rattle.nd_dim.proofs.laws.OneStretch
+pub use Rattle.nd_dim.proofs.laws.Rearranged
 pub use Rattle.nd_dim.proofs.laws.Strides
 pub use Rattle.nd_shape.proofs.laws.AcceptanceByStrides
 pub use Rattle.nd_shape.proofs.laws.Axes

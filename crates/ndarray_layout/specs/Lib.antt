@@ -4,6 +4,7 @@ pub mod Descends
 pub mod DistinctPlaces
 pub mod KeepsPlaces
 pub mod MergedView
+pub mod PermutedView
 pub mod ReshapedView
 pub mod Run
 pub mod SharePlace
@@ -31,6 +32,7 @@ pub use Rattle.nd_base.specs.Signed
 pub use Rattle.nd_base.specs.Size
 pub use Rattle.nd_base.specs.Span
 pub use Rattle.nd_base.specs.ValidLayout
+pub use Rattle.nd_dim.specs.AxesInOrder
 pub use Rattle.nd_dim.specs.AxisOrder
 pub use Rattle.nd_dim.specs.Contiguous
 pub use Rattle.nd_dim.specs.LastLen

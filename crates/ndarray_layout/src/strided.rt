@@ -4,6 +4,7 @@ mod collapsing;
 mod longer;
 mod makers;
 mod merging;
+mod permuting;
 mod places;
 mod readers;
 mod reshaping;

@@ -1,9 +1,10 @@
 //! The calls of rows, by their names.
 use crate::arrays::{OfArray, array_holds};
+use crate::axes::{OfAxes, axes_hold};
 use crate::reshapes::reshape_holds;
 use crate::runs::run_holds;
 use crate::views::{OfView, view_holds};
-use Call::{Array, Reshape, Run, View};
+use Call::{Array, Axes, Reshape, Run, View};
 use Order::{ColumnMajor, RowMajor};
 use ndarray_layout::Order;
 use std::alloc::Global;
@@ -14,6 +15,8 @@ use test_tables::{Asked, Row, meaning};
 enum Call {
     /// `TYPE ..`: of a view.
     View(OfView),
+    /// `TYPE ..`: of the axes of a view.
+    Axes(OfAxes),
     /// A run of steps.
     Run,
     /// `SHAPE STRIDES SHAPE => STRIDES`, or the fault.
@@ -22,10 +25,13 @@ enum Call {
     Array(OfArray),
 }
 
-static CALLS: [(&str, Call); 11] = [
+static CALLS: [(&str, Call); 14] = [
     ("new", View(OfView::New)),
     ("from_shape", View(OfView::FromShape)),
     ("slice_in_order", View(OfView::SliceInOrder)),
+    ("swap_axes", Axes(OfAxes::Swapped)),
+    ("reversed_axes", Axes(OfAxes::Reversed)),
+    ("permuted_axes", Axes(OfAxes::Permuted)),
     ("run", Run),
     ("reshape_dim_C", Reshape(RowMajor)),
     ("reshape_dim_F", Reshape(ColumnMajor)),
@@ -44,6 +50,7 @@ impl Asked for Calls {
         let reading = &mut row.reading();
         match meaning(&CALLS, row.call)? {
             View(asked) => view_holds(alloc, reading, asked),
+            Axes(asked) => axes_hold(alloc, reading, asked),
             Run => run_holds(alloc, reading),
             Reshape(order) => reshape_holds(alloc, row, order),
             Array(asked) => array_holds(alloc, reading, asked),

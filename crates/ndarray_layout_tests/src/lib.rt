@@ -11,6 +11,10 @@ mod arrays;
 #[cfg(test)]
 mod assertions;
 #[cfg(test)]
+mod axes;
+#[cfg(test)]
+mod axes_rows;
+#[cfg(test)]
 mod calls;
 #[cfg(test)]
 mod items;

@@ -5,7 +5,7 @@ use CanIndexCheckMode::ReadOnly;
 use Fit::Strict;
 use Order::RowMajor;
 use ndarray_layout::{
-    CanIndexCheckMode, Fit, LayoutError, Lengths, Order, SliceInfoElem, StrideShape, Strided,
+    Axis, CanIndexCheckMode, Fit, LayoutError, Lengths, Order, SliceInfoElem, StrideShape, Strided,
     Strides, max_abs_offset_check_overflow, reshape_dim, size_of_shape_checked,
 };
 use std::alloc::Global;
@@ -73,6 +73,16 @@ fn reversed<D: Lengths>(
     Some(view.slice(alloc, &elems, Strict))
 }
 
+/// The transpose of a view, by an order of its axes; nothing where it has more than six.
+fn transposed<D: Lengths>(
+    alloc: Global,
+    view: &Strided<D>,
+) -> Option<Result<Strided<D>, LayoutError>> {
+    let all = [Axis(5), Axis(4), Axis(3), Axis(2), Axis(1), Axis(0)];
+    let first = all.len().checked_sub(view.dim().ndim())?;
+    Some(view.permuted_axes(alloc, all.get(first..)?))
+}
+
 /// The view that a call makes of another, if a call has this name.
 fn another<D: Lengths>(
     alloc: Global,
@@ -83,6 +93,7 @@ fn another<D: Lengths>(
     match name {
         "Strided::duplicate" => Some(duplicated(alloc, view)),
         "Strided::slice" => reversed(alloc, view),
+        "Strided::permuted_axes" => transposed(alloc, view),
         "Strided::reshape" => Some(view.reshape(alloc, to, RowMajor)),
         "Strided::broadcast" => Some(view.broadcast(alloc, to)),
         _ => None,

@@ -15,7 +15,7 @@ use Rattle.nd_base.proofs.laws.Turned.{turned, is_index-turned, turned-turned, o
 use Rattle.nd_dim.specs.OneStretch.{HasIndexAt, FillsStretch}
 use Rattle.nd_dim.proofs.Filled.{ReachesEach}
 use Rattle.nd_dim.proofs.PackedLayouts.{fills_from_packed, packed_from_reaches}
-use Rattle.nd_dim.proofs.Rearranged.{permutation_from_members}
+use Rattle.nd_dim.proofs.laws.Rearranged.{permutation_from_members}
 
 -- ---- sums and values
 -- a number above the low span down and below it

@@ -1,0 +1,205 @@
+-- Laws of lists with the axes in another order: it is undone by the inverse order, and what folds over the axes stays.
+use Rattle.std.proofs.Common.{eq-eqb, ◌≡◌, ◌≢◌, ◌⊎◌, ℕ, zero, suc, ◌+◌, ◌<◌, Bool, true, false, ◌&&◌, List, [], ◌∷◌, length, map}
+use Rattle.std.proofs.Common.{get_or, eqb, refl, sym, ap, ◌∙◌, inl, inr, arith}
+use Rattle.std.specs.Prelude.{remove, ◌==◌, ◌↔◌, IsTrue}
+use Rattle.std.specs.Cmp.{nat_eq_equiv}
+use Rattle.std.specs.List.{All, AllPairs, AllPass, Contains, list_any, position_or_len}
+use Rattle.std.specs.List.Sorted.{IsPermutation}
+use Rattle.std.proofs.lemmas.Bool.{and_from, and_parts, cases_order, eqb-true}
+use Rattle.std.proofs.lemmas.Bool.Decides.{same_from_decides}
+use Rattle.std.proofs.lemmas.List.{ext_get_or, get_or-map, get_or_default, length-map, nil_from_length}
+use Rattle.std.proofs.lemmas.List.Sums.{AllPass-from_list_all, list_all-from_AllPass}
+use Rattle.std.proofs.lemmas.List.FromFn.{get_or-map-range_with_len, get_or-range_with_len, length-map-range_with_len}
+use Rattle.std.proofs.lemmas.List.FromFn.{length-range_with_len}
+use Rattle.std.proofs.lemmas.List.Sorted.{All-permutation, Contains-permutation, length_permutation}
+use Rattle.std.proofs.lemmas.Map.Views.{list_any-from_Contains}
+use Rattle.nd_base.specs.Indices.{below}
+use Rattle.nd_dim.specs.AxesInOrder.{reordered, is_axis_order, inverse_order}
+use Rattle.nd_dim.proofs.laws.Rearranged.{later_apart, permutation_from_members, taken_out}
+use Rattle.nd_dim.proofs.StrideOrder.{places_differ}
+
+-- ---- what folds over the axes
+module _ {A : Type 0} (op : A → A → A) (start : A) (turns : (x y z : A) → op x (op y z) ≡ op y (op x z)) (of : ℕ → A) where
+  -- the fold of what each axis gives
+  abbrev pub total : List ℕ → A
+  total [] = start
+  total (axis ∷ axes) = op (of axis) (total axes)
+
+  -- an axis may be taken first
+  total-remove : (axes : List ℕ) (place : ℕ) → place < length axes → total axes ≡ op (of (get_or axes place 0)) (total (remove axes place))
+  total-remove [] place inside = absurd (omega arith)
+  total-remove (axis ∷ axes) zero inside = refl
+  total-remove (axis ∷ axes) (suc place) inside =
+      ap (op (of axis)) (total-remove axes place (omega arith)) ∙ turns (of axis) (of (get_or axes place 0)) (total (remove axes place))
+
+  -- a list of other axes than each other, all of which are among as many others, has the total of those
+  total_of_members : (xs ys : List ℕ) → AllPairs (λ a b. a ≢ b) xs → length xs ≡ length ys
+      → ((axis : ℕ) → Contains xs axis → Contains ys axis)
+      → total xs ≡ total ys
+  total_of_members [] ys apart count there = ap total (sym (nil_from_length ys (sym count)))
+  total_of_members (axis ∷ xs) ys apart count there =
+      let out = taken_out axis xs ys apart count there in
+      let others = remove ys out.at in
+      let first : get_or ys out.at 0 ≡ axis = get_or_default ys out.at 0 axis out.inside ∙ out.is in
+      ap (op (of axis)) (total_of_members xs others (later_apart axis xs apart) out.count out.there)
+      ∙ ap (λ a. op (of a) (total others)) (sym first)
+      ∙ sym (total-remove ys out.at out.inside)
+
+-- ---- orders of the axes
+-- an entry of a list in another order
+pub get_or_map_at : {X : Type 0} (axes : List ℕ) (entries : List X) (place : ℕ) (otherwise : X) → place < length axes
+    → get_or (reordered otherwise axes entries) place otherwise ≡ get_or entries (get_or axes place 0) otherwise
+get_or_map_at axes entries place otherwise inside = get_or-map (λ axis. get_or entries axis otherwise) axes place 0 otherwise inside
+
+-- the axis stands at the place of the first of its number
+abbrev pub place_of : ℕ → List ℕ → ℕ
+place_of axis axes = position_or_len (λ other. axis == other) axes
+
+abbrev pub StandsAtItsPlace : ℕ → List ℕ → Type 0
+StandsAtItsPlace axis axes = (place_of axis axes < length axes) × (get_or axes (place_of axis axes) 0 ≡ axis)
+
+found_first : (axis other : ℕ) (axes : List ℕ) (first : Bool) → (axis == other) ≡ first
+    → (first ≡ false → StandsAtItsPlace axis axes) → StandsAtItsPlace axis (other ∷ axes)
+found_first axis other axes true same later = rw same (omega arith, sym (eqb-true axis other same))
+found_first axis other axes false apart later =
+    let there = later refl in
+    let next : 1 + place_of axis axes ≡ suc (place_of axis axes) = omega arith in
+    rw apart (let l = there.0 in omega arith, ap (λ place. get_or (other ∷ axes) place 0) next ∙ there.1)
+
+found : (axis : ℕ) (axes : List ℕ) → list_any (λ other. axis == other) axes ≡ true → StandsAtItsPlace axis axes
+found axis [] none = absurd (cc)
+found axis (other ∷ axes) some = found_first axis other axes (axis == other) refl (λ apart. found axis axes (rw apart at some))
+
+-- the numbers from 0 on differ
+numbers_apart : (n : ℕ) → AllPairs (λ a b. a ≢ b) (below n)
+numbers_apart n i j d before inside same =
+    let last : j < n = omega (arith, length-range_with_len 0 n) in
+    omega (arith, get_or-range_with_len 0 n i d (omega arith), get_or-range_with_len 0 n j d last)
+
+module _ (n : ℕ) (axes : List ℕ) (order : is_axis_order n axes ≡ true) where
+  -- it has as many entries as there are axes
+  pub length_of_order : length axes ≡ n
+  length_of_order = eqb-true (length axes) n (and_parts (length axes == n) _ order).0
+
+  -- each axis has its place
+  pub axis_found : (axis : ℕ) → axis < n → StandsAtItsPlace axis axes
+  axis_found axis inside =
+      let all = AllPass-from_list_all (λ a. list_any (λ other. a == other) axes) (below n) (and_parts (length axes == n) _ order).1 in
+      let own : get_or (below n) axis 0 ≡ axis = get_or-range_with_len 0 n axis 0 inside ∙ omega arith in
+      found axis axes (rw own at (all axis 0 (omega (arith, length-range_with_len 0 n))))
+
+  -- the axes from 0 on, in another order
+  pub members_of_order : (axis : ℕ) → Contains (below n) axis → Contains axes axis
+  members_of_order axis there =
+      let inside : axis < n = omega (
+        arith,
+        there.1,
+        there.2,
+        length-range_with_len 0 n,
+        get_or-range_with_len 0 n there.0 axis (omega (arith, there.1, length-range_with_len 0 n)),
+      ) in
+      let found = axis_found axis inside in
+      (place_of axis axes, found.0, get_or_default axes (place_of axis axes) axis 0 found.0 ∙ found.1)
+
+  pub permutation_of_order : IsPermutation (below n) axes
+  permutation_of_order = permutation_from_members (below n) axes (numbers_apart n) (length-range_with_len 0 n ∙ sym length_of_order)
+      members_of_order
+
+  -- each of its entries is an axis
+  pub entry_below : (place : ℕ) → place < length axes → get_or axes place 0 < n
+  entry_below place inside =
+      let all : All (λ axis. axis < n) (below n) = λ k d h.
+      omega (arith, length-range_with_len 0 n, get_or-range_with_len 0 n k d (omega (arith, length-range_with_len 0 n))) in
+      All-permutation (λ axis. axis < n) (below n) axes permutation_of_order all place 0 inside
+
+  -- each axis stands where it is found alone
+  pub place_of_entry : (place : ℕ) → place < length axes → place_of (get_or axes place 0) axes ≡ place
+  place_of_entry place inside =
+      let axis = get_or axes place 0 in
+      let there = axis_found axis (entry_below place inside) in
+      elim (cases_order (place_of axis axes) place) [
+        | inl same ↦ same
+        | inr (inl before) ↦ absurd (places_differ n permutation_of_order (place_of axis axes) place before inside there.1)
+        | inr (inr after) ↦ absurd (places_differ n permutation_of_order place (place_of axis axes) after there.0 (sym there.1))
+      ]
+
+  -- the inverse order has as many entries, each of them a place
+  pub length-inverse_order : length (inverse_order axes) ≡ n
+  length-inverse_order = length-map-range_with_len (λ axis. place_of axis axes) 0 (length axes) ∙ length_of_order
+
+  pub entry-inverse_order : (axis : ℕ) → axis < n → get_or (inverse_order axes) axis 0 ≡ place_of axis axes
+  entry-inverse_order axis inside =
+      get_or-map-range_with_len (λ a. place_of a axes) 0 (length axes) axis axis 0 (omega (arith, length_of_order)) (omega arith)
+
+  -- ---- the order and its inverse undo one another
+  module _ {X : Type 0} (otherwise : X) (entries : List X) (count : length entries ≡ n) where
+    pub undone_by_inverse : reordered otherwise (inverse_order axes) (reordered otherwise axes entries) ≡ entries
+    undone_by_inverse =
+        let moved = reordered otherwise axes entries in
+        let back = reordered otherwise (inverse_order axes) moved in
+        let long : length back ≡ n = length-map (inverse_order axes) (λ axis. get_or moved axis otherwise) ∙ length-inverse_order in
+        ext_get_or otherwise back entries (long ∙ sym count) (λ axis inside.
+        let there : axis < n = omega arith in
+        let first = axis_found axis there in
+        get_or_map_at (inverse_order axes) moved axis otherwise (omega (arith, length-inverse_order))
+        ∙ ap (λ place. get_or moved place otherwise) (entry-inverse_order axis there)
+        ∙ get_or_map_at axes entries (place_of axis axes) otherwise first.0
+        ∙ ap (λ a. get_or entries a otherwise) first.1)
+
+    pub undone_by_order : reordered otherwise axes (reordered otherwise (inverse_order axes) entries) ≡ entries
+    undone_by_order =
+        let moved = reordered otherwise (inverse_order axes) entries in
+        let back = reordered otherwise axes moved in
+        let long : length back ≡ n = length-map axes (λ axis. get_or moved axis otherwise) ∙ length_of_order in
+        ext_get_or otherwise back entries (long ∙ sym count) (λ place inside.
+        let there : place < length axes = omega (arith, length_of_order) in
+        let below_n = entry_below place there in
+        get_or_map_at axes moved place otherwise there
+        ∙ get_or_map_at (inverse_order axes) entries (get_or axes place 0) otherwise (omega (arith, length-inverse_order))
+        ∙ ap (λ a. get_or entries a otherwise) (entry-inverse_order (get_or axes place 0) below_n ∙ place_of_entry place there))
+
+  -- what folds over the axes is the same in this order
+  pub total_in_order : {A : Type 0} (op : A → A → A) (start : A) (turns : (x y z : A) → op x (op y z) ≡ op y (op x z)) (of : ℕ → A)
+      → total op start turns of (below n) ≡ total op start turns of axes
+  total_in_order op start turns of =
+      total_of_members op start turns of (below n) axes (numbers_apart n) (length-range_with_len 0 n ∙ sym length_of_order) members_of_order
+
+-- the axes in their own order
+pub in_own_order : {X : Type 0} (otherwise : X) (entries : List X) → reordered otherwise (below (length entries)) entries ≡ entries
+in_own_order otherwise entries =
+    let same = reordered otherwise (below (length entries)) entries in
+    ext_get_or otherwise same entries (length-map-range_with_len (λ axis. get_or entries axis otherwise) 0 (length entries)) (λ axis inside.
+    get_or-map-range_with_len (λ a. get_or entries a otherwise) 0 (length entries) axis axis otherwise
+    (omega (arith, length-map-range_with_len (λ a. get_or entries a otherwise) 0 (length entries))) (omega arith))
+
+-- the axes from 0 on, shuffled, are an order of them
+pub order_of_permutation : (n : ℕ) (axes : List ℕ) → IsPermutation (below n) axes → is_axis_order n axes ≡ true
+order_of_permutation n axes shuffled =
+    let count : length axes ≡ n = length_permutation (below n) axes shuffled ∙ length-range_with_len 0 n in
+    let each : AllPass (λ axis. list_any (λ other. axis == other) axes) (below n) = λ axis d inside.
+    let here : Contains (below n) (get_or (below n) axis d) =
+    (axis, inside, get_or_default (below n) axis (get_or (below n) axis d) d inside) in
+    list_any-from_Contains nat_eq_equiv (get_or (below n) axis d) axes
+    (Contains-permutation (below n) axes (get_or (below n) axis d) shuffled here) in
+    and_from (length axes == n) _ (eq-eqb (length axes) n count)
+    (list_all-from_AllPass (λ axis. list_any (λ other. axis == other) axes) (below n) each)
+
+-- the test of an order by its axes
+pub order_by_axes : (n : ℕ) (axes : List ℕ) (test : Bool) → length axes ≡ n
+    → (IsTrue test ↔ ((axis : ℕ) → axis < n → list_any (λ other. axis == other) axes ≡ true)) → test ≡ is_axis_order n axes
+order_by_axes n axes test count h =
+    same_from_decides {P = (axis : ℕ) → axis < n → list_any (λ other. axis == other) axes ≡ true} test (is_axis_order n axes) h (
+      λ order axis inside.
+          let all = AllPass-from_list_all (λ a. list_any (λ other. a == other) axes) (below n) (and_parts (length axes == n) _ order).1 in
+          let own : get_or (below n) axis 0 ≡ axis = get_or-range_with_len 0 n axis 0 inside ∙ omega arith in
+          rw own at (all axis 0 (omega (arith, length-range_with_len 0 n))),
+      λ each. and_from (length axes == n) _ (eq-eqb (length axes) n count)
+          (list_all-from_AllPass (λ axis. list_any (λ other. axis == other) axes) (below n) (λ axis d inside.
+          each (get_or (below n) axis d)
+          (omega (
+            arith,
+            inside,
+            length-range_with_len 0 n,
+            get_or-range_with_len 0 n axis d (omega (arith, length-range_with_len 0 n)),
+          )))),
+    )

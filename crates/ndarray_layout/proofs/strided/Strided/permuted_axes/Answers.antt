@@ -1,0 +1,46 @@
+-- What was written is the view with its axes in the order.
+use Rattle.std.proofs.Common.{rules, ◌≡◌, true, length, ap}
+use Rattle.nd_dim.specs.AxesInOrder.{axis_numbers, is_axis_order}
+use Rattle.nd_dim.specs.AxesInOrder.{reordered as in_order}
+use Rattle.ndarray_layout.specs.Descends.{Descends}
+use Rattle.ndarray_layout.specs.PermutedView.{permuted_of, permute_source}
+use Rattle.ndarray_layout.specs.View.{View, view_of}
+use Rattle.ndarray_layout.proofs.laws.PermutedView.{no_fault_of_order, permuted_axes, signed_in_order, Descends-same_axes}
+use Rattle.ndarray_layout.proofs.strided.Strided.permuted_axes.Given.{Over}
+use Rattle.ndarray_layout.proofs.strided.Strided.permuted_axes.Goals as goal
+use Rattle.ndarray_layout.proofs.strided.Strided.permuted_axes.Goals.{In_ok-reordered-2}
+
+-- the view as it was
+abbrev here : (g : Over) → In_ok-reordered-2 g → View
+here g c = view_of c.self.inside.start (g.D.Lengths.list c.self.inside.dim) (g.D.Lengths.list c.self.inside.strides)
+
+abbrev written : (g : Over) → In_ok-reordered-2 g → View
+written g c = view_of c.self.inside.start (g.D.Lengths.list c.in_ok-reordered.field-0) (g.D.Lengths.list c.in_ok-reordered-2.field-0)
+
+order : (g : Over) (c : In_ok-reordered-2 g)
+    → is_axis_order (length (g.D.Lengths.list c.self.inside.dim)) (axis_numbers c.args.axes.now) ≡ true
+order g c = search rules
+
+-- what was written has the axes in the order
+made : (g : Over) (c : In_ok-reordered-2 g) → written g c ≡ permuted_of (axis_numbers c.args.axes.now) (here g c)
+made g c =
+    let axes = axis_numbers c.args.axes.now in
+    rw (c.in_ok-reordered.ensures.list, c.in_ok-reordered-2.ensures.list)
+    (ap (λ strides. record { start = c.self.inside.start; shape = in_order 0 axes (g.D.Lengths.list c.self.inside.dim); strides = strides })
+    (signed_in_order axes (g.D.Lengths.list c.self.inside.strides)))
+
+kept : (g : Over) (c : In_ok-reordered-2 g) → Descends (permute_source (axis_numbers c.args.axes.now)) (here g c) (written g c)
+kept g c =
+    let axes = axis_numbers c.args.axes.now in
+    let view = here g c in
+    rw (made g c) (Descends-same_axes (permute_source axes) view (permuted_of axes view)
+    (permuted_axes axes view c.self.invariant.valid.same_count (no_fault_of_order view.shape axes (order g c))) c.self.invariant)
+
+pub invariant_of-result : goal.invariant_of-result
+invariant_of-result g c = (kept g c).is_view
+
+pub returns-clause-permuted : goal.returns-clause-permuted
+returns-clause-permuted g c = rw (← c.self.view_is) (made g c)
+
+pub returns-clause-kept : goal.returns-clause-kept
+returns-clause-kept g c = rw (← c.self.view_is) (kept g c)
