@@ -160,8 +160,8 @@ impl<T: Copy, D: Lengths> OwnedArray<T, D> {
     /// more items or fewer than its slice picks; then `Unsupported` where two slices share an index; then out of memory,
     /// never where no list has an item, as where each slice picks nothing. The array is unchanged after an error.
     ///
-    /// `0,..` with 10 11 12 and `1,..;2` with 20 21 make 10 11 12 20 4 21 of `[2,3]` over 0 1 2 3 4 5; `0,..` and `..,0`
-    /// share (0,0). ndarray's `multi_slice_move`, with the writes.
+    /// `0,..` with 7 8 9 and `1,..;2` with 5 6 make 7 8 9 5 4 6 of `[2,3]` over 0 1 2 3 4 5; `0,..` and `..,0` share
+    /// (0,0). ndarray's `multi_slice_move`, with the writes.
     pub fn multi_set(
         &mut self,
         alloc: Global,
