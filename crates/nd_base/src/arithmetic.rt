@@ -1,4 +1,4 @@
-//! What the operators of every dimension type do: arithmetic of lists, entry by entry.
+//! What the operators of every dimension type do: arithmetic of lists, number by number.
 ghost use Rattle.std.specs.Prelude.{◌≡◌, ℕ};
 ghost use Rattle.nd_base.specs.Entrywise.{sums, differences, products, scaled, SumsFit, DifferencesFit, ProductsFit, ScaledFit};
 
@@ -7,8 +7,8 @@ use crate::lengths::Lengths;
 use crate::numbers::AreLengths;
 use std::ops::{Add, AddAssign, Mul, MulAssign, Sub, SubAssign};
 
-/// Lists of lengths that are added, subtracted and multiplied entry by entry. The operators that
-/// ndarray's `Dimension` asks for.
+/// Lists of lengths that are added, subtracted and multiplied coordinate by coordinate. The
+/// operators that ndarray's `Dimension` asks for.
 pub trait Arithmetic: Lengths
     + Add<Output = Self>
     + Sub<Output = Self>

@@ -1,12 +1,12 @@
 //! An axis of an array.
 ghost use Rattle.std.specs.Prelude.{◌≡◌, ◌<◌, ◌↔◌, IsTrue, length, Some, slice_get, slice_set};
 
-/// An axis, by its place from 0 on. ndarray's `Axis`.
+/// An axis, by its number from 0 on. ndarray's `Axis`.
 #[derive(Clone, Copy, PartialEq, Eq, Hash, PartialOrd, Ord, Debug)]
 pub struct Axis(pub usize);
 
 impl Axis {
-    /// The place of the axis.
+    /// The number of the axis. ndarray's `index`.
     #[inline]
     pub fn index(self) -> usize
         ensures { result ≡ self.0 }
@@ -15,8 +15,8 @@ impl Axis {
     }
 }
 
-/// Whether a shape has this axis: its number is below the count of axes. The test of what `axis_of` and
-/// `set_axis_of` ask of their callers.
+/// Whether a shape has this axis: its number is below the count of axes. The test of what `axis_of`
+/// and `set_axis_of` ask of their callers. The project's own.
 #[inline]
 pub fn has_axis(lens: &[usize], axis: Axis) -> bool
     ensures { IsTrue result ↔ (axis.0 < length lens.now) }
@@ -24,7 +24,12 @@ pub fn has_axis(lens: &[usize], axis: Axis) -> bool
     axis.index() < lens.len()
 }
 
-/// The length of an axis. The caller ensures that the shape has that axis (`has_axis`). ndarray's `axis`.
+/// The length of an axis.
+///
+/// `lens` is one length for each axis. The caller ensures that the shape has that axis
+/// (`has_axis`).
+///
+/// Axis 1 of `[2,3]`: 3. ndarray's `axis`.
 pub fn axis_of(lens: &[usize], axis: Axis) -> usize
     requires { axis.0 < length lens.now }
     ensures { slice_get lens.now axis.0 ≡ Some result }
@@ -32,8 +37,12 @@ pub fn axis_of(lens: &[usize], axis: Axis) -> usize
     lens[axis.index()]
 }
 
-/// Gives an axis another length. The caller ensures that the shape has that axis (`has_axis`). ndarray's
-/// `set_axis`.
+/// Gives an axis another length.
+///
+/// `lens` is one length for each axis. The caller ensures that the shape has that axis
+/// (`has_axis`).
+///
+/// Axis 1 of `[2,3]` to 5: `[2,5]`. ndarray's `set_axis`.
 pub fn set_axis_of(lens: &mut [usize], axis: Axis, len: usize)
     requires { axis.0 < length lens.old }
     ensures { lens.new ≡ slice_set lens.old axis.0 len }

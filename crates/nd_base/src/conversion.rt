@@ -1,15 +1,15 @@
-//! From the entries of an index to a tuple.
+//! From the coordinates of an index to a tuple.
 ghost use Rattle.std.specs.Prelude.{◌≡◌, [], ◌∷◌};
 
-/// The entries of an index as a tuple of as many parts. ndarray's `Convert`.
+/// The coordinates of an index as a tuple of as many parts. ndarray's `Convert`.
 pub trait Convert {
     /// The type of the parts.
     type To;
 
-    // The parts are the entries, in order.
+    // The parts are the coordinates, in order.
     ghost convert_gives: { Self → Self.To → Type 0 };
 
-    /// The entries in a value of their own.
+    /// The coordinates as a tuple. `[4,5]`: (4, 5). ndarray's `convert`.
     fn convert(self) -> Self::To
         ensures { convert_gives self result };
 }

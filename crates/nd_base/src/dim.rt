@@ -9,34 +9,35 @@ use crate::lengths::{FixedCount, Lengths};
 use std::alloc::{AllocError, Global};
 use std::ops::{Index, IndexMut};
 
-/// A dimension: the lengths of the axes, in order.
+/// A dimension: the lengths of the axes, in order; or one number for each axis, as of an index or
+/// of strides. ndarray's `Dim`.
 #[derive(Clone, Copy, Drop, PartialEq, Eq, Hash, Debug)]
 pub struct Dim<I> {
     pub(crate) index: I,
 }
 
-/// No axes.
+/// No axes. ndarray's `Ix0`.
 pub type Ix0 = Dim<[usize; 0]>;
 
-/// One axis.
+/// One axis. ndarray's `Ix1`.
 pub type Ix1 = Dim<[usize; 1]>;
 
-/// Two axes.
+/// Two axes. ndarray's `Ix2`.
 pub type Ix2 = Dim<[usize; 2]>;
 
-/// Three axes.
+/// Three axes. ndarray's `Ix3`.
 pub type Ix3 = Dim<[usize; 3]>;
 
-/// Four axes.
+/// Four axes. ndarray's `Ix4`.
 pub type Ix4 = Dim<[usize; 4]>;
 
-/// Five axes.
+/// Five axes. ndarray's `Ix5`.
 pub type Ix5 = Dim<[usize; 5]>;
 
-/// Six axes.
+/// Six axes. ndarray's `Ix6`.
 pub type Ix6 = Dim<[usize; 6]>;
 
-/// Any number of axes.
+/// Any number of axes. ndarray's `IxDyn`.
 pub type IxDyn = Dim<IxDynImpl>;
 
 /// The shape or the index of no axes. ndarray's `Ix0()`.

@@ -38,7 +38,11 @@ impl IxDynImpl {
 
     /// The lengths of a slice.
     ///
-    /// Errors: out of memory; none where there are at most four lengths.
+    /// # Errors
+    ///
+    /// Out of memory; never where there are at most 4 lengths.
+    ///
+    /// Takes time in proportion to the count of lengths. In place of ndarray's `From<&[Ix]>`.
     pub fn copy_from(alloc: Global, lens: &[usize]) -> Result<Self, AllocError>
         ensures list { IfOk result (λ dim. dim ≡ lens.now) }
         ensures memory { length lens.now ≤ INLINE_AXES → IsOk result }
@@ -48,10 +52,15 @@ impl IxDynImpl {
         })
     }
 
-    /// The lengths of a vector, whose memory is kept where it has room for more than four. ndarray's
-    /// `From<Vec<Ix>>`. It asks for no memory; `alloc` stands where every call of this kind has it.
+    /// The lengths of a vector, whose memory is kept where it has room for more than 4.
     ///
-    /// Errors: none.
+    /// `alloc` is there as in every call of this kind.
+    ///
+    /// # Errors
+    ///
+    /// None: it asks for no memory.
+    ///
+    /// ndarray's `From<Vec<Ix>>`.
     pub fn from_vec(_alloc: Global, lens: Vec<usize>) -> Result<Self, AllocError>
         ensures list { IfOk result (λ dim. dim ≡ lens.items) }
         ensures memory { IsOk result }
@@ -74,10 +83,17 @@ impl IxDynImpl {
         Ok(IxDynImpl { lens })
     }
 
-    /// The lengths with a new axis of length 1 at place `i`. The caller ensures that `i` is at most their
-    /// count. ndarray's `insert`.
+    /// The lengths with a new axis of length 1, which gets the number `i`.
     ///
-    /// Errors: out of memory; none where the result has at most four lengths.
+    /// The caller ensures that `i` is at most their count.
+    ///
+    /// # Errors
+    ///
+    /// Out of memory; never where the result has at most 4 lengths.
+    ///
+    /// Takes time in proportion to the count of lengths.
+    ///
+    /// `[2,3]` at 1: `[2,1,3]`. ndarray's `insert`.
     pub fn insert(&self, alloc: Global, i: usize) -> Result<Self, AllocError>
         requires { i ≤ length self.now }
         ensures list { IfOk result (λ dim. dim ≡ insert self.now i 1) }
@@ -91,10 +107,17 @@ impl IxDynImpl {
         Ok(IxDynImpl { lens: wider })
     }
 
-    /// The lengths without the axis at place `i`; no axes stay none. The caller ensures that there is that
-    /// axis, or none at all. ndarray's `remove`.
+    /// The lengths without the axis `i`; of no axes, no axes.
     ///
-    /// Errors: out of memory; none where the result has at most four lengths.
+    /// The caller ensures that there is that axis, or none at all.
+    ///
+    /// # Errors
+    ///
+    /// Out of memory; never where the result has at most 4 lengths.
+    ///
+    /// Takes time in proportion to the count of lengths.
+    ///
+    /// `[2,3]` without 0: `[3]`. ndarray's `remove`.
     pub fn remove(&self, alloc: Global, i: usize) -> Result<Self, AllocError>
         requires { (i < length self.now) ⊎ (length self.now ≡ 0) }
         ensures list { IfOk result (λ dim. dim ≡ remove self.now i) }
@@ -110,7 +133,7 @@ impl IxDynImpl {
         Ok(IxDynImpl { lens: narrower })
     }
 
-    /// The lengths, in order.
+    /// The lengths, in order. For ndarray's `Deref`.
     #[inline]
     pub fn as_slice(&self) -> &[usize]
         ensures { result.now ≡ self.now }
@@ -118,7 +141,7 @@ impl IxDynImpl {
         self.lens.as_slice()
     }
 
-    /// The lengths, to be written; their count stays.
+    /// The lengths, to be written; their count is fixed. For ndarray's `DerefMut`.
     #[inline]
     pub fn as_mut_slice(&mut self) -> &mut [usize]
         ensures* writes_back { sem 𝓛 (Lends the_row (Array word 0) self.entry result

@@ -1,8 +1,8 @@
-//! The arithmetic of lists of lengths, entry by entry.
+//! The arithmetic of lists of lengths, number by number.
 ghost use Rattle.std.specs.Prelude.{◌≡◌};
 ghost use Rattle.nd_base.specs.Entrywise.{sums, differences, products, scaled, SumsFit, DifferencesFit, ProductsFit, ScaledFit};
 
-/// Adds the entries of `others`, of which there are as many.
+/// Adds the numbers of `others`, of which there are as many.
 pub(crate) fn add_to(lens: &mut [usize], others: &[usize])
     requires { SumsFit lens.old others.now }
     ensures { lens.new ≡ sums lens.old others.now }
@@ -12,7 +12,7 @@ pub(crate) fn add_to(lens: &mut [usize], others: &[usize])
     }
 }
 
-/// Takes the entries of `others` away, of which there are as many.
+/// Subtracts the numbers of `others`, of which there are as many.
 pub(crate) fn subtract_from(lens: &mut [usize], others: &[usize])
     requires { DifferencesFit lens.old others.now }
     ensures { lens.new ≡ differences lens.old others.now }
@@ -22,7 +22,7 @@ pub(crate) fn subtract_from(lens: &mut [usize], others: &[usize])
     }
 }
 
-/// Multiplies by the entries of `others`, of which there are as many.
+/// Multiplies by the numbers of `others`, of which there are as many.
 pub(crate) fn multiply_by(lens: &mut [usize], others: &[usize])
     requires { ProductsFit lens.old others.now }
     ensures { lens.new ≡ products lens.old others.now }
@@ -32,7 +32,7 @@ pub(crate) fn multiply_by(lens: &mut [usize], others: &[usize])
     }
 }
 
-/// Multiplies each entry by one factor.
+/// Multiplies each number by one factor.
 pub(crate) fn scale(lens: &mut [usize], factor: usize)
     requires { ScaledFit lens.old factor }
     ensures { lens.new ≡ scaled lens.old factor }

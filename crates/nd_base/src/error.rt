@@ -1,4 +1,4 @@
-//! Why a shape, a layout or a call on it is refused.
+//! Errors of shapes, of layouts and of calls on them.
 ghost use Rattle.std.specs.Prelude.{◌≡◌, Some};
 ghost use Rattle.nd_base.specs.ErrorText.{shape_error_text};
 
@@ -7,14 +7,14 @@ use std::error::Error;
 use std::fmt;
 use std::marker::Model;
 
-/// The kinds of fault that a shape or a layout can have. ndarray's `ErrorKind`.
+/// The kinds of errors of shapes and layouts. ndarray's `ErrorKind`.
 #[derive(Clone, Copy, PartialEq, Debug)]
 pub enum ErrorKind {
     /// Counts of axes or lengths do not go together.
     IncompatibleShape,
     /// The strides do not go with the shape, or with the data as it lies.
     IncompatibleLayout,
-    /// A number does not fit the type that it is for. Nothing here is refused so.
+    /// A number does not fit the type that it is for. No call here returns it.
     RangeLimited,
     /// An index, or a layout as a whole, leaves its bounds.
     OutOfBounds,
@@ -24,7 +24,7 @@ pub enum ErrorKind {
     Overflow,
 }
 
-/// A refusal, with its kind. ndarray's `ShapeError`.
+/// An error of a shape or a layout, with its kind. ndarray's `ShapeError`.
 #[derive(Clone, PartialEq, Drop)]
 pub struct ShapeError {
     repr: ErrorKind,
@@ -41,7 +41,7 @@ impl Model for ShapeError {
 }
 
 impl ShapeError {
-    /// What kind of refusal it is.
+    /// The kind of the error. ndarray's `kind`.
     #[inline]
     pub fn kind(&self) -> ErrorKind
         ensures { result ≡ self.now }
@@ -49,7 +49,7 @@ impl ShapeError {
         self.repr
     }
 
-    /// The refusal of a kind.
+    /// The error of a kind. ndarray's `ShapeError::from_kind`.
     pub fn from_kind(error: ErrorKind) -> Self
         ensures { result ≡ error }
     {
@@ -57,14 +57,14 @@ impl ShapeError {
     }
 }
 
-/// The refusal of a kind. ndarray's `from_kind`.
+/// The error of a kind. ndarray's `from_kind`.
 pub fn from_kind(kind: ErrorKind) -> ShapeError
     ensures { result ≡ kind }
 {
     ShapeError { repr: kind }
 }
 
-/// What the refusal of a kind prints.
+/// What the error of a kind prints.
 fn text_of(kind: ErrorKind) -> &'static str
     ensures { result.now ≡ shape_error_text kind }
 {
@@ -97,12 +97,12 @@ impl fmt::Debug for ShapeError {
 
 impl Error for ShapeError {}
 
-/// Why a call that makes a layout was refused: by a rule, or because memory was refused.
+/// An error of a shape or a layout, or of memory. The project's own.
 #[derive(Debug, Drop)]
 pub enum LayoutError {
-    /// A rule refuses it.
+    /// An error of a shape or a layout.
     Shape(ShapeError),
-    /// A request for memory was refused.
+    /// An allocation failed.
     Memory(AllocError),
 }
 

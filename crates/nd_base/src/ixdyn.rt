@@ -13,9 +13,13 @@ use crate::lengths::{FixedCount, INLINE_AXES, Lengths};
 use std::alloc::{AllocError, Global};
 use std::ops::{Index, IndexMut};
 
-/// A shape or an index of as many axes as the slice has entries. ndarray's `IxDyn(..)`.
+/// A shape or an index of as many axes as the slice has items.
 ///
-/// Errors: out of memory; none where there are at most four entries.
+/// # Errors
+///
+/// Out of memory; never where there are at most 4.
+///
+/// Takes time in proportion to the count of axes. ndarray's `IxDyn(..)`.
 pub fn new_ixdyn(alloc: Global, lens: &[usize]) -> Result<IxDyn, AllocError>
     ensures list { IfOk result (λ dim. lengths dim ≡ lens.now) }
     ensures memory { length lens.now ≤ INLINE_AXES → IsOk result }
@@ -32,9 +36,13 @@ impl Dim<IxDynImpl> {
         Dim { index }
     }
 
-    /// `n` axes of length 0. ndarray's `IxDyn::zeros`.
+    /// `n` axes of length 0.
     ///
-    /// Errors: out of memory; none where there are at most four axes.
+    /// # Errors
+    ///
+    /// Out of memory; never where there are at most 4.
+    ///
+    /// Takes time in proportion to the count of axes. ndarray's `IxDyn::zeros`.
     pub fn zeros(alloc: Global, n: usize) -> Result<Self, AllocError>
         ensures list { IfOk result (λ dim. lengths dim ≡ replicate n 0) }
         ensures memory { n ≤ INLINE_AXES → IsOk result }

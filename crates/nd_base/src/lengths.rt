@@ -8,10 +8,11 @@ use std::alloc::{AllocError, Global};
 use std::fmt::Debug;
 use std::ops::IndexMut;
 
-/// How many lengths an `IxDyn` keeps in the value itself, without memory.
+/// The number of lengths that an `IxDyn` keeps in the value itself, without memory. The project's
+/// own.
 pub const INLINE_AXES: usize = 4;
 
-/// How many axes every value of a type has, where the type fixes that.
+/// The number of axes of every value of a type, where the type fixes that.
 pub trait FixedCount {
     ghost NDIM: { Option ℕ };
 
@@ -19,8 +20,9 @@ pub trait FixedCount {
     const NDIM: Option<usize>;
 }
 
-/// A list of lengths, or of the entries of an index: one number for each axis, in order. What the values
-/// of a type do depends on this list alone. The part of ndarray's `Dimension` that needs no other trait.
+/// A list of lengths, or of the coordinates of an index: one number for each axis, in order. What
+/// the values of a type do depends on this list alone. The part of ndarray's `Dimension` that needs
+/// no other trait.
 pub trait Lengths: FixedCount + Eq + Debug + IndexMut<usize, Output = usize> + Drop {
     // The list that a value stands for.
     ghost list: { Self → List ℕ };
@@ -28,7 +30,7 @@ pub trait Lengths: FixedCount + Eq + Debug + IndexMut<usize, Output = usize> + D
     // The value that stands for another list of as many lengths.
     ghost with_list: { Self → List ℕ → Self };
 
-    /// How many axes there are. ndarray's `ndim`.
+    /// The number of axes. ndarray's `ndim`.
     fn ndim(&self) -> usize
         ensures count { result ≡ length (list self.now) }
         ensures fixed { IsCount Self.NDIM (length (list self.now)) };
@@ -38,19 +40,27 @@ pub trait Lengths: FixedCount + Eq + Debug + IndexMut<usize, Output = usize> + D
         ensures list { result.now ≡ list self.now }
         ensures fixed { IsCount Self.NDIM (length (list self.now)) };
 
-    /// The lengths, to be written; their count stays. ndarray's `slice_mut`.
+    /// The lengths, to be written; their count is fixed. ndarray's `slice_mut`.
     fn slice_mut(&mut self) -> &mut [usize]
         ensures* writes_back { sem 𝓛
             (Lends Self.row (Array word 0) self.entry result (with_list self.old)) }
         ensures list { result.now ≡ list self.old };
 
-    /// Whether both stand for one list. ndarray's `equal`.
+    /// Whether both stand for one list.
+    ///
+    /// Takes time in proportion to the count of axes. ndarray's `equal`.
     fn equal(&self, other: &Self) -> bool
         ensures { IsTrue result ↔ (list self.now ≡ list other.now) };
 
-    /// `n` zeros. The caller ensures that the type allows `n` axes. ndarray's `zeros`.
+    /// `n` zeros.
     ///
-    /// Errors: out of memory; none where the type fixes the count or `n` is at most 4 (`INLINE_AXES`).
+    /// The caller ensures that the type allows `n` axes.
+    ///
+    /// # Errors
+    ///
+    /// Out of memory; never where the type fixes the count or `n` is at most 4 (`INLINE_AXES`).
+    ///
+    /// Takes time in proportion to the count of axes. ndarray's `zeros`.
     fn zeros(alloc: Global, n: usize) -> Result<Self, AllocError>
     where
         Self: Sized,
@@ -58,16 +68,20 @@ pub trait Lengths: FixedCount + Eq + Debug + IndexMut<usize, Output = usize> + D
         ensures list { IfOk result (λ d. list d ≡ replicate n 0) }
         ensures memory { NeedsNoMemory Self.NDIM n → IsOk result };
 
-    /// The same list in a value of its own. In place of ndarray's `Clone`.
+    /// The same list in a value of its own.
     ///
-    /// Errors: out of memory; none where the type fixes the count or there are at most 4 axes.
+    /// # Errors
+    ///
+    /// Out of memory; never where the type fixes the count or there are at most 4 axes.
+    ///
+    /// Takes time in proportion to the count of axes. In place of ndarray's `Clone`.
     fn duplicate(&self, alloc: Global) -> Result<Self, AllocError>
     where
         Self: Sized,
         ensures list { IfOk result (λ d. list d ≡ list self.now) }
         ensures memory { NeedsNoMemory Self.NDIM (length (list self.now)) → IsOk result };
 
-    // `==` answers whether both lists are one.
+    // `==` says whether both lists are equal.
     ghost eq_of_lists: { (d e : Self) → Decides (Self.PartialEq.eq d e) (list d ≡ list e) };
 
     // Lists of one count replace one another.

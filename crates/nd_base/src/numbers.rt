@@ -23,7 +23,7 @@ pub trait Numbers: Drop {
     fn slice(&self) -> &[usize]
         ensures { result.now ≡ list self.now };
 
-    /// The numbers, to be written; their count stays.
+    /// The numbers, to be written; their count is fixed.
     fn slice_mut(&mut self) -> &mut [usize]
         ensures* writes_back { sem 𝓛 (Lends Self.row (Array word 0) self.entry result
             (with_list self.old)) }

@@ -9,9 +9,15 @@ ghost use Rattle.nd_base.specs.ValidLayout.{IsValidLayout};
 
 use crate::strides::stride_offset;
 
-/// The sum of each entry times its stride, in elements. The caller ensures that no entry passes the
-/// greatest `isize`, and that the entries times the magnitudes of their strides add up to at most that:
-/// an index of a valid layout meets this (`is_index`).
+/// The sum of each coordinate times its stride, in elements.
+///
+/// The caller ensures that no coordinate is greater than `isize::MAX`, and that the coordinates
+/// times the magnitudes of their strides add up to at most that, as of an index of a valid layout
+/// (`is_index`).
+///
+/// Takes time in proportion to the count of axes.
+///
+/// (1,2) along the strides `[3,1]`: 5. The project's own.
 #[inline(always)]
 pub fn index_offset(index: &[usize], strides: &[usize]) -> isize
     requires small { All (λ entry. entry ≤ limit) index.now }
@@ -25,10 +31,15 @@ pub fn index_offset(index: &[usize], strides: &[usize]) -> isize
     offset
 }
 
-/// How many elements lie between the first index of the shape `dim` and this one, with its sign;
-/// `None` where this is no index of the shape. The caller ensures that the layout is valid: one stride for
-/// each axis, and neither the product of the lengths that are not 0 nor the reach of all axes together
-/// passes the greatest `isize`. ndarray's `stride_offset_checked`.
+/// The offset in elements, with its sign, from the first index of the shape `dim` to this one;
+/// `None` where this is no index of the shape.
+///
+/// The caller ensures that the layout is valid: one stride for each axis, and neither the product
+/// of the lengths that are not 0 nor the span is greater than `isize::MAX`.
+///
+/// Takes time in proportion to the count of axes.
+///
+/// (1,2) of `[2,3]` with the strides `[-3,1]`: -1. ndarray's `stride_offset_checked`.
 #[inline(always)]
 pub fn stride_offset_checked(dim: &[usize], strides: &[usize], index: &[usize]) -> Option<isize>
     requires { IsValidLayout dim.now (all_signed strides.now) }

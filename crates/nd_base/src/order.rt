@@ -2,7 +2,8 @@
 ghost use Rattle.std.specs.Prelude.{◌≡◌, ◌↔◌, IsTrue, cond, if◌then◌else◌};
 ghost use Rattle.nd_base.specs.Order.{transposed};
 
-/// The order in which the indices of a shape are read. ndarray's `Order`.
+/// The order in which the indices of a shape are read: row-major, in which the last axis moves
+/// fastest, or column-major, in which the first one does. ndarray's `Order`.
 #[derive(Clone, Copy, PartialEq, Eq, Debug)]
 pub enum Order {
     /// The last axis moves fastest.
@@ -18,7 +19,7 @@ impl Order {
     /// Column-major order under Fortran's name. ndarray's `Order::F`.
     pub const F: Order = Order::ColumnMajor;
 
-    /// Whether the last axis moves fastest.
+    /// Whether the last axis moves fastest. ndarray's `is_row_major`.
     #[inline]
     pub const fn is_row_major(self) -> bool
         ensures { IsTrue result ↔ (self ≡ Order.RowMajor) }
@@ -26,7 +27,7 @@ impl Order {
         matches!(self, Order::RowMajor)
     }
 
-    /// Whether the first axis moves fastest.
+    /// Whether the first axis moves fastest. ndarray's `is_column_major`.
     #[inline]
     pub const fn is_column_major(self) -> bool
         ensures { IsTrue result ↔ (self ≡ Order.ColumnMajor) }
@@ -34,7 +35,8 @@ impl Order {
         matches!(self, Order::ColumnMajor)
     }
 
-    /// Row-major order where the answer is yes, and else column-major order.
+    /// Row-major order where the argument is true, and else column-major order. ndarray's
+    /// `row_major`.
     #[inline]
     pub const fn row_major(row_major: bool) -> Order
         ensures { result ≡ (if row_major then Order.RowMajor else Order.ColumnMajor) }
@@ -46,7 +48,8 @@ impl Order {
         }
     }
 
-    /// Column-major order where the answer is yes, and else row-major order.
+    /// Column-major order where the argument is true, and else row-major order. ndarray's
+    /// `column_major`.
     #[inline]
     pub const fn column_major(column_major: bool) -> Order
         ensures { result ≡ (if column_major then Order.ColumnMajor else Order.RowMajor) }

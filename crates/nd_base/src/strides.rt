@@ -4,7 +4,9 @@ ghost use Rattle.std.specs.Int.RustNames.{FitsSigned};
 ghost use Rattle.std.specs.Int.{w64};
 ghost use Rattle.nd_base.specs.Signed.{signed as signed_reading, unsigned as unsigned_bits};
 
-/// What a kept stride means: the signed number of the same 64 bits.
+/// The stride that a `usize` keeps: the signed number of the same 64 bits.
+///
+/// 2^64 - 1: -1. The project's own.
 #[inline]
 pub const fn signed(stride: usize) -> isize
     ensures same_bits { result ≡ signed_reading stride }
@@ -13,7 +15,9 @@ pub const fn signed(stride: usize) -> isize
     stride.cast_signed()
 }
 
-/// How a signed stride is kept: the unsigned number of the same 64 bits.
+/// The `usize` that keeps a stride: the unsigned number of the same 64 bits.
+///
+/// -1: 2^64 - 1. The project's own.
 #[inline]
 pub const fn unsigned(stride: isize) -> usize
     ensures same_bits { result ≡ unsigned_bits stride }
@@ -22,9 +26,12 @@ pub const fn unsigned(stride: isize) -> usize
     stride.cast_unsigned()
 }
 
-/// How many elements lie between the first entry of an axis and its entry `n`: `n` times the stride, with
-/// its sign. The caller ensures that `n` is below 2^63 and that the product fits an `isize`. ndarray's
-/// `stride_offset`.
+/// The offset in elements, with its sign, from coordinate 0 of an axis to coordinate `n`: `n` times
+/// the stride.
+///
+/// The caller ensures that `n` is below 2^63 and that the product fits an `isize`.
+///
+/// 2 along the stride -3: -6. ndarray's `stride_offset`.
 #[inline]
 pub fn stride_offset(n: usize, stride: usize) -> isize
     requires small { n < 2 ^ 63 }

@@ -53,7 +53,7 @@ fn size_before(lens: &[usize], strides: &[usize], axis: usize) -> usize
     size
 }
 
-/// Whether each axis of other than one entry steps over just what the axes before it span.
+/// Whether each axis whose length isn't 1 steps over just what the axes before it span.
 #[inline(always)]
 fn is_packed(lens: &[usize], strides: &[usize]) -> bool
     requires { nonzero_size lens.now ≤ limit }
@@ -68,14 +68,7 @@ fn is_packed(lens: &[usize], strides: &[usize]) -> bool
 }
 
 /// Whether the indices fill a stretch of memory without a gap, by a rule on lengths and strides.
-/// True where the strides are the default ones. Of a lone axis else: where it has at most one
-/// entry or the stride -1. Of other layouts else: where the magnitude of the stride of each axis
-/// of other than one entry is the product of the lengths of all axes before it, in the order of
-/// those magnitudes.
-///
-/// For a shape without a zero axis that is so exactly where the indices fill one stretch.
-///
-/// Takes no memory. ndarray's `Dimension::is_contiguous`.
+/// `Dimension::is_contiguous` says the rule.
 #[inline(always)]
 pub(crate) fn is_contiguous(lens: &[usize], strides: &[usize]) -> bool
     requires same_count { length lens.now ≡ length strides.now }

@@ -10,7 +10,7 @@ use nd_base::{
 };
 use std::alloc::{AllocError, Global};
 
-/// What stands for a list of lengths and can be made a dimension. ndarray's `IntoDimension`.
+/// What stands for a list of lengths and converts to a dimension. ndarray's `IntoDimension`.
 pub trait IntoDimension {
     /// The dimension type that it makes.
     type Dim: Lengths;
@@ -70,7 +70,11 @@ impl IntoDimension for Dim<IxDynImpl> {
 
     ghost needs_memory = { λ _. false };
 
-    /// This value itself. Errors: none, whatever the count of axes.
+    /// This value itself.
+    ///
+    /// # Errors
+    ///
+    /// None, whatever the count of axes.
     fn into_dimension(self, _alloc: Global) -> Result<Self, AllocError>
         ensures list { IfOk result (λ dim. lengths dim ≡ lengths self) }
         ensures memory { IsOk result }
@@ -86,7 +90,11 @@ impl IntoDimension for IxDynImpl {
 
     ghost needs_memory = { λ _. false };
 
-    /// The dimension that keeps this list. Errors: none, whatever the count of axes.
+    /// The dimension that keeps this list.
+    ///
+    /// # Errors
+    ///
+    /// None, whatever the count of axes.
     fn into_dimension(self, _alloc: Global) -> Result<IxDyn, AllocError>
         ensures list { IfOk result (λ dim. lengths dim ≡ self) }
         ensures memory { IsOk result }
@@ -115,7 +123,11 @@ impl IntoDimension for Vec<usize> {
     ghost needs_memory = { λ _. false };
 
     /// The dimension of the vector's items, which keeps its memory where there is room for more than
-    /// four. Errors: none, whatever the count of axes.
+    /// 4.
+    ///
+    /// # Errors
+    ///
+    /// None, whatever the count of axes.
     fn into_dimension(self, alloc: Global) -> Result<IxDyn, AllocError>
         ensures list { IfOk result (λ dim. lengths dim ≡ self.items) }
         ensures memory { IsOk result }

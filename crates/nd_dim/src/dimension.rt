@@ -45,13 +45,20 @@ pub trait Dimension: Lengths + Arithmetic + Scale {
     /// The type of one axis more. ndarray's `Larger`.
     type Larger: Lengths;
 
-    /// The same list in the form that a pattern takes apart. ndarray's `into_pattern`.
+    /// The same list in the form that a pattern takes apart: a number, a tuple, or the `IxDyn`
+    /// itself.
+    ///
+    /// `[4,5]`: (4, 5). ndarray's `into_pattern`.
     fn into_pattern(self) -> Self::Pattern
         ensures { Self.Pattern.lens result ≡ Self.list self };
 
-    /// The same list, as a dimension of any number of axes. ndarray's `into_dyn`.
+    /// The same list, as a dimension of any number of axes.
     ///
-    /// Errors: out of memory; none where there are at most 4 axes.
+    /// # Errors
+    ///
+    /// Out of memory; never where there are at most 4 axes.
+    ///
+    /// Takes time in proportion to the count of axes. ndarray's `into_dyn`.
     fn into_dyn(self, alloc: Global) -> Result<IxDyn, AllocError>
     where
         Self: Sized,
@@ -69,8 +76,13 @@ pub trait Dimension: Lengths + Arithmetic + Scale {
     ghost larger_count: { (n : ℕ) → IsCount Self.FixedCount.NDIM n
         → IsCount Self.Larger.NDIM (n + 1) };
 
-    /// The product of all lengths. The caller ensures that it is below 2^64 (`size_checked`).
-    /// ndarray's `size`.
+    /// The product of all lengths.
+    ///
+    /// The caller ensures that it is below 2^64 (`size_checked`).
+    ///
+    /// Takes time in proportion to the count of axes.
+    ///
+    /// `[2,3]`: 6. ndarray's `size`.
     #[inline]
     final fn size(&self) -> usize
         requires { size (Self.list self.now) < 2 ^ 64 }
@@ -79,7 +91,12 @@ pub trait Dimension: Lengths + Arithmetic + Scale {
         product(self.slice())
     }
 
-    /// The product of all lengths, where it fits; 0 wherever a length is 0. ndarray's `size_checked`.
+    /// The product of all lengths; `None` where it is 2^64 or more. It is 0 where a length is 0,
+    /// whatever the others are.
+    ///
+    /// Takes time in proportion to the count of axes.
+    ///
+    /// `[2^40,2^40,0]`: `Some(0)`. ndarray's `size_checked`.
     #[inline]
     final fn size_checked(&self) -> Option<usize>
         ensures { SomeIff result (size (Self.list self.now) < 2 ^ 64) (size (Self.list self.now)) }
@@ -87,10 +104,18 @@ pub trait Dimension: Lengths + Arithmetic + Scale {
         checked_size(self.slice())
     }
 
-    /// The strides, in elements, by which the last axis moves fastest; all 0 where a length is 0.
-    /// The caller ensures that the size is below 2^64 (`size_checked`). ndarray's `default_strides`.
+    /// The strides in row-major order, in elements: each is the product of the later lengths. All
+    /// are 0 where a length is 0.
     ///
-    /// Errors: out of memory; none where the type fixes the count or there are at most 4 axes.
+    /// The caller ensures that the size is below 2^64 (`size_checked`).
+    ///
+    /// # Errors
+    ///
+    /// Out of memory; never where the type fixes the count or there are at most 4 axes.
+    ///
+    /// Takes time in proportion to the count of axes.
+    ///
+    /// `[2,3,4]`: `[12,4,1]`. ndarray's `default_strides`.
     #[inline]
     final fn default_strides(&self, alloc: Global) -> Result<Self, AllocError>
     where
@@ -103,10 +128,18 @@ pub trait Dimension: Lengths + Arithmetic + Scale {
         default_strides(alloc, self)
     }
 
-    /// The strides, in elements, by which the first axis moves fastest; all 0 where a length is 0.
-    /// The caller ensures that the size is below 2^64 (`size_checked`). ndarray's `fortran_strides`.
+    /// The strides in column-major order, in elements: each is the product of the earlier lengths.
+    /// All are 0 where a length is 0.
     ///
-    /// Errors: out of memory; none where the type fixes the count or there are at most 4 axes.
+    /// The caller ensures that the size is below 2^64 (`size_checked`).
+    ///
+    /// # Errors
+    ///
+    /// Out of memory; never where the type fixes the count or there are at most 4 axes.
+    ///
+    /// Takes time in proportion to the count of axes.
+    ///
+    /// `[2,3,4]`: `[1,2,6]`. ndarray's `fortran_strides`.
     #[inline]
     final fn fortran_strides(&self, alloc: Global) -> Result<Self, AllocError>
     where
@@ -119,11 +152,16 @@ pub trait Dimension: Lengths + Arithmetic + Scale {
         fortran_strides(alloc, self)
     }
 
-    /// The first index of the shape, all 0, or `None` where a length is 0, so that there is no index.
-    /// ndarray's `first_index`.
+    /// The first index of the shape, all 0; `None` where a length is 0, so that there is no index.
     ///
-    /// Errors: out of memory; none where the type fixes the count, where there are at most 4
-    /// axes, or where a length is 0.
+    /// # Errors
+    ///
+    /// Out of memory; never where the type fixes the count, where there are at most 4 axes, or
+    /// where a length is 0.
+    ///
+    /// Takes time in proportion to the count of axes.
+    ///
+    /// `[2,3]`: (0,0). ndarray's `first_index`.
     final fn first_index(&self, alloc: Global) -> Result<Option<Self>, AllocError>
     where
         Self: Sized,
@@ -141,9 +179,14 @@ pub trait Dimension: Lengths + Arithmetic + Scale {
         Ok(Some(Self::zeros(alloc, lens.len())?))
     }
 
-    /// The index after one of the shape in row-major order, where the last axis moves fastest, or
-    /// `None` after the last one. The caller ensures that `index` is an index of the shape
-    /// (`is_index`). ndarray's `next_for`.
+    /// The next index of the shape in row-major order, where the last axis moves fastest; `None`
+    /// after the last one.
+    ///
+    /// The caller ensures that `index` is an index of the shape (`is_index`).
+    ///
+    /// Takes time in proportion to the count of axes.
+    ///
+    /// After (0,2) of `[2,3]`: (1,0). ndarray's `next_for`.
     #[inline]
     final fn next_for(&self, index: Self) -> Option<Self>
     where
@@ -164,10 +207,15 @@ pub trait Dimension: Lengths + Arithmetic + Scale {
         }
     }
 
-    /// Moves an index of the shape to the one after it in column-major order, where the first axis
-    /// moves fastest, and answers whether there is one; the last index becomes the first, all 0, with
-    /// `false`. The caller ensures that `index` is an index of the shape (`is_index`). ndarray's
-    /// `next_for_f`.
+    /// Moves an index of the shape to the next one in column-major order, where the first axis
+    /// moves fastest, and returns whether there is one; the last index becomes the first, all 0,
+    /// with `false`.
+    ///
+    /// The caller ensures that `index` is an index of the shape (`is_index`).
+    ///
+    /// Takes time in proportion to the count of axes.
+    ///
+    /// After (1,0) of `[2,3]`: (0,1). ndarray's `next_for_f`.
     #[inline]
     final fn next_for_f(&self, index: &mut Self) -> bool
         requires { is_index (Self.list self.now) (Self.list index.old) ≡ true }
@@ -185,10 +233,13 @@ pub trait Dimension: Lengths + Arithmetic + Scale {
         step_by_columns(self.slice(), index.slice_mut())
     }
 
-    /// Zeros, as many as the type fixes, or one where it fixes no count. In place of ndarray's
-    /// `Default`.
+    /// Zeros, as many as the type fixes; one where it fixes no count.
     ///
-    /// Errors: none.
+    /// # Errors
+    ///
+    /// None: it asks for no memory.
+    ///
+    /// In place of ndarray's `Default`.
     final fn default_in(alloc: Global) -> Result<Self, AllocError>
     where
         Self: Sized,
@@ -198,8 +249,12 @@ pub trait Dimension: Lengths + Arithmetic + Scale {
         Self::zeros(alloc, Self::NDIM.unwrap_or(1))
     }
 
-    /// Whether both lists of strides have one for each axis, and agree wherever an axis has more
-    /// than one entry. ndarray's `strides_equivalent`.
+    /// Whether both lists of strides have one for each axis, and agree on each axis of length
+    /// greater than 1.
+    ///
+    /// Takes time in proportion to the count of axes.
+    ///
+    /// `[3,9]` and `[3,5]` for `[2,1]`: true. ndarray's `strides_equivalent`.
     final fn strides_equivalent<D: Lengths>(&self, strides: &Self, others: &D) -> bool
         ensures { IsTrue result ↔ AreEquivalent
             (Self.list self.now)
@@ -209,11 +264,16 @@ pub trait Dimension: Lengths + Arithmetic + Scale {
         are_equivalent(self.slice(), strides.slice(), others.slice())
     }
 
-    /// How many elements lie between the first index and this one, with its sign, whatever the
-    /// shape: the sum of each entry times its stride. The caller ensures that there is a stride for
-    /// each entry, that no entry passes the greatest `isize`, and that the entries times the
-    /// magnitudes of their strides add up to at most that: an index of a valid layout meets this.
-    /// ndarray's `stride_offset`.
+    /// The offset in elements, with its sign, from the first index to this one, whatever the shape:
+    /// the sum of each coordinate times its stride.
+    ///
+    /// The caller ensures that there is a stride for each coordinate, that no coordinate is greater
+    /// than `isize::MAX`, and that the coordinates times the magnitudes of their strides add up to
+    /// at most that, as of an index of a valid layout.
+    ///
+    /// Takes time in proportion to the count of axes.
+    ///
+    /// (1,2) along the strides `[3,1]`: 5. ndarray's `stride_offset`.
     #[inline]
     final fn stride_offset(index: &Self, strides: &Self) -> isize
         requires same_count { length (Self.list index.now) ≡ length (Self.list strides.now) }
@@ -225,10 +285,15 @@ pub trait Dimension: Lengths + Arithmetic + Scale {
         index_offset(index.slice(), strides.slice())
     }
 
-    /// How many elements lie between the first index of this shape and another one, with its sign;
-    /// `None` where that is no index of the shape. The caller ensures that the layout is valid: one
-    /// stride for each axis, and neither the product of the lengths that are not 0 nor the reach of
-    /// all axes together passes the greatest `isize`. ndarray's `stride_offset_checked`.
+    /// The offset in elements, with its sign, from the first index of this shape to another one;
+    /// `None` where that is no index of the shape.
+    ///
+    /// The caller ensures that the layout is valid: one stride for each axis, and neither the
+    /// product of the lengths that are not 0 nor the span is greater than `isize::MAX`.
+    ///
+    /// Takes time in proportion to the count of axes.
+    ///
+    /// (1,2) of `[2,3]` with the strides `[-3,1]`: -1. ndarray's `stride_offset_checked`.
     #[inline]
     final fn stride_offset_checked(&self, strides: &Self, index: &Self) -> Option<isize>
         requires { IsValidLayout (Self.list self.now) (all_signed (Self.list strides.now)) }
@@ -240,7 +305,7 @@ pub trait Dimension: Lengths + Arithmetic + Scale {
         stride_offset_checked(self.slice(), strides.slice(), index.slice())
     }
 
-    /// The length of the last axis, or 0 without axes. ndarray's `last_elem`.
+    /// The length of the last axis; 0 without axes. ndarray's `last_elem`.
     #[inline]
     final fn last_elem(&self) -> usize
         ensures { result ≡ last_of_lengths (Self.list self.now) }
@@ -248,8 +313,9 @@ pub trait Dimension: Lengths + Arithmetic + Scale {
         last_len(self.slice())
     }
 
-    /// Gives the last axis another length. The caller ensures that there is an axis. ndarray's
-    /// `set_last_elem`.
+    /// Gives the last axis another length.
+    ///
+    /// The caller ensures that there is an axis. ndarray's `set_last_elem`.
     #[inline]
     final fn set_last_elem(&mut self, len: usize)
         requires { 0 < length (Self.list self.old) }
@@ -260,16 +326,20 @@ pub trait Dimension: Lengths + Arithmetic + Scale {
     }
 
     /// Whether the indices of a shape fill a stretch of memory without a gap, by a rule on lengths
-    /// and strides. True where the strides are the default ones. Of a lone axis else: where it has
-    /// at most one entry or the stride -1. Of other layouts else: where the magnitude of the stride
-    /// of each axis of other than one entry is the product of the lengths of all axes before it, in
-    /// the order of those magnitudes.
+    /// and strides.
     ///
-    /// For a shape without a zero axis the answer is exact: true where each index has a place of its
-    /// own and these places are consecutive numbers; and nowhere else.
+    /// It is true where the strides are those in row-major order. With one axis it is also true
+    /// where its length is at most 1 or its stride is -1. With another number of axes it is also
+    /// true where the magnitude of the stride of each axis whose length isn't 1 is the product of
+    /// the lengths of all axes before it, in the order of those magnitudes. Where no axis is empty
+    /// it is true if and only if no two indices alias and their places are consecutive numbers.
     ///
-    /// The caller ensures that there is a stride for each axis and that the product of the lengths,
-    /// zeros aside, is at most the greatest `isize`. Takes no memory. ndarray's
+    /// The caller ensures that there is a stride for each axis and that the product of the lengths
+    /// that are not 0 is at most `isize::MAX`.
+    ///
+    /// Takes no memory, and time in proportion to the square of the count of axes at most.
+    ///
+    /// `[2,3]` with the strides `[-3,1]`: true; with `[4,1]`: false. ndarray's
     /// `Dimension::is_contiguous`.
     #[inline]
     final fn is_contiguous(dim: &Self, strides: &Self) -> bool
@@ -283,11 +353,14 @@ pub trait Dimension: Lengths + Arithmetic + Scale {
         is_contiguous(dim.slice(), strides.slice())
     }
 
-    /// The numbers of the axes whose strides these are, that of the least stride first, whatever
-    /// the signs; axes of equal strides stand in their own order. ndarray's
-    /// `_fastest_varying_stride_order`.
+    /// The numbers of the axes in the order of the magnitudes of these strides, the least first;
+    /// axes of equal magnitudes are in the order of their numbers.
     ///
-    /// Errors: out of memory; none where the type fixes the count or there are at most 4 axes.
+    /// # Errors
+    ///
+    /// Out of memory; never where the type fixes the count or there are at most 4 axes.
+    ///
+    /// `[3,-1,2]`: `[1,2,0]`. ndarray's `_fastest_varying_stride_order`.
     final fn _fastest_varying_stride_order(&self, alloc: Global) -> Result<Self, AllocError>
     where
         Self: Sized,
@@ -300,9 +373,14 @@ pub trait Dimension: Lengths + Arithmetic + Scale {
         Ok(order)
     }
 
-    /// The axis whose stride is of least magnitude among those of more than one entry, and the last
-    /// of these where several are; the last axis where none has more than one entry. The caller
-    /// ensures that there is an axis, and a stride for each. ndarray's `min_stride_axis`.
+    /// The axis whose stride is of least magnitude among those of length greater than 1, and the
+    /// last of these where several are; the last axis where there is none.
+    ///
+    /// The caller ensures that there is an axis, and a stride for each.
+    ///
+    /// Takes time in proportion to the count of axes.
+    ///
+    /// `[2,3,1]` with the strides `[3,-1,0]`: axis 1. ndarray's `min_stride_axis`.
     #[inline]
     final fn min_stride_axis(&self, strides: &Self) -> Axis
         requires some_axis { 0 < length (Self.list self.now) }
@@ -315,9 +393,14 @@ pub trait Dimension: Lengths + Arithmetic + Scale {
         Axis(min_stride_axis(self.slice(), strides.slice()))
     }
 
-    /// The axis whose stride is of greatest magnitude among those of more than one entry, and the
-    /// last of these where several are; the first axis where none has more than one entry. The caller
-    /// ensures that there is an axis, and a stride for each. ndarray's `max_stride_axis`.
+    /// The axis whose stride is of greatest magnitude among those of length greater than 1, and the
+    /// last of these where several are; the first axis where there is none.
+    ///
+    /// The caller ensures that there is an axis, and a stride for each.
+    ///
+    /// Takes time in proportion to the count of axes.
+    ///
+    /// `[2,3,1]` with the strides `[3,-1,9]`: axis 0. ndarray's `max_stride_axis`.
     final fn max_stride_axis(&self, strides: &Self) -> Axis
         requires some_axis { 0 < length (Self.list self.now) }
         requires same_count { length (Self.list self.now) ≡ length (Self.list strides.now) }
@@ -329,10 +412,13 @@ pub trait Dimension: Lengths + Arithmetic + Scale {
         Axis(max_stride_axis(self.slice(), strides.slice()))
     }
 
-    /// The same list as a dimension of this type, or `None` where the type fixes another count.
-    /// ndarray's `from_dimension`.
+    /// The same list as a dimension of this type; `None` where the type fixes another count.
     ///
-    /// Errors: out of memory; none where the type fixes the count or there are at most 4 axes.
+    /// # Errors
+    ///
+    /// Out of memory; never where the type fixes the count or there are at most 4 axes.
+    ///
+    /// Takes time in proportion to the count of axes. ndarray's `from_dimension`.
     final fn from_dimension<D: Lengths>(alloc: Global, dim: &D) -> Result<Option<Self>, AllocError>
     where
         Self: Sized,
@@ -350,11 +436,17 @@ pub trait Dimension: Lengths + Arithmetic + Scale {
         Ok(Some(same))
     }
 
-    /// The lengths with a new axis of length 1 before the axis `axis`, or after all of them. The
-    /// caller ensures that `axis` is at most the count of axes. ndarray's `insert_axis`.
+    /// The lengths with a new axis of length 1 before the axis `axis`, or after all of them.
     ///
-    /// Errors: out of memory; none where the result's type fixes the count or has at most 4
-    /// axes.
+    /// The caller ensures that `axis` is at most the count of axes.
+    ///
+    /// # Errors
+    ///
+    /// Out of memory; never where the result's type fixes the count or has at most 4 axes.
+    ///
+    /// Takes time in proportion to the count of axes.
+    ///
+    /// `[2,3]` at axis 1: `[2,1,3]`. ndarray's `insert_axis`.
     final fn insert_axis(&self, alloc: Global, axis: Axis) -> Result<Self::Larger, AllocError>
         requires { axis.0 ≤ length (Self.list self.now) }
         ensures list { IfOk result (λ larger.
@@ -368,11 +460,17 @@ pub trait Dimension: Lengths + Arithmetic + Scale {
         Ok(larger)
     }
 
-    /// The lengths without an axis; no axes stay none. The caller ensures that the shape has that
-    /// axis (`has_axis`), or none at all. ndarray's `try_remove_axis`.
+    /// The lengths without an axis; of no axes, no axes.
     ///
-    /// Errors: out of memory; none where the result's type fixes the count or has at most 4
-    /// axes.
+    /// The caller ensures that the shape has that axis (`has_axis`), or none at all.
+    ///
+    /// # Errors
+    ///
+    /// Out of memory; never where the result's type fixes the count or has at most 4 axes.
+    ///
+    /// Takes time in proportion to the count of axes.
+    ///
+    /// `[2,3]` without axis 0: `[3]`. ndarray's `try_remove_axis`.
     final fn try_remove_axis(&self, alloc: Global, axis: Axis) -> Result<Self::Smaller, AllocError>
         requires { (axis.0 < length (Self.list self.now)) ⊎ (length (Self.list self.now) ≡ 0) }
         ensures list { IfOk result (λ smaller.

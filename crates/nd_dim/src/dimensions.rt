@@ -132,7 +132,11 @@ impl Dimension for Dim<IxDynImpl> {
         self
     }
 
-    /// This value itself. Errors: none, whatever the count of axes.
+    /// This value itself.
+    ///
+    /// # Errors
+    ///
+    /// None, whatever the count of axes.
     fn into_dyn(self, _alloc: Global) -> Result<IxDyn, AllocError>
         ensures list { IfOk result (λ dim. lengths dim ≡ lengths self) }
         ensures memory { IsOk result }

@@ -5,10 +5,14 @@ ghost use Rattle.nd_base.specs.Indices.{is_index};
 ghost use Rattle.nd_base.specs.Rank.{rank, index_of_rank, rank_in, index_of_rank_in};
 ghost use Rattle.nd_base.specs.Size.{size};
 
-/// Moves an index of a shape to the next one in row-major order, where the last axis moves
-/// fastest, and answers whether there is one; the last index becomes the first, with `false`. The
-/// caller ensures that `index` is an index of the shape (`is_index`). The step of ndarray's
-/// `next_for`.
+/// Moves an index of a shape to the next one in row-major order, where the last axis moves fastest,
+/// and returns whether there is one; the last index becomes the first, all 0, with `false`.
+///
+/// The caller ensures that `index` is an index of the shape (`is_index`).
+///
+/// Takes time in proportion to the count of axes.
+///
+/// After (0,2) of `[2,3]`: (1,0). The step of ndarray's `next_for`.
 #[inline(always)]
 pub fn step_by_rows(shape: &[usize], index: &mut [usize]) -> bool
     requires { is_index shape.now index.old ≡ true }
@@ -17,7 +21,7 @@ pub fn step_by_rows(shape: &[usize], index: &mut [usize]) -> bool
         then index_of_rank shape.now (rank shape.now index.old + 1)
         else replicate (length shape.now) 0) }
 {
-    // (the entry is written before it is known to stay: walks run in half the time so)
+    // (the coordinate is written before it is known to be the one: loops run in half the time so)
     for axis in (0..shape.len()).rev() {
         let next = index[axis] + 1;
         index[axis] = next;
@@ -30,9 +34,14 @@ pub fn step_by_rows(shape: &[usize], index: &mut [usize]) -> bool
 }
 
 /// Moves an index of a shape to the next one in column-major order, where the first axis moves
-/// fastest, and answers whether there is one; the last index becomes the first, with `false`. The
-/// caller ensures that `index` is an index of the shape (`is_index`). The step of ndarray's
-/// `next_for_f`.
+/// fastest, and returns whether there is one; the last index becomes the first, all 0, with
+/// `false`.
+///
+/// The caller ensures that `index` is an index of the shape (`is_index`).
+///
+/// Takes time in proportion to the count of axes.
+///
+/// After (1,0) of `[2,3]`: (0,1). The step of ndarray's `next_for_f`.
 #[inline(always)]
 pub fn step_by_columns(shape: &[usize], index: &mut [usize]) -> bool
     requires { is_index shape.now index.old ≡ true }

@@ -9,11 +9,17 @@ use std::alloc::{AllocError, Global};
 /// A dimension type that can have an axis to remove: all but that of no axes. ndarray's
 /// `RemoveAxis`.
 pub trait RemoveAxis: Dimension {
-    /// The lengths without that of one axis. The caller ensures that the shape has that axis
-    /// (`has_axis`). ndarray's `remove_axis`.
+    /// The lengths without that of one axis.
     ///
-    /// Errors: out of memory; none where the result's type fixes the count or has at most 4
-    /// axes.
+    /// The caller ensures that the shape has that axis (`has_axis`).
+    ///
+    /// # Errors
+    ///
+    /// Out of memory; never where the result's type fixes the count or has at most 4 axes.
+    ///
+    /// Takes time in proportion to the count of axes.
+    ///
+    /// `[2,3]` without axis 0: `[3]`. ndarray's `remove_axis`.
     final fn remove_axis(&self, alloc: Global, axis: Axis) -> Result<Self::Smaller, AllocError>
         requires { axis.0 < length (Self.list self.now) }
         ensures list { IfOk result (λ smaller.

@@ -7,7 +7,7 @@ use crate::conversion::IntoDimension;
 use nd_base::{Lengths, Order};
 use std::alloc::{AllocError, Global};
 
-/// A shape, and the order in which its indices are read where the caller says so. ndarray's
+/// A shape, and the order in which its indices are read where the caller gives one. ndarray's
 /// `ShapeArg`.
 pub trait ShapeArg {
     /// The dimension type of the shape.
@@ -22,7 +22,7 @@ pub trait ShapeArg {
     // and whether memory is needed to make a dimension of the list.
     ghost shape_needs_memory: { Self → Bool };
 
-    /// The shape, and the order where the caller says one.
+    /// The shape, and the order where the caller gives one.
     ///
     /// # Errors
     ///

@@ -16,8 +16,13 @@ pub(crate) fn checked_size(lens: &[usize]) -> Option<usize>
     Some(size)
 }
 
-/// The product of the lengths; 0 wherever one of them is 0. The caller ensures that it is below 2^64. What
-/// `Dimension::size` answers, of a list.
+/// The product of the lengths; 0 where one of them is 0.
+///
+/// The caller ensures that it is below 2^64.
+///
+/// Takes time in proportion to the count of lengths.
+///
+/// `[2,3]`: 6. What `Dimension::size` returns, of a list. The project's own.
 pub fn product(lens: &[usize]) -> usize
     requires { size lens.now < 2 ^ 64 }
     ensures { result ≡ size lens.now }

@@ -5,7 +5,9 @@ ghost use Rattle.nd_dim.specs.AxisOrder.{magnitude_at as magnitude_at_axis, IsLe
 
 use nd_base::signed;
 
-/// How many elements the stride of an axis steps over, in either direction; 0 past the last axis.
+/// The magnitude of the stride of an axis, in elements; 0 past the last axis.
+///
+/// Axis 0 of the strides `[-3,1]`: 3. The project's own.
 #[inline]
 pub fn magnitude_at(strides: &[usize], axis: usize) -> usize
     ensures { result ≡ magnitude_at_axis (all_signed strides.now) axis }
@@ -40,7 +42,7 @@ fn least_of_all(strides: &[usize]) -> usize
     least
 }
 
-/// The same among the axes of more than one entry; the last axis where there is none.
+/// The same among the axes of length greater than 1; the last axis where there is none.
 fn least_of_long(lens: &[usize], strides: &[usize]) -> usize
     requires some_axis { 0 < length lens.now }
     requires same_count { length lens.now ≡ length strides.now }
@@ -57,8 +59,8 @@ fn least_of_long(lens: &[usize], strides: &[usize]) -> usize
     least
 }
 
-/// The axis whose stride is of least magnitude among those of more than one entry, and the last
-/// of these where several are; the last axis where none has more than one entry. ndarray's
+/// The axis whose stride is of least magnitude among those of length greater than 1, and the last
+/// of these where several are; the last axis where there is none. ndarray's
 /// `min_stride_axis`.
 #[inline(always)]
 pub(crate) fn min_stride_axis(lens: &[usize], strides: &[usize]) -> usize
@@ -66,7 +68,7 @@ pub(crate) fn min_stride_axis(lens: &[usize], strides: &[usize]) -> usize
     requires same_count { length lens.now ≡ length strides.now }
     ensures { IsLeastStrideAxis lens.now (all_signed strides.now) result }
 {
-    // (where the axis of the least stride of all has several entries, no other length matters)
+    // (where the axis of the least stride of all has a length greater than 1, no other length matters)
     let least = least_of_all(strides);
     if lens[least] > 1 {
         least
@@ -75,8 +77,8 @@ pub(crate) fn min_stride_axis(lens: &[usize], strides: &[usize]) -> usize
     }
 }
 
-/// The axis whose stride is of greatest magnitude among those of more than one entry, and the
-/// last of these where several are; the first axis where none has more than one entry. ndarray's
+/// The axis whose stride is of greatest magnitude among those of length greater than 1, and the
+/// last of these where several are; the first axis where there is none. ndarray's
 /// `max_stride_axis`.
 pub(crate) fn max_stride_axis(lens: &[usize], strides: &[usize]) -> usize
     requires some_axis { 0 < length lens.now }

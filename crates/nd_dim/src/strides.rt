@@ -45,10 +45,19 @@ fn fill_fortran_strides(lens: &[usize], strides: &mut [usize])
     }
 }
 
-/// The strides, in elements, by which the last axis of a shape moves fastest; all 0 where a length is 0.
-/// The caller ensures that the size is below 2^64 (`Dimension::size_checked`). What `Dimension::default_strides` answers, where a type is known by its list alone.
+/// The strides of a shape in row-major order, in elements: each is the product of the later
+/// lengths. All are 0 where a length is 0.
 ///
-/// Errors: out of memory; none where the type fixes the count or there are at most 4 axes.
+/// The caller ensures that the size is below 2^64 (`Dimension::size_checked`).
+///
+/// # Errors
+///
+/// Out of memory; never where the type fixes the count or there are at most 4 axes.
+///
+/// Takes time in proportion to the count of axes.
+///
+/// `[2,3,4]`: `[12,4,1]`. What `Dimension::default_strides` returns, for a type that is known by
+/// its list alone.
 #[inline]
 pub fn default_strides<D: Lengths>(alloc: Global, dim: &D) -> Result<D, AllocError>
     requires { size (D.list dim.now) < 2 ^ 64 }
@@ -61,10 +70,19 @@ pub fn default_strides<D: Lengths>(alloc: Global, dim: &D) -> Result<D, AllocErr
     Ok(strides)
 }
 
-/// The strides, in elements, by which the first axis of a shape moves fastest; all 0 where a length is 0.
-/// The caller ensures that the size is below 2^64 (`Dimension::size_checked`). What `Dimension::fortran_strides` answers, where a type is known by its list alone.
+/// The strides of a shape in column-major order, in elements: each is the product of the earlier
+/// lengths. All are 0 where a length is 0.
 ///
-/// Errors: out of memory; none where the type fixes the count or there are at most 4 axes.
+/// The caller ensures that the size is below 2^64 (`Dimension::size_checked`).
+///
+/// # Errors
+///
+/// Out of memory; never where the type fixes the count or there are at most 4 axes.
+///
+/// Takes time in proportion to the count of axes.
+///
+/// `[2,3,4]`: `[1,2,6]`. What `Dimension::fortran_strides` returns, for a type that is known by its
+/// list alone.
 #[inline]
 pub fn fortran_strides<D: Lengths>(alloc: Global, dim: &D) -> Result<D, AllocError>
     requires { size (D.list dim.now) < 2 ^ 64 }
@@ -77,8 +95,8 @@ pub fn fortran_strides<D: Lengths>(alloc: Global, dim: &D) -> Result<D, AllocErr
     Ok(strides)
 }
 
-/// Whether both lists of strides have one for each axis, and agree wherever an axis has more than
-/// one entry. ndarray's `strides_equivalent`.
+/// Whether both lists of strides have one for each axis, and agree on each axis of length greater
+/// than 1. ndarray's `strides_equivalent`.
 pub(crate) fn are_equivalent(lens: &[usize], strides: &[usize], others: &[usize]) -> bool
     ensures { IsTrue result ↔ AreEquivalent lens.now strides.now others.now }
 {

@@ -10,10 +10,13 @@ mod iter;
 pub use iter::{Axes, AxisDescription};
 use nd_base::Lengths;
 
-/// The axes of a layout with their lengths and strides, each once, from the first or from the last
-/// on. ndarray's `axes_of`.
+/// Iterator over the axes of a layout with their lengths and strides, from the first axis or from
+/// the last.
 ///
-/// The caller ensures that there are as many strides as axes.
+/// `dim` has the lengths and `strides` the strides in elements. The caller ensures that there are
+/// as many strides as axes.
+///
+/// `[2,3]` with the strides `[3,1]`: 2 and 3 of axis 0, 3 and 1 of axis 1. ndarray's `axes_of`.
 pub fn axes_of<'a, D: Lengths>(dim: &'a D, strides: &'a D) -> Axes<'a>
     requires { length (D.list dim.now) ≡ length (D.list strides.now) }
     ensures list { axes_left result ≡ axes (D.list dim.now) (all_signed (D.list strides.now)) }

@@ -15,10 +15,12 @@ fn go_together(len: usize, other: usize) -> bool
     (len == other) | (len == 1) | (other == 1)
 }
 
-/// Whether two shapes have one in common, by NumPy's rule: set side by side at their last axes, two
-/// lengths of one axis are equal, or one of them is 1.
+/// Whether two shapes have one in common, by NumPy's rule: aligned at their last axes, two lengths
+/// of one axis are equal, or one of them is 1.
 ///
 /// The caller ensures that the second list is no longer than the first.
+///
+/// Takes time in proportion to the count of axes.
 ///
 /// `[4,1,3]` and `[2,3]`: true; `[2]` and `[0]`: false. The test of ndarray's `co_broadcast`.
 #[inline(always)]
@@ -44,11 +46,13 @@ fn stretched(len: usize, other: usize) -> usize
     if len == 1 { other } else { len }
 }
 
-/// Writes the common shape of two shapes over `common`: on each axis equal lengths stay, and a length
-/// of 1 gives way to the other one, to 0 as well.
+/// Writes the common shape of two shapes over `common`: of two lengths of one axis their length
+/// where they are equal, else the one that isn't 1.
 ///
 /// The caller ensures that the shapes have one (`have_common_shape`), that the second list is no
 /// longer than the first, and that `common` has as many lengths as the first.
+///
+/// Takes time in proportion to the count of axes.
 ///
 /// `[4,1,3]` and `[2,3]`: `[4,2,3]`. What ndarray's `co_broadcast` makes.
 #[inline(always)]
@@ -88,18 +92,19 @@ fn common_of<Output: Lengths>(
     Ok(common)
 }
 
-/// The shape that two shapes have in common (`have_common_shape`, `fill_common_shape`), so that
-/// arrays of both can be read as arrays of it.
+/// The common shape of two shapes, by NumPy's rule: arrays of both can be broadcast to it.
 ///
-/// Axes that only one of them has count as axes of length 1. The order of the shapes doesn't matter,
-/// and of several shapes it doesn't matter which two are taken first. The size of the common shape
-/// may be greater than any limit. The caller ensures that `Output` has as many axes as the shape of
+/// Axes that only one of them has count as axes of length 1. The order of the shapes doesn't
+/// matter, and of several shapes it doesn't matter which two are taken first. The size of the
+/// common shape isn't limited. The caller ensures that `Output` has as many axes as the shape of
 /// the greater count.
 ///
 /// # Errors
 ///
-/// `IncompatibleShape` where two unequal lengths stand at one axis and neither is 1; then out of
+/// `IncompatibleShape` where two lengths of one axis are unequal and neither is 1; then out of
 /// memory, never where `Output` fixes its count of axes or there are at most 4.
+///
+/// Takes time in proportion to the count of axes.
 ///
 /// `[2,3]` and `[4,1,3]`: `[4,2,3]`. ndarray's `co_broadcast`.
 #[inline]

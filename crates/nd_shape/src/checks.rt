@@ -21,7 +21,8 @@ use crate::overlap::has_overlap;
 use crate::shape_builder::Strides;
 use nd_base::{ErrorKind, Lengths, ShapeError, from_kind, signed};
 
-/// How a layout is going to be used. ndarray's `CanIndexCheckMode`.
+/// How a layout is going to be used: to read, or as the owner of its elements. ndarray's
+/// `CanIndexCheckMode`.
 #[derive(Clone, Copy, PartialEq)]
 pub enum CanIndexCheckMode {
     /// Elements are owned or written, and no two indices may alias. What the docs call owned mode.
@@ -46,10 +47,10 @@ fn span_within_limits(elem_size: usize, shape: &[usize], strides: &[usize]) -> O
     Some(span)
 }
 
-/// The span of a layout: how many elements lie from its lowest index to its highest one.
+/// The span of a layout: the distance in elements from its lowest place to its highest one.
 ///
 /// `shape` and `strides` are one number for each axis, strides in elements and with their sign
-/// (`signed`); an element is of `elem_size` bytes. A layout with a span is valid, as `low_span`,
+/// (`signed`); an element has `elem_size` bytes. A layout with a span is valid, as `low_span`,
 /// `has_overlap` and `merge_fitting` ask of theirs.
 ///
 /// # Errors
@@ -57,6 +58,8 @@ fn span_within_limits(elem_size: usize, shape: &[usize], strides: &[usize]) -> O
 /// `IncompatibleLayout` where there are not as many strides as lengths; then `Overflow` where the
 /// product of the lengths that are not 0, the span, or the span in bytes is greater than
 /// `isize::MAX`.
+///
+/// Takes time in proportion to the count of axes.
 ///
 /// `[2,3]` with the strides `[-3,1]`, of 4 bytes each: 5. The rule over lists of ndarray's
 /// `max_abs_offset_check_overflow`.
@@ -76,10 +79,11 @@ pub fn span_of_lengths(
     span_within_limits(elem_size, shape, strides).ok_or(from_kind(ErrorKind::Overflow))
 }
 
-/// Accepts a layout over data of `len` elements, or returns why it is not accepted.
+/// Returns `Ok` if and only if a layout satisfies the bounds rule over data of `len` elements and,
+/// in owned mode, the no-alias rule.
 ///
 /// `shape` and `strides` are one number for each axis, strides in elements and with their sign
-/// (`signed`); an element is of `elem_size` bytes. The lowest index of the layout lies at the first
+/// (`signed`); an element has `elem_size` bytes. The lowest place of the layout is the first
 /// element of the data. Each index of an accepted layout is in bounds, and in owned mode no two
 /// indices alias.
 ///
@@ -88,6 +92,8 @@ pub fn span_of_lengths(
 /// Those of `span_of_lengths`; then `OutOfBounds` where the span is not less than `len`, or where a
 /// layout without an index has a span greater than `len`; then, in owned mode, `Unsupported` where
 /// two indices may alias (`has_overlap`).
+///
+/// Takes time in proportion to the count of axes; in owned mode of its square at most.
 ///
 /// `[2,2]` with the strides `[3,1]`: over 4 elements `OutOfBounds`, over 5 accepted. The rule over
 /// lists of ndarray's `can_index_slice`.
@@ -121,11 +127,13 @@ pub fn accept(
     Ok(())
 }
 
-/// The number of indices of a shape: the product of its lengths, which is 0 with a zero axis.
+/// The number of indices of a shape: the product of its lengths, which is 0 where a length is 0.
 ///
 /// # Errors
 ///
 /// `Overflow` where the product of the lengths that are not 0 is greater than `isize::MAX`.
+///
+/// Takes time in proportion to the count of axes.
 ///
 /// `[2,0,3]`: 0. ndarray's `size_of_shape_checked`.
 pub fn size_of_shape_checked<D: Lengths>(dim: &D) -> Result<usize, ShapeError>
@@ -138,7 +146,13 @@ pub fn size_of_shape_checked<D: Lengths>(dim: &D) -> Result<usize, ShapeError>
     Ok(if shape.contains(&0) { 0 } else { size })
 }
 
-/// As `span_of_lengths`, of a dimension and its strides. ndarray's `max_abs_offset_check_overflow`.
+/// The span of a layout, as `span_of_lengths` returns it, with the same errors; `dim` has the
+/// lengths and `strides` the strides.
+///
+/// Takes time in proportion to the count of axes.
+///
+/// `[2,3]` with the strides `[-3,1]`, of 4 bytes each: 5. ndarray's
+/// `max_abs_offset_check_overflow`.
 pub fn max_abs_offset_check_overflow<D: Lengths>(
     elem_size: usize,
     dim: &D,
@@ -154,7 +168,13 @@ pub fn max_abs_offset_check_overflow<D: Lengths>(
     span_of_lengths(elem_size, dim.slice(), strides.slice())
 }
 
-/// As `accept`, of a dimension and its strides. ndarray's `can_index_slice`.
+/// Returns `Ok` if and only if a layout is accepted, as `accept` does, with the same errors; `dim`
+/// has the lengths and `strides` the strides.
+///
+/// Takes time in proportion to the count of axes; in owned mode of its square at most.
+///
+/// `[2,2]` with the strides `[3,1]`: over 4 elements `OutOfBounds`, over 5 accepted. ndarray's
+/// `can_index_slice`.
 #[inline(always)]
 pub fn can_index_slice<D: Lengths>(
     elem_size: usize,
@@ -178,8 +198,8 @@ pub fn can_index_slice<D: Lengths>(
     accept(elem_size, len, dim.slice(), strides.slice(), mode)
 }
 
-/// Accepts a shape by its own strides, row-major or column-major, over data of `len` elements, or
-/// returns why it is not accepted.
+/// Returns `Ok` if and only if a shape, by its own strides in row-major or in column-major order,
+/// fits data of `len` elements.
 ///
 /// Each index of an accepted shape is in bounds, and no two of them alias. An accepted shape that
 /// has an index satisfies the no-alias rule of owned mode in either order (`MeetsOwnedRule`).
@@ -187,6 +207,8 @@ pub fn can_index_slice<D: Lengths>(
 /// # Errors
 ///
 /// Those of `size_of_shape_checked`; then `OutOfBounds` where there are more indices than elements.
+///
+/// Takes time in proportion to the count of axes.
 ///
 /// `[2,3]`: over 6 elements accepted, over 5 `OutOfBounds`. ndarray's `can_index_slice_not_custom`.
 pub fn can_index_slice_not_custom<D: Lengths>(len: usize, dim: &D) -> Result<(), ShapeError>
@@ -207,8 +229,8 @@ pub fn can_index_slice_not_custom<D: Lengths>(len: usize, dim: &D) -> Result<(),
     Ok(())
 }
 
-/// Accepts a shape by its own strides or by given ones, over data of `len` elements of `elem_size`
-/// bytes, or returns why it is not accepted.
+/// Returns `Ok` if and only if a shape, by its own strides or by given ones, is accepted over data
+/// of `len` elements of `elem_size` bytes.
 ///
 /// Each index of an accepted layout is in bounds, and in owned mode no two indices alias.
 ///
@@ -216,6 +238,8 @@ pub fn can_index_slice_not_custom<D: Lengths>(len: usize, dim: &D) -> Result<(),
 ///
 /// Those of `can_index_slice` where strides are given; else those of `can_index_slice_not_custom`,
 /// in either mode.
+///
+/// Takes time in proportion to the count of axes; in owned mode of its square at most.
 ///
 /// `[2,3]` over 6 elements in owned mode: `Strides::F` accepted, the strides `[1,1]` `Unsupported`.
 /// ndarray's `can_index_slice_with_strides`.
@@ -264,13 +288,15 @@ fn some_negative(strides: &[usize]) -> bool
     strides.iter().any(|stride| is_negative_stride(*stride))
 }
 
-/// Accepts strides of which none is negative.
+/// Returns `Ok` if and only if no stride is negative.
 ///
 /// # Errors
 ///
 /// `Unsupported` where one is negative.
 ///
-/// ndarray's `strides_non_negative`.
+/// Takes time in proportion to the count of axes.
+///
+/// `[3,-1]`: `Unsupported`. ndarray's `strides_non_negative`.
 pub fn strides_non_negative<D: Lengths>(strides: &D) -> Result<(), ShapeError>
     ensures { result_err result ≡ sign_fault (all_signed (D.list strides.now)) }
 {

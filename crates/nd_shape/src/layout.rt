@@ -1,4 +1,4 @@
-//! In which orders a layout can be walked.
+//! In which orders a layout can be iterated over.
 ghost use Rattle.std.specs.Prelude.{◌≡◌, ◌≢◌, ◌<◌, ◌↔◌, pos, ◌≤ℤ◌, IsTrue, bit_and, bit_or};
 ghost use Rattle.nd_shape.specs.Layout.{flag_at, tendency as tendency_of_bits};
 
@@ -6,8 +6,8 @@ use std::marker::Model;
 
 mod layoutfmt;
 
-/// In which orders the indices of a layout lie one after another, and in which it is better walked: a
-/// set of bits. ndarray's `Layout`.
+/// In which orders the indices of a layout lie one after another, and which order is better to
+/// iterate in: a set of bits. ndarray's `Layout`.
 #[derive(Clone, Copy)]
 pub struct Layout {
     bits: u32,
@@ -32,10 +32,10 @@ impl Layout {
     /// The bit of a column-major layout.
     pub const FORDER: u32 = 0b10;
 
-    /// The bit of a layout that is walked better in row-major order.
+    /// The bit of a layout for which row-major order is better.
     pub const CPREFER: u32 = 0b0100;
 
-    /// The bit of a layout that is walked better in column-major order.
+    /// The bit of a layout for which column-major order is better.
     pub const FPREFER: u32 = 0b1000;
 
     /// Whether some bit of `flag` is set. ndarray's `is`.
@@ -66,7 +66,7 @@ impl Layout {
         }
     }
 
-    /// The layout of at most one axis of more than one entry: both orders, all bits. ndarray's
+    /// The layout with at most one axis of length greater than 1: both orders, all bits. ndarray's
     /// `one_dimensional`.
     #[inline(always)]
     pub fn one_dimensional() -> Layout
@@ -95,7 +95,7 @@ impl Layout {
         }
     }
 
-    /// In neither order, but better by rows. ndarray's `cpref`.
+    /// The layout in neither order for which row-major order is better. ndarray's `cpref`.
     #[inline(always)]
     pub fn cpref() -> Layout
         ensures { result ≡ 4 }
@@ -105,7 +105,7 @@ impl Layout {
         }
     }
 
-    /// In neither order, but better by columns. ndarray's `fpref`.
+    /// The layout in neither order for which column-major order is better. ndarray's `fpref`.
     #[inline(always)]
     pub fn fpref() -> Layout
         ensures { result ≡ 8 }
@@ -115,7 +115,7 @@ impl Layout {
         }
     }
 
-    /// In neither order, and neither is better. ndarray's `none`.
+    /// The layout in neither order, of which neither is better. ndarray's `none`.
     #[inline(always)]
     pub fn none() -> Layout
         ensures { result ≡ 0 }

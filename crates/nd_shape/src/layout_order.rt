@@ -50,11 +50,14 @@ fn has_strides_by_columns(lens: &[usize], strides: &[usize]) -> bool
 }
 
 /// Whether the places of all indices, in row-major order, follow one another without a gap, or
-/// there is no index. That is so exactly where each axis of another length than 1 has the stride
-/// that the shape has by itself, by which the last axis moves fastest.
+/// there is no index: each axis whose length isn't 1 has its stride in row-major order.
 ///
 /// The caller ensures that there are as many strides as axes, and that the product of the lengths
-/// that are not 0 is at most the greatest `isize` (`size_of_shape_checked`). ndarray's `is_layout_c`.
+/// that are not 0 is at most `isize::MAX` (`size_of_shape_checked`).
+///
+/// Takes time in proportion to the count of axes.
+///
+/// `[2,1,3]` with the strides `[3,9,1]`: true. ndarray's `is_layout_c`.
 pub fn is_layout_c<D: Lengths>(dim: &D, strides: &D) -> bool
     requires same_count { length (D.list dim.now) ≡ length (D.list strides.now) }
     requires size_fits { nonzero_size (D.list dim.now) ≤ limit }
@@ -67,11 +70,14 @@ pub fn is_layout_c<D: Lengths>(dim: &D, strides: &D) -> bool
 }
 
 /// Whether the places of all indices, in column-major order, follow one another without a gap, or
-/// there is no index. That is so exactly where each axis of another length than 1 has the stride by
-/// which the first axis moves fastest.
+/// there is no index: each axis whose length isn't 1 has its stride in column-major order.
 ///
 /// The caller ensures that there are as many strides as axes, and that the product of the lengths
-/// that are not 0 is at most the greatest `isize` (`size_of_shape_checked`). ndarray's `is_layout_f`.
+/// that are not 0 is at most `isize::MAX` (`size_of_shape_checked`).
+///
+/// Takes time in proportion to the count of axes.
+///
+/// `[2,1,3]` with the strides `[1,9,2]`: true. ndarray's `is_layout_f`.
 pub fn is_layout_f<D: Lengths>(dim: &D, strides: &D) -> bool
     requires same_count { length (D.list dim.now) ≡ length (D.list strides.now) }
     requires size_fits { nonzero_size (D.list dim.now) ≤ limit }

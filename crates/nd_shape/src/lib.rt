@@ -1,4 +1,4 @@
-//! Which layouts are accepted over data, where their indices lie, and walks over them: the calls of ndarray 0.17.2
+//! Which layouts are accepted over data, where their indices lie, and iterators over them: the calls of ndarray 0.17.2
 //! that look at a shape and strides alone.
 #![tactic(auto)]
 

@@ -41,7 +41,7 @@ pub(crate) fn checked_nonzero_size(shape: &[usize]) -> Option<usize>
     Some(size)
 }
 
-/// How many elements lie between the first and the last entry of an axis, where that is at most
+/// The distance in elements from the first to the last coordinate of an axis, where that is at most
 /// the greatest `isize`.
 #[inline(always)]
 fn checked_reach(len: usize, stride: usize) -> Option<usize>
@@ -67,7 +67,7 @@ pub(crate) fn checked_span(shape: &[usize], strides: &[usize]) -> Option<usize>
     Some(span)
 }
 
-/// How many elements lie between the first and the last entry of an axis.
+/// The distance in elements from the first to the last coordinate of an axis.
 #[inline(always)]
 pub(crate) fn reach(len: usize, stride: isize) -> usize
     requires { reach_of_axis len stride ≤ limit }

@@ -67,10 +67,13 @@ pub fn merge_fitting(shape: &mut [usize], strides: &mut [usize], take: usize, in
     true
 }
 
-/// As `merge_fitting`, of a dimension and its strides. ndarray's `merge_axes`.
+/// Merges the axis `take` into the axis `into`, as `merge_fitting` does, and returns whether it
+/// did; where it returns false, nothing has changed.
 ///
-/// The caller ensures that the layout is valid (`max_abs_offset_check_overflow`), and that the axes
-/// are two different ones that it has.
+/// `dim` has the lengths and `strides` the strides. The caller ensures that the layout is valid
+/// (`max_abs_offset_check_overflow`), and that the axes are two different ones that it has.
+///
+/// `[3,2]` with the strides `[2,1]`, 0 into 1: true, `[1,6]` with `[2,1]`. ndarray's `merge_axes`.
 #[inline]
 pub fn merge_axes<D: Lengths>(dim: &mut D, strides: &mut D, take: Axis, into: Axis) -> bool
     requires valid { IsValidLayout (D.list dim.old) (all_signed (D.list strides.old)) }

@@ -7,8 +7,8 @@ ghost use Rattle.nd_shape.specs.MinStride.{IsFirstLeastAxis, are_turned as are_t
 use nd_base::Lengths;
 use nd_dim::magnitude_at;
 
-/// The axis whose stride is of least magnitude among those of more than one entry, and the first of
-/// these where several are; the last axis where none has more than one entry.
+/// The axis whose stride is of least magnitude among those of length greater than 1, and the first of
+/// these where several are; the last axis where there is none.
 #[inline(always)]
 fn first_least_axis(lens: &[usize], strides: &[usize]) -> usize
     requires some_axis { 0 < length lens.now }
@@ -51,12 +51,16 @@ fn axis_to_move(lens: &[usize], strides: &[usize]) -> usize
     }
 }
 
-/// Moves the axis whose stride is of least magnitude to the end, by letting it change places with the
-/// last one. Of three axes or more it is the first of the least stride among those of more than one
-/// entry; nothing changes where there is none. Two axes change places where the last has at most one
-/// entry, or where the first has more than one and a lesser stride than the last. Fewer axes stay.
+/// Swaps the axis whose stride is of least magnitude with the last one.
 ///
-/// The caller ensures that there are as many strides as axes. ndarray's
+/// Of three axes or more it is the first of the least stride among those of length greater than 1;
+/// where there is none, nothing changes. Two axes are swapped where the last has at most length 1,
+/// or where the first has a greater length and a stride of less magnitude than the last. Fewer axes
+/// are unchanged. The caller ensures that there are as many strides as axes.
+///
+/// Takes time in proportion to the count of axes.
+///
+/// `[2,3,4]` with the strides `[1,8,2]`: `[4,3,2]` with `[2,8,1]`. ndarray's
 /// `move_min_stride_axis_to_last`.
 pub fn move_min_stride_axis_to_last<D: Lengths>(dim: &mut D, strides: &mut D)
     requires { length (D.list dim.old) ≡ length (D.list strides.old) }

@@ -13,15 +13,17 @@ use nd_base::{
 };
 use std::fmt::Debug;
 
-/// An index of arrays of the dimension type `E`: one list of entries. ndarray's `NdIndex`.
+/// An index of arrays of the dimension type `E`: one list of coordinates. ndarray's `NdIndex`.
 pub trait NdIndex<E: Lengths>: Debug {
     ghost index_list: { Self → List ℕ };
 
-    /// How many elements lie between the first index and this one, with its sign; `None` where
-    /// this is no index of the shape. ndarray's `index_checked`.
+    /// The offset in elements, with its sign, from the first index to this one; `None` where this
+    /// is no index of the shape.
     ///
     /// The caller ensures that the layout is valid, as it is where `max_abs_offset_check_overflow`
     /// succeeds.
+    ///
+    /// (1,2) of `[2,3]` with the strides `[3,1]`: 5; (2,0): `None`. ndarray's `index_checked`.
     fn index_checked(&self, dim: &E, strides: &E) -> Option<isize>
         requires { IsValidLayout (E.list dim.now) (all_signed (E.list strides.now)) }
         ensures { result ≡ checked_offset
@@ -29,12 +31,13 @@ pub trait NdIndex<E: Lengths>: Debug {
             (all_signed (E.list strides.now))
             (index_list self.now) };
 
-    /// How many elements lie between the first index and this one, with its sign, whatever the
-    /// shape. ndarray's `index_unchecked`.
+    /// The offset in elements, with its sign, from the first index to this one, whatever the shape.
     ///
-    /// The caller ensures that there are as many entries as strides, that each entry is at most the
-    /// greatest `isize`, and so is the sum of each entry times the magnitude of its stride. That is
-    /// so wherever `index_checked` answers an offset.
+    /// The caller ensures that there are as many coordinates as strides, that each coordinate is at
+    /// most `isize::MAX`, and so is the sum of each coordinate times the magnitude of its stride.
+    /// That is so wherever `index_checked` returns an offset.
+    ///
+    /// (1,2) along the strides `[3,1]`: 5. ndarray's `index_unchecked`.
     fn index_unchecked(&self, strides: &E) -> isize
         requires same_count { length (index_list self.now) ≡ length (E.list strides.now) }
         requires small { All (λ entry. entry ≤ limit) (index_list self.now) }

@@ -8,7 +8,7 @@ ghost use Rattle.nd_base.specs.ValidLayout.{IsValidLayout};
 use crate::limits::reach;
 use nd_base::{Lengths, signed};
 
-/// How many elements lie between the lowest entry of an axis and the first one.
+/// The distance in elements from the lowest place of an axis to its first coordinate.
 #[inline(always)]
 fn reach_down(len: usize, stride: usize) -> usize
     requires { reach_down_of_axis len (signed_reading stride) ≤ limit }
@@ -18,11 +18,12 @@ fn reach_down(len: usize, stride: usize) -> usize
     if stride < 0 { reach(len, stride) } else { 0 }
 }
 
-/// The distance from the lowest address of a layout to element (0, .., 0), in elements: the offset of
-/// the first index in data that begins at the lowest one.
+/// The distance from the lowest address of a layout to element (0, .., 0), in elements.
 ///
 /// `shape` and `strides` are one number for each axis, strides in elements and with their sign
 /// (`signed`). The caller ensures that the span is at most `isize::MAX` (`span_of_lengths`).
+///
+/// Takes time in proportion to the count of axes.
 ///
 /// `[2,3]` with the strides `[-3,1]`: 3. The rule over lists of ndarray's
 /// `offset_from_low_addr_ptr_to_logical_ptr`.
@@ -38,9 +39,14 @@ pub fn low_span(shape: &[usize], strides: &[usize]) -> usize
     total
 }
 
-/// As `low_span`, of a dimension and its strides. ndarray's `offset_from_low_addr_ptr_to_logical_ptr`.
+/// The distance from the lowest address of a layout to element (0, .., 0), in elements, as
+/// `low_span` returns it; `dim` has the lengths and `strides` the strides.
 ///
 /// The caller ensures that the layout is valid (`max_abs_offset_check_overflow`).
+///
+/// Takes time in proportion to the count of axes.
+///
+/// `[2,3]` with the strides `[-3,1]`: 3. ndarray's `offset_from_low_addr_ptr_to_logical_ptr`.
 pub fn offset_from_low_addr_ptr_to_logical_ptr<D: Lengths>(dim: &D, strides: &D) -> usize
     requires { IsValidLayout (D.list dim.now) (all_signed (D.list strides.now)) }
     ensures { result ≡ low_span_of_layout (D.list dim.now) (all_signed (D.list strides.now)) }

@@ -14,7 +14,7 @@ ghost use Rattle.nd_base.specs.ValidLayout.{IsValidLayout};
 use crate::limits::reach;
 use nd_base::{Lengths, Order, signed};
 
-/// How many elements lie between the first and the last entry of an axis, or 0 where its stride is
+/// The distance in elements from the first to the last coordinate of an axis, or 0 where its stride is
 /// of a magnitude past `magnitude`.
 #[inline(always)]
 fn reach_up_to(len: usize, stride: usize, magnitude: usize) -> usize
@@ -43,7 +43,7 @@ fn span_up_to(shape: &[usize], strides: &[usize], magnitude: usize) -> usize
     total
 }
 
-/// Whether the stride of an axis of more than one entry steps over no more than the axes of no
+/// Whether the stride of an axis of length greater than 1 steps over no more than the axes of no
 /// greater stride span together.
 #[inline(always)]
 fn overlaps_others(shape: &[usize], strides: &[usize], axis: usize) -> bool
@@ -58,7 +58,7 @@ fn overlaps_others(shape: &[usize], strides: &[usize], axis: usize) -> bool
     len > 1 && magnitude <= span_up_to(shape, strides, magnitude) - reach(len, stride)
 }
 
-/// Whether some axis of more than one entry has a stride that steps over no more than the axes of
+/// Whether some axis of length greater than 1 has a stride that steps over no more than the axes of
 /// no greater stride span together.
 #[inline(always)]
 fn some_overlaps_others(shape: &[usize], strides: &[usize]) -> bool
@@ -74,7 +74,7 @@ fn some_overlaps_others(shape: &[usize], strides: &[usize]) -> bool
     false
 }
 
-/// The axis that a walk over `count` axes comes to after `place` others.
+/// The axis that a loop over `count` axes comes to after `place` others.
 #[inline(always)]
 fn axis_on_walk(count: usize, place: usize, order: Order) -> usize
     requires { place < count }
@@ -87,9 +87,9 @@ fn axis_on_walk(count: usize, place: usize, order: Order) -> usize
     }
 }
 
-/// Whether a walk along the axes, by rows from the last one on, by columns from the first, comes to one of more than
-/// one entry whose stride is no longer than those before it span together. `None` where it comes to
-/// a stride that is shorter than one before it, since such a walk doesn't decide it.
+/// Whether a loop along the axes, by rows from the last one on, by columns from the first, comes to one of length
+/// greater than 1 whose stride is no longer than those before it span together. `None` where it comes to
+/// a stride that is shorter than one before it, since such a loop doesn't decide it.
 #[inline(always)]
 fn overlap_on_walk(shape: &[usize], strides: &[usize], order: Order) -> Option<bool>
     requires same_count { length shape.now ≡ length strides.now }
@@ -114,10 +114,10 @@ fn overlap_on_walk(shape: &[usize], strides: &[usize], order: Order) -> Option<b
     Some(false)
 }
 
-/// Whether an axis of more than one entry has a stride that steps over no more than the axes of no
+/// Whether an axis of length greater than 1 has a stride that steps over no more than the axes of no
 /// greater stride span together.
 ///
-/// One walk decides it along axes in the order of their strides; others are compared one by one,
+/// One loop decides it along axes in the order of their strides; others are compared one by one,
 /// and two axes at once.
 #[inline(always)]
 fn breaks_owned_rule(shape: &[usize], strides: &[usize]) -> bool
@@ -166,9 +166,14 @@ pub fn has_overlap(shape: &[usize], strides: &[usize]) -> bool
     breaks_owned_rule(shape, strides) && !shape.contains(&0)
 }
 
-/// As `has_overlap`, of a dimension and its strides. ndarray's `dim_stride_overlap`.
+/// Whether two indices of a layout may alias, as `has_overlap` returns it; `dim` has the lengths
+/// and `strides` the strides.
 ///
 /// The caller ensures that the layout is valid (`max_abs_offset_check_overflow`).
+///
+/// Takes no memory, and time in proportion to the square of the count of axes at most.
+///
+/// `[3,2]` with the strides `[2,1]`: false; with `[1,1]`: true. ndarray's `dim_stride_overlap`.
 pub fn dim_stride_overlap<D: Lengths>(dim: &D, strides: &D) -> bool
     requires { IsValidLayout (D.list dim.now) (all_signed (D.list strides.now)) }
     ensures rule { result ≡

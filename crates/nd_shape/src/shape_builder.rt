@@ -38,10 +38,12 @@ pub enum Strides<D> {
 }
 
 impl<D: Lengths> Shape<D> {
-    /// The number of indices. ndarray's `size`.
+    /// The number of indices.
     ///
     /// The caller ensures that the product of the lengths is less than 2^64
     /// (`size_of_shape_checked`).
+    ///
+    /// Takes time in proportion to the count of axes. ndarray's `size`.
     #[inline]
     pub fn size(&self) -> usize
         requires { size (D.list (dim_of self.now)) < 2 ^ 64 }
@@ -60,7 +62,7 @@ impl<D> Shape<D> {
         &self.dim
     }
 
-    /// Whether the last axis moves fastest. ndarray's `is_c`.
+    /// Whether it is row-major: the last axis moves fastest. ndarray's `is_c`.
     #[inline]
     pub fn is_c(&self) -> bool
         ensures { IsTrue result ↔ (order_of self.now ≡ Order.RowMajor) }
@@ -117,10 +119,12 @@ impl<D: Lengths> StrideShape<D> {
         })
     }
 
-    /// The number of indices. ndarray's `size`.
+    /// The number of indices.
     ///
     /// The caller ensures that the product of the lengths is less than 2^64
     /// (`size_of_shape_checked`).
+    ///
+    /// Takes time in proportion to the count of axes. ndarray's `size`.
     #[inline]
     pub fn size(&self) -> usize
         requires { size (D.list self.now.dim) < 2 ^ 64 }
@@ -131,13 +135,20 @@ impl<D: Lengths> StrideShape<D> {
 }
 
 impl<D> Strides<D> {
-    /// The strides of a shape of these lengths. ndarray's `strides_for_dim`.
+    /// The strides, in elements, of a shape of these lengths: those of its order, or the given
+    /// ones.
     ///
     /// The caller ensures that the product of the lengths is less than 2^64
     /// (`size_of_shape_checked`), and that strides that are given are as many as the axes.
     ///
-    /// Errors: out of memory; none where the strides are given, the type fixes the count of axes
-    /// or there are at most 4.
+    /// # Errors
+    ///
+    /// Out of memory; never where the strides are given, the type fixes the count of axes or there
+    /// are at most 4.
+    ///
+    /// Takes time in proportion to the count of axes.
+    ///
+    /// `Strides::F` for `[2,3]`: `[1,2]`. ndarray's `strides_for_dim`.
     pub fn strides_for_dim(self, alloc: Global, dim: &D) -> Result<D, AllocError>
     where
         D: Lengths,

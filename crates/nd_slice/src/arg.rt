@@ -12,14 +12,21 @@ pub trait SliceArg<D: FixedCount>: SliceElems {
     /// The type of the shapes that it leaves.
     type OutDim: Lengths;
 
-    /// How many axes of a shape it is for: as many as `D` has, where `D` fixes a count. ndarray's
-    /// `SliceArg::in_ndim`.
+    /// The number of axes of the shapes that it slices: as many as `D` has, where `D` fixes a
+    /// count.
+    ///
+    /// Takes time in proportion to the count of elements where `D` fixes none.
+    ///
+    /// `..,2,NewAxis` is for 2 axes. ndarray's `SliceArg::in_ndim`.
     fn in_ndim(&self) -> usize
         ensures count { result ≡ in_count (Self.list self.now) }
         ensures fixed { IsCount D.NDIM result };
 
-    /// How many axes it leaves: as many as `OutDim` has, where that fixes a count. ndarray's
-    /// `SliceArg::out_ndim`.
+    /// The number of axes of the result: as many as `OutDim` has, where that fixes a count.
+    ///
+    /// Takes time in proportion to the count of elements where `OutDim` fixes none.
+    ///
+    /// `..,2,NewAxis` leaves 2 axes. ndarray's `SliceArg::out_ndim`.
     fn out_ndim(&self) -> usize
         ensures count { result ≡ out_count (Self.list self.now) }
         ensures fixed { IsCount Self.OutDim.NDIM result };

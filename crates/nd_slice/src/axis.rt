@@ -14,7 +14,7 @@ use crate::picks::{first_pick, pick_count, to_abs_slice};
 use crate::slice::Slice;
 use nd_base::{ShapeError, signed, stride_offset, unsigned};
 
-/// The stride in elements of `count` entries that lie `step` entries of an axis of a stride apart; 0
+/// The stride in elements of `count` coordinates of an axis that are `step` apart; 0
 /// where there is at most one.
 #[inline(always)]
 fn stepped_stride(count: usize, stride: usize, step: isize) -> usize
@@ -28,12 +28,20 @@ fn stepped_stride(count: usize, stride: usize, step: isize) -> usize
     }
 }
 
-/// Slices one axis in place: its length `dim` becomes the number of entries picked, and its stride, in
-/// elements, the distance from one of them to the next, 0 where there is at most one. Answers how many
-/// elements the first of them lies after the first entry, with its sign; 0 where there is none. The
-/// caller ensures that the length and the reach of the axis, (length - 1) * |stride|, are at most
-/// `isize::MAX`. Fails as `to_abs_slice` does, and then the length and the stride stay. ndarray's
-/// `do_slice`.
+/// Slices one axis in place. Returns the offset in elements, with its sign, from the axis's first
+/// coordinate to the first one that the slice picks; 0 where it picks none.
+///
+/// `dim` is the length of the axis and `stride` its stride in elements. Afterwards `dim` is how
+/// many coordinates are picked, and `stride` the distance between two of them, 0 where there is at
+/// most one. The caller ensures that the length and (length - 1) * |stride| are at most
+/// `isize::MAX`.
+///
+/// # Errors
+///
+/// `OutOfBounds` where a bound means no number from 0 to the length (never with `Fit::Clamped`);
+/// then `Unsupported` for the step 0. The length and the stride are unchanged after an error.
+///
+/// Length 4, stride 1, `1..;-2`: the offset 3, length 2, stride -2. ndarray's `do_slice`.
 #[inline]
 pub fn do_slice(
     dim: &mut usize,

@@ -10,8 +10,12 @@ use crate::picks::{entry_of, to_abs_slice};
 use crate::slice::Slice;
 use nd_base::{ErrorKind, Lengths, ShapeError, from_kind};
 
-/// How many axes of a shape a slice argument is for: one for each element but a new axis. ndarray's
-/// `SliceArg::in_ndim` of a bare list.
+/// The number of axes of the shapes that a slice argument is for: one for each element but a new
+/// axis.
+///
+/// Takes time in proportion to the count of elements.
+///
+/// `..,2,NewAxis`: 2. ndarray's `SliceArg::in_ndim` of a bare list.
 #[inline]
 pub fn in_ndim_of(list: &[SliceInfoElem]) -> usize
     ensures { result ≡ in_count list.now }
@@ -24,8 +28,11 @@ pub fn in_ndim_of(list: &[SliceInfoElem]) -> usize
     count
 }
 
-/// How many axes a slice argument leaves: one for each element but an index. ndarray's
-/// `SliceArg::out_ndim` of a bare list.
+/// The number of axes that a slice argument leaves: one for each element but an index.
+///
+/// Takes time in proportion to the count of elements.
+///
+/// `..,2,NewAxis`: 2. ndarray's `SliceArg::out_ndim` of a bare list.
 #[inline]
 pub fn out_ndim_of(list: &[SliceInfoElem]) -> usize
     ensures { result ≡ out_count list.now }
@@ -37,11 +44,20 @@ pub fn out_ndim_of(list: &[SliceInfoElem]) -> usize
     count
 }
 
-/// Checks that the elements of a slice argument fit the lengths of a shape. Fails with
-/// `IncompatibleShape` where they are for more axes or fewer than the shape has; otherwise as the first
-/// element at fault does: with `OutOfBounds` for an index that is no entry of its axis, or for a bound
-/// that is not from 0 to the length and is not to be clamped, then with `Unsupported` for a step of 0.
-/// In place of the panics of ndarray's `slice_collapse`.
+/// Returns `Ok` if and only if the elements of a slice argument fit a shape.
+///
+/// `shape` has one length for each axis; each element but a new axis is for the next axis.
+///
+/// # Errors
+///
+/// `IncompatibleShape` where the elements are for more axes than the shape has, or for fewer.
+/// Otherwise the error of the first element that doesn't fit: `OutOfBounds` for an index that is no
+/// coordinate of its axis, or for a bound that means no number from 0 to the length (never with
+/// `Fit::Clamped`); then `Unsupported` for the step 0.
+///
+/// Takes time in proportion to the count of elements.
+///
+/// `1..,5` on `[2,3]`: `OutOfBounds`. In place of the panics of ndarray's `slice_collapse`.
 pub fn check_elems(shape: &[usize], elems: &[SliceInfoElem], fit: Fit) -> Result<(), ShapeError>
     ensures { result_err result ≡ argument_fault fit shape.now elems.now }
 {
@@ -65,8 +81,15 @@ pub fn check_elems(shape: &[usize], elems: &[SliceInfoElem], fit: Fit) -> Result
     Ok(())
 }
 
-/// Checks that a slice argument fits a shape, whatever types hold the two. Fails as `check_elems` does.
-/// In place of the panics of ndarray's `slice_move`.
+/// Returns `Ok` if and only if a slice argument fits a shape, whatever types hold the two.
+///
+/// # Errors
+///
+/// Those of `check_elems`, in its order.
+///
+/// Takes time in proportion to the count of elements.
+///
+/// `..;0,7` on `[2,3]`: `Unsupported`. In place of the panics of ndarray's `slice_move`.
 #[inline]
 pub fn check_slice<D: Lengths, S: SliceElems>(
     dim: &D,

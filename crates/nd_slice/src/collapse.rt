@@ -1,14 +1,19 @@
-//! One entry of an axis.
+//! One coordinate of an axis.
 ghost use Rattle.std.specs.Prelude.{◌≡◌, ◌<◌, pos, ◌*ℤ◌, length, slice_index, slice_set};
 ghost use Rattle.nd_base.specs.Signed.{all_signed, signed as signed_reading};
 ghost use Rattle.nd_base.specs.ValidLayout.{IsValidLayout};
 
 use nd_base::{Axis, Lengths, set_axis_of, stride_offset};
 
-/// Takes the entry `index` of an axis in place: the axis has a length of 1 then, and its stride stays.
-/// Answers how many elements the entry lies after the first one of the axis, with its sign. The caller
-/// ensures that the layout is valid, that the axis is one of its axes, and that the index is below the
-/// length of the axis. ndarray's `do_collapse_axis`.
+/// Reduces an axis to one of its coordinates, in place. Returns the offset in elements, with its
+/// sign, from coordinate 0 to that one.
+///
+/// `dims` has the lengths and `strides` the strides in elements. The axis then has length 1, and
+/// its stride is unchanged. The caller ensures that the layout is valid, that there is the axis,
+/// and that `index` is below its length.
+///
+/// Axis 0 of `[2,3]`, `[3,1]` at 1: the offset 3 and the shape `[1,3]`. ndarray's
+/// `do_collapse_axis`.
 pub fn do_collapse_axis<D: Lengths>(dims: &mut D, strides: &D, axis: usize, index: usize) -> isize
     requires valid { IsValidLayout (D.list dims.old) (all_signed (D.list strides.now)) }
     requires exists { axis < length (D.list dims.old) }

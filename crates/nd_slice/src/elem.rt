@@ -10,26 +10,30 @@ mod from;
 #[derive(Clone, Copy, Debug)]
 pub struct NewAxis;
 
-/// One element of a slice argument. ndarray's `SliceInfoElem`.
+/// One element of a slice argument: what is picked of one axis, or a new axis. ndarray's
+/// `SliceInfoElem`.
 #[derive(Clone, Copy, PartialEq, Eq, Hash, Debug)]
 pub enum SliceInfoElem {
     /// A range with a step, which keeps the axis.
     Slice {
-        /// The first entry of the range.
+        /// The first coordinate of the range.
         start: isize,
-        /// The entry that the range stops before.
+        /// The coordinate that the range stops before.
         end: Option<isize>,
-        /// How many entries after a pick the next one lies, with its sign.
+        /// The distance from one pick to the next in coordinates, with its sign.
         step: isize,
     },
-    /// One entry, counted from the end of the axis where it is negative; the axis is left out.
+    /// One coordinate, counted from the end of the axis where it is negative; the axis is left out.
     Index(isize),
     /// A new axis of length 1.
     NewAxis,
 }
 
 impl SliceInfoElem {
-    /// One entry, counted from the first one. The caller ensures that `index` is at most `isize::MAX`.
+    /// The element for one coordinate, counted from the first one.
+    ///
+    /// The caller ensures that `index` is at most `isize::MAX`.
+    ///
     /// For ndarray's `From` of a `usize`.
     #[inline]
     pub fn index_usize(index: usize) -> SliceInfoElem
@@ -47,7 +51,7 @@ impl SliceInfoElem {
         matches!(self, SliceInfoElem::Slice { .. })
     }
 
-    /// Whether it is one entry. ndarray's `SliceInfoElem::is_index`.
+    /// Whether it is one coordinate. ndarray's `SliceInfoElem::is_index`.
     #[inline]
     pub fn is_index(&self) -> bool
         ensures { result ≡ is_index self.now }

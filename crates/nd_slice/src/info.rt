@@ -12,8 +12,8 @@ use nd_base::{ErrorKind, FixedCount, ShapeError, from_kind};
 use std::alloc::AllocError;
 use std::marker::{Model, PhantomData};
 
-/// The elements of a slice argument, kept in a `T`, that are for as many axes as `Din` has and leave as
-/// many as `Dout` has, where those types fix a count. ndarray's `SliceInfo`.
+/// The elements of a slice argument, kept in a `T`, for as many axes as `Din` has and with a result
+/// of as many as `Dout` has, where those types fix a count. ndarray's `SliceInfo`.
 #[derive(Debug, Drop)]
 pub struct SliceInfo<T: SliceElems, Din: FixedCount, Dout: FixedCount> {
     in_dim: PhantomData<Din>,
@@ -61,8 +61,11 @@ fn allows<D: FixedCount>(count: usize) -> bool
 }
 
 impl<T: SliceElems + Drop, Din: FixedCount, Dout: FixedCount> SliceInfo<T, Din, Dout> {
-    /// The elements with the types. Fails with `IncompatibleShape` where a type fixes another count of
-    /// axes than the elements have.
+    /// The elements with the types.
+    ///
+    /// # Errors
+    ///
+    /// `IncompatibleShape` where a type fixes another count of axes than the elements have.
     fn checked(indices: T) -> Result<Self, ShapeError>
         ensures value { OkIff result (HasCounts Din.NDIM Dout.NDIM (T.list indices)) indices }
         ensures fault { IsOkUnless result ErrorKind.IncompatibleShape }
@@ -89,7 +92,10 @@ impl<T: SliceElems, Din: FixedCount, Dout: FixedCount> SliceInfo<T, Din, Dout> {
         &self.indices
     }
 
-    /// How many axes of a shape the elements are for. ndarray's `SliceInfo::in_ndim`.
+    /// The number of axes of the shapes that the elements are for.
+    ///
+    /// Takes time in proportion to the count of elements where `Din` fixes none. ndarray's
+    /// `SliceInfo::in_ndim`.
     #[inline]
     pub fn in_ndim(&self) -> usize
         ensures count { result ≡ in_count (T.list self.now) }
@@ -101,7 +107,10 @@ impl<T: SliceElems, Din: FixedCount, Dout: FixedCount> SliceInfo<T, Din, Dout> {
         }
     }
 
-    /// How many axes the elements leave. ndarray's `SliceInfo::out_ndim`.
+    /// The number of axes that the elements leave.
+    ///
+    /// Takes time in proportion to the count of elements where `Dout` fixes none. ndarray's
+    /// `SliceInfo::out_ndim`.
     #[inline]
     pub fn out_ndim(&self) -> usize
         ensures count { result ≡ out_count (T.list self.now) }

@@ -94,10 +94,20 @@ fn elems_intersect(
     true
 }
 
-/// Whether two slice arguments on a shape share an index: one whose entry on every axis is among the
-/// picks of both. New axes are for no axis of the shape. Without axes the answer is true; where either
-/// picks nothing of an axis it is false. Fails as `check_slice` does for the first argument, then as it
-/// does for the second. The caller ensures that each length is below 2^63. ndarray's `slices_intersect`.
+/// Whether two slice arguments on a shape share an index: one whose coordinate on every axis is
+/// among the picks of both.
+///
+/// New axes are for no axis of the shape. Without axes the result is true; where either argument
+/// picks nothing of an axis it is false. The caller ensures that each length is below 2^63.
+///
+/// # Errors
+///
+/// Those of `check_slice` for the first argument, then for the second.
+///
+/// Takes time in proportion to the count of axes, whatever their lengths.
+///
+/// `..,..;9` and `..,3..;6` on `[4,10]`: true, by coordinate 9 of the last axis. ndarray's
+/// `slices_intersect`.
 pub fn slices_intersect<D: Lengths, A: SliceElems, B: SliceElems>(
     dim: &D,
     first: &A,

@@ -1,5 +1,5 @@
-//! Slices, as in ndarray 0.17.2: what a range with a step picks of an axis, which slice arguments fit a shape, what they leave
-//! of it, and which of them intersect.
+//! Slices, as in ndarray 0.17.2: what a range with a step picks of an axis, which slice arguments fit a shape, what they
+//! leave of it, and which of them intersect.
 #![tactic(auto)]
 
 mod arg;

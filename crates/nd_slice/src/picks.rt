@@ -1,4 +1,4 @@
-//! A slice of one axis: whether it fits, and the entries that it picks.
+//! A slice of one axis: whether it fits, and the coordinates that it picks.
 ghost use Rattle.std.specs.Prelude.{◌≡◌, ◌-◌, ◌*◌, ◌<◌, ◌≤◌, max, pos, ◌≤ℤ◌, ◌↔◌, IsOk, IfOk, OkIff, IsOkUnless, IsTrue, MatchOption, [], length, slice_index};
 ghost use Rattle.std.specs.List.{All, Contains};
 ghost use Rattle.std.specs.Result.{result_err};
@@ -11,9 +11,12 @@ use crate::slice::Slice;
 use nd_base::{ErrorKind, ShapeError, from_kind};
 use num_traits::clamp;
 
-/// The entry that an index means on an axis of `len` entries, counted from 0: the index itself, or
-/// `len + index` where it is negative. The caller ensures that the result is not negative (`-len` is
-/// the least index); it may lie past the axis. ndarray's `abs_index`.
+/// The coordinate that an index means on an axis of `len` coordinates, counted from 0: the index
+/// itself, or `len + index` where it is negative.
+///
+/// The caller ensures that the index is at least `-len`; the result may be past the axis.
+///
+/// -1 on an axis of 4: 3. ndarray's `abs_index`.
 #[inline]
 pub fn abs_index(len: usize, index: isize) -> usize
     requires { pos 0 ≤ℤ meaning len index }
@@ -23,8 +26,13 @@ pub fn abs_index(len: usize, index: isize) -> usize
     if index < 0 { len - distance } else { distance }
 }
 
-/// The entry that an index means on an axis of `len` entries, as `abs_index` gives it. Fails with
-/// `OutOfBounds` where the index is not from `-len` to `len - 1`. The project's own.
+/// The coordinate that an index means on an axis of `len` coordinates, as `abs_index` returns it.
+///
+/// # Errors
+///
+/// `OutOfBounds` where the index is not from `-len` to `len - 1`.
+///
+/// -1 on an axis of 4: 3. The project's own.
 #[inline(always)]
 pub fn entry_of(len: usize, index: isize) -> Result<usize, ShapeError>
     ensures fault { result_err result ≡ index_fault len index }
@@ -38,7 +46,7 @@ pub fn entry_of(len: usize, index: isize) -> Result<usize, ShapeError>
     }
 }
 
-/// The entry that a bound of a range means, from 0 to `len`. Any other is `OutOfBounds`, or is moved
+/// The coordinate that a bound of a range means, from 0 to `len`. Any other is `OutOfBounds`, or is moved
 /// to the nearer end of the axis.
 #[inline(always)]
 fn abs_bound(len: usize, bound: isize, fit: Fit) -> Result<usize, ShapeError>
@@ -59,10 +67,17 @@ fn abs_bound(len: usize, bound: isize, fit: Fit) -> Result<usize, ShapeError>
     }
 }
 
-/// The start, the end and the step of a slice on an axis of `len` entries, with the bounds counted
-/// from the first entry: both are from 0 to `len`, and an end before the start becomes the start.
-/// Fails with `OutOfBounds` where a bound means no number from 0 to `len` and is not to be clamped,
-/// then with `Unsupported` for a step of 0. ndarray's `to_abs_slice`.
+/// The start, the end and the step of a slice on an axis of `len` coordinates, with both bounds
+/// counted from 0.
+///
+/// Both are from 0 to `len`, and an end before the start becomes the start.
+///
+/// # Errors
+///
+/// `OutOfBounds` where a bound means no number from 0 to `len` (never with `Fit::Clamped`); then
+/// `Unsupported` for the step 0.
+///
+/// `-3..;-2` on an axis of 4: (1, 4, -2). ndarray's `to_abs_slice`.
 #[inline]
 pub fn to_abs_slice(len: usize, slice: Slice, fit: Fit) -> Result<(usize, usize, isize), ShapeError>
     ensures fault { result_err result ≡ slice_fault fit len slice }
@@ -85,7 +100,7 @@ pub fn to_abs_slice(len: usize, slice: Slice, fit: Fit) -> Result<(usize, usize,
     Ok((start, end.max(start), slice.step))
 }
 
-/// How many entries a step picks from `start` up to, not including, `end`. The caller ensures that
+/// The number of coordinates that a step picks from `start` up to, not including, `end`. The caller ensures that
 /// the end is not before the start, and that the step is not 0.
 #[inline(always)]
 pub(crate) fn pick_count(start: usize, end: usize, step: isize) -> usize
@@ -96,7 +111,7 @@ pub(crate) fn pick_count(start: usize, end: usize, step: isize) -> usize
     (end - start).div_ceil(step.unsigned_abs())
 }
 
-/// The entry that a step picks first from `start` up to, not including, `end`: the last of them where
+/// The coordinate that a step picks first from `start` up to, not including, `end`: the last of them where
 /// the step is negative. The caller ensures that the end is after the start, and that the step is
 /// not 0.
 #[inline(always)]
@@ -108,7 +123,7 @@ pub(crate) fn first_pick(start: usize, end: usize, step: isize) -> usize
     if step < 0 { end - 1 } else { start }
 }
 
-/// How many entries lie between the first entry that a step picks between two bounds and the last.
+/// The distance in coordinates from the first one that a step picks between two bounds to the last.
 fn pick_extent(start: usize, end: usize, step: isize) -> usize
     requires order { start < end }
     requires moves { 0 < magnitude step }
@@ -119,7 +134,7 @@ fn pick_extent(start: usize, end: usize, step: isize) -> usize
     (pick_count(start, end, step) - 1) * step.unsigned_abs()
 }
 
-/// The least and the greatest entry that a step picks between two bounds.
+/// The least and the greatest coordinate that a step picks between two bounds.
 fn pick_ends(start: usize, end: usize, step: isize) -> (usize, usize)
     requires order { start < end }
     requires moves { 0 < magnitude step }
@@ -136,8 +151,11 @@ fn pick_ends(start: usize, end: usize, step: isize) -> (usize, usize)
     }
 }
 
-/// How many entries a slice picks of an axis of `len` entries. The caller ensures that the slice fits
-/// the axis. The project's own.
+/// The number of coordinates that a slice picks of an axis of `len` coordinates.
+///
+/// The caller ensures that the slice fits the axis.
+///
+/// `1..;-2` on an axis of 4: 2. The project's own.
 pub fn count_of_picks(len: usize, slice: Slice, fit: Fit) -> usize
     requires { SliceFits fit len slice }
     ensures { result ≡ length (picks fit len slice) }
@@ -146,8 +164,12 @@ pub fn count_of_picks(len: usize, slice: Slice, fit: Fit) -> usize
     pick_count(start, end, step)
 }
 
-/// The least and the greatest entry that a slice picks of an axis of `len` entries; `None` where it
-/// picks none. The caller ensures that the slice fits the axis. ndarray's `slice_min_max`.
+/// The least and the greatest coordinate that a slice picks of an axis of `len` coordinates; `None`
+/// where it picks none.
+///
+/// The caller ensures that the slice fits the axis.
+///
+/// `1..;-2` on an axis of 4: (1, 3). ndarray's `slice_min_max`.
 pub fn slice_min_max(len: usize, slice: Slice, fit: Fit) -> Option<(usize, usize)>
     requires { SliceFits fit len slice }
     ensures picks { MatchOption result (picks fit len slice ≡ [])

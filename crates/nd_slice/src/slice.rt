@@ -6,24 +6,27 @@ mod builders;
 mod display;
 mod from;
 
-/// A range of an axis with a step, all three counted in entries. A negative bound counts from the end
-/// of the axis, no end is the end of the axis, and a negative step picks from the last entry of the
-/// range to the first. ndarray's `Slice`.
+/// A range of an axis with a step, all three counted in coordinates. A negative bound counts from
+/// the end of the axis, no end is the end of the axis, and a negative step picks from the last
+/// coordinate of the range to the first. ndarray's `Slice`.
 #[derive(Clone, Copy, PartialEq, Eq, Hash, Debug)]
 pub struct Slice {
-    /// The first entry of the range.
+    /// The first coordinate of the range.
     pub start: isize,
-    /// The entry that the range stops before.
+    /// The coordinate that the range stops before.
     pub end: Option<isize>,
-    /// How many entries after a pick the next one lies, with its sign; a slice with a step of 0 fits no
+    /// The distance from one pick to the next in coordinates, with its sign; a slice with a step of 0 fits no
     /// axis.
     pub step: isize,
 }
 
 impl Slice {
-    /// The range from `start` up to, not including, `end`, of which every `step`-th entry is picked,
-    /// from its last entry on where `step` is negative. The caller ensures that `step` is not 0.
-    /// ndarray's `Slice::new`.
+    /// The range from `start` up to, not including, `end`, of which every |`step`|-th coordinate is
+    /// picked, from the last one on where `step` is negative.
+    ///
+    /// The caller ensures that `step` is not 0.
+    ///
+    /// `Slice::new(1, None, -2)` picks 3 and 1 of an axis of 4. ndarray's `Slice::new`.
     #[inline]
     pub fn new(start: isize, end: Option<isize>, step: isize) -> Slice
         requires { step ≢ pos 0 }
@@ -32,8 +35,11 @@ impl Slice {
         Slice { start, end, step }
     }
 
-    /// The same range with its step multiplied by `step`. The caller ensures that `step` is not 0, and
-    /// that the product fits an `isize`. ndarray's `Slice::step_by`.
+    /// The same range with its step multiplied by `step`.
+    ///
+    /// The caller ensures that `step` is not 0, and that the product fits an `isize`.
+    ///
+    /// `1..;2` by -1: `1..;-2`. ndarray's `Slice::step_by`.
     #[inline]
     pub fn step_by(self, step: isize) -> Self
         requires moves { step ≢ pos 0 }

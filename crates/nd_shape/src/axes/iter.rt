@@ -1,4 +1,4 @@
-//! The walk along the axes of a layout.
+//! Iterators over the axes of a layout.
 ghost use Rattle.std.specs.Prelude.{◌≡◌, ◌+◌, ◌<◌, ◌^◌, length, Some, IfSome};
 ghost use Rattle.std.specs.Iterator.{UpTo, YieldsFirst, YieldsLast, item_count};
 ghost use Rattle.std.specs.Iterator.SizeHint.{IsWithinCount};
@@ -11,13 +11,14 @@ use std::iter::FusedIterator;
 pub struct AxisDescription {
     /// The axis.
     pub axis: Axis,
-    /// How many entries it has.
+    /// The length.
     pub len: usize,
-    /// How many elements lie between two entries that follow one another, with its sign.
+    /// The stride in elements, with its sign.
     pub stride: isize,
 }
 
-/// The axes of a layout that are still to come, from either end. ndarray's `Axes`.
+/// Iterator over the axes of a layout, from either end. A contract sees the list of those that are
+/// left. ndarray's `Axes`.
 #[derive(Clone, Copy, Debug)]
 pub struct Axes<'a> {
     // The number of the first axis that is left, and the lengths and strides from it on.

@@ -1,4 +1,4 @@
-//! The walk over the indices of a shape of any number of axes, in either order. It lends each index, so that
+//! The iterator over the indices of a shape of any number of axes, in either order. It lends each index, so that
 //! only its making takes memory.
 ghost use Rattle.std.specs.Borrow.{sem};
 ghost use Rattle.std.specs.Io.BufRead.{Rests};
@@ -14,15 +14,16 @@ use nd_dim::product;
 use std::alloc::{AllocError, Global};
 use std::marker::{Model, PhantomData};
 
-/// A walk over the indices of a shape in row-major order, where the last axis moves fastest. In place of
-/// ndarray's `IndicesIter` over `IxDyn`.
+/// Iterator that lends the indices of a shape in row-major order, where the last axis moves
+/// fastest. In place of ndarray's `IndicesIter` over `IxDyn`.
 pub type IndexCursor = Cursor<Rows>;
 
-/// A walk over the indices of a shape in column-major order, where the first axis moves fastest. In place of
-/// ndarray's `IndicesIterF` over `IxDyn`.
+/// Iterator that lends the indices of a shape in column-major order, where the first axis moves
+/// fastest. In place of ndarray's `IndicesIterF` over `IxDyn`.
 pub type IndexCursorF = Cursor<Columns>;
 
-/// A walk over the indices of a shape in an order. A contract sees the list of those that are still to come.
+/// Iterator that lends the indices of a shape in an order. A contract sees the list of those that
+/// are left.
 #[derive(Drop)]
 pub struct Cursor<O: WalkOrder> {
     dim: IxDyn,
@@ -49,7 +50,7 @@ impl<O: WalkOrder> Model for Cursor<O> {
 impl<O: WalkOrder> Cursor<O> {
     ghost use Rattle.nd_shape.specs.contracts.indexes.cursor.Cursor.{the_row};
 
-    /// The walk over all indices of a shape.
+    /// The iterator over all indices of a shape.
     ///
     /// The caller ensures that the product of the lengths is less than 2^64 (`size_checked`).
     ///
@@ -77,7 +78,8 @@ impl<O: WalkOrder> Cursor<O> {
         })
     }
 
-    /// Lends the next index, or `None` after the last one, however often it is called. Takes no memory.
+    /// Lends the next index, or `None` after the last one, however often it is called. Takes no
+    /// memory.
     #[inline]
     pub fn next(&mut self) -> Option<&[usize]>
         ensures* rest { sem 𝓛
@@ -95,7 +97,7 @@ impl<O: WalkOrder> Cursor<O> {
         Some(self.index.slice())
     }
 
-    /// How many indices are still to come.
+    /// The number of indices that are left.
     pub fn len(&self) -> usize
         ensures { result ≡ length self.now }
     {

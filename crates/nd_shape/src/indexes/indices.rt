@@ -1,4 +1,4 @@
-//! All indices of a shape, to be walked.
+//! All indices of a shape, to iterate over.
 ghost use Rattle.std.specs.Prelude.{◌≡◌, ◌<◌, ◌^◌, ⊤};
 ghost use Rattle.nd_base.specs.declared.order.Order.TheVariants.{RowMajor};
 ghost use Rattle.nd_base.specs.Indices.{indices_in};
@@ -10,8 +10,8 @@ use nd_dim::Dimension;
 use std::alloc::AllocError;
 use std::marker::Model;
 
-/// All indices of a shape, which a `for` loop walks in row-major order. A contract sees the shape.
-/// ndarray's `Indices`.
+/// All indices of a shape, over which a `for` loop iterates in row-major order. A contract sees the
+/// shape. ndarray's `Indices`.
 #[derive(Debug, Drop)]
 pub struct Indices<D: Lengths> {
     dim: D,

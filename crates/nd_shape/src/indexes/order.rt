@@ -1,4 +1,4 @@
-//! The two orders of walks over indices, as types.
+//! The two orders of iterators over indices, as types.
 ghost use Rattle.std.specs.Prelude.{◌≡◌, ◌+◌, ◌<◌, ◌↔◌, if◌then◌else◌, true, length, replicate, IsTrue};
 ghost use Rattle.nd_base.specs.declared.order.Order.{Order};
 ghost use Rattle.nd_base.specs.declared.order.Order.TheVariants.{RowMajor, ColumnMajor};
@@ -8,13 +8,15 @@ ghost use Rattle.nd_base.specs.Size.{size};
 
 use nd_dim::{step_by_columns, step_by_rows};
 
-/// The order of a walk.
+/// The order of an iterator over indices.
 pub trait WalkOrder {
     // The order that the type stands for.
     ghost order: { Order };
 
-    /// Moves an index of a shape to the next one in the order, and answers whether there is one; the last
-    /// index becomes the first, with `false`. The caller ensures that `index` is an index of the shape.
+    /// Moves an index of a shape to the next one in the order, and returns whether there is one;
+    /// the last index becomes the first, with `false`.
+    ///
+    /// The caller ensures that `index` is an index of the shape.
     fn step(shape: &[usize], index: &mut [usize]) -> bool
         requires { is_index shape.now index.old ≡ true }
         ensures more { IsTrue result ↔ (rank_in order shape.now index.old + 1 < size shape.now) }

@@ -1,4 +1,4 @@
-//! The walk over the indices of a shape, in either order.
+//! The iterator over the indices of a shape, in either order.
 ghost use Rattle.std.specs.Prelude.{◌≡◌, ◌<◌, ◌≤◌, ◌^◌, Some, length, replicate, IfSome, ⊤};
 ghost use Rattle.std.specs.Iterator.{UpTo, YieldsFirstBy, item_count};
 ghost use Rattle.std.specs.Iterator.SizeHint.{IsWithinCount};
@@ -12,15 +12,16 @@ use std::alloc::AllocError;
 use std::iter::FusedIterator;
 use std::marker::{Model, PhantomData};
 
-/// A walk over the indices of a shape in row-major order, where the last axis moves fastest. ndarray's
-/// `IndicesIter`.
+/// Iterator over the indices of a shape in row-major order, where the last axis moves fastest.
+/// ndarray's `IndicesIter`.
 pub type IndicesIter<D> = Walk<D, Rows>;
 
-/// A walk over the indices of a shape in column-major order, where the first axis moves fastest. ndarray's
-/// `IndicesIterF`.
+/// Iterator over the indices of a shape in column-major order, where the first axis moves fastest.
+/// ndarray's `IndicesIterF`.
 pub type IndicesIterF<D> = Walk<D, Columns>;
 
-/// A walk over the indices of a shape in an order. A contract sees the list of those that are still to come.
+/// Iterator over the indices of a shape in an order. A contract sees the list of those that are
+/// left.
 #[derive(Drop)]
 pub struct Walk<D: Lengths, O: WalkOrder> {
     dim: D,
@@ -44,7 +45,7 @@ impl<D: Lengths, O: WalkOrder> Model for Walk<D, O> {
 }
 
 impl<D: Lengths, O: WalkOrder> Walk<D, O> {
-    /// The walk over all indices of a shape whose size fits, from its first index, all 0.
+    /// The iterator over all indices of a shape whose size fits, from its first index, all 0.
     #[inline]
     pub(super) fn starting(dim: D, first: D) -> Self
         requires size { size (D.list dim) < 2 ^ 64 }
@@ -95,7 +96,7 @@ impl<D: Dimension + Copy, O: WalkOrder> Iterator for Walk<D, O> {
         let mut next = index;
         self.has_remaining = O::step(self.dim.slice(), next.slice_mut());
         // (of two axes the last index is kept: so the compiler keeps a branch for the end of a row, which can
-        // be foreseen, and the walk runs in half the time; of more it keeps one anyway)
+        // be foreseen, and the loop runs in half the time; of more it keeps one anyway)
         if self.has_remaining || self.dim.ndim() != 2 {
             self.index = next;
         }

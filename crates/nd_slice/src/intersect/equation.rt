@@ -14,11 +14,17 @@ fn added(a: i128, c: i128) -> i128
     if a < 0 { c } else { -c }
 }
 
-/// Solves `a * x + b * y = c` for `x` in whole numbers: the least `x` that is not negative, and how far
-/// apart the solutions lie, which is `b` divided by the greatest common divisor of `a` and `b`, in
-/// magnitude. `None` exactly where that divisor does not divide `c`.
-/// The caller ensures that `a` and `b` are not 0 and at most 2^63 in magnitude, and `c` at most 2^64.
-/// ndarray's `solve_linear_diophantine_eq`, whose solution is any one.
+/// Solves `a * x + b * y = c` in whole numbers: the least `x` that is not negative, and the
+/// distance between two solutions, which is |b| divided by the greatest common divisor of `a` and
+/// `b`; `None` if and only if that divisor does not divide `c`.
+///
+/// The caller ensures that `a` and `b` are not 0 and at most 2^63 in magnitude, and `c` at most
+/// 2^64.
+///
+/// Takes time in proportion to the count of bits.
+///
+/// `3 * x + 5 * y = 1`: 2, and 5. ndarray's `solve_linear_diophantine_eq`, which returns any
+/// solution.
 pub fn solve_linear_diophantine_eq(a: i128, b: i128, c: i128) -> Option<(i128, i128)>
     requires first_some { a ≢ pos 0 }
     requires first_small { magnitude a ≤ 2 ^ 63 }

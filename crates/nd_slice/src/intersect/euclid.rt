@@ -68,10 +68,16 @@ fn with_sign(magnitude: usize, negative: bool) -> i128
     }
 }
 
-/// The greatest common divisor `g` of two numbers, and `x` and `y` for which `a * x + b * y` is `g`.
-/// Neither `x` is above `b / g` nor `y` above `a / g` in magnitude. Where a number is 0, `g` is the
-/// magnitude of the other one, whose factor is its sign, and the factor of 0 is 0.
-/// The caller ensures that both magnitudes are at most 2^63. ndarray's `extended_gcd`.
+/// The greatest common divisor `g` of two numbers, and `x` and `y` for which `a * x + b * y` is
+/// `g`.
+///
+/// Neither is `x` above `b / g` in magnitude nor `y` above `a / g`. Where a number is 0, `g` is the
+/// magnitude of the other one, whose factor is its sign, and the factor of 0 is 0. The caller
+/// ensures that both magnitudes are at most 2^63.
+///
+/// Takes time in proportion to the count of bits.
+///
+/// 0 and -5: 5, and (0, -1). ndarray's `extended_gcd`.
 pub fn extended_gcd(a: i128, b: i128) -> (i128, (i128, i128))
     requires first_small { magnitude a ≤ 2 ^ 63 }
     requires second_small { magnitude b ≤ 2 ^ 63 }

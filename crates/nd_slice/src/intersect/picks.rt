@@ -1,4 +1,4 @@
-//! Slices of one axis that pick a common entry.
+//! Slices of one axis that share a coordinate.
 ghost use Rattle.std.specs.Prelude.{◌<◌, ◌^◌, ◌↔◌, IsTrue};
 ghost use Rattle.nd_slice.specs.Picks.{picks};
 ghost use Rattle.nd_slice.specs.SliceFault.{SliceFits};
@@ -9,7 +9,7 @@ use crate::intersect::sequence::arith_seq_intersect;
 use crate::picks::slice_min_max;
 use crate::slice::Slice;
 
-/// Whether two slices of an axis of `len` entries pick a common entry. A slice that picks none shares
+/// Whether two slices of an axis of `len` coordinates share one. A slice that picks none shares
 /// none. The caller ensures that both fit, and that `len` is below 2^63.
 pub(crate) fn picks_intersect(len: usize, first: Slice, second: Slice, fit: Fit) -> bool
     requires len_fits { len < 2 ^ 63 }

@@ -19,9 +19,14 @@ fn meets_within(ahead: usize, first_step: usize, second_step: usize, room: usize
     }
 }
 
-/// Whether two lists of numbers share one. A list is given by its first number, the number that it
-/// goes up to, and its step, whose sign does not matter: least, least + |step|, and so on.
-/// The caller ensures that no step is 0. ndarray's `arith_seq_intersect`.
+/// Whether two lists of numbers share one.
+///
+/// A list is given by its first number, the number that it goes up to, and its step, whose sign
+/// does not matter: least, least + |step|, and so on. The caller ensures that no step is 0.
+///
+/// Takes time in proportion to the count of bits.
+///
+/// 0 3 6 9 and 5 7 9: true. ndarray's `arith_seq_intersect`.
 pub fn arith_seq_intersect(first: (isize, isize, isize), second: (isize, isize, isize)) -> bool
     requires first_moves { first.2 ≢ pos 0 }
     requires second_moves { second.2 ≢ pos 0 }

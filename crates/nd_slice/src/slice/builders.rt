@@ -6,8 +6,8 @@ ghost use Rattle.nd_slice.specs.Ranges.{end_after};
 
 use super::Slice;
 
-/// The number that a range stops before where `last` is its last entry; none where that is -1, the last
-/// entry of the axis.
+/// The number that a range stops before where `last` is its last coordinate; none where that is -1, the last
+/// coordinate of the axis.
 #[inline]
 fn end_after(last: isize) -> Option<isize>
     requires { last <ℤ pos limit }
@@ -17,9 +17,12 @@ fn end_after(last: isize) -> Option<isize>
 }
 
 impl Slice {
-    /// The entries from `first` to `last`, both included; either counts from the end of the axis where
-    /// it is negative. The caller ensures that `last` is below `isize::MAX`. For ndarray's `From` of
-    /// `a..=b`.
+    /// The range of the coordinates from `first` to `last`, both included. A negative one counts
+    /// from the end of the axis.
+    ///
+    /// The caller ensures that `last` is below `isize::MAX`.
+    ///
+    /// 1 and -1: `1..`. For ndarray's `From` of `a..=b`.
     #[inline]
     pub fn inclusive(first: isize, last: isize) -> Slice
         requires { last <ℤ pos limit }
@@ -32,8 +35,12 @@ impl Slice {
         }
     }
 
-    /// The entries up to `last`, included, which counts from the end of the axis where it is negative.
-    /// The caller ensures that `last` is below `isize::MAX`. For ndarray's `From` of `..=b`.
+    /// The range of the coordinates up to `last`, included. A negative one counts from the end of
+    /// the axis.
+    ///
+    /// The caller ensures that `last` is below `isize::MAX`.
+    ///
+    /// 2: `..3`. For ndarray's `From` of `..=b`.
     #[inline]
     pub fn to_inclusive(last: isize) -> Slice
         requires { last <ℤ pos limit }
@@ -42,8 +49,12 @@ impl Slice {
         Slice::inclusive(0, last)
     }
 
-    /// The entries from `start` up to, not including, `end`, both counted from the first entry. The
-    /// caller ensures that both are at most `isize::MAX`. For ndarray's `From` of `a..b` over `usize`.
+    /// The range of the coordinates from `start` up to, not including, `end`, both counted from the
+    /// first one.
+    ///
+    /// The caller ensures that both are at most `isize::MAX`.
+    ///
+    /// 1 and 3: `1..3`. For ndarray's `From` of `a..b` over `usize`.
     #[inline]
     pub fn of_usize(start: usize, end: usize) -> Slice
         requires start_fits { start ≤ limit }
@@ -57,8 +68,11 @@ impl Slice {
         }
     }
 
-    /// The entries from `start` on, counted from the first entry. The caller ensures that `start` is at
-    /// most `isize::MAX`. For ndarray's `From` of `a..` over `usize`.
+    /// The range of the coordinates from `start` on, counted from the first one.
+    ///
+    /// The caller ensures that `start` is at most `isize::MAX`.
+    ///
+    /// 1: `1..`. For ndarray's `From` of `a..` over `usize`.
     #[inline]
     pub fn from_usize(start: usize) -> Slice
         requires { start ≤ limit }
@@ -71,8 +85,11 @@ impl Slice {
         }
     }
 
-    /// The entries up to, not including, `end`, counted from the first entry. The caller ensures that
-    /// `end` is at most `isize::MAX`. For ndarray's `From` of `..b` over `usize`.
+    /// The range of the coordinates up to, not including, `end`, counted from the first one.
+    ///
+    /// The caller ensures that `end` is at most `isize::MAX`.
+    ///
+    /// 3: `..3`. For ndarray's `From` of `..b` over `usize`.
     #[inline]
     pub fn to_usize(end: usize) -> Slice
         requires { end ≤ limit }
@@ -81,9 +98,12 @@ impl Slice {
         Slice::of_usize(0, end)
     }
 
-    /// The entries from `first` to `last`, both included and counted from the first entry of the axis.
-    /// The caller ensures that `first` is at most `isize::MAX` and `last` below it. For ndarray's
-    /// `From` of `a..=b` over `usize`.
+    /// The range of the coordinates from `first` to `last`, both included and counted from the
+    /// first one.
+    ///
+    /// The caller ensures that `first` is at most `isize::MAX` and `last` below it.
+    ///
+    /// 1 and 2: `1..3`. For ndarray's `From` of `a..=b` over `usize`.
     #[inline]
     pub fn inclusive_usize(first: usize, last: usize) -> Slice
         requires first_fits { first ≤ limit }
@@ -93,8 +113,11 @@ impl Slice {
         Slice::of_usize(first, last + 1)
     }
 
-    /// The entries up to `last`, included and counted from the first entry. The caller ensures that
-    /// `last` is below `isize::MAX`. For ndarray's `From` of `..=b` over `usize`.
+    /// The range of the coordinates up to `last`, included and counted from the first one.
+    ///
+    /// The caller ensures that `last` is below `isize::MAX`.
+    ///
+    /// 2: `..3`. For ndarray's `From` of `..=b` over `usize`.
     #[inline]
     pub fn to_inclusive_usize(last: usize) -> Slice
         requires { last < limit }
