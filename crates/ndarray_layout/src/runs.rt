@@ -16,7 +16,7 @@ use std::alloc::Global;
 pub enum Step {
     /// The slice by these elements, and what becomes of a bound past its axis: `Strided::slice`.
     Slice(Vec<SliceInfoElem>, Fit),
-    /// One entry of an axis: `Strided::collapse`.
+    /// One coordinate of an axis: `Strided::collapse`.
     Collapse(Axis, usize),
     /// The first axis merged into the second: `Strided::merge`.
     Merge(Axis, Axis),
@@ -39,7 +39,7 @@ pub struct Stopped {
 }
 
 /// Merges an axis into another one. Errors: those of `Strided::merge`, then `IncompatibleLayout`
-/// where no stride has the entries of both; the view is unchanged.
+/// where no stride serves for the coordinates of both; the view is unchanged.
 fn merge_axes_of(view: &mut Strided<IxDyn>, take: Axis, into: Axis) -> Result<(), ShapeError>
     ensures fault { result_err result ≡ merge_fault take.0 into.0 view.old }
     ensures unchanged { OnErr result (view.new ≡ view.old) }
@@ -95,19 +95,23 @@ fn take_step(alloc: Global, view: &mut Strided<IxDyn>, step: &Step) -> Result<()
 /// The view that steps leave, each taken from the view that the one before it left.
 ///
 /// The first step with an error ends the run, and the view that the steps before it left comes with
-/// the error. Either view lies within the data of the first one; where no two indices of the first
-/// one alias, no two of it do, unless a step that was taken is a broadcast.
+/// the error. Either view is in bounds of whatever data the first one is in bounds of. Where no two
+/// indices of the first one alias, no two of it do, unless a step that was taken is a broadcast.
 ///
 /// # Errors
 ///
 /// Of a slice, a reshape and a broadcast those of `Strided::slice`, `Strided::reshape` and
-/// `Strided::broadcast`; of a collapse `OutOfBounds` where there is no such axis or entry; of a
-/// merge `OutOfBounds` where an axis is missing, then `Unsupported` for one axis twice, then
-/// `IncompatibleLayout` where no stride has the entries of both. Out of memory comes last, in a
-/// reshape before the error of its strides, and never where the step leaves at most 4 axes.
+/// `Strided::broadcast`; of a collapse `OutOfBounds` where there is no such axis or coordinate; of
+/// a merge `OutOfBounds` where an axis is missing, then `Unsupported` for one axis twice, then
+/// `IncompatibleLayout` where no stride serves for the coordinates of both. Out of memory comes
+/// last, in a reshape before the error of its strides, and never where the step leaves at most 4
+/// axes.
 ///
-/// Entry 1 of axis 0, then axis 0 into axis 1, of `[2,3]`, `[3,1]` from 0: `[1,3]`, `[3,1]` from 3.
-/// The project's own.
+/// Each step takes time in proportion to the count of axes, of elements of its slice or of lengths
+/// of its shape.
+///
+/// Coordinate 1 of axis 0, then axis 0 into axis 1, of `[2,3]`, `[3,1]` from 0: `[1,3]`, `[3,1]`
+/// from 3. The project's own.
 pub fn run(alloc: Global, view: Strided<IxDyn>, steps: &[Step]) -> Result<Strided<IxDyn>, Stopped>
     ensures left { IfOk result (λ v. Leave (map step_value steps.now) view v) }
     ensures stopped { IfErr result (λ s.

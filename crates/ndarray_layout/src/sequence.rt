@@ -17,7 +17,7 @@ pub trait Sequence: Index<usize, Output = usize> {
     // The numbers, in order.
     ghost items: { Self → List ℕ };
 
-    /// How many numbers there are. ndarray's `len`.
+    /// The count of numbers. ndarray's `len`.
     fn len(&self) -> usize
         ensures { result ≡ length (items self.now) };
 
@@ -34,8 +34,12 @@ pub trait SequenceMut: Sequence + IndexMut<usize> {
     // The later value writes to what the earlier one does.
     ghost same_target: { Self → Self → Type 0 };
 
-    /// Writes the number at a position. The caller ensures that there is one. A write by index does so as
-    /// well; its contract says which number it shows, and not what the write leaves.
+    /// Writes the number at a position.
+    ///
+    /// The caller ensures that there is one. A write by index does so as well; its contract says
+    /// which number it shows, and not what the write leaves.
+    ///
+    /// The project's own.
     fn set(&mut self, k: usize, item: usize)
         requires { k < length (Self.items self.old) }
         ensures items { Self.items self.new ≡ slice_set (Self.items self.old) k item }

@@ -14,8 +14,9 @@ mod slicing;
 use nd_base::Lengths;
 use std::marker::Model;
 
-/// A view of data: a shape, a stride for each axis, and the place of the first index. The place of an
-/// index is its number of elements from the start of the data, from 0 to `isize::MAX`.
+/// A view of data: a shape, a stride for each axis, and the place of the first index. The place of
+/// an index is its buffer index, its number of elements from the start of the data, from 0 to
+/// `isize::MAX`. The layout of ndarray's `ArrayView`.
 #[derive(Debug, Drop)]
 pub struct Strided<D: Lengths> {
     start: usize,

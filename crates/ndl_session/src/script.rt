@@ -74,11 +74,18 @@ fn read_steps(alloc: Global, text: &[u8], number: usize) -> Result<Vec<Step>, Re
     Ok(steps)
 }
 
-/// The script that an input spells. All of it is read before any of it is used: one line that can't
-/// be read makes the whole unreadable. Of the lines `data 4 owned 4 1` and `slise ..` it returns
-/// `Unreadable(2)`. The text of a script is read as that script, whatever its numbers are.
+/// The script that an input spells.
 ///
-/// Errors: the first such line, or line 1 where no line has a word; out of memory.
+/// All of it is read before any of it is used: one line that can't be read makes the whole unreadable. The text
+/// of a script is read as that script, whatever its numbers are.
+///
+/// # Errors
+///
+/// `Unreadable` with the number of the first line that can't be read, or 1 where no line has a word; out of memory.
+///
+/// Takes time and memory in proportion to the length of the input.
+///
+/// The lines `data 4 owned 4 1` and `slise ..`: `Unreadable(2)`. The project's own.
 pub fn read_script(alloc: Global, input: &[u8]) -> Result<Script, ReadError>
     ensures read { Gives script_value result (script_of input.now) }
     ensures printed { (script : ScriptValue) → IsScript script → input.now ≡ script_text script

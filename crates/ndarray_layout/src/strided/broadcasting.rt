@@ -112,17 +112,19 @@ fn broadcast_axes<E: Lengths>(
 }
 
 impl<D: Lengths> Strided<D> {
-    /// The same data read as a view of a shape that this one's can be stretched to.
+    /// The same data as a view of a shape that this view can be broadcast to.
     ///
-    /// New axes come first. Along them, and along axes of length 1 that have another length now,
-    /// all entries are one, and the stride is 0; the other axes keep their strides.
+    /// New axes come first. Along them, and along axes of length 1 that have another length in
+    /// `shape`, each coordinate has the same place, and the stride is 0; the other axes keep their
+    /// strides.
     ///
     /// # Errors
     ///
-    /// `IncompatibleShape` where the shape is not the one that it and the view's have in common;
-    /// then `Overflow` where the product of its lengths that are not 0 is greater than
-    /// `isize::MAX`; then out of memory, never where the type fixes the count of axes or there are
-    /// at most 4.
+    /// `IncompatibleShape` where `shape` is not the common shape of it and the view's; then
+    /// `Overflow` where the product of its lengths that are not 0 is greater than `isize::MAX`;
+    /// then out of memory, never where the type fixes the count of axes or there are at most 4.
+    ///
+    /// Takes time in proportion to the count of axes.
     ///
     /// `[1,4]` with strides `[9,-1]` to `[2,3,4]`: strides `[0,0,-1]`. ndarray's `broadcast`.
     pub fn broadcast<E: Lengths>(&self, alloc: Global, shape: &E) -> Result<Strided<E>, LayoutError>

@@ -1,4 +1,4 @@
-//! One entry of an axis.
+//! One coordinate of an axis.
 ghost use Rattle.std.specs.Prelude.{◌≡◌, ◌↔◌, IsTrue, None, OnErr, OnOk};
 ghost use Rattle.std.specs.Result.{result_err};
 ghost use Rattle.ndarray_layout.specs.CollapsedView.{collapse_fault, collapse_of, collapse_source};
@@ -10,7 +10,7 @@ use crate::strided::places::offset_place;
 use nd_base::{Axis, ErrorKind, Lengths, ShapeError, from_kind};
 use nd_slice::do_collapse_axis;
 
-/// Whether there is an axis, and an entry of it at an index.
+/// Whether there is an axis, and a coordinate of it at an index.
 fn has_entry(shape: &[usize], axis: Axis, index: usize) -> bool
     ensures { IsTrue result ↔ (collapse_fault shape.now axis.0 index ≡ None) }
 {
@@ -18,14 +18,15 @@ fn has_entry(shape: &[usize], axis: Axis, index: usize) -> bool
 }
 
 impl<D: Lengths> Strided<D> {
-    /// Takes one entry of an axis: the axis has length 1 then, and keeps its stride.
+    /// Reduces an axis to one of its coordinates: the axis then has length 1, and its stride is
+    /// unchanged.
     ///
     /// # Errors
     ///
     /// `OutOfBounds` where there is no such axis or the index is not less than its length; the view
     /// is unchanged.
     ///
-    /// Entry 1 of axis 0 of `[2,3]`, `[3,1]` from 0: `[1,3]`, `[3,1]` from 3. ndarray's
+    /// Coordinate 1 of axis 0 of `[2,3]`, `[3,1]` from 0: `[1,3]`, `[3,1]` from 3. ndarray's
     /// `collapse_axis`.
     pub fn collapse(&mut self, axis: Axis, index: usize) -> Result<(), ShapeError>
         ensures fault { result_err result ≡ collapse_fault self.old.shape axis.0 index }

@@ -25,12 +25,11 @@ fn check_axes(shape: &[usize], take: Axis, into: Axis) -> Result<(), ShapeError>
 }
 
 impl<D: Lengths> Strided<D> {
-    /// Whether the axis `take` was merged into the axis `into`: after `Ok(false)` the view is
-    /// unchanged.
+    /// Merges the axis `take` into the axis `into` where one stride serves for the coordinates of
+    /// both, and returns whether it did; after `Ok(false)` the view is unchanged.
     ///
-    /// They are merged where one stride has the entries of both: then the axis `into` has them all,
-    /// that of `take` moving slowest among them, and `take` keeps one entry, or none where there
-    /// are none.
+    /// Then the axis `into` has the coordinates of both, that of `take` moving slowest among them,
+    /// and `take` has length 1, or 0 where there is no index.
     ///
     /// # Errors
     ///

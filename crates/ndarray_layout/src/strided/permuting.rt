@@ -35,7 +35,7 @@ fn has_each_axis(ndim: usize, axes: &[Axis]) -> bool
     true
 }
 
-/// Writes the entries of a list in the order of these axes.
+/// Writes the numbers of a list in the order of these axes.
 fn write_reordered(moved: &mut [usize], entries: &[usize], axes: &[Axis])
     requires count { length moved.old ≡ length axes.now }
     requires order { is_axis_order (length entries.now) (axis_numbers axes.now) ≡ true }
@@ -46,7 +46,7 @@ fn write_reordered(moved: &mut [usize], entries: &[usize], axes: &[Axis])
     }
 }
 
-/// The entries of a list in the order of these axes.
+/// The numbers of a list in the order of these axes.
 ///
 /// # Errors
 ///

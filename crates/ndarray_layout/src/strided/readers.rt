@@ -20,7 +20,7 @@ use nd_shape::{Axes, NdIndex, axes_of};
 use nd_slice::{Fit, SliceElems, slices_intersect};
 
 impl<D: Lengths> Strided<D> {
-    /// The place of the first index, in elements from the start of the data.
+    /// The place of the first index, in elements from the start of the data. The project's own.
     #[inline]
     pub fn start(&self) -> usize
         ensures place { result ≡ self.now.start }
@@ -29,7 +29,7 @@ impl<D: Lengths> Strided<D> {
         self.start
     }
 
-    /// The shape.
+    /// The shape. ndarray's `raw_dim`, borrowed.
     #[inline]
     pub fn dim(&self) -> &D
         ensures list { D.list result.now ≡ self.now.shape }
@@ -38,7 +38,8 @@ impl<D: Lengths> Strided<D> {
         &self.dim
     }
 
-    /// The strides, in elements, each kept as the `usize` of the same bits.
+    /// The strides, in elements, each kept as the `usize` of the same bits (`signed`). For
+    /// ndarray's `strides`.
     #[inline]
     pub fn strides(&self) -> &D
         ensures list { all_signed (D.list result.now) ≡ self.now.strides }
@@ -77,11 +78,13 @@ impl<D: Lengths> Strided<D> {
     /// where no two indices of the view alias, the result is true if and only if the two slices
     /// have a place in common. On any other view, as one that is broadcast, slices that share no
     /// index may still share a place. Without axes the result is true; where an argument picks
-    /// nothing of an axis it is false. Takes no memory.
+    /// nothing of an axis it is false.
     ///
     /// # Errors
     ///
     /// Those of `check_slice` on the shape for the first argument, then for the second.
+    ///
+    /// Takes no memory, and time in proportion to the count of axes.
     ///
     /// The first row and the last column of `[2,3]`: true; the first row and the last row: false.
     /// ndarray asks `slices_intersect` before `multi_slice_mut` lends several parts.

@@ -43,7 +43,7 @@ impl<D: Lengths> Strided<D> {
     /// The same places along another shape: each index of it has the place of the index of the view
     /// with the same flat index, in row-major or in column-major order.
     ///
-    /// The first index stays where it is, and no element is moved. Where there is no index the
+    /// The place of the first index is unchanged, and no element is moved. Where there is no index the
     /// strides are 0. A shape of permitted size has another error than out of memory if and only if
     /// no strides at all have these places.
     ///

@@ -34,12 +34,14 @@ fn picked_size(shape: &[usize], elems: &[SliceInfoElem], fit: Fit) -> usize
 }
 
 impl<D: Lengths> Strided<D> {
-    /// How many indices a slice argument leaves of the view.
+    /// The number of indices that a slice argument leaves of the view.
     ///
     /// # Errors
     ///
     /// Those of `check_slice` on the shape: `IncompatibleShape` where the argument is for more axes
     /// than there are or for fewer; then that of the first element with one.
+    ///
+    /// Takes no memory, and time in proportion to the count of elements.
     ///
     /// `1..;-2` of `[4]`: 2. The project's own.
     pub fn picked<S: SliceElems>(&self, slices: &S, fit: Fit) -> Result<usize, ShapeError>

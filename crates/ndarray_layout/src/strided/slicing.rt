@@ -44,7 +44,7 @@ fn needs_memory(fixed: Option<usize>, ndim: usize) -> bool
 }
 
 /// Slices one axis: the length and the stride that are left, and how many elements the first pick
-/// lies after the first entry. Errors: those of `do_slice`.
+/// lies after the first one. Errors: those of `do_slice`.
 #[inline(always)]
 fn slice_axis(
     len: usize,
@@ -185,8 +185,8 @@ fn sliced_axes<E: Lengths>(
 impl<D: Lengths> Strided<D> {
     /// The view of the same data that a slice argument leaves.
     ///
-    /// A range with a step keeps its axis, an index takes one entry and drops the axis, and
-    /// `NewAxis` adds an axis of length 1. `fit` says what becomes of a bound past its axis: an
+    /// A range with a step keeps its axis, an index takes one coordinate and drops the axis, and
+    /// `NewAxis` adds an axis of length 1. `fit` says what happens to a bound past its axis: an
     /// error, or the nearest bound. Each index that is left has the place of the index that it
     /// stands for.
     ///
@@ -194,9 +194,11 @@ impl<D: Lengths> Strided<D> {
     ///
     /// `IncompatibleShape` where the argument is for more axes than there are or for fewer, or
     /// leaves more or fewer than the type `E` fixes; then that of the first element with one:
-    /// `OutOfBounds` for an index that is not on its axis, or a bound that is not and is not to be
-    /// clamped, `Unsupported` for a step of 0; then out of memory, never where `E` fixes the count
-    /// of axes or at most 4 are left.
+    /// `OutOfBounds` for an index that is no coordinate of its axis, or for a bound that means no
+    /// number from 0 to the length (never with `Fit::Clamped`), `Unsupported` for the step 0; then
+    /// out of memory, never where `E` fixes the count of axes or at most 4 are left.
+    ///
+    /// Takes time in proportion to the count of elements.
     ///
     /// `1..;-2` of `[4]` with the stride `[3]` from 5: `[2]`, `[-6]` from 14. ndarray's `slice` and
     /// `slice_collapse`.

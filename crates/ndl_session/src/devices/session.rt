@@ -28,19 +28,23 @@ const OUT_OF_MEMORY: u8 = 3;
 /// The status where a read or a write failed.
 const DEVICE_FAILED: u8 = 4;
 
-/// Reads the whole input, writes the whole text of the answer to it, and returns its status: 0, 1 or 2,
-/// and 3 or 4 where something fails. To the lines `data 4 owned 4 1` and `slice 1..;-2` it writes the lines
-/// `shape 2`, `strides -2` and `places 3 1`, and returns 0.
+/// Reads the whole input, writes the whole text of the answer to it, and returns its status: 0, 1 or 2, and 3 or 4
+/// where something fails.
 ///
 /// The caller ensures that no read or write of either device has failed before.
 ///
-/// Where a read fails, the whole text is `input failed` and a line feed, and the status is 4. Where no
-/// read fails and an allocation does, for the input or for the answer, the whole text is `out of
-/// memory` and a line feed, and the status is 3. Where a write fails or takes no byte, a beginning of
-/// that text has gone out, nothing more is written, and the status is 4.
+/// Where a read fails, the whole text is `input failed` and a line feed, and the status is 4. Where no read fails and
+/// an allocation does, for the input or for the answer, the whole text is `out of memory` and a line feed, and the
+/// status is 3. Where a write fails or takes no byte, a beginning of that text has gone out, nothing more is written,
+/// and the status is 4.
 ///
-/// Nothing is read after a failed read or after the end of the input, and nothing is written or flushed
-/// after a failed write. Of a reader that tells no bytes, the answer is that to some input.
+/// Nothing is read after a failed read or after the end of the input, and nothing is written or flushed after a failed
+/// write. Of a reader that tells no bytes, the answer is that to some input.
+///
+/// Takes time and memory in proportion to the lengths of the input and of the text.
+///
+/// The lines `data 4 owned 4 1` and `slice 1..;-2`: the lines `shape 2`, `strides -2` and `places 3 1`, and 0. The
+/// project's own.
 pub fn session<R: io::Read, W: io::Write>(
     alloc: Global,
     reader: &mut Watched<R>,

@@ -10,7 +10,7 @@ use std::io::{Read, Write};
 ///
 /// It has failed from the first `read` or `write` that returned an error, an interrupted one too,
 /// or the first `write` that took no byte of a piece that has some, and from nothing else: a `read`
-/// of 0 bytes is the end of the input, and `flush` only calls the device's. Once failed it stays failed.
+/// of 0 bytes is the end of the input, and `flush` only calls the device's. After a failure it has failed for good.
 ///
 /// Its input has ended from the first `read` that gave 0 bytes to a buffer that has room. It was used late
 /// where it was read after a failure or after that end, or written or flushed after a failure.

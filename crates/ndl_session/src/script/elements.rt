@@ -9,7 +9,7 @@ use crate::text::numbers::signed_number;
 use crate::text::words::split_once;
 use ndarray_layout::SliceInfoElem;
 
-/// The start of a range: the first entry where it is missing; `None` where it is no number.
+/// The start of a range: the first coordinate where it is missing; `None` where it is no number.
 fn start(text: &[u8]) -> Option<isize>
     ensures { result ≡ start_of text.now }
 {
