@@ -8,7 +8,7 @@ ghost use Rattle.ndarray_layout.specs.Dim.{lengths};
 ghost use Rattle.ndarray_layout.specs.DistinctPlaces.{HasDistinctPlaces};
 ghost use Rattle.ndarray_layout.specs.Indices.{is_index};
 ghost use Rattle.ndarray_layout.specs.Lengths.{NeedsNoMemory};
-ghost use Rattle.ndarray_layout.specs.Rank.{index_of_rank_in, rank_in};
+ghost use Rattle.ndarray_layout.specs.FlatIndex.{index_of_flat_in, flat_index_in};
 ghost use Rattle.ndarray_layout.specs.ReshapedView.{reshape_refusal};
 ghost use Rattle.ndarray_layout.specs.ShapeFault.{shape_fault};
 ghost use Rattle.ndarray_layout.specs.View.{LiesWithin, place_at};
@@ -46,7 +46,7 @@ pub fn grid(
     Strided::from_shape(alloc, shape, 1, items.len(), mode)
 }
 
-/// A list read along a shape of any number of axes: an index is the item at its rank in row-major order.
+/// A list read along a shape of any number of axes: an index is the item at its flat index in row-major order.
 ///
 /// Errors: those of `can_index_slice_with_strides`; out of memory, never for at most four axes.
 pub fn in_shape(alloc: Global, items: &[u8], dim: IxDyn) -> Result<Strided<IxDyn>, LayoutError>
@@ -55,7 +55,7 @@ pub fn in_shape(alloc: Global, items: &[u8], dim: IxDyn) -> Result<Strided<IxDyn
         acceptance_by_strides lengths 1 (length items.now) OwnedMutable (lengths dim) C }
     ensures memory { shape_fault result ≡ None → NeedsNoMemory None (length (lengths dim)) → IsOk result }
     ensures place { IfOk result (λ view. (index : List ℕ) → IsTrue (is_index (lengths dim) index) →
-        place_at view index ≡ pos (rank_in RowMajor (lengths dim) index)) }
+        place_at view index ≡ pos (flat_index_in RowMajor (lengths dim) index)) }
     ensures inside { IfOk result (λ view. LiesWithin (length items.now) view) }
     ensures distinct { IfOk result (λ view. HasDistinctPlaces view) }
 {
@@ -78,8 +78,10 @@ pub fn in_rows<D: Lengths>(
 ) -> Result<Strided<Ix2>, LayoutError>
     ensures fault { shape_fault result ≡ reshape_refusal RowMajor (rows ∷ columns ∷ []) view.now }
     ensures memory { shape_fault result ≡ None → IsOk result }
-    ensures place { IfOk result (λ grid. (i j : ℕ) → IsTrue (is_index (rows ∷ columns ∷ []) (i ∷ j ∷ [])) →
-        place_at grid (i ∷ j ∷ []) ≡ place_at view.now (index_of_rank_in RowMajor view.now.shape (i * columns + j))) }
+    ensures place { IfOk result (λ grid. (i j : ℕ) →
+        IsTrue (is_index (rows ∷ columns ∷ []) (i ∷ j ∷ [])) →
+        place_at grid (i ∷ j ∷ []) ≡
+        place_at view.now (index_of_flat_in RowMajor view.now.shape (i * columns + j))) }
     ensures line { IfOk result (λ grid. (len i j : ℕ) → view.now.shape ≡ len ∷ [] →
         IsTrue (is_index (rows ∷ columns ∷ []) (i ∷ j ∷ [])) →
         place_at grid (i ∷ j ∷ []) ≡ place_at view.now ((i * columns + j) ∷ [])) }

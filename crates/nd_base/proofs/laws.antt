@@ -10,7 +10,7 @@ pub mod NonzeroSize
 pub mod Offset
 pub mod Options
 pub mod Place
-pub mod Rank
+pub mod FlatIndex
 pub mod Reach
 pub mod Reading
 pub mod Signed

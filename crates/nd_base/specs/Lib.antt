@@ -8,7 +8,7 @@ pub mod Lengths
 pub mod Offset
 pub mod Order
 pub mod Place
-pub mod Rank
+pub mod FlatIndex
 pub mod Reach
 pub mod Reading
 pub mod ShapeFault

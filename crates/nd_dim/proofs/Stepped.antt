@@ -7,39 +7,39 @@ use Rattle.std.proofs.lemmas.List.{append-nil, drop_all, drop_more, get_or-take,
 use Rattle.std.proofs.lemmas.List.{length-set}
 use Rattle.std.proofs.lemmas.List.{length-take-le, reverse-reverse, set_at, take-append-drop, take_all, take_more}
 use Rattle.nd_base.specs.declared.order.Order.TheVariants.{ColumnMajor}
-use Rattle.nd_base.proofs.laws.Definitions.{is_index, index_of_rank, index_of_rank_in, rank, rank_in, size}
+use Rattle.nd_base.proofs.laws.Definitions.{is_index, index_of_flat, index_of_flat_in, flat_index, flat_index_in, size}
 use Rattle.nd_base.proofs.laws.IsIndex.{entry_of_index, is_index-reverse, is_index-zeros, length_of_index, nonempty_from_index}
 use Rattle.nd_base.proofs.laws.Lists.{get_or-from_back, reverse-replicate, reverse-set}
-use Rattle.nd_base.proofs.laws.Rank.{index_of_rank-rank, rank-lt-size, rank-zeros}
+use Rattle.nd_base.proofs.laws.FlatIndex.{index_of_flat-flat_index, flat_index-lt-size, flat_index-zeros}
 use Rattle.nd_base.proofs.laws.Size.{size-reverse}
 
 -- ---- the step of one entry, where those after it are at their ends
 record IsStepped (shape index stepped : List ℕ) : Type 0 where
   within : is_index shape stepped ≡ true
-  ranks : rank shape stepped ≡ rank shape index + 1
+  flat_indices : flat_index shape stepped ≡ flat_index shape index + 1
 
-module _ (back rest : List ℕ) (full : rank back rest + 1 ≡ size back) (len i : ℕ) (more : i + 1 < len) where
+module _ (back rest : List ℕ) (full : flat_index back rest + 1 ≡ size back) (len i : ℕ) (more : i + 1 < len) where
   stepped : (front index : List ℕ) → length index ≡ length front → is_index (front ++ len ∷ back) (index ++ i ∷ rest) ≡ true
       → IsStepped (front ++ len ∷ back) (index ++ i ∷ rest) (index ++ (i + 1) ∷ replicate (length back) 0)
   stepped [] [] count here =
       let parts = and_parts (nat_lt i len) (is_index back rest) here in
-      let first = rank-zeros back in
+      let first = flat_index-zeros back in
       let one : (i + 1) * size back ≡ i * size back + size back = omega arith in
       let zeros = is_index-zeros back (nonempty_from_index back rest parts.1) in
-      record { within = and_from _ _ (lt-ltb (i + 1) len more) zeros; ranks = omega (arith, full, first, one) }
+      record { within = and_from _ _ (lt-ltb (i + 1) len more) zeros; flat_indices = omega (arith, full, first, one) }
   stepped [] (j ∷ index) count here = absurd (omega arith)
   stepped (n ∷ front) [] count here = absurd (omega arith)
   stepped (n ∷ front) (j ∷ index) count here =
       let parts = and_parts (nat_lt j n) (is_index (front ++ len ∷ back) (index ++ i ∷ rest)) here in
       let later = stepped front index (omega arith) parts.1 in
-      record { within = and_from _ _ parts.0 later.within; ranks = omega (arith, later.ranks) }
+      record { within = and_from _ _ parts.0 later.within; flat_indices = omega (arith, later.flat_indices) }
 
--- the index that the step makes is the one of the next rank
+-- the index that the step makes is the one of the next flat index
 next_is : {shape old new : List ℕ} → IsStepped shape old new
-    → (rank shape old + 1 < size shape) × (new ≡ index_of_rank shape (rank shape old + 1))
+    → (flat_index shape old + 1 < size shape) × (new ≡ index_of_flat shape (flat_index shape old + 1))
 next_is {shape = shape} {new = new} step = (
-  omega (arith, step.ranks, rank-lt-size shape new step.within),
-  sym (ap (index_of_rank shape) (sym step.ranks) ∙ index_of_rank-rank shape new step.within),
+  omega (arith, step.flat_indices, flat_index-lt-size shape new step.within),
+  sym (ap (index_of_flat shape) (sym step.flat_indices) ∙ index_of_flat-flat_index shape new step.within),
 )
 
 parts_of : (xs : List ℕ) (k : ℕ) → k < length xs → xs ≡ take k xs ++ get_or xs k 0 ∷ drop (k + 1) xs
@@ -50,7 +50,7 @@ parts_of xs k below = sym (take-append-drop k xs) ∙ ap (λ ys. take k xs ++ ys
 pub record IsTurnedFrom (axis : ℕ) (shape old index : List ℕ) : Type 0 where
   here : is_index shape old ≡ true
   written : index ≡ take axis old ++ replicate (length shape - axis) 0
-  ended : rank (drop axis shape) (drop axis old) + 1 ≡ size (drop axis shape)
+  ended : flat_index (drop axis shape) (drop axis old) + 1 ≡ size (drop axis shape)
 
 pub row_start : (shape old : List ℕ) → is_index shape old ≡ true → IsTurnedFrom (length shape) shape old old
 row_start shape old here =
@@ -61,7 +61,7 @@ row_start shape old here =
     record {
       here = here;
       written = sym (ap (λ n. take (length shape) old ++ replicate n 0) none ∙ append-nil (take (length shape) old) ∙ all);
-      ended = ap (λ xs. rank xs (drop (length shape) old) + 1) no_axes ∙ ap size (sym no_axes);
+      ended = ap (λ xs. flat_index xs (drop (length shape) old) + 1) no_axes ∙ ap size (sym no_axes);
     }
 
 -- at the axis before those
@@ -95,8 +95,8 @@ module _ (k : ℕ) {shape old index : List ℕ} (below : k < length shape) (at :
         here = at.here;
         written = write 0 ∙ ap (λ n. take k old ++ replicate n 0) (sym more);
         ended =
-            ap (λ xs. rank xs (drop k old) + 1) (drop_more shape k 0 below)
-            ∙ ap (λ xs. rank (get_or shape k 0 ∷ drop (k + 1) shape) xs + 1) (drop_more old k 0 in_old)
+            ap (λ xs. flat_index xs (drop k old) + 1) (drop_more shape k 0 below)
+            ∙ ap (λ xs. flat_index (get_or shape k 0 ∷ drop (k + 1) shape) xs + 1) (drop_more old k 0 in_old)
             ∙ omega (arith, at.ended, whole)
             ∙ sym (ap size (drop_more shape k 0 below));
       }
@@ -112,7 +112,7 @@ module _ (k : ℕ) {shape old index : List ℕ} (below : k < length shape) (at :
       subst (λ s. By s old) (sym (parts_of shape k below)) (subst (By _) (sym (parts_of old k in_old)) split) at.here
 
   step : get_or index k 0 + 1 < get_or shape k 0
-      → (rank shape old + 1 < size shape) × (set index k (get_or index k 0 + 1) ≡ index_of_rank shape (rank shape old + 1))
+      → (flat_index shape old + 1 < size shape) × (set index k (get_or index k 0 + 1) ≡ index_of_flat shape (flat_index shape old + 1))
   step more =
       let next = next_is (counted more) in
       let back : replicate {A = ℕ} (length shape - (k + 1)) 0 ≡ replicate (length (drop (k + 1) shape)) 0 =
@@ -132,15 +132,15 @@ module _ {axis : ℕ} {shape old index : List ℕ} (some : 0 < axis) (within : a
     pub row_turn : get_or shape (axis - 1) 0 ≤ get_or index (axis - 1) 0 + 1 → IsTurnedFrom (axis - 1) shape old (set index (axis - 1) 0)
     row_turn last = turned (axis - 1) (omega arith) before last
 
-    -- another one is counted up, to the index of the next rank
+    -- another one is counted up, to the index of the next flat index
     pub row_step : get_or index (axis - 1) 0 + 1 < get_or shape (axis - 1) 0
-        → (rank shape old + 1 < size shape)
-        × (set index (axis - 1) (get_or index (axis - 1) 0 + 1) ≡ index_of_rank shape (rank shape old + 1))
+        → (flat_index shape old + 1 < size shape)
+        × (set index (axis - 1) (get_or index (axis - 1) 0 + 1) ≡ index_of_flat shape (flat_index shape old + 1))
     row_step more = step (axis - 1) (omega arith) before more
 
 -- where all have turned, this was the last index and is the first
 pub row_end : {axis : ℕ} {shape old index : List ℕ} → axis ≡ 0 → IsTurnedFrom axis shape old index
-    → (rank shape old + 1 ≡ size shape) × (index ≡ replicate (length shape) 0)
+    → (flat_index shape old + 1 ≡ size shape) × (index ≡ replicate (length shape) 0)
 row_end {shape = shape} {old = old} {index = index} all at =
     let whole : IsTurnedFrom 0 shape old index = subst (λ n. IsTurnedFrom n shape old index) all at in
     let count : length shape - 0 ≡ length shape = omega arith in
@@ -193,10 +193,10 @@ module _ {axis : ℕ} {shape old index : List ℕ} (below : axis < length shape)
         turned = subst (λ n. Turned n (reverse (set index axis 0))) next (subst (Turned _) (put 0) moved);
       }
 
-  -- another one is counted up, to the index of the next rank
+  -- another one is counted up, to the index of the next flat index
   pub column_step : get_or index axis 0 + 1 < get_or shape axis 0
-      → (rank_in ColumnMajor shape old + 1 < size shape)
-      × (set index axis (get_or index axis 0 + 1) ≡ index_of_rank_in ColumnMajor shape (rank_in ColumnMajor shape old + 1))
+      → (flat_index_in ColumnMajor shape old + 1 < size shape)
+      × (set index axis (get_or index axis 0 + 1) ≡ index_of_flat_in ColumnMajor shape (flat_index_in ColumnMajor shape old + 1))
   column_step more =
       let next = row_step some within at.turned (omega (arith, more, read shape refl, read index at.count)) in
       let entry = read index at.count in (
@@ -207,7 +207,7 @@ module _ {axis : ℕ} {shape old index : List ℕ} (below : axis < length shape)
 
 -- where all have turned, this was the last index and is the first
 pub column_end : {axis : ℕ} {shape old index : List ℕ} → axis ≡ length shape → IsTurnedTo axis shape old index
-    → (rank_in ColumnMajor shape old + 1 ≡ size shape) × (index ≡ replicate (length shape) 0)
+    → (flat_index_in ColumnMajor shape old + 1 ≡ size shape) × (index ≡ replicate (length shape) 0)
 column_end {shape = shape} {index = index} all at =
     let last = row_end (omega arith) at.turned in (
       last.0 ∙ size-reverse shape,

@@ -8,7 +8,7 @@ pub use Rattle.nd_base.specs.Dim
 pub use Rattle.nd_base.specs.Indices
 pub use Rattle.nd_base.specs.Lengths
 pub use Rattle.nd_base.specs.Offset
-pub use Rattle.nd_base.specs.Rank
+pub use Rattle.nd_base.specs.FlatIndex
 pub use Rattle.nd_base.specs.Reach
 pub use Rattle.nd_base.specs.Signed
 pub use Rattle.nd_base.specs.Size

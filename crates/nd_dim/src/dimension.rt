@@ -7,7 +7,7 @@ ghost use Rattle.nd_base.specs.Dim.{lengths};
 ghost use Rattle.nd_base.specs.Indices.{is_index};
 ghost use Rattle.nd_base.specs.Lengths.{IsCount, NeedsNoMemory, default_count};
 ghost use Rattle.nd_base.specs.Offset.{offset_of, checked_offset};
-ghost use Rattle.nd_base.specs.Rank.{rank, rank_in, index_of_rank, index_of_rank_in};
+ghost use Rattle.nd_base.specs.FlatIndex.{flat_index, flat_index_in, index_of_flat, index_of_flat_in};
 ghost use Rattle.nd_base.specs.Reach.{farthest_offset};
 ghost use Rattle.nd_base.specs.Signed.{all_signed};
 ghost use Rattle.nd_base.specs.Size.{size, nonzero_size, is_empty, limit};
@@ -193,10 +193,12 @@ pub trait Dimension: Lengths + Arithmetic + Scale {
         Self: Sized,
         requires { is_index (Self.list self.now) (Self.list index) ≡ true }
         ensures { option_map Self.list result ≡
-            (if nat_lt (rank (Self.list self.now) (Self.list index) + 1) (size (Self.list self.now))
-            then Some (index_of_rank
+            (if nat_lt
+            (flat_index (Self.list self.now) (Self.list index) + 1)
+            (size (Self.list self.now))
+            then Some (index_of_flat
             (Self.list self.now)
-            (rank (Self.list self.now) (Self.list index) + 1))
+            (flat_index (Self.list self.now) (Self.list index) + 1))
             else None) }
     {
         let mut next = index;
@@ -220,14 +222,14 @@ pub trait Dimension: Lengths + Arithmetic + Scale {
     final fn next_for_f(&self, index: &mut Self) -> bool
         requires { is_index (Self.list self.now) (Self.list index.old) ≡ true }
         ensures more { IsTrue result
-            ↔ (rank_in ColumnMajor (Self.list self.now) (Self.list index.old) + 1
+            ↔ (flat_index_in ColumnMajor (Self.list self.now) (Self.list index.old) + 1
             < size (Self.list self.now)) }
         ensures next { Self.list index.new ≡
             (if result
-            then index_of_rank_in
+            then index_of_flat_in
             ColumnMajor
             (Self.list self.now)
-            (rank_in ColumnMajor (Self.list self.now) (Self.list index.old) + 1)
+            (flat_index_in ColumnMajor (Self.list self.now) (Self.list index.old) + 1)
             else replicate (length (Self.list self.now)) 0) }
     {
         step_by_columns(self.slice(), index.slice_mut())

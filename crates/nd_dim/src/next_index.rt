@@ -2,7 +2,7 @@
 ghost use Rattle.std.specs.Prelude.{◌≡◌, ◌+◌, ◌<◌, ◌↔◌, if◌then◌else◌, true, length, replicate, IsTrue};
 ghost use Rattle.nd_base.specs.declared.order.Order.TheVariants.{ColumnMajor};
 ghost use Rattle.nd_base.specs.Indices.{is_index};
-ghost use Rattle.nd_base.specs.Rank.{rank, index_of_rank, rank_in, index_of_rank_in};
+ghost use Rattle.nd_base.specs.FlatIndex.{flat_index, index_of_flat, flat_index_in, index_of_flat_in};
 ghost use Rattle.nd_base.specs.Size.{size};
 
 /// Moves an index of a shape to the next one in row-major order, where the last axis moves fastest,
@@ -16,9 +16,9 @@ ghost use Rattle.nd_base.specs.Size.{size};
 #[inline(always)]
 pub fn step_by_rows(shape: &[usize], index: &mut [usize]) -> bool
     requires { is_index shape.now index.old ≡ true }
-    ensures more { IsTrue result ↔ (rank shape.now index.old + 1 < size shape.now) }
+    ensures more { IsTrue result ↔ (flat_index shape.now index.old + 1 < size shape.now) }
     ensures next { index.new ≡ (if result
-        then index_of_rank shape.now (rank shape.now index.old + 1)
+        then index_of_flat shape.now (flat_index shape.now index.old + 1)
         else replicate (length shape.now) 0) }
 {
     // (the coordinate is written before it is known to be the one: loops run in half the time so)
@@ -46,9 +46,12 @@ pub fn step_by_rows(shape: &[usize], index: &mut [usize]) -> bool
 pub fn step_by_columns(shape: &[usize], index: &mut [usize]) -> bool
     requires { is_index shape.now index.old ≡ true }
     ensures more { IsTrue result
-        ↔ (rank_in ColumnMajor shape.now index.old + 1 < size shape.now) }
+        ↔ (flat_index_in ColumnMajor shape.now index.old + 1 < size shape.now) }
     ensures next { index.new ≡ (if result
-        then index_of_rank_in ColumnMajor shape.now (rank_in ColumnMajor shape.now index.old + 1)
+        then index_of_flat_in
+        ColumnMajor
+        shape.now
+        (flat_index_in ColumnMajor shape.now index.old + 1)
         else replicate (length shape.now) 0) }
 {
     for (axis, len) in shape.iter().enumerate() {

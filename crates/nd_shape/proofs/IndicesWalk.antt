@@ -6,10 +6,11 @@ use Rattle.std.specs.Prelude.{nat_lt, IsTrue}
 use Rattle.std.proofs.lemmas.Bool.{eqb-false, ltb-true, ltb-false}
 use Rattle.nd_base.specs.declared.dim.Dim.{Dim}
 use Rattle.nd_base.specs.declared.order.Order.{Order}
-use Rattle.nd_base.proofs.laws.Definitions.{lengths, rewritten, is_index, index_of_rank_in, rank_in, is_empty, size}
+use Rattle.nd_base.proofs.laws.Definitions.{lengths, rewritten, is_index, index_of_flat_in, flat_index_in, is_empty, size}
 use Rattle.nd_base.proofs.laws.Dim.{lengths_rewritten}
 use Rattle.nd_base.proofs.laws.IsIndex.{is_index-zeros, length_of_index}
-use Rattle.nd_base.proofs.laws.Rank.{index_of_rank_in-rank_in, is_index-index_of_rank_in, rank_in-index_of_rank_in, rank_in-zeros}
+use Rattle.nd_base.proofs.laws.FlatIndex.{index_of_flat_in-flat_index_in, is_index-index_of_flat_in, flat_index_in-index_of_flat_in}
+use Rattle.nd_base.proofs.laws.FlatIndex.{flat_index_in-zeros}
 use Rattle.nd_base.proofs.laws.Size.{size_of_empty}
 use Rattle.nd_shape.specs.IndicesLeft.{indices_left, StandsAt, StandsAtFirst, StandsAfter}
 use Rattle.nd_shape.proofs.laws.IndicesLeft.{indices_left-more, indices_left-none}
@@ -32,19 +33,19 @@ module _ (order : Order) (shape : List ℕ) where
         within = omega arith;
         first = λ h.
             let is = is_index-zeros shape (nonempty shape (omega arith)) in
-            e h ∙ sym (index_of_rank_in-rank_in order shape zeros is)
-            ∙ ap (index_of_rank_in order shape) (rank_in-zeros order shape ∙ none);
+            e h ∙ sym (index_of_flat_in-flat_index_in order shape zeros is)
+            ∙ ap (index_of_flat_in order shape) (flat_index_in-zeros order shape ∙ none);
       }
 
   -- where one is left, the walk stands at an index,
   pub stands_at_index : (index : List ℕ) (n : ℕ) → 0 < n → StandsAt order shape n index → is_index shape index ≡ true
   stands_at_index index n h s =
-      ap (is_index shape) (s.first h) ∙ is_index-index_of_rank_in order shape (size shape - n) (omega (arith, s.within))
+      ap (is_index shape) (s.first h) ∙ is_index-index_of_flat_in order shape (size shape - n) (omega (arith, s.within))
 
-  -- whose rank is how many came before
-  pub rank_here : (index : List ℕ) (n : ℕ) → 0 < n → StandsAt order shape n index → rank_in order shape index ≡ size shape - n
-  rank_here index n h s =
-      ap (rank_in order shape) (s.first h) ∙ rank_in-index_of_rank_in order shape (size shape - n) (omega (arith, s.within))
+  -- whose flat index is how many came before
+  pub flat_index_here : (index : List ℕ) (n : ℕ) → 0 < n → StandsAt order shape n index → flat_index_in order shape index ≡ size shape - n
+  flat_index_here index n h s =
+      ap (flat_index_in order shape) (s.first h) ∙ flat_index_in-index_of_flat_in order shape (size shape - n) (omega (arith, s.within))
 
   -- what it gives is the first of those left
   pub gives : {index item : List ℕ} {n : ℕ} {left : List (List ℕ)} → 0 < n → StandsAt order shape n index → item ≡ index
@@ -56,17 +57,17 @@ module _ (order : Order) (shape : List ℕ) where
   pub gives_none : (n : ℕ) (left : List (List ℕ)) → n ≡ 0 → indices_left order shape n ≡ left → left ≡ []
   gives_none n left z is = sym is ∙ ap (indices_left order shape) z ∙ indices_left-none order shape
 
-  -- after it the walk stands at the index of the next rank, if there is one
+  -- after it the walk stands at the index of the next flat index, if there is one
   pub goes_on : (index next : List ℕ) (n : ℕ) → 0 < n → StandsAt order shape n index
-      → (rank_in order shape index + 1 < size shape → next ≡ index_of_rank_in order shape (rank_in order shape index + 1))
+      → (flat_index_in order shape index + 1 < size shape → next ≡ index_of_flat_in order shape (flat_index_in order shape index + 1))
       → StandsAt order shape (n - 1) next
   goes_on index next n h s e =
-      let here = rank_here index n h s in
+      let here = flat_index_here index n h s in
       record {
         within = omega (arith, s.within);
         first = λ more.
-            let after : rank_in order shape index + 1 ≡ size shape - (n - 1) = omega (arith, s.within) in
-            e (omega (arith, s.within)) ∙ ap (index_of_rank_in order shape) after;
+            let after : flat_index_in order shape index + 1 ≡ size shape - (n - 1) = omega (arith, s.within) in
+            e (omega (arith, s.within)) ∙ ap (index_of_flat_in order shape) after;
       }
 
 -- ---- what a walk stands at, if anything
@@ -95,32 +96,38 @@ module _ (order : Order) (shape : List ℕ) where
       → (0 < n) × StandsAt order shape n index
   stands_at index n flag s e = subst (λ b. StandsAtFirst order shape n (cond b (Some index) None)) e s
 
-  -- after an index it stands at the one of the next rank, if a step says that there is one
+  -- after an index it stands at the one of the next flat index, if a step says that there is one
   pub goes_on_to : {index : List ℕ} (next : List ℕ) {n : ℕ} (more : Bool) → 0 < n → StandsAt order shape n index
-      → (IsTrue more ↔ (rank_in order shape index + 1 < size shape))
-      → next ≡ cond more (index_of_rank_in order shape (rank_in order shape index + 1)) (replicate (length shape) 0)
+      → (IsTrue more ↔ (flat_index_in order shape index + 1 < size shape))
+      → next ≡ cond more (index_of_flat_in order shape (flat_index_in order shape index + 1)) (replicate (length shape) 0)
       → StandsAtFirst order shape (n - 1) (cond more (Some next) None)
   goes_on_to {index = index} next {n = n} true h s is e =
-      let more : rank_in order shape index + 1 < size shape = is.0 refl in
-      (omega (arith, rank_here order shape index n h s), goes_on order shape index next n h s (λ _. e))
+      let more : flat_index_in order shape index + 1 < size shape = is.0 refl in
+      (omega (arith, flat_index_here order shape index n h s), goes_on order shape index next n h s (λ _. e))
   goes_on_to {index = index} next {n = n} false h s is e = ended n refl
     where
       ended : (k : ℕ) → k ≡ n → n - 1 ≡ 0
-      ended k z = by (nat_lt (rank_in order shape index + 1) (size shape)) refl
+      ended k z = by (nat_lt (flat_index_in order shape index + 1) (size shape)) refl
         where
-          by : (b : Bool) → nat_lt (rank_in order shape index + 1) (size shape) ≡ b → n - 1 ≡ 0
-          by true t = absurd (wrong (is.1 (ltb-true (rank_in order shape index + 1) (size shape) t)))
+          by : (b : Bool) → nat_lt (flat_index_in order shape index + 1) (size shape) ≡ b → n - 1 ≡ 0
+          by true t = absurd (wrong (is.1 (ltb-true (flat_index_in order shape index + 1) (size shape) t)))
             where
               wrong : IsTrue false → ⊥
               wrong g = absurd (cc)
-          by false t = omega (arith, s.within, rank_here order shape index n h s, ltb-false (rank_in order shape index + 1) (size shape) t)
+          by false t = omega (
+            arith,
+            s.within,
+            flat_index_here order shape index n h s,
+            ltb-false (flat_index_in order shape index + 1)
+                (size shape) t,
+          )
 
 -- ---- a cursor, which moves on before it lends
 module _ (order : Order) (shape : List ℕ) where
   -- after the index that was lent last it stands at the next one
   pub moves_on : (index next : List ℕ) (n : ℕ) (more : Bool) → StandsAt order shape (n + 1) index
-      → (IsTrue more ↔ (rank_in order shape index + 1 < size shape))
-      → next ≡ cond more (index_of_rank_in order shape (rank_in order shape index + 1)) (replicate (length shape) 0)
+      → (IsTrue more ↔ (flat_index_in order shape index + 1 < size shape))
+      → next ≡ cond more (index_of_flat_in order shape (flat_index_in order shape index + 1)) (replicate (length shape) 0)
       → StandsAt order shape n next
   moves_on index next n more s is e =
       let same : n + 1 - 1 ≡ n = omega arith in
@@ -128,8 +135,8 @@ module _ (order : Order) (shape : List ℕ) where
       (goes_on order shape index next (n + 1) (omega arith) s (λ within. taken more (is.1 within) e))
     where
       taken : (b : Bool) → IsTrue b
-          → next ≡ cond b (index_of_rank_in order shape (rank_in order shape index + 1)) (replicate (length shape) 0)
-          → next ≡ index_of_rank_in order shape (rank_in order shape index + 1)
+          → next ≡ cond b (index_of_flat_in order shape (flat_index_in order shape index + 1)) (replicate (length shape) 0)
+          → next ≡ index_of_flat_in order shape (flat_index_in order shape index + 1)
       taken true t g = g
       taken false t g = absurd (cc)
 
@@ -148,8 +155,8 @@ module _ (order : Order) (shape : List ℕ) where
 
   -- where the step writes to a dimension, it keeps the count of its entries
   pub moved_kept : {next : List ℕ} (kept : Dim (List ℕ)) (n : ℕ) (more : Bool) → StandsAt order shape (n + 1) (lengths kept)
-      → (IsTrue more ↔ (rank_in order shape (lengths kept) + 1 < size shape))
-      → next ≡ cond more (index_of_rank_in order shape (rank_in order shape (lengths kept) + 1)) (replicate (length shape) 0)
+      → (IsTrue more ↔ (flat_index_in order shape (lengths kept) + 1 < size shape))
+      → next ≡ cond more (index_of_flat_in order shape (flat_index_in order shape (lengths kept) + 1)) (replicate (length shape) 0)
       → 0 < n → StandsAt order shape n (lengths (rewritten kept next))
   moved_kept {next = next} kept n more s is g h =
       let at = moves_on (lengths kept) next n more s is g in

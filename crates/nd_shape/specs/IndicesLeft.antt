@@ -8,7 +8,7 @@ use Rattle.std.proofs.lemmas.Bool.{both_ways}
 use Rattle.nd_base.specs.declared.order.Order.{Order}
 use Rattle.nd_base.specs.declared.order.Order.TheVariants.{RowMajor, ColumnMajor}
 use Rattle.nd_base.specs.Indices.{indices_in}
-use Rattle.nd_base.specs.Rank.{index_of_rank_in}
+use Rattle.nd_base.specs.FlatIndex.{index_of_flat_in}
 use Rattle.nd_base.specs.Size.{size}
 
 -- the last n of the indices of a shape, in an order
@@ -17,7 +17,7 @@ indices_left order shape n = drop (size shape - n) (indices_in order shape)
 
 -- the first of the last n indices of a shape, in an order
 abbrev pub first_left : Order → List ℕ → ℕ → List ℕ
-first_left order shape n = index_of_rank_in order shape (size shape - n)
+first_left order shape n = index_of_flat_in order shape (size shape - n)
 
 -- n indices of the shape are left in an order, and where n isn't 0, this is the first of them
 pub record StandsAt (order : Order) (shape : List ℕ) (n : ℕ) (index : List ℕ) : Type 0 where

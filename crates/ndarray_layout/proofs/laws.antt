@@ -25,7 +25,7 @@ pub use Rattle.nd_base.proofs.laws.NonzeroSize
 pub use Rattle.nd_base.proofs.laws.Offset
 pub use Rattle.nd_base.proofs.laws.Options
 pub use Rattle.nd_base.proofs.laws.Place
-pub use Rattle.nd_base.proofs.laws.Rank
+pub use Rattle.nd_base.proofs.laws.FlatIndex
 pub use Rattle.nd_base.proofs.laws.Reach
 pub use Rattle.nd_base.proofs.laws.Reading
 pub use Rattle.nd_base.proofs.laws.Signed

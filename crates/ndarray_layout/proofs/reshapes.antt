@@ -9,7 +9,7 @@ pub mod Joins
 pub mod Members
 pub mod Ones
 pub mod Products
-pub mod Ranks
+pub mod FlatIndices
 pub mod Reached
 pub mod Splits
 pub mod Tails

@@ -24,7 +24,7 @@ pub use Rattle.nd_base.specs.Lengths
 pub use Rattle.nd_base.specs.Offset
 pub use Rattle.nd_base.specs.Order
 pub use Rattle.nd_base.specs.Place
-pub use Rattle.nd_base.specs.Rank
+pub use Rattle.nd_base.specs.FlatIndex
 pub use Rattle.nd_base.specs.Reach
 pub use Rattle.nd_base.specs.Reading
 pub use Rattle.nd_base.specs.ShapeFault

@@ -9,7 +9,7 @@ use Rattle.nd_base.specs.declared.error.LayoutError.TheVariants.{Shape, Memory}
 use Rattle.nd_base.specs.declared.order.Order.{Order}
 use Rattle.nd_base.specs.declared.order.Order.TheVariants.{RowMajor, ColumnMajor}
 use Rattle.nd_base.specs.Lengths.{NeedsNoMemory}
-use Rattle.nd_base.specs.Rank.{index_of_rank_in, rank_in}
+use Rattle.nd_base.specs.FlatIndex.{index_of_flat_in, flat_index_in}
 use Rattle.nd_base.specs.Size.{is_empty, nonzero_size, limit}
 use Rattle.ndarray_layout.specs.reshape.ForcedStrides.{forced_strides}
 use Rattle.ndarray_layout.specs.reshape.Keeps.{Keeps}
@@ -55,7 +55,7 @@ reshape_of order shape view = record {
 
 -- which index of a view of a shape an index of another shape stands for: the one before which as many come in the order
 abbrev pub reshape_source : Order → List ℕ → List ℕ → List ℕ → List ℕ
-reshape_source order view_shape shape index = index_of_rank_in order view_shape (rank_in order shape index)
+reshape_source order view_shape shape index = index_of_flat_in order view_shape (flat_index_in order shape index)
 
 -- examples
 abbrev two_by_three : View

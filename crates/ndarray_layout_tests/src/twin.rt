@@ -1,6 +1,6 @@
 //! Layouts of no more than three axes, each of at most 4 entries with a stride of at most 4 in magnitude, under every
-//! shape of as many such axes: the strides are the differences of places by rank, and are compared with them at every
-//! rank; where the sizes differ, joints are looked at one by one.
+//! shape of as many such axes: the strides are the differences of places by flat index, and are compared with them at
+//! every flat index; where the sizes differ, joints are looked at one by one.
 //!
 //! Axes stand in the order in which they are read, so that of one shape in both orders two lists are made.
 use crate::reshapes::reshaped;
@@ -49,9 +49,9 @@ fn size(axes: &[Axis]) -> isize {
     size
 }
 
-/// How far the index of a rank lies from the first one.
-fn place(axes: &[Axis], rank: isize) -> isize {
-    let (mut rest, mut place) = (rank, 0isize);
+/// How far the index of a flat index lies from the first one.
+fn place(axes: &[Axis], flat_index: isize) -> isize {
+    let (mut rest, mut place) = (flat_index, 0isize);
     for axis in axes.iter().rev() {
         let entry = rest.checked_rem(axis.len).unwrap_or(0);
         place = place.wrapping_add(entry.wrapping_mul(axis.stride));
@@ -116,10 +116,10 @@ fn forced(from: &[Axis], to: &[Axis]) -> [Axis; 3] {
     new
 }
 
-/// Whether two layouts of a size have the same places at every rank.
+/// Whether two layouts of a size have the same places at every flat index.
 fn keep(from: &[Axis], new: &[Axis]) -> bool {
-    for rank in 0..size(from) {
-        if place(from, rank) != place(new, rank) {
+    for flat_index in 0..size(from) {
+        if place(from, flat_index) != place(new, flat_index) {
             return false;
         }
     }

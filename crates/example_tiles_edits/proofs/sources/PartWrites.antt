@@ -21,12 +21,12 @@ use Rattle.ndarray_layout.specs.ArgumentFault.{argument_fault}
 use Rattle.ndarray_layout.specs.Indices.{indices_in, is_index}
 use Rattle.ndarray_layout.specs.Meet.{Meet}
 use Rattle.ndarray_layout.specs.Picks.{picks, slice_with}
-use Rattle.ndarray_layout.specs.Rank.{rank}
+use Rattle.ndarray_layout.specs.FlatIndex.{flat_index}
 use Rattle.ndarray_layout.specs.Size.{size}
 use Rattle.ndarray_layout.specs.Sliced.{sliced_shape}
 use Rattle.ndarray_layout.specs.SlicedView.{slice_of}
 use Rattle.ndarray_layout.specs.View.{IsView, View, place_at, view_places}
-use Rattle.ndarray_layout.proofs.laws.Rank.{slice_get-rank_in}
+use Rattle.ndarray_layout.proofs.laws.FlatIndex.{slice_get-flat_index_in}
 use Rattle.ndarray_layout.proofs.laws.SlicedView.{Descends-slice_of}
 use Rattle.ndarray_layout.proofs.laws.View.{length-view_places}
 use Rattle.nd_owned.specs.Owned.{Owned, item_at_place}
@@ -41,7 +41,7 @@ use Rattle.example_tiles_edits.specs.Slices.{index_of, shape_of, whole_view}
 use Rattle.example_tiles_edits.proofs.sources.Axes.{IsPick, back_over, of_span}
 use Rattle.example_tiles_edits.proofs.sources.Cuts.{CanCut, IsCut, is_in, is_part, mirrored_below}
 use Rattle.example_tiles_edits.proofs.sources.EditSteps.{element_of, left, no_fault, pick_within, stands_for}
-use Rattle.example_tiles_edits.proofs.sources.Pixels.{is_index_of, pixel_within, place_of_whole, rank_of}
+use Rattle.example_tiles_edits.proofs.sources.Pixels.{is_index_of, pixel_within, place_of_whole, flat_index_of}
 
 -- ---- what a part picks of the rows and of the columns
 abbrev slice_of_span : Span → ℤ → Slice
@@ -84,7 +84,7 @@ part_shape extent count number can below = let pick = picks_of extent count numb
 mirrored_shape : (extent : Extent) (count number : ℕ) → CanCut extent count → number < count * count → sliced_shape Strict (mirrored_elements (part_of extent count number)) (shape_of extent) ≡ extent.rows / count ∷ extent.columns / count ∷ []
 mirrored_shape extent count number can below = let pick = picks_of extent count number can below in left _ _ _ _ _ _ _ _ pick.rows pick.turned
 
--- ---- the place that a slice has at a rank
+-- ---- the place that a slice has at a flat index
 picked_at : (extent : Extent) (one other : Slice) (r c i j : ℕ) (f g : ℕ → ℕ) → IsView (whole_view extent) → IsPick extent.rows one r f → IsPick extent.columns other c g → i < r → j < c
     → slice_get (view_places RowMajor (slice_of Strict (element_of one ∷ element_of other ∷ []) (whole_view extent))) (i * c + j) ≡ Some (pos (f i * extent.columns + g j))
 picked_at extent one other r c i j f g is_view first second below right =
@@ -97,11 +97,11 @@ picked_at extent one other r c i j f g is_view first second below right =
     let inside : IsWithin extent from = record { row_below = pick_within extent.rows one r f i first below; column_below = pick_within extent.columns other c g j second right } in
     let shape : view.shape ≡ shape_of extent_left = left extent.rows extent.columns one other r c f g first second in
     let is : is_index view.shape (index_of at) ≡ true = ap (λ s. is_index s (index_of at)) shape ∙ is_index_of extent_left at within in
-    let ranks : rank view.shape (index_of at) ≡ i * c + j = ap (λ s. rank s (index_of at)) shape ∙ rank_of extent_left at in
+    let flat_indices : flat_index view.shape (index_of at) ≡ i * c + j = ap (λ s. flat_index s (index_of at)) shape ∙ flat_index_of extent_left at in
     let kept = (Descends-slice_of Strict elements (whole_view extent) is_view (no_fault extent.rows extent.columns one other r c f g first second)).places (index_of at) is in
-    ap (slice_get (view_places RowMajor view)) (sym ranks)
-    ∙ slice_get-map (place_at view) (indices_in RowMajor view.shape) (rank view.shape (index_of at))
-    ∙ ap (option_map (place_at view)) (slice_get-rank_in RowMajor view.shape (index_of at) is)
+    ap (slice_get (view_places RowMajor view)) (sym flat_indices)
+    ∙ slice_get-map (place_at view) (indices_in RowMajor view.shape) (flat_index view.shape (index_of at))
+    ∙ ap (option_map (place_at view)) (slice_get-flat_index_in RowMajor view.shape (index_of at) is)
     ∙ ap (λ (z : ℤ). Some z) (kept.1 ∙ ap (place_at (whole_view extent)) (stands_for extent.rows extent.columns one other r c i j f g first second below right) ∙ place_of_whole extent from inside)
 
 item_of : (stored : List ℕ) (places : List ℤ) (k place : ℕ) → slice_get places k ≡ Some (pos place) → slice_get (map (item_at_place stored) places) k ≡ Some (slice_get stored place)
@@ -220,13 +220,13 @@ part_pixel : (extent : Extent) (count k i j : ℕ) (items new : List ℕ) (write
     → slice_get new ((extent.rows / count * (k / count) + i) * extent.columns + (extent.columns / count * (k % count) + j))
     ≡ slice_get items ((extent.rows / count * (k / count) + i) * extent.columns + (extent.columns / count * (k % count + 1) - 1 - j))
 part_pixel extent count k i j items new write is_view pick is written below right =
-    let rank_there = i * (extent.columns / count) + j in
+    let flat_index_there = i * (extent.columns / count) + j in
     let same : map (item_at_place new) (view_places RowMajor (slice_of Strict (elements_of_part (part_of extent count k)) (whole_view extent))) ≡ picked_pixels (record { items = items; view = whole_view extent }) (mirrored_elements (part_of extent count k)) =
     ap (λ elements. map (item_at_place new) (view_places RowMajor (slice_of Strict elements (whole_view extent)))) (sym is.slice) ∙ written ∙ is.pixels in
     same_some _ _
-    (sym (item_of new _ rank_there _ (picked_at extent _ _ _ _ i j _ _ is_view pick.rows pick.columns below right))
-    ∙ ap (λ (xs : List (Option ℕ)). slice_get xs rank_there) same
-    ∙ item_of items _ rank_there _ (picked_at extent _ _ _ _ i j _ _ is_view pick.rows pick.turned below right))
+    (sym (item_of new _ flat_index_there _ (picked_at extent _ _ _ _ i j _ _ is_view pick.rows pick.columns below right))
+    ∙ ap (λ (xs : List (Option ℕ)). slice_get xs flat_index_there) same
+    ∙ item_of items _ flat_index_there _ (picked_at extent _ _ _ _ i j _ _ is_view pick.rows pick.turned below right))
 
 pub mirrored_pixel : (extent : Extent) (count : ℕ) (items new : List ℕ) (writes : List (Write ℕ)) (at : Position) → IsView (whole_view extent) → CanCut extent count → AreMirrored (record { items = items; view = whole_view extent }) extent count writes
     → All (IsWritten (whole_view extent) new) writes → IsWithin extent at

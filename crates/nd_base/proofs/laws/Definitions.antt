@@ -6,7 +6,7 @@ pub use Rattle.nd_base.specs.Inside.{IsInside, LiesInside}
 pub use Rattle.nd_base.specs.Lengths.{IsCount, NeedsNoMemory}
 pub use Rattle.nd_base.specs.Offset.{checked_offset, offset_of}
 pub use Rattle.nd_base.specs.Place.{place, places}
-pub use Rattle.nd_base.specs.Rank.{index_of_rank, index_of_rank_in, rank, rank_in}
+pub use Rattle.nd_base.specs.FlatIndex.{index_of_flat, index_of_flat_in, flat_index, flat_index_in}
 pub use Rattle.nd_base.specs.Reach.{farthest_offset}
 pub use Rattle.nd_base.specs.Reading.{as_read}
 pub use Rattle.nd_base.specs.ShapeFault.{shape_fault}

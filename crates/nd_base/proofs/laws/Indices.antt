@@ -11,11 +11,12 @@ use Rattle.std.proofs.lemmas.Option.{get_or_from_slice_get}
 use Rattle.nd_base.specs.declared.order.Order.{Order}
 use Rattle.nd_base.specs.declared.order.Order.TheVariants.{RowMajor, ColumnMajor}
 use Rattle.nd_base.proofs.laws.Definitions.{below, indices, indices_column_major, indices_in, is_index}
-use Rattle.nd_base.proofs.laws.Definitions.{index_of_rank_in, rank_in, size}
+use Rattle.nd_base.proofs.laws.Definitions.{index_of_flat_in, flat_index_in, size}
 use Rattle.nd_base.proofs.Rows.{length_indices}
 use Rattle.nd_base.proofs.laws.Lists.{map_same}
-use Rattle.nd_base.proofs.laws.Rank.{slice_get-indices_in, is_index-index_of_rank_in, rank_in-index_of_rank_in, rank_in-lt-size}
-use Rattle.nd_base.proofs.laws.Rank.{index_of_rank_in-rank_in}
+use Rattle.nd_base.proofs.laws.FlatIndex.{slice_get-indices_in, is_index-index_of_flat_in, flat_index_in-index_of_flat_in}
+use Rattle.nd_base.proofs.laws.FlatIndex.{flat_index_in-lt-size}
+use Rattle.nd_base.proofs.laws.FlatIndex.{index_of_flat_in-flat_index_in}
 use Rattle.nd_base.proofs.laws.Size.{size-reverse}
 
 -- ---- how many
@@ -35,22 +36,22 @@ length-indices_in ColumnMajor shape = length-indices_column_major shape
 
 -- ---- which
 module _ (order : Order) (shape : List ℕ) where
-  -- the item at place r is the one of rank r
-  pub get_or-indices_in : (r : ℕ) (d : List ℕ) → r < size shape → get_or (indices_in order shape) r d ≡ index_of_rank_in order shape r
+  -- the item at place r is the one of flat index r
+  pub get_or-indices_in : (r : ℕ) (d : List ℕ) → r < size shape → get_or (indices_in order shape) r d ≡ index_of_flat_in order shape r
   get_or-indices_in r d h =
-      get_or_from_slice_get (indices_in order shape) r (index_of_rank_in order shape r) d (slice_get-indices_in order shape r h)
+      get_or_from_slice_get (indices_in order shape) r (index_of_flat_in order shape r) d (slice_get-indices_in order shape r h)
 
-  -- they are the indices of rank 0, 1 and so on, below the size
-  pub indices_in-by_rank : indices_in order shape ≡ map (index_of_rank_in order shape) (below (size shape))
-  indices_in-by_rank =
-      fill_by_all (index_of_rank_in order shape) (indices_in order shape) (size shape) [] (length-indices_in order shape)
+  -- they are the indices of flat index 0, 1 and so on, below the size
+  pub indices_in-by_flat_index : indices_in order shape ≡ map (index_of_flat_in order shape) (below (size shape))
+  indices_in-by_flat_index =
+      fill_by_all (index_of_flat_in order shape) (indices_in order shape) (size shape) [] (length-indices_in order shape)
       (λ k h. get_or-indices_in k [] h)
 
   -- each item is an index of the shape
   pub All-indices_in : All (λ index. is_index shape index ≡ true) (indices_in order shape)
   All-indices_in k d h =
       let below_size : k < size shape = omega (arith, length-indices_in order shape) in
-      ap (is_index shape) (get_or-indices_in k d below_size) ∙ is_index-index_of_rank_in order shape k below_size
+      ap (is_index shape) (get_or-indices_in k d below_size) ∙ is_index-index_of_flat_in order shape k below_size
 
   -- what is in the list is an index of the shape
   pub is_index-from_Contains : (index : List ℕ) → Contains (indices_in order shape) index → is_index shape index ≡ true
@@ -60,12 +61,12 @@ module _ (order : Order) (shape : List ℕ) where
   -- and each index of the shape is in the list
   pub Contains-indices_in : (index : List ℕ) → is_index shape index ≡ true → Contains (indices_in order shape) index
   Contains-indices_in index h =
-      let r = rank_in order shape index in
-      let within = rank_in-lt-size order shape index h in (
+      let r = flat_index_in order shape index in
+      let within = flat_index_in-lt-size order shape index h in (
         r,
         omega (arith, within, length-indices_in order shape),
         get_or-indices_in r index within
-            ∙ index_of_rank_in-rank_in order shape index h,
+            ∙ index_of_flat_in-flat_index_in order shape index h,
       )
 
   -- so the test says exactly what the list contains
@@ -88,9 +89,9 @@ pub AllPairs-indices_in : (order : Order) (shape : List ℕ) → AllPairs (λ in
 AllPairs-indices_in order shape i j d h g e =
     let late : j < size shape = omega (arith, length-indices_in order shape) in
     let early : i < size shape = omega arith in
-    let ranks = sym (rank_in-index_of_rank_in order shape i early)
-    ∙ ap (rank_in order shape) (sym (get_or-indices_in order shape i d early) ∙ e ∙ get_or-indices_in order shape j d late)
-    ∙ rank_in-index_of_rank_in order shape j late in
+    let flat_indices = sym (flat_index_in-index_of_flat_in order shape i early)
+    ∙ ap (flat_index_in order shape) (sym (get_or-indices_in order shape i d early) ∙ e ∙ get_or-indices_in order shape j d late)
+    ∙ flat_index_in-index_of_flat_in order shape j late in
     omega arith
 
 -- ---- one entry more of the first axis

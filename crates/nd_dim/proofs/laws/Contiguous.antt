@@ -13,8 +13,8 @@ use Rattle.std.proofs.lemmas.Int.{ints}
 use Rattle.std.specs.Cmp.Rules.{signed_items}
 use Rattle.nd_base.specs.declared.order.Order.{Order}
 use Rattle.nd_base.specs.declared.order.Order.TheVariants.{RowMajor}
-use Rattle.nd_base.proofs.laws.Definitions.{below, offset_of, places, index_of_rank, rank, magnitude, is_empty, size, low_span}
-use Rattle.nd_base.proofs.laws.Rank.{is_index-index_of_rank, rank-index_of_rank, same_from_rank_in}
+use Rattle.nd_base.proofs.laws.Definitions.{below, offset_of, places, index_of_flat, flat_index, magnitude, is_empty, size, low_span}
+use Rattle.nd_base.proofs.laws.FlatIndex.{is_index-index_of_flat, flat_index-index_of_flat, same_from_flat_index_in}
 use Rattle.nd_dim.specs.AxisOrder.{magnitude_at}
 use Rattle.nd_dim.specs.Contiguous.{has_default_strides, is_contiguous, is_lone_step_back, is_packed, is_packed_at, lens_before}
 use Rattle.nd_dim.specs.OneStretch.{FillsStretch}
@@ -25,29 +25,29 @@ use Rattle.nd_dim.proofs.laws.OneStretch.{places_in_stretch, reaches_from_stretc
 use Rattle.nd_dim.proofs.laws.Strides.{offset_of-default_strides}
 
 -- ---- default strides
-at_rank : (z : ℤ) (r : ℕ) → z ≡ pos r → pos 0 ≤ℤ z
-at_rank z r e = omega (arith, ints)
+at_flat_index : (z : ℤ) (r : ℕ) → z ≡ pos r → pos 0 ≤ℤ z
+at_flat_index z r e = omega (arith, ints)
 
-same_rank : (a b : ℤ) (m n : ℕ) → a ≡ pos m → b ≡ pos n → a ≡ b → m ≡ n
-same_rank a b m n p q e = omega (arith, ints)
+same_flat_index : (a b : ℤ) (m n : ℕ) → a ≡ pos m → b ≡ pos n → a ≡ b → m ≡ n
+same_flat_index a b m n p q e = omega (arith, ints)
 
 from_zero : (k : ℕ) → pos k ≡ pos 0 +ℤ pos k
 from_zero k = omega (arith, ints)
 
--- by the default strides the indices fill a stretch, each at its rank
+-- by the default strides the indices fill a stretch, each at its flat index
 pub stretch_of_default : (lens : List ℕ) → FillsStretch lens (map pos (default_strides lens))
 stretch_of_default lens = record {
   least = pos 0;
-  none_below = λ index h. at_rank (offset_of (map pos (default_strides lens)) index) (rank lens index)
+  none_below = λ index h. at_flat_index (offset_of (map pos (default_strides lens)) index) (flat_index lens index)
       (offset_of-default_strides lens index h);
   filled = λ k h.
-      let index = index_of_rank lens k in
-      let inside = is_index-index_of_rank lens k h in
-      (index, inside, offset_of-default_strides lens index inside ∙ ap pos (rank-index_of_rank lens k h) ∙ from_zero k);
+      let index = index_of_flat lens k in
+      let inside = is_index-index_of_flat lens k h in
+      (index, inside, offset_of-default_strides lens index inside ∙ ap pos (flat_index-index_of_flat lens k h) ∙ from_zero k);
   distinct = λ index other h g e.
-      same_from_rank_in RowMajor lens index other h g
-      (same_rank (offset_of (map pos (default_strides lens)) index) (offset_of (map pos (default_strides lens)) other)
-      (rank lens index) (rank lens other) (offset_of-default_strides lens index h) (offset_of-default_strides lens other g) e);
+      same_from_flat_index_in RowMajor lens index other h g
+      (same_flat_index (offset_of (map pos (default_strides lens)) index) (offset_of (map pos (default_strides lens)) other)
+      (flat_index lens index) (flat_index lens other) (offset_of-default_strides lens index h) (offset_of-default_strides lens other g) e);
 }
 
 -- ---- packed axes

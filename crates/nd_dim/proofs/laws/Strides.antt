@@ -1,4 +1,4 @@
--- Laws of the strides that a shape has by itself: each index lies at its rank.
+-- Laws of the strides that a shape has by itself: each index lies at its flat index.
 use Rattle.std.proofs.Common.{◌≡◌, ℕ, zero, suc, ◌+◌, ◌-◌, ◌<◌, ◌≤◌, pos, ◌+ℤ◌, ◌*ℤ◌, true, false, eqb, List, [], ◌∷◌, ◌++◌, length}
 use Rattle.std.proofs.Common.{get_or, map, take, drop, replicate, reverse, inl, inr, refl, sym, ap, ◌∙◌, arith}
 use Rattle.std.specs.Prelude.{nat_lt}
@@ -8,12 +8,13 @@ use Rattle.std.proofs.lemmas.List.{drop_at, ext_get_or, get_or-replicate, get_or
 use Rattle.std.proofs.lemmas.List.{length-reverse, map-append, reverse-append, reverse-reverse, take-append-drop}
 use Rattle.std.proofs.lemmas.List.FromFn.{length-map-range_with_len, get_or-map-range_with_len}
 use Rattle.nd_base.specs.declared.order.Order.TheVariants.{RowMajor, ColumnMajor}
-use Rattle.nd_base.proofs.laws.Definitions.{below, is_index, offset_of, places, rank, rank_in, is_empty, limit, nonzero_size, size}
+use Rattle.nd_base.proofs.laws.Definitions.{below, is_index, offset_of, places, flat_index, flat_index_in, is_empty, limit, nonzero_size}
+use Rattle.nd_base.proofs.laws.Definitions.{size}
 use Rattle.nd_base.proofs.laws.IsIndex.{is_index-reverse, length_of_index, nonempty_from_index}
 use Rattle.nd_base.proofs.laws.Lists.{map-reverse}
 use Rattle.nd_base.proofs.laws.NonzeroSize.{size_le_nonzero_size}
 use Rattle.nd_base.proofs.laws.Offset.{offset_of-reverse}
-use Rattle.nd_base.proofs.laws.Place.{places_at_ranks}
+use Rattle.nd_base.proofs.laws.Place.{places_at_flat_indices}
 use Rattle.nd_base.proofs.laws.Size.{is_empty-reverse, size-reverse, size_drop_le}
 use Rattle.nd_dim.specs.Strides.{size_after, size_until, default_strides, fortran_strides}
 
@@ -59,9 +60,9 @@ default_cons len lens some =
         ∙ ap (λ a. size (drop a (len ∷ lens))) next
         ∙ sym (default_at lens k (or_parts (eqb len 0) (is_empty lens) some).1 (omega arith))
 
--- the default strides place each index at its rank
+-- the default strides place each index at its flat index
 pub offset_of-default_strides : (shape index : List ℕ) → is_index shape index ≡ true
-    → offset_of (map pos (default_strides shape)) index ≡ pos (rank shape index)
+    → offset_of (map pos (default_strides shape)) index ≡ pos (flat_index shape index)
 offset_of-default_strides [] [] h = refl
 offset_of-default_strides [] (i ∷ index) h = absurd (cc)
 offset_of-default_strides (len ∷ lens) [] h = absurd (cc)
@@ -123,9 +124,9 @@ fortran_by_default shape =
           ∙ size-reverse (take k shape))
     ])
 
--- the strides by columns place each index at its rank by columns
+-- the strides by columns place each index at its flat index by columns
 pub offset_of-fortran_strides : (shape index : List ℕ) → is_index shape index ≡ true
-    → offset_of (map pos (fortran_strides shape)) index ≡ pos (rank_in ColumnMajor shape index)
+    → offset_of (map pos (fortran_strides shape)) index ≡ pos (flat_index_in ColumnMajor shape index)
 offset_of-fortran_strides shape index h =
     let back = map pos (default_strides (reverse shape)) in
     let long = length-map (default_strides (reverse shape)) pos ∙ default_count (reverse shape) ∙ length-reverse shape
@@ -140,10 +141,10 @@ offset_of-fortran_strides shape index h =
 pub places-default_strides : (start : ℕ) (shape : List ℕ)
     → places RowMajor start shape (map pos (default_strides shape)) ≡ map (λ r. pos (start + r)) (below (size shape))
 places-default_strides start shape =
-    places_at_ranks RowMajor start shape (map pos (default_strides shape)) (offset_of-default_strides shape)
+    places_at_flat_indices RowMajor start shape (map pos (default_strides shape)) (offset_of-default_strides shape)
 
 -- by the strides by columns the places by columns follow one another
 pub places-fortran_strides : (start : ℕ) (shape : List ℕ)
     → places ColumnMajor start shape (map pos (fortran_strides shape)) ≡ map (λ r. pos (start + r)) (below (size shape))
 places-fortran_strides start shape =
-    places_at_ranks ColumnMajor start shape (map pos (fortran_strides shape)) (offset_of-fortran_strides shape)
+    places_at_flat_indices ColumnMajor start shape (map pos (fortran_strides shape)) (offset_of-fortran_strides shape)

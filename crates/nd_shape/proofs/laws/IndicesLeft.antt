@@ -20,7 +20,7 @@ module _ (order : Order) (shape : List ℕ) where
   pub indices_left-none : indices_left order shape 0 ≡ []
   indices_left-none = drop_of_length-le (indices_in order shape) (omega (arith, length-indices_in order shape))
 
-  -- of one more than n the first is the index of its rank, and the others are the last n
+  -- of one more than n the first is the index of its flat index, and the others are the last n
   pub indices_left-more : (n : ℕ) → 0 < n → n ≤ size shape
       → indices_left order shape n ≡ first_left order shape n ∷ indices_left order shape (n - 1)
   indices_left-more n h g =

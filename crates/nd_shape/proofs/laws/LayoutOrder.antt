@@ -8,16 +8,16 @@ use Rattle.std.proofs.lemmas.List.{get_or-map, length-map}
 use Rattle.std.proofs.lemmas.List.FromFn.{get_or-map-range_with_len}
 use Rattle.nd_base.specs.declared.order.Order.{Order}
 use Rattle.nd_base.specs.declared.order.Order.TheVariants.{RowMajor, ColumnMajor}
-use Rattle.nd_base.proofs.laws.Definitions.{below, indices_in, is_index, offset_of, place, places, rank_in, is_empty, size}
+use Rattle.nd_base.proofs.laws.Definitions.{below, indices_in, is_index, offset_of, place, places, flat_index_in, is_empty, size}
 use Rattle.nd_base.proofs.laws.Indices.{get_or-indices_in, indices_in_of_empty, length-indices_in}
 use Rattle.nd_base.proofs.laws.IsIndex.{is_index-zeros}
 use Rattle.nd_base.proofs.laws.Offset.{offset_of-zeros}
-use Rattle.nd_base.proofs.laws.Rank.{rank_in-lt-size, index_of_rank_in-rank_in}
+use Rattle.nd_base.proofs.laws.FlatIndex.{flat_index_in-lt-size, index_of_flat_in-flat_index_in}
 use Rattle.nd_base.proofs.laws.Size.{size_of_empty}
 use Rattle.nd_dim.proofs.laws.Strides.{offset_of-default_strides, offset_of-fortran_strides}
 use Rattle.nd_shape.specs.LayoutOrder.{LiesInOrder, MeetsOrderRule}
 use Rattle.nd_shape.specs.ShapeBuilder.{standard_strides}
-use Rattle.nd_base.proofs.laws.Place.{places_at_ranks}
+use Rattle.nd_base.proofs.laws.Place.{places_at_flat_indices}
 use Rattle.nd_shape.proofs.laws.StandardStrides.{offset_of-standard_strides, standard_count}
 
 -- ---- from the rule
@@ -54,21 +54,21 @@ in_order_from_rule order shape strides e (inl none) = empty_in_order order shape
 in_order_from_rule order shape strides e (inr rule) =
     let standard = standard_strides order shape in
     let count = standard_count order shape in
-    λ start. places_at_ranks order start shape strides (λ index h.
+    λ start. places_at_flat_indices order start shape strides (λ index h.
     same_offset shape strides (map pos standard) index (e, length-map standard pos ∙ count) h
     (λ axis l ne. rule axis l ne ∙ sym (get_or-map pos standard axis 0 (pos 0) (omega arith)))
     ∙ offset_of-standard_strides order shape index h)
 
 -- ---- to the rule
--- where the indices lie in order, each lies at its rank
-pub rank_from_in_order : (order : Order) (shape : List ℕ) (strides : List ℤ) → LiesInOrder order shape strides → (index : List ℕ)
-    → is_index shape index ≡ true → offset_of strides index ≡ pos (rank_in order shape index)
-rank_from_in_order order shape strides lies index h =
-    let r = rank_in order shape index in
-    let within : r < size shape = rank_in-lt-size order shape index h in
+-- where the indices lie in order, each lies at its flat index
+pub flat_index_from_in_order : (order : Order) (shape : List ℕ) (strides : List ℤ) → LiesInOrder order shape strides → (index : List ℕ)
+    → is_index shape index ≡ true → offset_of strides index ≡ pos (flat_index_in order shape index)
+flat_index_from_in_order order shape strides lies index h =
+    let r = flat_index_in order shape index in
+    let within : r < size shape = flat_index_in-lt-size order shape index h in
     let xs = indices_in order shape in
     let there = get_or-map (place 0 strides) xs r [] (pos 0) (omega (arith, length-indices_in order shape))
-    ∙ ap (place 0 strides) (get_or-indices_in order shape r [] within ∙ index_of_rank_in-rank_in order shape index h) in
+    ∙ ap (place 0 strides) (get_or-indices_in order shape r [] within ∙ index_of_flat_in-flat_index_in order shape index h) in
     let here = get_or-map-range_with_len (λ n. pos (0 + n)) 0 (size shape) r r (pos 0) within (omega arith) in
     let same = sym there ∙ ap (λ zs. get_or zs r (pos 0)) (lies 0) ∙ here in
     omega (arith, ints, same)
@@ -111,7 +111,7 @@ module _ (order : Order) (shape : List ℕ) (strides : List ℤ) (e : length str
             let index = step_along shape axis in
             let h = is_index-step_along shape axis some l ne in
             sym (offset_of-step_along shape strides axis e l)
-            ∙ rank_from_in_order order shape strides lies index h
+            ∙ flat_index_from_in_order order shape strides lies index h
             ∙ sym (offset_of-standard_strides order shape index h)
             ∙ offset_of-step_along shape (map pos standard) axis (length-map standard pos ∙ count) l
             ∙ get_or-map pos standard axis 0 (pos 0) (omega arith))

@@ -5,11 +5,12 @@ use Rattle.std.proofs.lemmas.Bool.{cases_Bool, cond-true}
 use Rattle.std.proofs.lemmas.List.{length-map, length-reverse}
 use Rattle.nd_base.specs.declared.order.Order.{Order}
 use Rattle.nd_base.specs.declared.order.Order.TheVariants.{RowMajor, ColumnMajor}
-use Rattle.nd_base.proofs.laws.Definitions.{HasDistinctOffsets, LiesInside, IsValidLayout, as_read, below, is_index, offset_of, rank_in}
+use Rattle.nd_base.proofs.laws.Definitions.{HasDistinctOffsets, LiesInside, IsValidLayout, as_read, below, is_index, offset_of}
+use Rattle.nd_base.proofs.laws.Definitions.{flat_index_in}
 use Rattle.nd_base.proofs.laws.Definitions.{all_signed, signed, is_empty, limit, nonzero_size, size, low_span, reach, span}
 use Rattle.nd_base.proofs.laws.Lists.{get_or-from_back}
 use Rattle.nd_base.proofs.laws.NonzeroSize.{size_le_nonzero_size}
-use Rattle.nd_base.proofs.laws.Rank.{rank_in-lt-size, same_from_rank_in}
+use Rattle.nd_base.proofs.laws.FlatIndex.{flat_index_in-lt-size, same_from_flat_index_in}
 use Rattle.nd_base.proofs.laws.Reading.{as_read-as_read, is_empty-as_read, map-as_read, nonzero_size-as_read, sum_over_axes-as_read}
 use Rattle.nd_base.proofs.laws.Signed.{all_signed_small}
 use Rattle.nd_base.proofs.laws.Span.{sum_and_others, sum_over_axes-reverse}
@@ -96,9 +97,9 @@ standard_valid order shape top = record {
 }
 
 -- ---- where the indices lie
--- each at its rank
+-- each at its flat index
 pub offset_of-standard_strides : (order : Order) (shape index : List ℕ) → is_index shape index ≡ true
-    → offset_of (map pos (standard_strides order shape)) index ≡ pos (rank_in order shape index)
+    → offset_of (map pos (standard_strides order shape)) index ≡ pos (flat_index_in order shape index)
 offset_of-standard_strides RowMajor shape index h = offset_of-default_strides shape index h
 offset_of-standard_strides ColumnMajor shape index h = offset_of-fortran_strides shape index h
 
@@ -106,7 +107,7 @@ offset_of-standard_strides ColumnMajor shape index h = offset_of-fortran_strides
 pub standard_inside : (order : Order) (len : ℕ) (shape : List ℕ) → nonzero_size shape ≤ limit → size shape ≤ len
     → LiesInside len 0 shape (all_signed (standard_strides order shape))
 standard_inside order len shape top room index h =
-    let rank : rank_in order shape index < len = omega (arith, rank_in-lt-size order shape index h) in
+    let flat_index : flat_index_in order shape index < len = omega (arith, flat_index_in-lt-size order shape index h) in
     rw (standard_signed order shape top, offset_of-standard_strides order shape index h) (omega arith)
 
 -- and each by itself
@@ -115,8 +116,8 @@ pub standard_distinct : (order : Order) (shape : List ℕ) → nonzero_size shap
 standard_distinct order shape top = rw (standard_signed order shape top) (λ index other h g same.
     let one = offset_of-standard_strides order shape index h in
     let two = offset_of-standard_strides order shape other g in
-    let ranks = sym one ∙ same ∙ two in
-    same_from_rank_in order shape index other h g (cc))
+    let flat_indices = sym one ∙ same ∙ two in
+    same_from_flat_index_in order shape index other h g (cc))
 
 -- ---- the no-alias rule of owned mode
 -- it doesn't ask in which order the axes stand

@@ -3,7 +3,7 @@ ghost use Rattle.std.specs.Prelude.{◌≡◌, ◌+◌, ◌<◌, ◌↔◌, if�
 ghost use Rattle.nd_base.specs.declared.order.Order.{Order};
 ghost use Rattle.nd_base.specs.declared.order.Order.TheVariants.{RowMajor, ColumnMajor};
 ghost use Rattle.nd_base.specs.Indices.{is_index};
-ghost use Rattle.nd_base.specs.Rank.{rank_in, index_of_rank_in};
+ghost use Rattle.nd_base.specs.FlatIndex.{flat_index_in, index_of_flat_in};
 ghost use Rattle.nd_base.specs.Size.{size};
 
 use nd_dim::{step_by_columns, step_by_rows};
@@ -19,9 +19,10 @@ pub trait WalkOrder {
     /// The caller ensures that `index` is an index of the shape.
     fn step(shape: &[usize], index: &mut [usize]) -> bool
         requires { is_index shape.now index.old ≡ true }
-        ensures more { IsTrue result ↔ (rank_in order shape.now index.old + 1 < size shape.now) }
+        ensures more { IsTrue result
+            ↔ (flat_index_in order shape.now index.old + 1 < size shape.now) }
         ensures next { index.new ≡ (if result
-            then index_of_rank_in order shape.now (rank_in order shape.now index.old + 1)
+            then index_of_flat_in order shape.now (flat_index_in order shape.now index.old + 1)
             else replicate (length shape.now) 0) };
 }
 

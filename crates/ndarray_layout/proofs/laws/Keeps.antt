@@ -9,13 +9,13 @@ use Rattle.std.proofs.lemmas.List.FromFn.{fill_by_all, length-map-range_with_len
 use Rattle.nd_base.specs.declared.error.ErrorKind.TheVariants.{IncompatibleShape, IncompatibleLayout}
 use Rattle.nd_base.specs.declared.order.Order.{Order}
 use Rattle.nd_base.specs.declared.order.Order.TheVariants.{RowMajor, ColumnMajor}
-use Rattle.nd_base.proofs.laws.Definitions.{below, indices_in, offset_of, place, places, index_of_rank, index_of_rank_in, as_read}
+use Rattle.nd_base.proofs.laws.Definitions.{below, indices_in, offset_of, place, places, index_of_flat, index_of_flat_in, as_read}
 use Rattle.nd_base.proofs.laws.Definitions.{is_empty, size}
 use Rattle.nd_base.proofs.laws.Indices.{get_or-indices_in, length-indices_in}
 use Rattle.nd_base.proofs.laws.Offset.{offset_of-reverse}
 use Rattle.nd_base.proofs.laws.Reading.{length-as_read, as_read-as_read, size-as_read, is_empty-as_read}
 use Rattle.nd_dim.specs.Strides.{size_after}
-use Rattle.ndarray_layout.specs.reshape.ForcedStrides.{forced_strides, offset_at_rank, stride_at}
+use Rattle.ndarray_layout.specs.reshape.ForcedStrides.{forced_strides, offset_at_flat_index, stride_at}
 use Rattle.ndarray_layout.specs.reshape.Joints.{has_bad_joint}
 use Rattle.ndarray_layout.specs.reshape.Keeps.{Keeps, AgreeOnLonger}
 use Rattle.ndarray_layout.specs.reshape.ReshapeFault.{reshape_fault}
@@ -23,24 +23,24 @@ use Rattle.ndarray_layout.specs.private.ReshapeProgress.{PlacesAlike}
 use Rattle.ndarray_layout.proofs.reshapes.Complete.{good-of-alike, alike-of-good}
 use Rattle.ndarray_layout.proofs.reshapes.Forced.{forced-of-alike, alike-forced}
 
-length-index_of_rank : (shape : List ℕ) (r : ℕ) → length (index_of_rank shape r) ≡ length shape
-length-index_of_rank [] r = refl
-length-index_of_rank (len ∷ shape) r = ap suc (length-index_of_rank shape (r % size shape))
+length-index_of_flat : (shape : List ℕ) (r : ℕ) → length (index_of_flat shape r) ≡ length shape
+length-index_of_flat [] r = refl
+length-index_of_flat (len ∷ shape) r = ap suc (length-index_of_flat shape (r % size shape))
 
--- the index of a rank lies as far as that of the axes as they are read
+-- the index of a flat index lies as far as that of the axes as they are read
 pub offset-as_read : (order : Order) (shape : List ℕ) (strides : List ℤ) (r : ℕ) → length shape ≡ length strides
-    → offset_of strides (index_of_rank_in order shape r) ≡ offset_of (as_read order strides) (index_of_rank (as_read order shape) r)
+    → offset_of strides (index_of_flat_in order shape r) ≡ offset_of (as_read order strides) (index_of_flat (as_read order shape) r)
 offset-as_read RowMajor shape strides r e = refl
 offset-as_read ColumnMajor shape strides r e =
-    let index = index_of_rank (reverse shape) r in
+    let index = index_of_flat (reverse shape) r in
     ap (λ ss. offset_of ss (reverse index)) (sym (reverse-reverse strides))
     ∙ offset_of-reverse (reverse strides) index (length-reverse strides ∙ sym e ∙ sym (length-reverse shape)
-    ∙ sym (length-index_of_rank (reverse shape) r))
+    ∙ sym (length-index_of_flat (reverse shape) r))
 
--- ---- places by rank
-place-at-rank : (order : Order) (shape : List ℕ) (strides : List ℤ) (r : ℕ) → r < size shape
-    → get_or (places order 0 shape strides) r (pos 0) ≡ offset_of strides (index_of_rank_in order shape r)
-place-at-rank order shape strides r h =
+-- ---- places by flat index
+place-at-flat_index : (order : Order) (shape : List ℕ) (strides : List ℤ) (r : ℕ) → r < size shape
+    → get_or (places order 0 shape strides) r (pos 0) ≡ offset_of strides (index_of_flat_in order shape r)
+place-at-flat_index order shape strides r h =
     let long = length-indices_in order shape in
     get_or-map (place 0 strides) (indices_in order shape) r [] (pos 0) (omega (arith, long))
     ∙ ap (place 0 strides) (get_or-indices_in order shape r [] h)
@@ -60,9 +60,9 @@ module _ {order : Order} {from : List ℕ} {strides : List ℤ} {to : List ℕ} 
       let sizes = size-of-keeps k in
       let whole = size-as_read order from in
       sym (offset-as_read order to others r k.same_count)
-      ∙ sym (place-at-rank order to others r (omega arith))
+      ∙ sym (place-at-flat_index order to others r (omega arith))
       ∙ ap (λ xs. get_or xs r (pos 0)) k.same_places
-      ∙ place-at-rank order from strides r (omega arith)
+      ∙ place-at-flat_index order from strides r (omega arith)
       ∙ offset-as_read order from strides r e
 
 pub keeps-of-alike : (order : Order) (from : List ℕ) (strides : List ℤ) (to : List ℕ) (others : List ℤ) → length from ≡ length strides
@@ -70,15 +70,17 @@ pub keeps-of-alike : (order : Order) (from : List ℕ) (strides : List ℤ) (to 
     → PlacesAlike (as_read order from) (as_read order strides) (as_read order to) (as_read order others)
     → Keeps order from strides to others
 keeps-of-alike order from strides to others e g sizes alike =
-    let by_rank = λ (r : ℕ). offset_of strides (index_of_rank_in order from r) in
+    let by_flat_index = λ (r : ℕ). offset_of strides (index_of_flat_in order from r) in
     let whole = size-as_read order from in
-    let there : places order 0 to others ≡ map by_rank (below (size to)) = fill_by_all by_rank (places order 0 to others) (size to) (pos 0)
+    let there : places order 0 to others ≡ map by_flat_index (below (size to)) =
+    fill_by_all by_flat_index (places order 0 to others) (size to) (pos 0)
     (count-places order to others) (λ r l.
-    place-at-rank order to others r l ∙ offset-as_read order to others r g ∙ alike r (omega arith)
+    place-at-flat_index order to others r l ∙ offset-as_read order to others r g ∙ alike r (omega arith)
     ∙ sym (offset-as_read order from strides r e)) in
-    let here : places order 0 from strides ≡ map by_rank (below (size from)) = fill_by_all by_rank (places order 0 from strides) (size from)
-    (pos 0) (count-places order from strides) (λ r l. place-at-rank order from strides r l) in
-    record { same_count = g; same_places = there ∙ ap (λ n. map by_rank (below n)) (sym sizes) ∙ sym here }
+    let here : places order 0 from strides ≡ map by_flat_index (below (size from)) =
+    fill_by_all by_flat_index (places order 0 from strides) (size from)
+    (pos 0) (count-places order from strides) (λ r l. place-at-flat_index order from strides r l) in
+    record { same_count = g; same_places = there ∙ ap (λ n. map by_flat_index (below n)) (sym sizes) ∙ sym here }
 
 -- ---- reshape is complete
 -- the sizes agree and no joint is bad
@@ -125,7 +127,7 @@ keeps-exactly order from strides to some more e = (λ fits. make fits, λ k. fit
 -- on each axis of more than one entry all strides that keep the places are those of the definition
 pub keeps-forced : {order : Order} {from : List ℕ} {strides : List ℤ} {to : List ℕ} {others : List ℤ} (axis : ℕ) → is_empty to ≡ false
     → length from ≡ length strides → Keeps order from strides to others → axis < length to → 1 < get_or (as_read order to) axis 0
-    → get_or (as_read order others) axis (pos 0) ≡ offset_at_rank (as_read order from) (as_read order strides)
+    → get_or (as_read order others) axis (pos 0) ≡ offset_at_flat_index (as_read order from) (as_read order strides)
     (size_after (as_read order to) axis)
 keeps-forced {order} {from} {strides} {to} {others} axis more e k l long =
     let sizes = size-of-keeps k in

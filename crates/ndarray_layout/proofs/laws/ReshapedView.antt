@@ -8,12 +8,13 @@ use Rattle.std.proofs.lemmas.List.{length-replicate}
 use Rattle.nd_base.specs.declared.error.ErrorKind.{ErrorKind}
 use Rattle.nd_base.specs.declared.error.ErrorKind.TheVariants.{IncompatibleLayout, IncompatibleShape, Overflow}
 use Rattle.nd_base.specs.declared.order.Order.{Order}
-use Rattle.nd_base.proofs.laws.Definitions.{indices_in, is_index, offset_of, place, rank_in, as_read, is_empty, limit, nonzero_size}
+use Rattle.nd_base.proofs.laws.Definitions.{indices_in, is_index, offset_of, place, flat_index_in, as_read, is_empty, limit, nonzero_size}
 use Rattle.nd_base.proofs.laws.Definitions.{size, high_span, low_span}
 use Rattle.nd_base.proofs.laws.Indices.{indices_in_of_empty}
 use Rattle.nd_base.proofs.laws.Offset.{offset_bounds}
-use Rattle.nd_base.proofs.laws.Rank.{index_of_rank_in-rank_in, is_index-index_of_rank_in, rank_in-index_of_rank_in, rank_in-lt-size}
-use Rattle.nd_base.proofs.laws.Rank.{same_from_rank_in}
+use Rattle.nd_base.proofs.laws.FlatIndex.{index_of_flat_in-flat_index_in, is_index-index_of_flat_in, flat_index_in-index_of_flat_in}
+use Rattle.nd_base.proofs.laws.FlatIndex.{flat_index_in-lt-size}
+use Rattle.nd_base.proofs.laws.FlatIndex.{same_from_flat_index_in}
 use Rattle.nd_base.proofs.laws.Size.{size_of_empty, size_of_nonempty}
 use Rattle.nd_base.proofs.laws.Turned.{least_offset, greatest_offset}
 use Rattle.ndarray_layout.specs.reshape.Joints.{has_bad_joint}
@@ -28,29 +29,33 @@ use Rattle.ndarray_layout.proofs.laws.KeepsPlaces.{Descends-kept}
 use Rattle.ndarray_layout.proofs.laws.View.{IsView-within}
 use Rattle.ndarray_layout.specs.ReshapedView.{ReshapeFits, reshape_of, reshape_refusal, reshape_source, reshaped_strides}
 
--- ---- the index of equal rank
--- along strides that keep the places an index lies as far as the one of equal rank does
+-- ---- the index of equal flat index
+-- along strides that keep the places an index lies as far as the one of equal flat index does
 offset_of_source : {order : Order} {from : List ℕ} {strides : List ℤ} {to : List ℕ} {others : List ℤ} (index : List ℕ)
     → length from ≡ length strides → Keeps order from strides to others → is_index to index ≡ true
     → (is_index from (reshape_source order from to index) ≡ true)
     × (offset_of others index ≡ offset_of strides (reshape_source order from to index))
 offset_of_source {order} {from} {strides} {to} {others} index e k h =
-    let r = rank_in order to index in
-    let below : r < size from = omega (arith, rank_in-lt-size order to index h, size-of-keeps k) in
+    let r = flat_index_in order to index in
+    let below : r < size from = omega (arith, flat_index_in-lt-size order to index h, size-of-keeps k) in
     let here = offset-as_read order to others r k.same_count in
     let there = offset-as_read order from strides r e in
     let alike = alike-of-keeps e k r (omega (arith, size-as_read order from)) in (
-      is_index-index_of_rank_in order from r below,
-      ap (offset_of others) (sym (index_of_rank_in-rank_in order to index h)) ∙ here ∙ alike ∙ sym there,
+      is_index-index_of_flat_in order from r below,
+      ap (offset_of others) (sym (index_of_flat_in-flat_index_in order to index h)) ∙ here ∙ alike ∙ sym there,
     )
 
 -- different indices stand for different ones
 source_apart : (order : Order) (from to index other : List ℕ) → size from ≡ size to → is_index to index ≡ true → is_index to other ≡ true
     → reshape_source order from to index ≡ reshape_source order from to other → index ≡ other
 source_apart order from to index other sizes here there same =
-    let first = rank_in-index_of_rank_in order from (rank_in order to index) (omega (arith, rank_in-lt-size order to index here)) in
-    let second = rank_in-index_of_rank_in order from (rank_in order to other) (omega (arith, rank_in-lt-size order to other there)) in
-    same_from_rank_in order to index other here there (sym first ∙ ap (rank_in order from) same ∙ second)
+    let first =
+    flat_index_in-index_of_flat_in order from (flat_index_in order to index)
+    (omega (arith, flat_index_in-lt-size order to index here)) in
+    let second =
+    flat_index_in-index_of_flat_in order from (flat_index_in order to other)
+    (omega (arith, flat_index_in-lt-size order to other there)) in
+    same_from_flat_index_in order to index other here there (sym first ∙ ap (flat_index_in order from) same ∙ second)
 
 -- ---- how far the layouts reach
 module _ {order : Order} {from : List ℕ} {strides : List ℤ} {to : List ℕ} {others : List ℤ} where
@@ -190,7 +195,7 @@ spans_kept order shape {view} v none = by (is_empty shape) refl (reshaped_keeps 
     by true e k = (omega (arith, low_of_zeros shape), omega (arith, high_of_zeros shape))
     by false e k = (low_le v.valid.same_count k e, high_le v.valid.same_count k e)
 
--- it is a view of the same data, where each index lies where the index of equal rank did
+-- it is a view of the same data, where each index lies where the index of equal flat index did
 pub Descends-reshape_of : (order : Order) (shape : List ℕ) {view : View} → IsView view → reshape_refusal order shape view ≡ None
     → Descends (reshape_source order view.shape shape) view (reshape_of order shape view)
 Descends-reshape_of order shape {view} v none = Descends-kept whole (λ index here.

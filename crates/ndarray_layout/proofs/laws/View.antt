@@ -10,11 +10,11 @@ use Rattle.std.proofs.lemmas.List.{get_or-map, length-map}
 use Rattle.std.proofs.lemmas.List.Elements.{All-map, All-weaker}
 use Rattle.std.proofs.lemmas.Option.{slice_get-map}
 use Rattle.nd_base.specs.declared.order.Order.{Order}
-use Rattle.nd_base.proofs.laws.Definitions.{indices_in, is_index, IsInside, checked_offset, offset_of, place, index_of_rank_in}
+use Rattle.nd_base.proofs.laws.Definitions.{indices_in, is_index, IsInside, checked_offset, offset_of, place, index_of_flat_in}
 use Rattle.nd_base.proofs.laws.Definitions.{limit, nonzero_size, size, high_span, low_span, IsValidLayout}
 use Rattle.nd_base.proofs.laws.Indices.{length-indices_in, All-indices_in, indices_in_of_empty}
 use Rattle.nd_base.proofs.laws.NonzeroSize.{length_le_nonzero_size, size_le_nonzero_size}
-use Rattle.nd_base.proofs.laws.Rank.{slice_get-indices_in}
+use Rattle.nd_base.proofs.laws.FlatIndex.{slice_get-indices_in}
 use Rattle.nd_base.proofs.laws.Span.{low_high_span}
 use Rattle.ndarray_layout.specs.View.{View, IsView, LiesWithin, place_at, view_places}
 use Rattle.ndarray_layout.proofs.Offsets.{offset_within}
@@ -105,10 +105,11 @@ items_lie_within len order view items same within = λ k d below.
     let places = subst (All (IsInside len)) (sym same) (places_lie_within len order view within) in
     subst (IsInside len) (get_or-map pos items k d (pos d) below) (places k (pos d) (omega (arith, length-map items pos)))
 
--- what is listed at a rank is the place of the index of that rank
-pub item_at_rank : (order : Order) (view : View) (items : List ℕ) (r : ℕ) → map pos items ≡ view_places order view → r < size view.shape
-    → option_map pos (slice_get items r) ≡ Some (place_at view (index_of_rank_in order view.shape r))
-item_at_rank order view items r same below =
+-- what is listed at a flat index is the place of the index of that flat index
+pub item_at_flat_index : (order : Order) (view : View) (items : List ℕ) (r : ℕ) → map pos items ≡ view_places order view
+    → r < size view.shape
+    → option_map pos (slice_get items r) ≡ Some (place_at view (index_of_flat_in order view.shape r))
+item_at_flat_index order view items r same below =
     sym (slice_get-map pos items r)
     ∙ ap (λ places. slice_get places r) same
     ∙ slice_get-map (place view.start view.strides) (indices_in order view.shape) r

@@ -7,10 +7,10 @@ use Rattle.std.proofs.Math.Nat.{mul-one, mul-le-mul_left, mul_comm}
 use Rattle.std.proofs.lemmas.Int.{ints}
 use Rattle.std.proofs.lemmas.List.{length-map, take-map, take_all, length-take-le, get_or-take, drop-take, drop-drop}
 use Rattle.nd_base.specs.declared.error.ErrorKind.TheVariants.{IncompatibleShape}
-use Rattle.nd_base.proofs.laws.Definitions.{offset_of, index_of_rank, all_signed, signed, is_empty, limit, size, high_span, low_span}
+use Rattle.nd_base.proofs.laws.Definitions.{offset_of, index_of_flat, all_signed, signed, is_empty, limit, size, high_span, low_span}
 use Rattle.nd_base.proofs.laws.Definitions.{span}
 use Rattle.nd_base.proofs.laws.Offset.{offset_bounds}
-use Rattle.nd_base.proofs.laws.Rank.{is_index-index_of_rank}
+use Rattle.nd_base.proofs.laws.FlatIndex.{is_index-index_of_flat}
 use Rattle.nd_base.proofs.laws.Size.{size_of_nonempty, size_take_more, size_take_le, size_drop_le, size_from, drop_nonempty}
 use Rattle.nd_base.proofs.laws.Span.{low_high_span}
 use Rattle.ndarray_layout.specs.reshape.ReshapeFault.{fault_as_read}
@@ -207,13 +207,13 @@ module _ {from : List ℕ} {strides : List ℤ} {to : List ℕ} {i i_end k k_end
       let seg_some = segment-nonempty from i i_end w.some in
       let counts : length lens ≡ length steps = length-seg i i_end from (omega arith) from_in
       ∙ sym (length-seg i i_end strides (omega arith) (omega (arith, w.same_count))) in
-      let bounds = offset_bounds lens steps (index_of_rank lens n) (is_index-index_of_rank lens n below) counts in
+      let bounds = offset_bounds lens steps (index_of_flat lens n) (is_index-index_of_flat lens n below) counts in
       let run = run-of-dense lens steps step n seg_some block.dense below in
       let spans : low_span lens steps + high_span lens steps ≡ span lens steps = low_high_span lens steps in
       let taken : span lens steps ≤ span (drop i from) (drop i strides) = span-take (drop i from) (drop i strides) (i_end - i) in
       let dropped = span-drop from strides i in
       let limits = w.span_fits in
-      subst (λ z. FitsSigned w64 z) run (fits-between (offset_of steps (index_of_rank lens n)) (low_span lens steps) (high_span lens steps)
+      subst (λ z. FitsSigned w64 z) run (fits-between (offset_of steps (index_of_flat lens n)) (low_span lens steps) (high_span lens steps)
       bounds.0 bounds.1 (omega arith))
 
   pub alike-block : (out news : List ℕ) → CanWalk from strides to → IsReached from strides to i k → IsReached from strides to i_end k_end

@@ -14,8 +14,9 @@ use Rattle.ndarray_layout.proofs.reshapes.Joins.{long_axes, joints, joints-of-lo
 use Rattle.ndarray_layout.specs.private.ReshapeProgress.{Member, PlacesAlike}
 use Rattle.ndarray_layout.proofs.reshapes.Members.{member-of-any, any-of-member}
 use Rattle.ndarray_layout.proofs.reshapes.Products.{long_lens, tail-of-product, product-of-tail, size-long_lens}
-use Rattle.ndarray_layout.proofs.reshapes.Ranks.{long-long_axes, long-reverse, count-long_axes, lens-long_axes, offset-at-rank, long-kept}
-use Rattle.ndarray_layout.proofs.reshapes.Ranks.{long-left}
+use Rattle.ndarray_layout.proofs.reshapes.FlatIndices.{long-long_axes, long-reverse, count-long_axes, lens-long_axes, offset-at-flat_index}
+use Rattle.ndarray_layout.proofs.reshapes.FlatIndices.{long-kept}
+use Rattle.ndarray_layout.proofs.reshapes.FlatIndices.{long-left}
 use Rattle.ndarray_layout.proofs.reshapes.Splits.{TailsFit, AllLong, reaches}
 use Rattle.ndarray_layout.proofs.reshapes.Tails.{IsLooseTail, IsTail, AreAlike, lens_of, tails_of_alike}
 use Rattle.ndarray_layout.proofs.reshapes.Values.{Axes, value, count, AreLong}
@@ -144,7 +145,8 @@ good-of-alike from strides to others some more same equal sizes alike =
     let lines_count : count (fast to others) ≡ size to = count-reverse lines ∙ count-long_axes to others more equal in
     let lens : lens_of (fast to others) ≡ fast_lens to = lens-reverse lines ∙ ap reverse (lens-long_axes to others equal) in
     let values : AreAlike (fast from strides) (fast to others) = λ r l.
-    sym (offset-at-rank from strides r some same (omega arith)) ∙ sym (alike r (omega arith)) ∙ offset-at-rank to others r more equal
+    sym (offset-at-flat_index from strides r some same (omega arith)) ∙ sym (alike r (omega arith))
+    ∙ offset-at-flat_index to others r more equal
     (omega arith) in
     good-of-tails from strides to some more same sizes
     (λ p l. subst (λ ls. IsTail ls p) lens (tails_of_alike (length (fast from strides) + length (fast to others)) (fast from strides)
@@ -204,8 +206,9 @@ from-axes from strides to axes some more same sizes lens alike =
       made.strides,
       made.same_count,
       λ r l.
-          offset-at-rank to made.strides r more made.same_count (omega arith) ∙ ap (λ xs. value xs r) back ∙ sym (alike r (omega arith))
-          ∙ sym (offset-at-rank from strides r some same l),
+          offset-at-flat_index to made.strides r more made.same_count (omega arith) ∙ ap (λ xs. value xs r) back
+          ∙ sym (alike r (omega arith))
+          ∙ sym (offset-at-flat_index from strides r some same l),
     )
 
 pub alike-of-good : (from : List ℕ) (strides : List ℤ) (to : List ℕ) → is_empty from ≡ false → is_empty to ≡ false

@@ -6,15 +6,15 @@ use Rattle.std.proofs.Math.Nat.{div-div-eq-div-mul, div-eq_of_lt, mod-eq_of_lt, 
 use Rattle.std.proofs.lemmas.Bool.{cases_lt, or_parts, eqb-false}
 use Rattle.std.proofs.lemmas.Int.{ints}
 use Rattle.std.proofs.lemmas.Nat.{div_below, mod_below, mod-mul-add, div-mul-add}
-use Rattle.nd_base.proofs.laws.Definitions.{offset_of, index_of_rank, is_empty, size}
+use Rattle.nd_base.proofs.laws.Definitions.{offset_of, index_of_flat, is_empty, size}
 use Rattle.nd_base.proofs.laws.Size.{size_of_nonempty, size-append, size-push}
 use Rattle.ndarray_layout.specs.private.ReshapeProgress.{PlacesAlike, IsDense}
 use Rattle.ndarray_layout.proofs.reshapes.Joins.{is_empty-rest}
 use Rattle.nd_base.proofs.laws.Times.{times_times, times_sum}
 
--- so the index of a rank lies that many steps from the first one
+-- so the index of a flat index lies that many steps from the first one
 pub run-of-dense : (lens : List ℕ) (strides : List ℤ) (step : ℤ) (r : ℕ) → is_empty lens ≡ false → IsDense lens strides step → r < size lens
-    → offset_of strides (index_of_rank lens r) ≡ pos r *ℤ step
+    → offset_of strides (index_of_flat lens r) ≡ pos r *ℤ step
 run-of-dense [] strides step r h d l =
     let none : r ≡ 0 = omega arith in
     sym (ap (λ n. pos n *ℤ step) none ∙ omega (arith, ints))
@@ -74,11 +74,11 @@ dense-of-products (len ∷ lens) (stride ∷ strides) step e h = (
 -- the first group counts whole turns of the second
 pub offset-append : (lens : List ℕ) (strides : List ℤ) (others : List ℕ) (steps : List ℤ) (r : ℕ) → length lens ≡ length strides
     → is_empty lens ≡ false → 0 < size others → r < size lens * size others →
-    offset_of (strides ++ steps) (index_of_rank (lens ++ others) r) ≡ offset_of strides (index_of_rank lens (r / size others)) +ℤ offset_of
-    steps (index_of_rank others (r % size others))
+    offset_of (strides ++ steps) (index_of_flat (lens ++ others) r) ≡ offset_of strides (index_of_flat lens (r / size others)) +ℤ offset_of
+    steps (index_of_flat others (r % size others))
 offset-append [] [] others steps r e h some l =
     let same : r % size others ≡ r = mod-eq_of_lt (omega arith) in
-    ap (λ n. offset_of steps (index_of_rank others n)) (sym same) ∙ omega (arith, ints)
+    ap (λ n. offset_of steps (index_of_flat others n)) (sym same) ∙ omega (arith, ints)
 offset-append [] (stride ∷ strides) others steps r e h some l = absurd (omega arith)
 offset-append (len ∷ lens) [] others steps r e h some l = absurd (omega arith)
 offset-append (len ∷ lens) (stride ∷ strides) others steps r e h some l =
@@ -94,9 +94,9 @@ offset-append (len ∷ lens) (stride ∷ strides) others steps r e h some l =
     let entry : r % (m * n) % n ≡ r % n = ap (λ k. k % n) parts ∙ mod-mul-add (r / n % m) n (r % n) low in
     let within : r % (m * n) < m * n = mod_below r (m * n) (omega (arith, nonzero m n more some)) in
     let rest = offset-append lens strides others steps (r % (m * n)) (omega arith) none some within in
-    ap (λ k. (pos (r / k) *ℤ stride) +ℤ offset_of (strides ++ steps) (index_of_rank (lens ++ others) (r % k))) whole
+    ap (λ k. (pos (r / k) *ℤ stride) +ℤ offset_of (strides ++ steps) (index_of_flat (lens ++ others) (r % k))) whole
     ∙ ap₂ (λ i z. (pos i *ℤ stride) +ℤ z) count rest
-    ∙ ap₂ (λ i j. (pos (r / n / m) *ℤ stride) +ℤ (offset_of strides (index_of_rank lens i) +ℤ offset_of steps (index_of_rank others j)))
+    ∙ ap₂ (λ i j. (pos (r / n / m) *ℤ stride) +ℤ (offset_of strides (index_of_flat lens i) +ℤ offset_of steps (index_of_flat others j)))
     high entry
     ∙ omega (arith, ints)
   where
@@ -119,6 +119,6 @@ places-append from strides to others lens steps news offs e g h k some same equa
     let turn : r / n < size from = div_below r n (size from) more inside in
     let low = mod_below r n more in
     offset-append to others news offs r g k (omega arith) there
-    ∙ ap (λ m. offset_of others (index_of_rank to (r / m)) +ℤ offset_of offs (index_of_rank news (r % m))) (sym equal)
+    ∙ ap (λ m. offset_of others (index_of_flat to (r / m)) +ℤ offset_of offs (index_of_flat news (r % m))) (sym equal)
     ∙ ap₂ (λ x y. x +ℤ y) (alike (r / n) turn) (like (r % n) low)
     ∙ sym (offset-append from strides lens steps r e h more inside)

@@ -6,16 +6,16 @@ use Rattle.std.proofs.Math.Nat.{div-eq_of_lt, div_self, mod-eq_of_lt, mod_self, 
 use Rattle.std.proofs.lemmas.Bool.{cases_lt, cond-true, lt-ltb, ltb-true, and_parts}
 use Rattle.std.proofs.lemmas.Int.{ints}
 use Rattle.std.proofs.lemmas.List.FromFn.{length-map-range_with_len, get_or-map-range_with_len}
-use Rattle.nd_base.proofs.laws.Definitions.{below, is_index, offset_of, index_of_rank, is_empty, size}
-use Rattle.nd_base.proofs.laws.Rank.{is_index-index_of_rank}
+use Rattle.nd_base.proofs.laws.Definitions.{below, is_index, offset_of, index_of_flat, is_empty, size}
+use Rattle.nd_base.proofs.laws.FlatIndex.{is_index-index_of_flat}
 use Rattle.nd_base.proofs.laws.Size.{size_of_nonempty, size_from, size_drop_le, drop_nonempty}
 use Rattle.nd_dim.specs.Strides.{size_after}
-use Rattle.ndarray_layout.specs.reshape.ForcedStrides.{offset_at_rank, stride_of_one, stride_at}
+use Rattle.ndarray_layout.specs.reshape.ForcedStrides.{offset_at_flat_index, stride_of_one, stride_at}
 use Rattle.ndarray_layout.specs.private.ReshapeProgress.{PlacesAlike}
 use Rattle.ndarray_layout.proofs.reshapes.Joins.{is_empty-rest}
 
 -- the first index lies at the beginning
-offset-first : (lens : List ℕ) (strides : List ℤ) → offset_of strides (index_of_rank lens 0) ≡ pos 0
+offset-first : (lens : List ℕ) (strides : List ℤ) → offset_of strides (index_of_flat lens 0) ≡ pos 0
 offset-first [] strides = refl
 offset-first (len ∷ lens) [] = refl
 offset-first (len ∷ lens) (stride ∷ strides) =
@@ -38,7 +38,7 @@ size_after-below lens axis h l long =
 -- the index after so many as an axis has after it has a 1 there, and zeros
 pub offset-of-axis : (lens : List ℕ) (strides : List ℤ) (axis : ℕ) → is_empty lens ≡ false → length lens ≡ length strides
     → axis < length lens → 1 < get_or lens axis 0
-    → offset_of strides (index_of_rank lens (size_after lens axis)) ≡ get_or strides axis (pos 0)
+    → offset_of strides (index_of_flat lens (size_after lens axis)) ≡ get_or strides axis (pos 0)
 offset-of-axis [] strides axis h e l long = absurd (omega arith)
 offset-of-axis (len ∷ lens) [] axis h e l long = absurd (omega arith)
 offset-of-axis (len ∷ lens) (stride ∷ strides) zero h e l long =
@@ -46,7 +46,7 @@ offset-of-axis (len ∷ lens) (stride ∷ strides) zero h e l long =
     let rest = offset-first lens strides in
     let first : size lens / size lens ≡ 1 = div_self some in
     let later : size lens % size lens ≡ 0 = mod_self (size lens) in
-    ap₂ (λ q r. (pos q *ℤ stride) +ℤ offset_of strides (index_of_rank lens r)) first later ∙ omega (arith, ints, rest)
+    ap₂ (λ q r. (pos q *ℤ stride) +ℤ offset_of strides (index_of_flat lens r)) first later ∙ omega (arith, ints, rest)
 offset-of-axis (len ∷ lens) (stride ∷ strides) (suc axis) h e l long =
     let none = is_empty-rest len lens h in
     let q = size_after lens axis in
@@ -54,8 +54,8 @@ offset-of-axis (len ∷ lens) (stride ∷ strides) (suc axis) h e l long =
     let same : size_after (len ∷ lens) (suc axis) ≡ q = ap (λ n. size (drop n (len ∷ lens))) (add-one (suc axis))
     ∙ sym (ap (λ n. size (drop n lens)) (add-one axis)) in
     let rest = offset-of-axis lens strides axis none (omega arith) (omega arith) long in
-    ap (λ r. offset_of (stride ∷ strides) (index_of_rank (len ∷ lens) r)) same
-    ∙ ap₂ (λ i r. (pos i *ℤ stride) +ℤ offset_of strides (index_of_rank lens r)) (div-eq_of_lt few) (mod-eq_of_lt few)
+    ap (λ r. offset_of (stride ∷ strides) (index_of_flat (len ∷ lens) r)) same
+    ∙ ap₂ (λ i r. (pos i *ℤ stride) +ℤ offset_of strides (index_of_flat lens r)) (div-eq_of_lt few) (mod-eq_of_lt few)
     ∙ omega (arith, ints, rest)
 
 -- strides that agree on longer axes agree on the offset of each index
@@ -85,18 +85,19 @@ offset-agree (len ∷ lens) (stride ∷ strides) (other ∷ others) (i ∷ index
 -- on a longer axis they are those of the definition
 pub forced-of-alike : (from : List ℕ) (strides : List ℤ) (to : List ℕ) (others : List ℤ) (axis : ℕ) → is_empty to ≡ false
     → size from ≡ size to → length to ≡ length others → PlacesAlike from strides to others → axis < length to → 1 < get_or to axis 0
-    → get_or others axis (pos 0) ≡ offset_at_rank from strides (size_after to axis)
+    → get_or others axis (pos 0) ≡ offset_at_flat_index from strides (size_after to axis)
 forced-of-alike from strides to others axis more sizes e alike l long =
     let few = size_after-below to axis more l long in
     sym (offset-of-axis to others axis more e l long) ∙ alike (size_after to axis) (omega arith)
 
 -- and the strides of the definition keep the places wherever some do
 pub stride_at-long : (from : List ℕ) (strides : List ℤ) (to : List ℕ) (axis : ℕ) → 1 < get_or to axis 0
-    → stride_at from strides to axis ≡ offset_at_rank from strides (size_after to axis)
-stride_at-long from strides to zero h = cond-true (nat_lt 1 (get_or to 0 0)) (offset_at_rank from strides (size_after to 0))
+    → stride_at from strides to axis ≡ offset_at_flat_index from strides (size_after to axis)
+stride_at-long from strides to zero h = cond-true (nat_lt 1 (get_or to 0 0)) (offset_at_flat_index from strides (size_after to 0))
     (stride_of_one from strides to 0 (pos 1)) (lt-ltb 1 (get_or to 0 0) h)
 stride_at-long from strides to (suc axis) h = cond-true (nat_lt 1 (get_or to (suc axis) 0))
-    (offset_at_rank from strides (size_after to (suc axis))) (stride_of_one from strides to (suc axis) (stride_at from strides to axis))
+    (offset_at_flat_index from strides (size_after to (suc axis)))
+    (stride_of_one from strides to (suc axis) (stride_at from strides to axis))
     (lt-ltb 1 (get_or to (suc axis) 0) h)
 
 pub alike-forced : (from : List ℕ) (strides : List ℤ) (to : List ℕ) (others : List ℤ) → is_empty to ≡ false → size from ≡ size to
@@ -105,8 +106,8 @@ pub alike-forced : (from : List ℕ) (strides : List ℤ) (to : List ℕ) (other
 alike-forced from strides to others more sizes e alike r l =
     let forced = map (stride_at from strides to) (below (length to)) in
     let count : length forced ≡ length to = length-map-range_with_len (stride_at from strides to) 0 (length to) in
-    let index = index_of_rank to r in
-    offset-agree to forced others index (is_index-index_of_rank to r (omega arith)) (sym count) e (λ axis below long.
+    let index = index_of_flat to r in
+    offset-agree to forced others index (is_index-index_of_flat to r (omega arith)) (sym count) e (λ axis below long.
     get_or-map-range_with_len (stride_at from strides to) 0 (length to) axis axis (pos 0) below (omega arith)
     ∙ stride_at-long from strides to axis long
     ∙ sym (forced-of-alike from strides to others axis more sizes e alike below long))

@@ -11,7 +11,8 @@ use Rattle.std.proofs.lemmas.List.FromFn.{fill_by_all}
 use Rattle.nd_base.proofs.laws.Definitions.{below, is_empty, size}
 use Rattle.nd_base.proofs.laws.Size.{size_take_more, size_from}
 use Rattle.nd_dim.specs.Strides.{size_after}
-use Rattle.ndarray_layout.specs.reshape.ForcedStrides.{is_one_at, ones_before, strides_of_ones, stride_of_one, stride_at, offset_at_rank}
+use Rattle.ndarray_layout.specs.reshape.ForcedStrides.{is_one_at, ones_before, strides_of_ones, stride_of_one, stride_at}
+use Rattle.ndarray_layout.specs.reshape.ForcedStrides.{offset_at_flat_index}
 use Rattle.ndarray_layout.specs.reshape.Joints.{cumulative_products}
 use Rattle.ndarray_layout.specs.private.ReshapeProgress.{CanWalk, IsReached, IsInside, OnesAlike, PlacesAlike, previous}
 use Rattle.ndarray_layout.proofs.reshapes.Forced.{forced-of-alike, stride_at-long}
@@ -342,7 +343,7 @@ strides-forced {from} {strides} {to} {news} more sizes e end alike ones = fill_b
           | inl long ↦ forced-of-alike from strides to news 0 more sizes e alike l (ltb-true 1 (get_or to 0 0) long)
               ∙ sym (stride_at-long from strides to 0 (ltb-true 1 (get_or to 0 0) long))
           | inr short ↦ ones.written 0 (omega arith) (at_one 0 l short)
-              ∙ sym (cond-false (nat_lt 1 (get_or to 0 0)) (offset_at_rank from strides (size_after to 0))
+              ∙ sym (cond-false (nat_lt 1 (get_or to 0 0)) (offset_at_flat_index from strides (size_after to 0))
               (stride_of_one from strides to 0 (pos 1)) short)
         ]
     at_axis (suc j) l =
@@ -352,7 +353,7 @@ strides-forced {from} {strides} {to} {news} more sizes e end alike ones = fill_b
           | inr short ↦
               ones.written (suc j) (omega arith) (at_one (suc j) l short)
               ∙ ap (stride_of_one from strides to (suc j)) (at_axis j (omega arith))
-              ∙ sym (cond-false (nat_lt 1 (get_or to (suc j) 0)) (offset_at_rank from strides (size_after to (suc j)))
+              ∙ sym (cond-false (nat_lt 1 (get_or to (suc j) 0)) (offset_at_flat_index from strides (size_after to (suc j)))
               (stride_of_one from strides to (suc j) (stride_at from strides to j)) short)
         ]
 

@@ -1,4 +1,4 @@
--- Layouts as lists of axes, a length with a stride each, of which the first moves fastest; and how far the index of a rank lies
+-- Layouts as lists of axes, a length with a stride each, of which the first moves fastest; and how far the index of a flat index lies
 -- from the first one.
 use Rattle.std.proofs.Common.{◌≡◌, ℕ, ◌+◌, ◌*◌, ◌/◌, ◌%◌, ◌<◌, ℤ, pos, ◌+ℤ◌, ◌*ℤ◌, List, [], ◌∷◌, refl, ap, ◌∙◌, arith}
 use Rattle.std.proofs.Math.Arith.{mod-mul}
@@ -10,7 +10,7 @@ use Rattle.nd_base.proofs.laws.Times.{times_times, times_sum}
 abbrev pub Axes : Type 0
 Axes = List (ℕ × ℤ)
 
--- how far the index of a rank lies
+-- how far the index of a flat index lies
 abbrev pub value : Axes → ℕ → ℤ
 value [] r = pos 0
 value (axis ∷ axes) r = (pos (r % axis.0) *ℤ axis.1) +ℤ value axes (r / axis.0)
@@ -25,7 +25,7 @@ abbrev pub AreLong : Axes → Type 0
 AreLong [] = Unit {0}
 AreLong (axis ∷ axes) = (1 < axis.0) × AreLong axes
 
--- ---- values at certain ranks
+-- ---- values at certain flat indices
 pub value-first : (axes : Axes) → value axes 0 ≡ pos 0
 value-first [] = refl
 value-first (axis ∷ axes) =

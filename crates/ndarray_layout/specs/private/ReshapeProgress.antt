@@ -2,15 +2,15 @@
 -- lists are in the order of reading.
 use Rattle.std.specs.Prelude.{◌≡◌, ℕ, zero, suc, ◌-◌, ◌<◌, ◌≤◌, false, ℤ, pos, ◌*ℤ◌, ◌⊎◌, List, [], ◌∷◌, length, take, drop, slice_index, slice_index_or, refl}
 use Rattle.nd_base.specs.Offset.{offset_of}
-use Rattle.nd_base.specs.Rank.{index_of_rank}
+use Rattle.nd_base.specs.FlatIndex.{index_of_flat}
 use Rattle.nd_base.specs.Size.{size, is_empty, limit}
 use Rattle.nd_base.specs.Span.{span}
 use Rattle.ndarray_layout.specs.reshape.ForcedStrides.{ones_before, stride_of_one}
 use Rattle.ndarray_layout.specs.reshape.Joints.{loose_joints, cumulative_products}
 
--- as far as the ranks go, the index of a rank lies as far along the one layout as along the other
+-- as far as the flat indices go, the index of a flat index lies as far along the one layout as along the other
 abbrev pub PlacesAlike : List ℕ → List ℤ → List ℕ → List ℤ → Type 0
-PlacesAlike from strides to others = (r : ℕ) → r < size from → offset_of others (index_of_rank to r) ≡ offset_of strides (index_of_rank from r)
+PlacesAlike from strides to others = (r : ℕ) → r < size from → offset_of others (index_of_flat to r) ≡ offset_of strides (index_of_flat from r)
 
 -- each longer axis steps as far as all later ones do together, where the last one steps so far
 abbrev pub IsDense : List ℕ → List ℤ → ℤ → Type 0

@@ -5,14 +5,14 @@ use Rattle.nd_base.specs.declared.order.Order.{Order}
 use Rattle.nd_base.specs.declared.order.Order.TheVariants.{RowMajor, ColumnMajor}
 use Rattle.nd_base.specs.Indices.{below}
 use Rattle.nd_base.specs.Offset.{offset_of}
-use Rattle.nd_base.specs.Rank.{index_of_rank}
+use Rattle.nd_base.specs.FlatIndex.{index_of_flat}
 use Rattle.nd_base.specs.Reading.{as_read}
 use Rattle.nd_dim.specs.Strides.{size_after, size_until}
 use Rattle.ndarray_layout.specs.reshape.Joints.{cumulative_products}
 
--- how far the index of a rank lies from the first one
-abbrev pub offset_at_rank : List ℕ → List ℤ → ℕ → ℤ
-offset_at_rank lens strides r = offset_of strides (index_of_rank lens r)
+-- how far the index of a flat index lies from the first one
+abbrev pub offset_at_flat_index : List ℕ → List ℤ → ℕ → ℤ
+offset_at_flat_index lens strides r = offset_of strides (index_of_flat lens r)
 
 -- an axis of length 1 with this product of lengths read before it
 abbrev pub is_one_at : List ℕ → ℕ → ℕ → Bool
@@ -37,7 +37,7 @@ stride_of_one from strides to axis previous =
 -- an axis of more than one entry steps as far as the old layout does over as many indices as the axes read after it have
 abbrev pub stride_of_axis : List ℕ → List ℤ → List ℕ → ℕ → ℤ → ℤ
 stride_of_axis from strides to axis previous =
-    (if nat_lt 1 (slice_index to axis) then offset_at_rank from strides (size_after to axis) else stride_of_one from strides to axis previous)
+    (if nat_lt 1 (slice_index to axis) then offset_at_flat_index from strides (size_after to axis) else stride_of_one from strides to axis previous)
 
 abbrev pub stride_at : List ℕ → List ℤ → List ℕ → ℕ → ℤ
 stride_at from strides to zero = stride_of_axis from strides to 0 (pos 1)

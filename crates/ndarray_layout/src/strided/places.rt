@@ -2,7 +2,7 @@
 ghost use Rattle.std.specs.List.{All};
 ghost use Rattle.std.specs.Option.{option_map};
 ghost use Rattle.std.specs.Prelude.{◌≡◌, ◌+◌, ◌<◌, ◌≤◌, ◌^◌, pos, ◌+ℤ◌, ◌*ℤ◌, ◌≤ℤ◌, [], ◌∷◌, ◌++◌, map, length, MatchOption, vec_len, vec_capacity, ℕ, None, IfOk, IsOk, Some, slice_get};
-ghost use Rattle.nd_base.specs.Rank.{index_of_rank_in};
+ghost use Rattle.nd_base.specs.FlatIndex.{index_of_flat_in};
 ghost use Rattle.nd_base.specs.Reading.{as_read};
 ghost use Rattle.nd_base.specs.Signed.{signed as signed_reading, all_signed};
 ghost use Rattle.nd_base.specs.Size.{size, limit};
@@ -138,9 +138,9 @@ impl<D: Lengths> Strided<D> {
         ensures items { IfOk result (λ v. map pos v.items ≡ view_places order self.now) }
         ensures len { IfOk result (λ v. vec_len v ≡ size self.now.shape) }
         ensures capacity { IfOk result (λ v. vec_capacity v ≡ size self.now.shape) }
-        ensures at_rank { IfOk result (λ v. (r : ℕ) → r < size self.now.shape →
+        ensures at_flat_index { IfOk result (λ v. (r : ℕ) → r < size self.now.shape →
             option_map pos (slice_get v.items r)
-            ≡ Some (place_at self.now (index_of_rank_in order self.now.shape r))) }
+            ≡ Some (place_at self.now (index_of_flat_in order self.now.shape r))) }
         ensures inside { IfOk result (λ v. (len : ℕ) → LiesWithin len self.now →
             All (λ place. place < len) v.items) }
         ensures memory { size self.now.shape ≡ 0 → IsOk result }

@@ -5,7 +5,7 @@ use Rattle.ndarray_layout.specs.declared.LayoutError.{LayoutError}
 use Rattle.ndarray_layout.specs.declared.Order.TheVariants.{RowMajor}
 use Rattle.ndarray_layout.specs.Indices.{is_index}
 use Rattle.ndarray_layout.specs.Descends.{Descends}
-use Rattle.ndarray_layout.specs.Rank.{index_of_rank_in}
+use Rattle.ndarray_layout.specs.FlatIndex.{index_of_flat_in}
 use Rattle.ndarray_layout.specs.ReshapedView.{reshape_of, reshape_source}
 use Rattle.ndarray_layout.specs.View.{View, place_at}
 use Rattle.ndarray_layout.proofs.laws.RowMajor.{source_in_row, index_of_list}
@@ -13,7 +13,7 @@ use Rattle.example_callers.proofs.rows.in_rows.Goals as goal
 
 by_flat_index : (view : View) (rows columns : ℕ) (shape : List ℕ) (made : Result View LayoutError) → shape ≡ rows ∷ columns ∷ [] → IfOk made (λ grid. grid ≡ reshape_of RowMajor shape view)
     → IfOk made (λ grid. Descends (reshape_source RowMajor view.shape shape) view grid)
-    → IfOk made (λ grid. (i j : ℕ) → IsTrue (is_index (rows ∷ columns ∷ []) (i ∷ j ∷ [])) → place_at grid (i ∷ j ∷ []) ≡ place_at view (index_of_rank_in RowMajor view.shape (i * columns + j)))
+    → IfOk made (λ grid. (i j : ℕ) → IsTrue (is_index (rows ∷ columns ∷ []) (i ∷ j ∷ [])) → place_at grid (i ∷ j ∷ []) ≡ place_at view (index_of_flat_in RowMajor view.shape (i * columns + j)))
 by_flat_index view rows columns shape (Ok grid) lens is kept = λ i j here.
     let found : IsTrue (is_index grid.shape (i ∷ j ∷ [])) = rw (is, lens) here in
     (kept.places (i ∷ j ∷ []) found).1
@@ -23,11 +23,11 @@ by_flat_index view rows columns shape (Err e) lens is kept = tt
 
 -- along one axis it is that number itself
 of_line : (view : View) (rows columns : ℕ) (made : Result View LayoutError)
-    → IfOk made (λ grid. (i j : ℕ) → IsTrue (is_index (rows ∷ columns ∷ []) (i ∷ j ∷ [])) → place_at grid (i ∷ j ∷ []) ≡ place_at view (index_of_rank_in RowMajor view.shape (i * columns + j)))
+    → IfOk made (λ grid. (i j : ℕ) → IsTrue (is_index (rows ∷ columns ∷ []) (i ∷ j ∷ [])) → place_at grid (i ∷ j ∷ []) ≡ place_at view (index_of_flat_in RowMajor view.shape (i * columns + j)))
     → IfOk made (λ grid. (len i j : ℕ) → view.shape ≡ len ∷ [] → IsTrue (is_index (rows ∷ columns ∷ []) (i ∷ j ∷ [])) → place_at grid (i ∷ j ∷ []) ≡ place_at view ((i * columns + j) ∷ []))
 of_line view rows columns (Ok grid) by = λ len i j line here.
     by i j here
-    ∙ ap (λ shape. place_at view (index_of_rank_in RowMajor shape (i * columns + j))) line
+    ∙ ap (λ shape. place_at view (index_of_flat_in RowMajor shape (i * columns + j))) line
     ∙ ap (place_at view) (index_of_list len)
 of_line view rows columns (Err e) by = tt
 

@@ -1,7 +1,7 @@
 use Rattle.std.proofs.Common.{◌≡◌, pos, map, ap, ◌∙◌, arith, refl}
 use Rattle.nd_base.proofs.laws.Definitions.{size}
 use Rattle.ndarray_layout.specs.View.{View, view_of, view_places}
-use Rattle.ndarray_layout.proofs.laws.View.{item_at_rank, items_lie_within, size_fits}
+use Rattle.ndarray_layout.proofs.laws.View.{item_at_flat_index, items_lie_within, size_fits}
 use Rattle.ndarray_layout.proofs.strided.Strided.places.Goals as goal
 
 pub product-size-requires : goal.product-size-requires
@@ -25,7 +25,7 @@ returns g c =
       items = same;
       len = omega (arith, c.push_places.ensures.len, c.in_ok-places.ensures.len, whole);
       capacity = c.push_places.ensures.capacity ∙ c.in_ok-places.ensures.exact ∙ known;
-      at_rank = λ r below. item_at_rank order view items r same below;
+      at_flat_index = λ r below. item_at_flat_index order view items r same below;
       inside = λ len within. items_lie_within len order view items same within;
       memory = λ none. refl;
     })

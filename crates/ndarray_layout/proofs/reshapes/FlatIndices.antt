@@ -1,4 +1,4 @@
--- How far the index of a rank lies, by the longer axes of a layout, the fastest first.
+-- How far the index of a flat index lies, by the longer axes of a layout, the fastest first.
 use Rattle.std.proofs.Common.{◌≡◌, ℕ, ◌+◌, ◌*◌, ◌/◌, ◌%◌, ◌<◌, true, false, ℤ, pos, ◌+ℤ◌, ◌*ℤ◌, List, [], ◌∷◌, ◌++◌, length, reverse, refl}
 use Rattle.std.proofs.Common.{sym, ap, ap₂, ◌∙◌, inl, inr, arith, subst}
 use Rattle.std.specs.Prelude.{nat_lt}
@@ -8,7 +8,7 @@ use Rattle.std.proofs.lemmas.Bool.{cases_Bool, cond-true, cond-false, ltb-true}
 use Rattle.std.proofs.lemmas.Int.{ints}
 use Rattle.std.proofs.lemmas.List.{reverse-append}
 use Rattle.std.proofs.lemmas.Nat.{div_below, mod_below, mod-mul-add, div-mul-add}
-use Rattle.nd_base.proofs.laws.Definitions.{offset_of, index_of_rank, is_empty, size}
+use Rattle.nd_base.proofs.laws.Definitions.{offset_of, index_of_flat, is_empty, size}
 use Rattle.nd_base.proofs.laws.Size.{size_of_nonempty}
 use Rattle.ndarray_layout.proofs.reshapes.Values.{Axes, value, count, AreLong}
 use Rattle.ndarray_layout.proofs.reshapes.Joins.{long_axes, is_empty-rest, one-of-short, count-reverse}
@@ -24,7 +24,7 @@ value-append (axis ∷ axes) others r =
     (div-div-eq-div-mul r axis.0 (count axes)) in
     omega (arith, ints, rest, past)
 
--- ranks past the last index begin anew
+-- flat indices past the last index begin anew
 pub value-mod : (axes : Axes) (r : ℕ) → AreLong axes → value axes (r % count axes) ≡ value axes r
 value-mod [] r h = refl
 value-mod (axis ∷ axes) r h =
@@ -90,18 +90,18 @@ lens-long_axes (len ∷ lens) (stride ∷ strides) e =
           ∙ sym (cond-false (nat_lt 1 len) (len ∷ long_lens lens) (long_lens lens) short)
     ]
 
--- ---- the index of a rank lies as far as the value says
-pub offset-at-rank : (lens : List ℕ) (strides : List ℤ) (r : ℕ) → is_empty lens ≡ false → length lens ≡ length strides → r < size lens
-    → offset_of strides (index_of_rank lens r) ≡ value (reverse (long_axes lens strides)) r
-offset-at-rank [] strides r h e l = refl
-offset-at-rank (len ∷ lens) [] r h e l = absurd (omega arith)
-offset-at-rank (len ∷ lens) (stride ∷ strides) r h e l =
+-- ---- the index of a flat index lies as far as the value says
+pub offset-at-flat_index : (lens : List ℕ) (strides : List ℤ) (r : ℕ) → is_empty lens ≡ false → length lens ≡ length strides → r < size lens
+    → offset_of strides (index_of_flat lens r) ≡ value (reverse (long_axes lens strides)) r
+offset-at-flat_index [] strides r h e l = refl
+offset-at-flat_index (len ∷ lens) [] r h e l = absurd (omega arith)
+offset-at-flat_index (len ∷ lens) (stride ∷ strides) r h e l =
     let none = is_empty-rest len lens h in
     let some = size_of_nonempty lens none in
     let rows = long_axes lens strides in
     let fast = reverse rows in
     let whole : count fast ≡ size lens = count-reverse rows ∙ count-long_axes lens strides none (omega arith) in
-    let rest = offset-at-rank lens strides (r % size lens) none (omega arith) (mod_below r (size lens) some) in
+    let rest = offset-at-flat_index lens strides (r % size lens) none (omega arith) (mod_below r (size lens) some) in
     elim (cases_Bool (nat_lt 1 len)) [
       | inl long ↦
           let below : r / size lens < len = div_below r (size lens) len some l in
@@ -120,8 +120,8 @@ offset-at-rank (len ∷ lens) (stride ∷ strides) r h e l =
           let below : r < size lens = omega (arith, ap (λ n. n * size lens) one, one-mul (size lens)) in
           let first : r / size lens ≡ 0 = div-eq_of_lt below in
           let same : r % size lens ≡ r = mod-eq_of_lt below in
-          ap₂ (λ i q. (pos i *ℤ stride) +ℤ offset_of strides (index_of_rank lens q)) first same
+          ap₂ (λ i q. (pos i *ℤ stride) +ℤ offset_of strides (index_of_flat lens q)) first same
           ∙ omega (arith, ints)
-          ∙ sym (ap (λ q. offset_of strides (index_of_rank lens q)) same) ∙ rest ∙ ap (value fast) same
+          ∙ sym (ap (λ q. offset_of strides (index_of_flat lens q)) same) ∙ rest ∙ ap (value fast) same
           ∙ sym (ap (λ xs. value (reverse xs) r) (long-left len lens stride strides short))
     ]
