@@ -2,6 +2,7 @@ pub mod AcceptedRule
 pub mod Broadcasts
 pub mod ByRows
 pub mod Collapses
+pub mod FromStart
 pub mod LongerAxes
 pub mod LongerSteps
 pub mod Merged

@@ -1,3 +1,4 @@
+pub mod AcceptanceFrom
 pub mod BroadcastView
 pub mod CollapsedView
 pub mod DistinctPlaces

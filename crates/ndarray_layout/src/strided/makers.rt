@@ -1,27 +1,49 @@
 //! Views of accepted layouts, and copies of a view.
 ghost use Rattle.std.specs.Option.{IsSome};
-ghost use Rattle.std.specs.Prelude.{◌≡◌, ◌⊎◌, ◌<◌, false, None, length, IfOk, IsOk};
+ghost use Rattle.std.specs.Prelude.{◌≡◌, ◌⊎◌, ◌+◌, ◌<◌, ◌≤◌, ◌||◌, false, None, length, nat_le, nat_lt, if◌then◌else◌, IfOk, IsOk};
 ghost use Rattle.std.specs.Result.{result_err};
 ghost use Rattle.nd_base.specs.Lengths.{NeedsNoMemory};
 ghost use Rattle.nd_base.specs.ShapeFault.{shape_fault};
 ghost use Rattle.nd_base.specs.Signed.{all_signed};
-ghost use Rattle.nd_base.specs.Size.{is_empty};
+ghost use Rattle.nd_base.specs.Size.{is_empty, limit};
 ghost use Rattle.nd_base.specs.Span.{low_span};
 ghost use Rattle.nd_shape.specs.Acceptance.{acceptance};
 ghost use Rattle.nd_shape.specs.AcceptanceByStrides.{acceptance_by_strides};
 ghost use Rattle.nd_shape.specs.OwnedRule.{MeetsOwnedRule};
 ghost use Rattle.nd_shape.specs.ShapeBuilder.{custom_strides, strides_list};
 ghost use Rattle.nd_shape.specs.declared.checks.CanIndexCheckMode.TheVariants.{OwnedMutable};
+ghost use Rattle.ndarray_layout.specs.AcceptanceFrom.{acceptance_from};
 ghost use Rattle.ndarray_layout.specs.DistinctPlaces.{HasDistinctPlaces};
 ghost use Rattle.ndarray_layout.specs.View.{IsView, LiesWithin, view_of};
 
 use crate::strided::Strided;
-use nd_base::{LayoutError, Lengths, ShapeError};
+use nd_base::{ErrorKind, LayoutError, Lengths, ShapeError, from_kind};
 use nd_shape::{
     CanIndexCheckMode, StrideShape, can_index_slice, can_index_slice_with_strides,
-    offset_from_low_addr_ptr_to_logical_ptr,
+    dim_stride_overlap, max_abs_offset_check_overflow, offset_from_low_addr_ptr_to_logical_ptr,
 };
 use std::alloc::{AllocError, Global};
+
+/// Whether a layout that reaches so far above its start leaves data of `len` elements, or the
+/// places up to the greatest `isize`.
+///
+/// A layout without an index may reach as far as there are elements.
+#[inline(always)]
+fn reaches_past(start: usize, high: usize, len: usize, is_empty: bool) -> bool
+    requires { high ≤ limit }
+    ensures { result ≡ (nat_lt limit (start + high)
+        || (if is_empty then nat_lt len (start + high) else nat_le len (start + high))) }
+{
+    if start > isize::MAX as usize - high {
+        return true;
+    }
+    let highest = start + high;
+    if is_empty {
+        len < highest
+    } else {
+        len <= highest
+    }
+}
 
 impl<D: Lengths> Strided<D> {
     /// The view of a shape and strides over data of `len` elements of `elem_size` bytes.
@@ -55,6 +77,54 @@ impl<D: Lengths> Strided<D> {
     {
         can_index_slice(elem_size, len, &dim, &strides, mode)?;
         let start = offset_from_low_addr_ptr_to_logical_ptr(&dim, &strides);
+        Ok(Strided {
+            start,
+            dim,
+            strides,
+        })
+    }
+
+    /// The view of a shape and strides whose first index lies at a given place in data of `len`
+    /// elements of `elem_size` bytes.
+    ///
+    /// `start` is that place, in elements from the start of the data. `dim` and `strides` are one
+    /// number for each axis; strides are in elements and with their sign (`signed`). Each index is
+    /// in bounds, and in owned mode no two indices alias. Where `start` is the lowest that there
+    /// can be (`low_span`), the result is that of `new`.
+    ///
+    /// # Errors
+    ///
+    /// Those of `span_of_lengths`; then `OutOfBounds` where an index lies before the data, past it
+    /// or past the place `isize::MAX`; then, in owned mode, `Unsupported` where two indices may
+    /// alias (`has_overlap`). A layout without an index is out of bounds where it reaches, by its
+    /// span, below 0 or above `len`.
+    ///
+    /// `[3]` with the stride `[-1]` over 5 elements: from 4 on (0) lies at 4 and (2) at 2; from 1
+    /// on (2) would lie before the data. The project's own.
+    pub fn from_parts(
+        start: usize,
+        dim: D,
+        strides: D,
+        elem_size: usize,
+        len: usize,
+        mode: CanIndexCheckMode,
+    ) -> Result<Self, ShapeError>
+        ensures fault { result_err result ≡
+            acceptance_from start elem_size len mode (D.list dim) (all_signed (D.list strides)) }
+        ensures view { IfOk result (λ v. v ≡ view_of start (D.list dim) (D.list strides)) }
+        ensures is_view { IfOk result (λ v. IsView v) }
+        ensures inside { IfOk result (λ v. LiesWithin len v) }
+        ensures distinct { IfOk result (λ v. mode ≡ OwnedMutable → HasDistinctPlaces v) }
+    {
+        let span = max_abs_offset_check_overflow(elem_size, &dim, &strides)?;
+        let low = offset_from_low_addr_ptr_to_logical_ptr(&dim, &strides);
+        let is_empty = dim.slice().contains(&0);
+        if start < low || reaches_past(start, span - low, len, is_empty) {
+            return Err(from_kind(ErrorKind::OutOfBounds));
+        }
+        if mode == CanIndexCheckMode::OwnedMutable && dim_stride_overlap(&dim, &strides) {
+            return Err(from_kind(ErrorKind::Unsupported));
+        }
         Ok(Strided {
             start,
             dim,
