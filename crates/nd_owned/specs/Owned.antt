@@ -1,8 +1,9 @@
 -- What an owned array holds: its items, and a view by which each index of its shape has one of them to itself.
-use Rattle.std.specs.Prelude.{◌≡◌, ℕ, ℤ, pos, negsuc, Option, Some, None, Result, Ok, Err, if◌then◌else◌, List, [], ◌∷◌, nat_eq, slice_get, slice_index, slice_set, refl}
+use Rattle.std.specs.Prelude.{◌≡◌, ℕ, ℤ, pos, negsuc, Option, Some, None, Result, Ok, Err, if◌then◌else◌, List, [], ◌∷◌, length, nat_eq, slice_get, slice_index, slice_set, refl}
 use Rattle.std.proofs.Common.{ap, eq-eqb}
 use Rattle.std.proofs.Math.Dec.{lit≤}
 use Rattle.std.proofs.lemmas.Bool.{both_ways}
+use Rattle.std.specs.List.{refill}
 use Rattle.ndarray_layout.specs.declared.ErrorKind.{ErrorKind}
 use Rattle.ndarray_layout.specs.declared.LayoutError.{LayoutError}
 use Rattle.ndarray_layout.specs.declared.LayoutError.TheVariants.{Shape, Memory}
@@ -45,6 +46,10 @@ with_item array index item =
     then record { items = slice_set array.items (magnitude (place_at array.view index)) item; view = array.view }
     else array)
 
+-- the array with other items, cut or filled up from its own to as many
+abbrev pub with_items : {T : Type 0} → Owned T → List T → Owned T
+with_items array items = record { items = refill (length array.items) array.items items; view = array.view }
+
 -- the fault of a shape by which a call is refused that hands something back
 abbrev pub shape_fault_of : {X Y : Type 0} → Result X (LayoutError × Y) → Option ErrorKind
 shape_fault_of (Ok x) = None
@@ -79,6 +84,15 @@ no_third = refl
 
 last_replaced : (with_item back_to_front (1 ∷ []) 5).items ≡ 5 ∷ 8 ∷ 9 ∷ []
 last_replaced = refl
+
+all_replaced : with_items back_to_front (4 ∷ 5 ∷ 6 ∷ []) ≡ record { items = 4 ∷ 5 ∷ 6 ∷ []; view = back_to_front.view }
+all_replaced = refl
+
+none_past_the_last : (with_items back_to_front (4 ∷ 5 ∷ 6 ∷ 0 ∷ [])).items ≡ 4 ∷ 5 ∷ 6 ∷ []
+none_past_the_last = refl
+
+own_where_there_is_no_other : (with_items back_to_front (4 ∷ [])).items ≡ 4 ∷ 8 ∷ 9 ∷ []
+own_where_there_is_no_other = refl
 
 abbrev all_of_axis : SliceInfoElem
 all_of_axis = elem.Slice (pos 0) None (pos 1)

@@ -1,4 +1,5 @@
 //! An array that owns its items.
+ghost use Rattle.std.specs.Borrow.{Array, Lends, sem};
 ghost use Rattle.std.specs.List.{All};
 ghost use Rattle.std.specs.Option.{IsSome};
 ghost use Rattle.std.specs.Prelude.{◌≡◌, ◌↔◌, IsTrue, Some, None, IfErr, IfOk, IsOk, OnErr, OnOk, length, map, slice_get, vec_len};
@@ -12,23 +13,25 @@ ghost use Rattle.ndarray_layout.specs.Lengths.{NeedsNoMemory};
 ghost use Rattle.ndarray_layout.specs.ShapeBuilder.{custom_strides, strides_list};
 ghost use Rattle.ndarray_layout.specs.ShapeFault.{shape_fault};
 ghost use Rattle.ndarray_layout.specs.Signed.{all_signed};
+ghost use Rattle.ndarray_layout.specs.Size.{size};
 ghost use Rattle.ndarray_layout.specs.SlicedView.{slice_of};
 ghost use Rattle.ndarray_layout.specs.Span.{low_span};
 ghost use Rattle.ndarray_layout.specs.View.{view_of, view_places};
-ghost use Rattle.nd_owned.specs.Owned.{IsOfNone, IsOwned, item_at, item_at_place, shape_fault_of, with_item};
+ghost use Rattle.nd_owned.specs.Owned.{IsOfNone, IsOwned, item_at, item_at_place, shape_fault_of, with_item, with_items};
 ghost use Rattle.nd_owned.specs.Writes.{HaveNoItems, IsFaultOfWrites, IsWritten, KeepsOthers, write_of};
 
 use crate::rows::rows_of;
 use crate::writes::{check_apart, check_counts, rows_of_each, write_all};
 use ndarray_layout::{
     CanIndexCheckMode, LayoutError, Lengths, NdIndex, SliceElems, SliceInfoElem, StrideShape,
-    Strided,
+    Strided, product,
 };
 use std::alloc::Global;
 use std::marker::Model;
 
 /// An array that owns its items. Each index of its shape has an item, at its place in the list of the items, and no two
-/// indices alias. Items at no place of the layout are spare ones, and no call but `stored` shows them.
+/// indices alias. Items at no place of the layout are spare ones, and no call shows them but `stored`, `stored_mut` and
+/// `into_stored`.
 #[derive(Drop)]
 pub struct OwnedArray<T: Copy, D: Lengths> {
     items: Vec<T>,
@@ -47,6 +50,8 @@ impl<T: Copy, D: Lengths> Model for OwnedArray<T, D> {
 }
 
 impl<T: Copy, D: Lengths> OwnedArray<T, D> {
+    ghost use Rattle.nd_owned.specs.contracts.owned.OwnedArray.{the_row};
+
     /// The array of a shape, by its own strides or by given ones, over a list of items.
     ///
     /// The lowest place of the layout is 0, the first item of the list. Items past the layout, or between its places, are
@@ -88,13 +93,77 @@ impl<T: Copy, D: Lengths> OwnedArray<T, D> {
         }
     }
 
-    /// All items as they are stored, spare ones too. ndarray's `into_raw_vec_and_offset` gives them away.
+    /// The view: the shape, the strides and the place of the first index. Each place of it has an item, and no two indices
+    /// alias.
+    ///
+    /// `[2]` with the stride `[-1]` over 7 8 9: `[2]`, `[-1]` from 1. ndarray's `view` lends the items as well.
+    #[inline]
+    pub fn view(&self) -> &Strided<D>
+        ensures view { result.now ≡ self.now.view }
+        ensures owned { IsOwned (length self.now.items) self.now.view }
+    {
+        &self.view
+    }
+
+    /// The shape. ndarray's `raw_dim`, which copies it.
+    #[inline]
+    pub fn dim(&self) -> &D
+        ensures list { D.list result.now ≡ self.now.view.shape }
+    {
+        self.view.dim()
+    }
+
+    /// How many indices the shape has; spare items don't count.
+    ///
+    /// `[2]` with the stride `[-1]` over 7 8 9: 2. ndarray's `len`.
+    pub fn len(&self) -> usize
+        ensures { result ≡ size self.now.view.shape }
+    {
+        product(self.view.dim().slice())
+    }
+
+    /// Whether the shape has no index. ndarray's `is_empty`.
+    pub fn is_empty(&self) -> bool
+        ensures { IsTrue result ↔ (size self.now.view.shape ≡ 0) }
+    {
+        self.len() == 0
+    }
+
+    /// All items as they are stored, spare ones too.
+    ///
+    /// `[2]` with the stride `[-1]` over 7 8 9: 7 8 9. ndarray's `as_slice_memory_order`, where no item is spare.
     #[inline]
     pub fn stored(&self) -> &[T]
         ensures items { result.now ≡ self.now.items }
         ensures owned { IsOwned (length self.now.items) self.now.view }
     {
         self.items.as_slice()
+    }
+
+    /// All items as they are stored, spare ones too, to be written. Their count and the view are unchanged.
+    ///
+    /// `[2]` with the stride `[-1]` over 7 8 9: 5 at the end of the list makes it 7 8 5, and (0) is 8 still. ndarray's
+    /// `as_slice_memory_order_mut`, where no item is spare.
+    #[inline]
+    pub fn stored_mut(&mut self) -> &mut [T]
+        ensures* writes_back { sem 𝓛 (Lends
+            (the_row T.row D.row D.Lengths.own D.FixedCount D.PartialEq D.Debug D.Index)
+            (Array T.row 0) self.entry result (with_items self.old)) }
+        ensures items { result.now ≡ self.old.items }
+        ensures owned { IsOwned (length self.old.items) self.old.view }
+    {
+        self.items.as_mut_slice()
+    }
+
+    /// The list of all items as they are stored, spare ones too, and no copy of it. It ends the array.
+    ///
+    /// `[2]` with the stride `[-1]` over 7 8 9: 7 8 9. ndarray's `into_raw_vec_and_offset`, whose offset the view's start is.
+    #[inline]
+    pub fn into_stored(self) -> Vec<T>
+        ensures { result.items ≡ self.items }
+    {
+        let OwnedArray { items, view: _ } = self;
+        items
     }
 
     /// A copy of the item of an index; `None` where it is no index of the shape.
