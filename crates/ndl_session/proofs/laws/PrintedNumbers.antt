@@ -1,5 +1,6 @@
 -- Laws of numbers: what one prints is read as that number.
-use Rattle.std.proofs.Common.{◌≡◌, ◌≢◌, ℕ, suc, ◌<◌, ◌≤◌, ◌^◌, ℤ, pos, negsuc, true, Option, Some, None, List, get_or, codes, decimal, refl, sym, ap, ◌∙◌, arith}
+use Rattle.std.proofs.Common.{◌≡◌, ◌≢◌, ℕ, suc, ◌<◌, ◌≤◌, ◌^◌, ℤ, pos, negsuc, true, Option, Some, None, List, get_or, codes, decimal, refl}
+use Rattle.std.proofs.Common.{sym, ap, ◌∙◌, arith}
 use Rattle.std.specs.Fmt.{signed_decimal}
 use Rattle.std.specs.List.{All}
 use Rattle.std.proofs.lemmas.Bool.{and_from, lt-ltb, le-leb}
@@ -33,14 +34,19 @@ signed_number_of-signed_decimal (negsuc n) fits =
     rw (is_decimal-decimal (suc n) h, digits_value-decimal own (suc n) h, le-leb (suc n) (2 ^ 63) least) refl
 
 -- ---- as entries of a list
-pub IsReadBack-from : {A : Type 0} (entry_of : List ℕ → Option A) (output : A → Option (List ℕ)) (x : A) → entry_of (codes "-") ≡ None → entry_of (printed output x) ≡ Some x → All (λ byte. byte ≢ comma) (printed output x) → IsReadBack entry_of output x
-IsReadBack-from entry_of output x none same bytes = record { read = same; no_comma = bytes; not_empty_list = λ e. none-some x (sym none ∙ ap entry_of (sym e) ∙ same) }
+pub IsReadBack-from : {A : Type 0} (entry_of : List ℕ → Option A) (output : A → Option (List ℕ)) (x : A) → entry_of (codes "-") ≡ None
+    → entry_of (printed output x) ≡ Some x → All (λ byte. byte ≢ comma) (printed output x) → IsReadBack entry_of output x
+IsReadBack-from entry_of output x none same bytes =
+    record { read = same; no_comma = bytes; not_empty_list = λ e. none-some x (sym none ∙ ap entry_of (sym e) ∙ same) }
 
 no_comma : (text : List ℕ) → All IsSignOrDigit text → All (λ byte. byte ≢ comma) text
 no_comma text all = All-weaker IsSignOrDigit (λ byte. byte ≢ comma) (λ b r e. omega (arith, r.0)) text all
 
 pub IsReadBack-decimal : (n : ℕ) → IsUsize n → IsReadBack number_of (λ m. Some (decimal m)) n
-IsReadBack-decimal n h = IsReadBack-from number_of (λ m. Some (decimal m)) n refl (number_of-decimal n h) (no_comma (decimal n) (decimal_bytes n h))
+IsReadBack-decimal n h =
+    IsReadBack-from number_of (λ m. Some (decimal m)) n refl (number_of-decimal n h) (no_comma (decimal n) (decimal_bytes n h))
 
 pub IsReadBack-signed_decimal : (z : ℤ) → IsIsize z → IsReadBack signed_number_of (λ y. Some (signed_decimal y)) z
-IsReadBack-signed_decimal z fits = IsReadBack-from signed_number_of (λ y. Some (signed_decimal y)) z refl (signed_number_of-signed_decimal z fits) (no_comma (signed_decimal z) (signed_decimal_bytes z fits))
+IsReadBack-signed_decimal z fits =
+    IsReadBack-from signed_number_of (λ y. Some (signed_decimal y)) z refl (signed_number_of-signed_decimal z fits)
+    (no_comma (signed_decimal z) (signed_decimal_bytes z fits))

@@ -1,5 +1,6 @@
 -- Laws of lines and scripts: the text of one is read as it.
-use Rattle.std.proofs.Common.{◌≡◌, ◌≢◌, ℕ, ◌+◌, ◌-◌, ◌<◌, ℤ, pos, negsuc, Bool, true, ltb, Some, Ok, List, [], ◌∷◌, ◌++◌, length, get_or, map, codes, decimal, refl, ap, ◌∙◌, append_assoc, arith}
+use Rattle.std.proofs.Common.{◌≡◌, ◌≢◌, ℕ, ◌+◌, ◌-◌, ◌<◌, ℤ, pos, negsuc, Bool, true, ltb, Some, Ok, List, [], ◌∷◌, ◌++◌, length, get_or}
+use Rattle.std.proofs.Common.{map, codes, decimal, refl, ap, ◌∙◌, append_assoc, arith}
 use Rattle.std.specs.Fmt.{signed_decimal}
 use Rattle.std.specs.List.{All, enumerate_from, filter, flat_map, list_all}
 use Rattle.std.specs.Str.Lines.{strip_carriage_return}
@@ -28,7 +29,8 @@ use Rattle.ndl_session.specs.script.StepLine.{IsStep, order_text, slice_keyword,
 use Rattle.ndl_session.proofs.laws.PrintedElements.{IsRangeByte, range_bytes, range_nonempty}
 use Rattle.ndl_session.proofs.laws.PrintedLists.{elements_of-elements_text, lengths_of-lengths_text, strides_of-strides_text}
 use Rattle.ndl_session.proofs.laws.PrintedNumbers.{number_of-decimal}
-use Rattle.ndl_session.proofs.texts.Bytes.{IsAfter, IsSignOrDigit, Lacks, decimal_bytes, signed_decimal_bytes, lacks, listed_bytes, listed_nonempty, listed_parts, part_at, spelled}
+use Rattle.ndl_session.proofs.texts.Bytes.{IsAfter, IsSignOrDigit, Lacks, decimal_bytes, signed_decimal_bytes, lacks, listed_bytes}
+use Rattle.ndl_session.proofs.texts.Bytes.{listed_nonempty, listed_parts, part_at, spelled}
 use Rattle.ndl_session.proofs.texts.FirstLine.{ended_line}
 
 -- ---- the words of a line
@@ -41,10 +43,14 @@ step_of-step_words (ReshapeTo shape RowMajor) fits = rw (lengths_of-lengths_text
 step_of-step_words (ReshapeTo shape ColumnMajor) fits = rw (lengths_of-lengths_text shape fits) refl
 step_of-step_words (BroadcastTo shape) fits = rw (lengths_of-lengths_text shape fits) refl
 
-layout_of_record : (len : ℕ) (mode : CanIndexCheckMode) (shape : List ℕ) (strides : List ℤ) → IsUsize len → All IsUsize shape → All IsIsize strides
-    → layout_of (layout_words (record { len = len; mode = mode; shape = shape; strides = strides })) ≡ Some (record { len = len; mode = mode; shape = shape; strides = strides })
-layout_of_record len OwnedMutable shape strides l s t = rw (number_of-decimal len l, lengths_of-lengths_text shape s, strides_of-strides_text strides t) refl
-layout_of_record len ReadOnly shape strides l s t = rw (number_of-decimal len l, lengths_of-lengths_text shape s, strides_of-strides_text strides t) refl
+layout_of_record : (len : ℕ) (mode : CanIndexCheckMode) (shape : List ℕ) (strides : List ℤ) → IsUsize len → All IsUsize shape
+    → All IsIsize strides
+    → layout_of (layout_words (record { len = len; mode = mode; shape = shape; strides = strides })) ≡ Some
+    (record { len = len; mode = mode; shape = shape; strides = strides })
+layout_of_record len OwnedMutable shape strides l s t =
+    rw (number_of-decimal len l, lengths_of-lengths_text shape s, strides_of-strides_text strides t) refl
+layout_of_record len ReadOnly shape strides l s t =
+    rw (number_of-decimal len l, lengths_of-lengths_text shape s, strides_of-strides_text strides t) refl
 
 pub layout_of-layout_words : (layout : LayoutValue) → IsLayout layout → layout_of (layout_words layout) ≡ Some layout
 layout_of-layout_words layout fits = layout_of_record layout.len layout.mode layout.shape layout.strides fits.len fits.shape fits.strides
@@ -61,15 +67,19 @@ IsWord-decimal : (n : ℕ) → IsUsize n → IsWord (decimal n)
 IsWord-decimal n h = record { nonempty = decimal_nonempty n h; bytes = number_after _ (decimal_bytes n h) }
 
 -- a list is a word where its entries have bytes
-listed_words : {A : Type 0} (text_of : A → List ℕ) (Can : A → Type 0) → ((x : A) → Can x → IsWord (text_of x)) → (xs : List A) → All Can xs → IsWord (listed (codes ",") (map text_of xs))
+listed_words : {A : Type 0} (text_of : A → List ℕ) (Can : A → Type 0) → ((x : A) → Can x → IsWord (text_of x)) → (xs : List A)
+    → All Can xs → IsWord (listed (codes ",") (map text_of xs))
 listed_words text_of Can words xs all = record {
-  nonempty = listed_nonempty (codes ",") (map text_of xs) (All-map (λ t. 0 < length t) text_of xs (All-weaker Can (λ x. 0 < length (text_of x)) (λ x c. (words x c).nonempty) xs all));
-  bytes = listed_bytes (IsAfter space) 44 (omega arith) (omega arith) (map text_of xs) (All-map (All (IsAfter space)) text_of xs (All-weaker Can (λ x. All (IsAfter space) (text_of x)) (λ x c. (words x c).bytes) xs all));
+  nonempty = listed_nonempty (codes ",") (map text_of xs)
+      (All-map (λ t. 0 < length t) text_of xs (All-weaker Can (λ x. 0 < length (text_of x)) (λ x c. (words x c).nonempty) xs all));
+  bytes = listed_bytes (IsAfter space) 44 (omega arith) (omega arith) (map text_of xs)
+      (All-map (All (IsAfter space)) text_of xs (All-weaker Can (λ x. All (IsAfter space) (text_of x)) (λ x c. (words x c).bytes) xs all));
 }
 
 IsWord-signed_decimal : (z : ℤ) → IsIsize z → IsWord (signed_decimal z)
 IsWord-signed_decimal (pos n) fits = IsWord-decimal n (omega (arith, fits.sfits))
-IsWord-signed_decimal (negsuc n) fits = record { nonempty = omega arith; bytes = number_after (signed_decimal (negsuc n)) (signed_decimal_bytes (negsuc n) fits) }
+IsWord-signed_decimal (negsuc n) fits =
+    record { nonempty = omega arith; bytes = number_after (signed_decimal (negsuc n)) (signed_decimal_bytes (negsuc n) fits) }
 
 IsWord-elem_text : (e : SliceInfoElem) → IsElement e → IsWord (elem_text e)
 IsWord-elem_text (elem.Slice start end step) fits = record {
@@ -117,11 +127,19 @@ IsWord-order_text RowMajor = name (codes "C") (omega arith) refl
 IsWord-order_text ColumnMajor = name (codes "F") (omega arith) refl
 
 IsLine-step_words : (step : StepValue) → IsStep step → IsLine (step_words step)
-IsLine-step_words (SliceBy elems fit) fits = line_of_two (slice_keyword fit) (elements_text elems) (IsWord-slice_keyword fit) (IsWord-elements_text elems fits)
-IsLine-step_words (CollapseTo axis index) fits = line_of_three (codes "collapse") (decimal axis) (decimal index) (name (codes "collapse") (omega arith) refl) (IsWord-decimal axis fits.0) (IsWord-decimal index fits.1)
-IsLine-step_words (MergeInto take into) fits = line_of_three (codes "merge") (decimal take) (decimal into) (name (codes "merge") (omega arith) refl) (IsWord-decimal take fits.0) (IsWord-decimal into fits.1)
-IsLine-step_words (ReshapeTo shape order) fits = line_of_three (codes "reshape") (order_text order) (lengths_text shape) (name (codes "reshape") (omega arith) refl) (IsWord-order_text order) (IsWord-lengths_text shape fits)
-IsLine-step_words (BroadcastTo shape) fits = line_of_two (codes "broadcast") (lengths_text shape) (name (codes "broadcast") (omega arith) refl) (IsWord-lengths_text shape fits)
+IsLine-step_words (SliceBy elems fit) fits =
+    line_of_two (slice_keyword fit) (elements_text elems) (IsWord-slice_keyword fit) (IsWord-elements_text elems fits)
+IsLine-step_words (CollapseTo axis index) fits =
+    line_of_three (codes "collapse") (decimal axis) (decimal index) (name (codes "collapse") (omega arith) refl)
+    (IsWord-decimal axis fits.0) (IsWord-decimal index fits.1)
+IsLine-step_words (MergeInto take into) fits =
+    line_of_three (codes "merge") (decimal take) (decimal into) (name (codes "merge") (omega arith) refl) (IsWord-decimal take fits.0)
+    (IsWord-decimal into fits.1)
+IsLine-step_words (ReshapeTo shape order) fits =
+    line_of_three (codes "reshape") (order_text order) (lengths_text shape) (name (codes "reshape") (omega arith) refl)
+    (IsWord-order_text order) (IsWord-lengths_text shape fits)
+IsLine-step_words (BroadcastTo shape) fits =
+    line_of_two (codes "broadcast") (lengths_text shape) (name (codes "broadcast") (omega arith) refl) (IsWord-lengths_text shape fits)
 
 IsWord-mode_text : (mode : CanIndexCheckMode) → IsWord (mode_text mode)
 IsWord-mode_text OwnedMutable = name (codes "owned") (omega arith) refl
@@ -129,9 +147,14 @@ IsWord-mode_text ReadOnly = name (codes "read") (omega arith) refl
 
 IsLine-layout_words : (layout : LayoutValue) → IsLayout layout → IsLine (layout_words layout)
 IsLine-layout_words layout fits =
-    let lists = line_of_three (mode_text layout.mode) (lengths_text layout.shape) (strides_text layout.strides) (IsWord-mode_text layout.mode) (IsWord-lengths_text layout.shape fits.shape) (IsWord-strides_text layout.strides fits.strides) in
-    let numbers = longer (decimal layout.len) (mode_text layout.mode ∷ lengths_text layout.shape ∷ strides_text layout.strides ∷ []) (IsWord-decimal layout.len fits.len) lists in
-    longer (codes "data") (decimal layout.len ∷ mode_text layout.mode ∷ lengths_text layout.shape ∷ strides_text layout.strides ∷ []) (name (codes "data") (omega arith) refl) numbers
+    let lists =
+    line_of_three (mode_text layout.mode) (lengths_text layout.shape) (strides_text layout.strides) (IsWord-mode_text layout.mode)
+    (IsWord-lengths_text layout.shape fits.shape) (IsWord-strides_text layout.strides fits.strides) in
+    let numbers =
+    longer (decimal layout.len) (mode_text layout.mode ∷ lengths_text layout.shape ∷ strides_text layout.strides ∷ [])
+    (IsWord-decimal layout.len fits.len) lists in
+    longer (codes "data") (decimal layout.len ∷ mode_text layout.mode ∷ lengths_text layout.shape ∷ strides_text layout.strides ∷ [])
+    (name (codes "data") (omega arith) refl) numbers
 
 -- ---- the words of a line are read as they are
 filter_all : {A : Type 0} (p : A → Bool) (xs : List A) → All (λ x. p x ≡ true) xs → filter p xs ≡ xs
@@ -141,13 +164,19 @@ filter_all p (x ∷ xs) all = rw (All-head (λ y. p y ≡ true) x xs all, filter
 words_of-line : (words : List (List ℕ)) → IsLine words → words_of (listed (codes " ") words) ≡ words
 words_of-line [] line = absurd (omega (arith, line.some))
 words_of-line (word ∷ words) line =
-    let apart = All-weaker IsWord (Lacks space) (λ w h. lacks (IsAfter space) space (λ b r e. omega (arith, r)) w h.bytes) (word ∷ words) line.each in
+    let apart =
+    All-weaker IsWord (Lacks space) (λ w h. lacks (IsAfter space) space (λ b r e. omega (arith, r)) w h.bytes) (word ∷ words)
+    line.each in
     rw (listed_parts space word words apart)
-    (filter_all (λ w. ltb 0 (length w)) (word ∷ words) (All-weaker IsWord (λ w. ltb 0 (length w) ≡ true) (λ w h. lt-ltb 0 (length w) h.nonempty) (word ∷ words) line.each))
+    (filter_all (λ w. ltb 0 (length w)) (word ∷ words)
+    (All-weaker IsWord (λ w. ltb 0 (length w) ≡ true) (λ w h. lt-ltb 0 (length w) h.nonempty) (word ∷ words) line.each))
 
 -- ---- the lines of a text are read as they are
 line_bytes : (words : List (List ℕ)) → IsLine words → All (IsAfter 31) (listed (codes " ") words)
-line_bytes words line = listed_bytes (IsAfter 31) 32 (omega arith) (omega arith) words (All-weaker IsWord (All (IsAfter 31)) (λ w h. All-weaker (IsAfter space) (IsAfter 31) (λ b r. omega (arith, r)) w h.bytes) words line.each)
+line_bytes words line =
+    listed_bytes (IsAfter 31) 32 (omega arith) (omega arith) words
+    (All-weaker IsWord (All (IsAfter 31)) (λ w h. All-weaker (IsAfter space) (IsAfter 31) (λ b r. omega (arith, r)) w h.bytes) words
+    line.each)
 
 no_return : (text : List ℕ) → All (IsAfter 31) text → get_or text (length text - 1) 0 ≢ 13
 no_return [] all e = omega (arith, e)
@@ -165,27 +194,38 @@ lines_of-lines (words ∷ lines) all =
     let rest = flat_map line_text lines in
     let bytes = line_bytes words (All-head IsLine words lines all) in
     let whole : line_text words ++ rest ≡ line ++ line_feed ∷ rest = append_assoc line (codes "\n") rest in
-    let cut : parts line_feed (line_text words ++ rest) ≡ line ∷ parts line_feed rest = ap (parts line_feed) whole ∙ part_at line_feed line rest (lacks (IsAfter 31) line_feed (λ b r e. omega (arith, r)) line bytes) in
-    ended_line (line_text words ++ rest) line rest cut ∙ rw (kept_line line bytes, lines_of-lines lines (All-tail IsLine words lines all)) refl
+    let cut : parts line_feed (line_text words ++ rest) ≡ line ∷ parts line_feed rest = ap (parts line_feed) whole
+    ∙ part_at line_feed line rest (lacks (IsAfter 31) line_feed (λ b r e. omega (arith, r)) line bytes) in
+    ended_line (line_text words ++ rest) line rest cut
+    ∙ rw (kept_line line bytes, lines_of-lines lines (All-tail IsLine words lines all)) refl
 
 words_of-lines : (lines : List (List (List ℕ))) → All IsLine lines → map words_of (map (listed (codes " ")) lines) ≡ lines
 words_of-lines [] all = refl
-words_of-lines (words ∷ lines) all = rw (words_of-line words (All-head IsLine words lines all), words_of-lines lines (All-tail IsLine words lines all)) refl
+words_of-lines (words ∷ lines) all =
+    rw (words_of-line words (All-head IsLine words lines all), words_of-lines lines (All-tail IsLine words lines all)) refl
 
-not_blank : (number : ℕ) (lines : List (List (List ℕ))) → All IsLine lines → filter (λ line. ltb 0 (length line.1)) (enumerate_from number lines) ≡ enumerate_from number lines
+not_blank : (number : ℕ) (lines : List (List (List ℕ))) → All IsLine lines
+    → filter (λ line. ltb 0 (length line.1)) (enumerate_from number lines) ≡ enumerate_from number lines
 not_blank number [] all = refl
-not_blank number (words ∷ lines) all = rw (lt-ltb 0 (length words) (All-head IsLine words lines all).some, not_blank (number + 1) lines (All-tail IsLine words lines all)) refl
+not_blank number (words ∷ lines) all =
+    rw (lt-ltb 0 (length words) (All-head IsLine words lines all).some, not_blank (number + 1) lines (All-tail IsLine words lines all)) refl
 
-lines_from-lines : (number : ℕ) (lines : List (List (List ℕ))) → All IsLine lines → lines_from number (flat_map line_text lines) ≡ enumerate_from number lines
+lines_from-lines : (number : ℕ) (lines : List (List (List ℕ))) → All IsLine lines
+    → lines_from number (flat_map line_text lines) ≡ enumerate_from number lines
 lines_from-lines number lines all = rw (lines_of-lines lines all, words_of-lines lines all) (not_blank number lines all)
 
 -- ---- the script
-steps_of-steps : (number : ℕ) (steps : List StepValue) → All IsStep steps → steps_of_lines (enumerate_from number (map step_words steps)) ≡ Ok steps
+steps_of-steps : (number : ℕ) (steps : List StepValue) → All IsStep steps
+    → steps_of_lines (enumerate_from number (map step_words steps)) ≡ Ok steps
 steps_of-steps number [] all = refl
-steps_of-steps number (step ∷ steps) all = rw (step_of-step_words step (All-head IsStep step steps all), steps_of-steps (number + 1) steps (All-tail IsStep step steps all)) refl
+steps_of-steps number (step ∷ steps) all =
+    rw (step_of-step_words step (All-head IsStep step steps all), steps_of-steps (number + 1) steps (All-tail IsStep step steps all)) refl
 
 pub script_of-script_text : (script : ScriptValue) → IsScript script → script_of (script_text script) ≡ Ok script
 script_of-script_text script fits =
     let lines = layout_words script.layout ∷ map step_words script.steps in
-    let all : All IsLine lines = All-cons IsLine (layout_words script.layout) _ (IsLine-layout_words script.layout fits.layout) (All-map IsLine step_words script.steps (All-weaker IsStep (λ s. IsLine (step_words s)) IsLine-step_words script.steps fits.steps)) in
+    let all : All IsLine lines =
+    All-cons IsLine (layout_words script.layout) _ (IsLine-layout_words script.layout fits.layout)
+    (All-map IsLine step_words script.steps
+    (All-weaker IsStep (λ s. IsLine (step_words s)) IsLine-step_words script.steps fits.steps)) in
     rw (lines_from-lines 1 lines all, layout_of-layout_words script.layout fits.layout, steps_of-steps 2 script.steps fits.steps) refl

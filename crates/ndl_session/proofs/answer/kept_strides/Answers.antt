@@ -11,4 +11,5 @@ returns-clause-signed c =
     let count = c.loop-axis.invariant.count in
     let signed_count = length-map kept signed in
     ext_get_or (pos 0) _ _ (signed_count ∙ count)
-    (λ k h. get_or-map signed kept k 0 (pos 0) (omega (arith, signed_count)) ∙ c.loop-axis.invariant.same k (omega (arith, count, signed_count)))
+    (λ k h. get_or-map signed kept k 0 (pos 0) (omega (arith, signed_count)) ∙ c.loop-axis.invariant.same k
+    (omega (arith, count, signed_count)))

@@ -22,7 +22,8 @@ returns c = record {
       c.map-strides.ensures.closure (λ x r q k. search rules))
       c.in_ok-push_line-2.ensures.line)
       (line_of_all decimal (codes "places") (codes " ") _ _ _
-      (YieldsList-from_copied (YieldsList-at c.copied.ensures.source (YieldsList-from_slice _ (c.iter.ensures.rest ∙ c.deref.ensures.value))))
+      (YieldsList-from_copied (YieldsList-at c.copied.ensures.source
+      (YieldsList-from_slice _ (c.iter.ensures.rest ∙ c.deref.ensures.value))))
       c.in_ok-push_line-3.ensures.line);
   status = refl;
 }

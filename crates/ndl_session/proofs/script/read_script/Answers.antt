@@ -19,5 +19,6 @@ returns-in_err-steps-clause-printed c = λ script fits same.
 
 pub returns-clause-printed : goal.returns-clause-printed
 returns-clause-printed c = λ script fits same.
-    let read : script_of c.args.input.now ≡ Ok (script_value (record { layout = c.in-Some-2.layout; steps = c.in_ok-steps.steps })) = search rules in
+    let read : script_of c.args.input.now ≡ Ok (script_value (record { layout = c.in-Some-2.layout; steps = c.in_ok-steps.steps })) =
+    search rules in
     sym (spelled c.args.input.now script fits same) ∙ read

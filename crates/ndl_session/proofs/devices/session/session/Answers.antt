@@ -37,7 +37,10 @@ returns-else-write_failed-clause-failed g c =
           | inr write_failed ↦ absurd (cc)
         ],
       )
-      | in-Err-ReadFailed w ↦ (λ is_four. inl (w.in-Err-ReadFailed.ensures.failed.1 (let this = w.in-Err-ReadFailed.field-0-is in cc)), λ failed. w.status-is)
+      | in-Err-ReadFailed w ↦ (
+        λ is_four. inl (w.in-Err-ReadFailed.ensures.failed.1 (let this = w.in-Err-ReadFailed.field-0-is in cc)),
+        λ failed. w.status-is,
+      )
       | in-Err-OutOfMemory w ↦ (
         λ is_four. inl (absurd (let this = w.status-is in omega arith)),
         λ failed. elim failed [

@@ -7,7 +7,8 @@ use Rattle.ndl_session.proofs.Entries.{with_front}
 use Rattle.ndl_session.proofs.script.lists.entries.Given as goal
 
 abbrev pub invariant-loop-text : goal.invariant-loop-text
-invariant-loop-text g l = with_front l.entries.items (read_each g.T.Entry.entry_of (parts comma l.rest)) ≡ read_each g.T.Entry.entry_of (parts comma l.fn.word)
+invariant-loop-text g l =
+    with_front l.entries.items (read_each g.T.Entry.entry_of (parts comma l.rest)) ≡ read_each g.T.Entry.entry_of (parts comma l.fn.word)
 
 abbrev pub decreases-loop-text : goal.decreases-loop-text
 decreases-loop-text g l = length l.rest

@@ -13,6 +13,8 @@ returns-then-eq-clause-printed g c = λ entries all same.
 
 pub returns-clause-printed : goal.returns-clause-printed
 returns-clause-printed g c = λ entries all same.
-    let whole : list_of g.T.Entry.entry_of c.args.word.now ≡ Some entries = ap (list_of g.T.Entry.entry_of) same ∙ list_of-listed g.T.Entry.entry_of g.T.Display.output entries all in
-    let read : IfOk c.entries.result (λ found. option_map (λ v. v.items) found ≡ list_of g.T.Entry.entry_of c.args.word.now) = search rules in
+    let whole : list_of g.T.Entry.entry_of c.args.word.now ≡ Some entries = ap (list_of g.T.Entry.entry_of) same
+    ∙ list_of-listed g.T.Entry.entry_of g.T.Display.output entries all in
+    let read : IfOk c.entries.result (λ found. option_map (λ v. v.items) found ≡ list_of g.T.Entry.entry_of c.args.word.now) =
+    search rules in
     subst (λ o. IfOk c.entries.result (λ found. option_map (λ v. v.items) found ≡ o)) whole read

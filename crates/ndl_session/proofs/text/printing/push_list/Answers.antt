@@ -29,8 +29,13 @@ returns-clause-kept g c = grows_on _ _ _ (grows_once _ _ _ _ _ (grows_not _) c.p
 -- The first number, and then those of the loop.
 pub returns-clause-list : goal.returns-clause-list
 returns-clause-list g c =
-    let others = subst (λ rest. Yields g.I.Iterator.next_gives rest c.loop-number.yielded c.loop-number.number-iterator) c.into_iter-number-iterator.ensures.into_iter_gives c.loop-number.yielded_by in (
+    let others =
+    subst (λ rest. Yields g.I.Iterator.next_gives rest c.loop-number.yielded c.loop-number.number-iterator)
+    c.into_iter-number-iterator.ensures.into_iter_gives c.loop-number.yielded_by in (
       c.in-Some.first ∷ c.loop-number.yielded,
-      (c.next-in-loop-number.new.self, (c.loop-number.number-iterator, (c.next.new.self, c.in-Some.ensures.steps, others), c.in-None.ensures.steps)),
+      (
+        c.next-in-loop-number.new.self,
+        (c.loop-number.number-iterator, (c.next.new.self, c.in-Some.ensures.steps, others), c.in-None.ensures.steps),
+      ),
       search (rules, append_assoc),
     )

@@ -6,4 +6,5 @@ use Rattle.ndl_session.proofs.text.printing.push_list.Given as goal
 
 abbrev pub invariant-loop-number : goal.invariant-loop-number
 invariant-loop-number g l =
-    string_bytes l.text ≡ string_bytes l.initial.text ++ flat_map (λ another. l.separator ++ another) (map (printed g.T.Display.output) l.yielded)
+    string_bytes l.text ≡ string_bytes l.initial.text ++ flat_map (λ another. l.separator ++ another)
+    (map (printed g.T.Display.output) l.yielded)

@@ -6,4 +6,5 @@ use Rattle.ndl_session.proofs.laws.PrintedLists.{read-IsReadBack}
 use Rattle.ndl_session.proofs.script.lists.IsizeEntry.read.Goals as goal
 
 pub returns-clause-printed : goal.returns-clause-printed
-returns-clause-printed c = λ entry can same. c.signed_number.ensures ∙ read-IsReadBack signed_number_of (λ n. Some (signed_decimal n)) entry c.args.text.now (IsReadBack-signed_decimal entry can) same
+returns-clause-printed c = λ entry can same. c.signed_number.ensures
+    ∙ read-IsReadBack signed_number_of (λ n. Some (signed_decimal n)) entry c.args.text.now (IsReadBack-signed_decimal entry can) same

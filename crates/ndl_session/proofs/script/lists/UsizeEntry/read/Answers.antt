@@ -5,4 +5,5 @@ use Rattle.ndl_session.proofs.laws.PrintedLists.{read-IsReadBack}
 use Rattle.ndl_session.proofs.script.lists.UsizeEntry.read.Goals as goal
 
 pub returns-clause-printed : goal.returns-clause-printed
-returns-clause-printed c = λ entry can same. c.number.ensures ∙ read-IsReadBack number_of (λ n. Some (decimal n)) entry c.args.text.now (IsReadBack-decimal entry can) same
+returns-clause-printed c = λ entry can same. c.number.ensures
+    ∙ read-IsReadBack number_of (λ n. Some (decimal n)) entry c.args.text.now (IsReadBack-decimal entry can) same
