@@ -1,22 +1,12 @@
 -- Facts about the offsets of indices: which lists are indices, how far they lie, and a sum of offsets from an axis on.
 use Rattle.std.proofs.Common.{inl, inr, min, ◌≡◌, ℕ, suc, ◌+◌, ◌-◌, ◌*◌, ◌<◌, ◌≤◌, ℤ, pos, negsuc, neg_ℤ, ◌+ℤ◌, ◌*ℤ◌, ◌≤ℤ◌, false}
-use Rattle.std.proofs.Common.{Option, Some, None, List, [], ◌∷◌, length, drop, get_or, refl, ap, ◌∙◌, arith, add-one, drop-cons}
+use Rattle.std.proofs.Common.{List, [], ◌∷◌, length, drop, get_or, refl, ap, ◌∙◌, arith, add-one, drop-cons}
 use Rattle.std.specs.Prelude.{nat_lt}
 use Rattle.std.proofs.lemmas.Bool.{and_right, cases_Bool, cases_lt}
 use Rattle.std.proofs.lemmas.Int.{ints}
 use Rattle.std.proofs.lemmas.List.{drop_all}
-use Rattle.std.proofs.iter.Yields.{fronts}
-use Rattle.std.proofs.lemmas.Iterator.{zips}
-use Rattle.std.proofs.lemmas.Slice.Zip.{zip_turn, zip_end}
-use Rattle.std.specs.Borrow.{Bor}
-use Rattle.std.specs.Iterator.{Yields}
-use Rattle.std.specs.Iterator.Adapters.{zip_first, zip_second}
-use Rattle.std.specs.Slice.Iter.{iter_rest}
-use Rattle.std.specs.declared.iter.Zip.{Zip}
-use Rattle.std.specs.declared.slice.Iter.{Iter}
 use Rattle.nd_base.proofs.laws.Definitions.{is_index, offset_of, all_signed, magnitude, signed, reach}
 use Rattle.nd_base.proofs.laws.IsIndex.{entry_of_index}
-use Rattle.nd_base.proofs.laws.Span.{sum_from, sum_from_step}
 use Rattle.std.proofs.lemmas.Nat.{mul-le}
 
 -- a list of another count is no index
@@ -74,35 +64,3 @@ offset_from_end strides index k h =
           ap (λ s. offset_of (all_signed s) (drop k index)) none ∙ offset_of_none (drop k index)
       | inr l ↦ ap (λ s. offset_of (all_signed (drop k strides)) s) (drop_all k index l)
     ]
-
--- a loop over the entries and strides, which has yielded xs
-module _
-    (index strides : List ℕ)
-    (xs : List (Bor ℕ × Bor ℕ))
-    (s t u : Zip (Iter ℕ) (Iter ℕ))
-    (r : Option (Bor ℕ × Bor ℕ))
-    (first : iter_rest (zip_first s) ≡ index)
-    (second : iter_rest (zip_second s) ≡ strides)
-    (y : Yields (zips fronts fronts) s xs t) where
-  -- at the pair p
-  pub offset_at_turn : (p : Bor ℕ × Bor ℕ) → r ≡ Some p → zips fronts fronts t r u
-      → offset_from strides index (length xs) ≡ (pos p.0.now *ℤ signed p.1.now) +ℤ offset_from strides index (length xs + 1)
-  offset_at_turn p e h =
-      let turn = zip_turn index strides xs s t u r first second y p e h in
-      let step = offset_from_step strides index (length xs) turn.0 turn.1 in
-      rw (turn.2 0, turn.3 0) step
-
-  -- how far that entry lies, and how far those after it can
-  pub far_at_turn : (p : Bor ℕ × Bor ℕ) → r ≡ Some p → zips fronts fronts t r u
-      → sum_from entry_offset index strides (length xs)
-      ≡ entry_offset p.0.now (signed p.1.now) + sum_from entry_offset index strides (length xs + 1)
-  far_at_turn p e h =
-      let turn = zip_turn index strides xs s t u r first second y p e h in
-      let step = sum_from_step entry_offset index strides (length xs) turn.0 turn.1 in
-      rw (turn.2 0, turn.3 0) step
-
-  -- at the end
-  pub offset_at_end : r ≡ None → zips fronts fronts t r u → offset_from strides index (length xs) ≡ pos 0
-  offset_at_end e h =
-      let end = zip_end index strides xs s t u r first second y e h in
-      offset_from_end strides index (length xs) (omega arith)

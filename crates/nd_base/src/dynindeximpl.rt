@@ -47,9 +47,16 @@ impl IxDynImpl {
         ensures list { IfOk result (λ dim. dim ≡ lens.now) }
         ensures memory { length lens.now ≤ INLINE_AXES → IsOk result }
     {
-        Ok(IxDynImpl {
-            lens: SmallVec::from_slice(alloc, lens)?,
-        })
+        // (up to four one by one, where `from_slice` calls a copy of any length)
+        let lens = match lens {
+            [] => SmallVec::new(alloc),
+            [a] => SmallVec::from_buf_and_len(alloc, [*a, 0, 0, 0], 1),
+            [a, b] => SmallVec::from_buf_and_len(alloc, [*a, *b, 0, 0], 2),
+            [a, b, c] => SmallVec::from_buf_and_len(alloc, [*a, *b, *c, 0], 3),
+            [a, b, c, d] => SmallVec::from_buf(alloc, [*a, *b, *c, *d]),
+            _ => SmallVec::from_slice(alloc, lens)?,
+        };
+        Ok(IxDynImpl { lens })
     }
 
     /// The lengths of a vector, whose memory is kept where it has room for more than 4.

@@ -24,9 +24,11 @@ pub fn index_offset(index: &[usize], strides: &[usize]) -> isize
     requires fits { farthest_offset (all_signed strides.now) index.now ≤ limit }
     ensures { result ≡ offset_of (all_signed strides.now) index.now }
 {
+    // (by number, since a `zip` asks both lists for their end at each entry)
+    let axes = index.len().min(strides.len());
     let mut offset = 0isize;
-    for (entry, stride) in index.iter().zip(strides) {
-        offset += stride_offset(*entry, *stride);
+    for axis in 0..axes {
+        offset += stride_offset(index[axis], strides[axis]);
     }
     offset
 }
