@@ -24,52 +24,22 @@ slices_intersect Ix2 4,5 9..,.. ..;0,.. => OutOfBounds
 slices_intersect Ix2 4,5 ..1,..;0 2..,9.. => Unsupported";
 
 const LEAST_AND_GREATEST: &str = "\
-slice_min_max 0 ..;3 => none
-slice_min_max 10 -1..-1;-3 => none
-slice_min_max 10 1..8;3 => 1 7
-slice_min_max 11 1..;3 => 1 10
-slice_min_max 10 1..8;-3 => 1 7
-slice_min_max 10 2..8;-3 => 4 7
-slice_min_max 9 2..;-3 => 2 8
-slice_min_max 9 3..;-3 => 5 8
-slice_min_max 10 1..1;3 => none
-slice_min_max 10 -1..-1;3 => none
-slice_min_max 10 1..1;-3 => none
-slice_min_max 10 1..9;3 => 1 7
-slice_min_max 10 -9..8;3 => 1 7
-slice_min_max 10 -9..9;3 => 1 7
-slice_min_max 10 1..-2;3 => 1 7
-slice_min_max 10 1..-1;3 => 1 7
-slice_min_max 10 -9..-2;3 => 1 7
-slice_min_max 10 -9..-1;3 => 1 7
-slice_min_max 10 1..;3 => 1 7
-slice_min_max 10 -9..;3 => 1 7
-slice_min_max 10 -9..8;-3 => 1 7
-slice_min_max 10 1..-2;-3 => 1 7
-slice_min_max 10 -9..-2;-3 => 1 7
-slice_min_max 10 -8..8;-3 => 4 7
-slice_min_max 10 2..-2;-3 => 4 7
-slice_min_max 10 -8..-2;-3 => 4 7
-slice_min_max 11 -10..;3 => 1 10
-slice_min_max 9 -7..;-3 => 2 8
-slice_min_max 9 -6..;-3 => 5 8";
+slice_min_max 0 ..;3 / 10 -1..-1;-3 / 10 1..1;3 / 10 -1..-1;3 / 10 1..1;-3 => none
+slice_min_max 10 1..8;3 / 10 1..8;-3 / 10 1..9;3 / 10 -9..8;3 / 10 -9..9;3 / 10 1..-2;3 / 10 1..-1;3 => 1 7
+slice_min_max 11 1..;3 / 11 -10..;3 => 1 10
+slice_min_max 10 2..8;-3 / 10 -8..8;-3 / 10 2..-2;-3 / 10 -8..-2;-3 => 4 7
+slice_min_max 9 2..;-3 / 9 -7..;-3 => 2 8
+slice_min_max 9 3..;-3 / 9 -6..;-3 => 5 8
+slice_min_max 10 -9..-2;3 / 10 -9..-1;3 / 10 1..;3 / 10 -9..;3 / 10 -9..8;-3 / 10 1..-2;-3 / 10 -9..-2;-3 => 1 7";
 
 /// Arguments with new axes, steps and indices, without axes and without entries.
 const MEETING: &str = "\
-slices_intersect Ix2 4,5 NewAxis,..,NewAxis,.. ..,NewAxis,..,NewAxis => meet
-slices_intersect Ix2 4,5 ..;2,.. ..;3,NewAxis,.. => meet
-slices_intersect Ix2 4,5 ..,..;2 ..,1..;3,NewAxis => meet
-slices_intersect Ix2 4,5 ..;2,.. NewAxis,1..;2,.. => apart
-slices_intersect Ix2 4,5 ..;2,.. 1..;3,.. => apart
-slices_intersect Ix2 4,5 NewAxis,0,.. 0,.. => meet
-slices_intersect Ix2 4,5 ..;2,NewAxis,.. 1..;3,.. => apart
-slices_intersect Ix2 4,5 ..,..;9 ..,3..;6,NewAxis => apart
-slices_intersect Ix2 4,10 ..,..;9 ..,3..;6 => meet
-slices_intersect Ix2 4,5 ..,..;9 ..,3..;6 => apart
-slices_intersect Ix1 5 ..;-9223372036854775808 4 => meet
-slices_intersect Ix1 5 5 5 => OutOfBounds
-slices_intersect Ix0 - - - => meet
-slices_intersect Ix1 0 .. .. => apart";
+slices_intersect Ix2 4,5 NewAxis,..,NewAxis,.. ..,NewAxis,..,NewAxis / Ix2 4,5 ..;2,.. ..;3,NewAxis,.. => meet
+slices_intersect Ix2 4,5 ..,..;2 ..,1..;3,NewAxis / Ix2 4,5 NewAxis,0,.. 0,.. / Ix2 4,10 ..,..;9 ..,3..;6 => meet
+slices_intersect Ix2 4,5 ..;2,.. NewAxis,1..;2,.. / Ix2 4,5 ..;2,.. 1..;3,.. / Ix2 4,5 ..,..;9 ..,3..;6 => apart
+slices_intersect Ix2 4,5 ..;2,NewAxis,.. 1..;3,.. / Ix2 4,5 ..,..;9 ..,3..;6,NewAxis / Ix1 0 .. .. => apart
+slices_intersect Ix1 5 ..;-9223372036854775808 4 / Ix0 - - - => meet
+slices_intersect Ix1 5 5 5 => OutOfBounds";
 
 #[test]
 fn r4_rows(rt: HostRuntime) {
@@ -96,10 +66,8 @@ arith_seq_intersect -9223372036854775808 9223372036854775807 1 \
 
 /// Steps of every size, on axes of every length: a body that looks at each entry doesn't end.
 const STEPS: &str = "\
-slices_intersect Ix1 9 ..;4 2..;6 => meet
-slices_intersect Ix1 8 ..;4 2..;6 => apart
-slices_intersect Ix1 9223372036854775807 ..;-9223372036854775808 ..;2 => meet
-slices_intersect Ix1 9223372036854775807 ..;-9223372036854775808 1..;2 => apart
+slices_intersect Ix1 9 ..;4 2..;6 / Ix1 9223372036854775807 ..;-9223372036854775808 ..;2 => meet
+slices_intersect Ix1 8 ..;4 2..;6 / Ix1 9223372036854775807 ..;-9223372036854775808 1..;2 => apart
 slices_intersect Ix1 9223372036854775807 ..;6 3..;4 => apart
 slices_intersect Ix1 9223372036854775807 ..;4611686018427387904 1..;4611686018427387903 => meet
 slices_intersect Ix1 9223372036854775807 ..;4611686018427387904 2..;4611686018427387903 => apart
@@ -149,6 +117,7 @@ fn lines_that_are_no_rows(rt: HostRuntime) {
     let lines = [
         "",
         "check_slice Ix1 4 ..",
+        "check_slice Ix1 4 .. / Ix1 4 5.. => fits",
         "check_slise Ix1 4 .. => fits",
         "check_slice Ix7 4 .. => fits",
         "check_slice Ix2 4 .. => fits",
@@ -163,5 +132,11 @@ fn lines_that_are_no_rows(rt: HostRuntime) {
     for line in lines {
         assert!(rt; !row_holds(rt.alloc(), line, &Calls), "{line}");
     }
-    assert!(rt; row_holds(rt.alloc(), "check_slice Ix1 4 .. => fits", &Calls));
+    assert!(rt;
+        row_holds(
+            rt.alloc(),
+            "check_slice Ix1 4 .. / Ix1 4 1.. => fits",
+            &Calls
+        )
+    );
 }

@@ -1,4 +1,4 @@
-//! What slices and elements print as, whatever width is asked for.
+//! What slices and elements print as, whatever form is asked for.
 use nd_slice::{Slice, SliceInfoElem};
 use std::alloc::{AllocError, Global};
 use std::fmt::Display;
@@ -13,12 +13,12 @@ fn range(start: isize, end: Option<isize>, step: isize) -> SliceInfoElem {
     SliceInfoElem::Slice { start, end, step }
 }
 
-/// What a value prints as under a width and a fill.
+/// What a value prints as in the alternate form, under a width, a fill and a precision.
 fn widely<T: Display>(alloc: Global, value: &T) -> Result<String, AllocError> {
-    format!(in alloc; "{value:*>40}")
+    format!(in alloc; "{value:*>#40.3}")
 }
 
-/// Whether a value prints as this text, under a width and without one.
+/// Whether a value prints as this text, in that form and plainly.
 fn prints<T: Display>(alloc: Global, value: &T, text: &str) -> bool {
     is_printed(value.to_string(alloc), text) && is_printed(widely(alloc, value), text)
 }

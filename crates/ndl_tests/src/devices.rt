@@ -124,6 +124,7 @@ impl Asked for OverDevices {
 
 const SCRIPTS: &str = "\
 session data 4 owned 4 1|slice 1..;-2| => shape 2|strides -2|places 3 1|
+session data 6 owned 2,3 3,1|collapse 0 1|merge 0 1|broadcast 2,2,3| => shape 2,2,3|strides 0,0,1|places{4* 3 4 5}|
 session data 6 owned 2,3 3,1|reshape F 3,2| => step 1: ShapeError/IncompatibleLayout: incompatible memory layout|
 session data 4 owned 4 1|slice 1..||slise ..| => line 4: unreadable|
 session  => line 1: unreadable|";

@@ -8,15 +8,20 @@ pub trait Asked {
     fn holds(&self, alloc: Global, row: &Row<'_>) -> Option<bool>;
 }
 
-/// Whether a line is a row that holds.
+/// Whether a line is a row that holds, or several of one answer that all do.
 pub fn row_holds(alloc: Global, line: &str, asked: &impl Asked) -> bool {
-    match Row::read(line) {
-        Some(row) => asked.holds(alloc, &row) == Some(true),
-        None => false,
+    let Some(row) = Row::read(line) else {
+        return false;
+    };
+    for given in row.given.split(" / ") {
+        if asked.holds(alloc, &Row { given, ..row }) != Some(true) {
+            return false;
+        }
     }
+    true
 }
 
-/// The first line of a table that is no row that holds, or `no rows` where the table is empty; `None` where every row holds.
+/// The first line of a table that doesn't hold, or `no rows` where the table is empty; `None` where every row holds.
 pub fn first_failing<'a>(alloc: Global, table: &'a str, asked: &impl Asked) -> Option<&'a str> {
     if table == "" {
         return Some("no rows");
