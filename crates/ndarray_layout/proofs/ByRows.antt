@@ -16,20 +16,20 @@ abbrev pub places_from : ℤ → List ℤ → List (List ℕ) → List ℤ
 places_from place strides xs = map (λ index. place +ℤ offset_of strides index) xs
 
 -- where it holds of each entry of the first axis, it holds of all of them
-by_entries : (f : List ℕ → ℤ) (row : ℤ → List ℤ) (whole cut : List (List ℕ))
-    → ((i : ℕ) → map f (map (λ index. i ∷ index) whole) ≡ flat_map row (map f (map (λ index. i ∷ index) cut)))
+by_entries : (f g : List ℕ → ℤ) (row : ℤ → List ℤ) (whole cut : List (List ℕ))
+    → ((i : ℕ) → map f (map (λ index. i ∷ index) whole) ≡ flat_map row (map g (map (λ index. i ∷ index) cut)))
     → (entries : List ℕ) → map f (flat_map (λ i. map (λ index. i ∷ index) whole) entries)
-    ≡ flat_map row (map f (flat_map (λ i. map (λ index. i ∷ index) cut) entries))
-by_entries f row whole cut each [] = refl
-by_entries f row whole cut each (i ∷ entries) =
+    ≡ flat_map row (map g (flat_map (λ i. map (λ index. i ∷ index) cut) entries))
+by_entries f g row whole cut each [] = refl
+by_entries f g row whole cut each (i ∷ entries) =
     let more = flat_map (λ i. map (λ index. i ∷ index) whole) entries in
     let one = map (λ index. i ∷ index) cut in
     let others = flat_map (λ i. map (λ index. i ∷ index) cut) entries in
     map-append f (map (λ index. i ∷ index) whole) more
     ∙ ap (λ xs. xs ++ map f more) (each i)
-    ∙ ap (λ xs. flat_map row (map f one) ++ xs) (by_entries f row whole cut each entries)
-    ∙ sym (flat_map-append row (map f one) (map f others))
-    ∙ ap (flat_map row) (sym (map-append f one others))
+    ∙ ap (λ xs. flat_map row (map g one) ++ xs) (by_entries f g row whole cut each entries)
+    ∙ sym (flat_map-append row (map g one) (map g others))
+    ∙ ap (flat_map row) (sym (map-append g one others))
 
 -- an entry of the first axis moves the place
 moved : (place : ℤ) (i : ℕ) (stride : ℤ) (strides : List ℤ) (xs : List (List ℕ))
@@ -67,8 +67,29 @@ by_rows place (len ∷ []) (stride ∷ (s ∷ strides)) zero long also = absurd 
 by_rows place (len ∷ shape) (stride ∷ strides) (suc last) long also =
     let row = λ (start : ℤ). row_from start (get_or strides last (pos 0)) (get_or shape last 0) in
     let cut = indices (set shape last 1) in
-    by_entries (λ index. place +ℤ offset_of (stride ∷ strides) index) row (indices shape) cut
+    let f = λ (index : List ℕ). place +ℤ offset_of (stride ∷ strides) index in
+    by_entries f f row (indices shape) cut
     (λ i. moved place i stride strides (indices shape)
     ∙ by_rows (place +ℤ (pos i *ℤ stride)) shape strides last (omega arith) (omega arith)
     ∙ ap (flat_map row) (sym (moved place i stride strides cut)))
     (below len)
+
+-- the same of shapes without the last axis: each of their places begins a row
+pub by_last_axis : (place : ℤ) (lens : List ℕ) (strides : List ℤ) (len : ℕ) (stride : ℤ) → length lens ≡ length strides
+    → places_from place (strides ++ stride ∷ []) (indices (lens ++ len ∷ []))
+    ≡ flat_map (λ start. row_from start stride len) (places_from place strides (indices lens))
+by_last_axis place [] [] len stride count =
+    let here : place +ℤ pos 0 ≡ place = omega (arith, ints) in
+    one_row place stride (below len)
+    ∙ ap (λ start. row_from start stride len) (sym here)
+    ∙ sym (append-nil (row_from (place +ℤ pos 0) stride len))
+by_last_axis place [] (s ∷ strides) len stride count = absurd (omega arith)
+by_last_axis place (n ∷ lens) [] len stride count = absurd (omega arith)
+by_last_axis place (n ∷ lens) (s ∷ strides) len stride count =
+    let row = λ (start : ℤ). row_from start stride len in
+    by_entries (λ index. place +ℤ offset_of (s ∷ (strides ++ stride ∷ [])) index) (λ index. place +ℤ offset_of (s ∷ strides) index) row
+    (indices (lens ++ len ∷ [])) (indices lens)
+    (λ i. moved place i s (strides ++ stride ∷ []) (indices (lens ++ len ∷ []))
+    ∙ by_last_axis (place +ℤ (pos i *ℤ s)) lens strides len stride (omega arith)
+    ∙ ap (flat_map row) (sym (moved place i s strides (indices lens))))
+    (below n)

@@ -1,7 +1,9 @@
 pub mod AcceptedRule
 pub mod Broadcasts
+pub mod ByAxis
 pub mod ByRows
 pub mod Collapses
+pub mod Fastest
 pub mod FromStart
 pub mod LongerAxes
 pub mod LongerSteps
@@ -13,6 +15,7 @@ pub mod PickedSize
 pub mod PicksFit
 pub mod ReadView
 pub mod Replaced
+pub mod RowSteps
 pub mod SliceSteps
 pub mod Slices
 pub mod TakenSteps

@@ -1,3 +1,4 @@
 pub mod LongerAxes
+pub mod PlacesLeft
 pub mod ReadView
 pub mod ReshapeProgress

@@ -44,4 +44,4 @@ pub use sequence::{Forward, Reverse, Sequence, SequenceMut};
 
 // Views, and runs of steps from one to the next.
 pub use runs::{Step, Stopped, run};
-pub use strided::Strided;
+pub use strided::{Places, Strided};

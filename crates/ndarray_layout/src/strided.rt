@@ -1,6 +1,7 @@
 //! Views of data: a shape and strides that were accepted, with the place of the first index.
 mod broadcasting;
 mod collapsing;
+mod iterating;
 mod longer;
 mod makers;
 mod merging;
@@ -11,6 +12,7 @@ mod reshaping;
 mod sizes;
 mod slicing;
 
+pub use iterating::Places;
 use nd_base::Lengths;
 use std::marker::Model;
 

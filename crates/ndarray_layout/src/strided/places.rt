@@ -101,7 +101,7 @@ fn split_slowest(order: Order, items: &[usize]) -> Option<(usize, &[usize])>
 }
 
 /// The place of entry `i` of an axis whose first entry lies at `start`.
-fn entry_place(start: usize, i: usize, stride: usize) -> usize
+pub(super) fn entry_place(start: usize, i: usize, stride: usize) -> usize
     requires small { i < 2 ^ 63 }
     requires first { start ≤ limit }
     requires low { pos 0 ≤ℤ (pos start +ℤ (pos i *ℤ signed_reading stride)) }
@@ -113,6 +113,7 @@ fn entry_place(start: usize, i: usize, stride: usize) -> usize
 
 /// The place at an offset from another one. The caller ensures that neither is greater than
 /// `isize::MAX`, and that the new one is not less than 0.
+#[inline]
 pub(super) fn offset_place(start: usize, offset: isize) -> usize
     requires first { start ≤ limit }
     requires low { pos 0 ≤ℤ (pos start +ℤ offset) }

@@ -1,0 +1,225 @@
+-- A view by the axis that moves fastest in an order: its other axes are a view whose places begin the rows along that axis.
+use Rattle.std.proofs.Common.{◌≡◌, ℕ, zero, suc, ◌+◌, ◌*◌, ◌/◌, ◌%◌, ◌<◌, ◌≤◌, ◌^◌, ℤ, pos, ◌+ℤ◌, ◌*ℤ◌, ◌≤ℤ◌, inl, inr, List, [], ◌∷◌, ◌++◌, length, map}
+use Rattle.std.proofs.Common.{refl, sym, ap, ◌∙◌, arith, length-append}
+use Rattle.std.proofs.Math.Nat.{div-one, mod-eq_of_lt}
+use Rattle.std.proofs.lemmas.Bool.{cases_eq}
+use Rattle.std.proofs.lemmas.Int.{ints}
+use Rattle.std.proofs.lemmas.List.{map-append}
+use Rattle.std.proofs.lemmas.Nat.{div-add-mod', div_below, mod_below, mod-mul-add, div-mul-add, mul-add-lt}
+use Rattle.nd_base.specs.declared.order.Order.{Order}
+use Rattle.nd_base.specs.declared.order.Order.TheVariants.{RowMajor}
+use Rattle.nd_base.proofs.laws.Definitions.{as_read, index_of_flat, index_of_flat_in, limit, nonzero_size, offset_of, place}
+use Rattle.nd_base.proofs.laws.Definitions.{reach_down, reach_up, size, sum_over_axes}
+use Rattle.nd_base.proofs.laws.NonzeroSize.{length_le_nonzero_size, nonzero_size-push, nonzero_size_of_other, nonzero_size_of_zero}
+use Rattle.nd_base.proofs.laws.Offset.{offset_of-push}
+use Rattle.nd_base.proofs.laws.Reading.{as_read-as_read, length-as_read, map-as_read, nonzero_size-as_read, offset_of-as_read, size-as_read, sum_over_axes-as_read}
+use Rattle.nd_base.proofs.laws.Size.{size-push}
+use Rattle.nd_base.proofs.laws.Span.{sum_over_axes-push}
+use Rattle.ndarray_layout.specs.View.{IsView, view_places}
+use Rattle.ndarray_layout.specs.private.PlacesLeft.{EndsIn, rows_places}
+use Rattle.ndarray_layout.proofs.ByRows.{by_last_axis}
+use Rattle.ndarray_layout.proofs.OneAxis.{axis_within}
+use Rattle.ndarray_layout.proofs.ReadView.{places-as_read}
+use Rattle.ndarray_layout.proofs.laws.View.{IsView-within}
+
+-- ---- lists with an item for each axis
+-- one item less
+pub length-others : {A : Type 0} {order : Order} {items others : List A} {item : A} → EndsIn order items others item
+    → length items ≡ length others + 1
+length-others {order = order} {items = items} {others = others} {item = item} e =
+    omega (arith, length-as_read order items, length-as_read order others, ap length e.is, length-append (as_read order others) (item ∷ []))
+
+-- a function of each item
+pub EndsIn-map : {A B : Type 0} {order : Order} {items others : List A} {item : A} (f : A → B) → EndsIn order items others item
+    → EndsIn order (map f items) (map f others) (f item)
+EndsIn-map {order = order} {items = items} {others = others} {item = item} f e = record {
+  is = sym (map-as_read order f items) ∙ ap (map f) e.is ∙ map-append f (as_read order others) (item ∷ [])
+      ∙ ap (λ xs. xs ++ f item ∷ []) (map-as_read order f others);
+}
+
+-- the sizes
+pub size-others : {order : Order} {shape lens : List ℕ} {len : ℕ} → EndsIn order shape lens len → size shape ≡ len * size lens
+size-others {order} {shape} {lens} {len} e =
+    sym (size-as_read order shape) ∙ ap size e.is ∙ size-push (as_read order lens) len ∙ ap (λ n. len * n) (size-as_read order lens)
+
+no_more : (len : ℕ) (lens : List ℕ) → nonzero_size lens ≤ nonzero_size (len ∷ lens)
+no_more len lens = elim (cases_eq len 0) [
+  | inl e ↦ omega (arith, nonzero_size_of_zero len lens e)
+  | inr e ↦ omega (arith, nonzero_size_of_other len lens e, more len (nonzero_size lens) e)
+]
+  where
+    more : (a b : ℕ) → (a ≡ 0 → ⊥) → b ≤ a * b
+    more zero b some = absurd (some refl)
+    more (suc a) b some = omega arith
+
+pub nonzero_size-others : {order : Order} {shape lens : List ℕ} {len : ℕ} → EndsIn order shape lens len
+    → nonzero_size lens ≤ nonzero_size shape
+nonzero_size-others {order} {shape} {lens} {len} e =
+    omega (
+      arith,
+      nonzero_size-as_read order shape,
+      nonzero_size-as_read order lens,
+      ap nonzero_size e.is,
+      nonzero_size-push (as_read order lens) len,
+      no_more len (as_read order lens),
+    )
+
+pub len_le_nonzero_size : {order : Order} {shape lens : List ℕ} {len : ℕ} → EndsIn order shape lens len → len ≤ nonzero_size shape
+len_le_nonzero_size {order} {shape} {lens} {len} e =
+    omega (
+      arith,
+      nonzero_size-as_read order shape,
+      ap nonzero_size e.is,
+      nonzero_size-push (as_read order lens) len,
+      length_le_nonzero_size (len ∷ as_read order lens) 0,
+    )
+
+-- a sum over the axes, such as a span
+pub sum-others : {order : Order} {shape lens : List ℕ} {strides others : List ℤ} {len : ℕ} {stride : ℤ} (f : ℕ → ℤ → ℕ)
+    → EndsIn order shape lens len
+    → EndsIn order strides others stride → length shape ≡ length strides
+    → sum_over_axes f shape strides ≡ f len stride + sum_over_axes f lens others
+sum-others {order} {shape} {lens} {strides} {others} {len} {stride} f e g count =
+    let less : length lens ≡ length others = omega (arith, length-others e, length-others g) in
+    let read : length (as_read order lens) ≡ length (as_read order others) =
+    omega (arith, less, length-as_read order lens, length-as_read order others) in
+    sym (sum_over_axes-as_read order f shape strides count)
+    ∙ ap (λ xs. sum_over_axes f xs (as_read order strides)) e.is
+    ∙ ap (sum_over_axes f (as_read order lens ++ len ∷ [])) g.is
+    ∙ sum_over_axes-push f (as_read order lens) (as_read order others) len stride read
+    ∙ ap (λ n. f len stride + n) (sum_over_axes-as_read order f lens others less)
+
+-- ---- views
+module _ (order : Order) {start : ℕ} {shape lens : List ℕ} {strides others : List ℤ} {len : ℕ} {stride : ℤ}
+    (e : EndsIn order shape lens len) (g : EndsIn order strides others stride)
+    (v : IsView (record { start = start; shape = shape; strides = strides })) where
+  -- the other axes are a view from each entry on
+  pub IsView-entry : (i : ℕ) {here : ℕ} → i < len → pos here ≡ pos start +ℤ (pos i *ℤ stride)
+      → IsView (record { start = here; shape = lens; strides = others })
+  IsView-entry i below at =
+      let axis = axis_within len i stride below in
+      let down = sum-others reach_down e g v.valid.same_count in
+      let up = sum-others reach_up e g v.valid.same_count in
+      IsView-within v (omega (arith, length-others e, length-others g, v.valid.same_count))
+      (omega (arith, nonzero_size-others e, v.valid.size_fits))
+      (omega (arith, ints, down, axis.above)) (omega (arith, ints, up, axis.below))
+
+  -- which is a place of the data
+  pub entry_within : (i : ℕ) → i < len → (i < 2 ^ 63) × (pos 0 ≤ℤ (pos start +ℤ (pos i *ℤ stride)))
+      × ((pos start +ℤ (pos i *ℤ stride)) ≤ℤ pos limit)
+  entry_within i below =
+      let axis = axis_within len i stride below in
+      let down = sum-others reach_down e g v.valid.same_count in
+      let up = sum-others reach_up e g v.valid.same_count in
+      let few : len ≤ limit = omega (arith, len_le_nonzero_size e, v.valid.size_fits) in
+      (omega arith, omega (arith, ints, down, axis.above, v.low), omega (arith, ints, up, axis.below, v.high))
+
+  -- and from the first place on also where there is no entry
+  pub IsView-others : IsView (record { start = start; shape = lens; strides = others })
+  IsView-others =
+      let down = sum-others reach_down e g v.valid.same_count in
+      let up = sum-others reach_up e g v.valid.same_count in
+      IsView-within v (omega (arith, length-others e, length-others g, v.valid.same_count))
+      (omega (arith, nonzero_size-others e, v.valid.size_fits))
+      (omega (arith, down)) (omega (arith, up))
+
+  -- whose places begin the rows
+  pub places-others : view_places order (record { start = start; shape = shape; strides = strides })
+      ≡ rows_places stride len (view_places order (record { start = start; shape = lens; strides = others }))
+  places-others =
+      let less : length lens ≡ length others = omega (arith, length-others e, length-others g, v.valid.same_count) in
+      let read : length (as_read order lens) ≡ length (as_read order others) =
+      omega (arith, less, length-as_read order lens, length-as_read order others) in
+      sym (places-as_read order start shape strides v.valid.same_count)
+      ∙ ap (λ xs. view_places RowMajor (record { start = start; shape = xs; strides = as_read order strides })) e.is
+      ∙ ap (λ xs. view_places RowMajor (record { start = start; shape = as_read order lens ++ len ∷ []; strides = xs })) g.is
+      ∙ by_last_axis (pos start) (as_read order lens) (as_read order others) len stride read
+      ∙ ap (rows_places stride len) (places-as_read order start lens others less)
+
+-- ---- flat indices
+length-index_of_flat : (shape : List ℕ) (r : ℕ) → length (index_of_flat shape r) ≡ length shape
+length-index_of_flat [] r = refl
+length-index_of_flat (len ∷ lens) r = omega (arith, length-index_of_flat lens (r % size lens))
+
+-- the entry of the last axis is a remainder
+index_of_flat-push : (lens : List ℕ) (len r : ℕ) → r < size (lens ++ len ∷ [])
+    → index_of_flat (lens ++ len ∷ []) r ≡ index_of_flat lens (r / len) ++ (r % len) ∷ []
+index_of_flat-push [] len r h = ap (λ i. i ∷ []) (div-one r ∙ sym (mod-eq_of_lt (omega arith)))
+index_of_flat-push (n ∷ lens) len r h =
+    let rest = size (lens ++ len ∷ []) in
+    let whole : rest ≡ len * size lens = size-push lens len in
+    let some : (0 < len) × (0 < size lens) × (0 < rest) = factors n len (size lens) rest r h whole in
+    let q = r / len in
+    let i = r % len in
+    let b = q / size lens in
+    let a = q % size lens in
+    let i_below : i < len = mod_below r len some.0 in
+    let a_below : a < size lens = mod_below q (size lens) some.1 in
+    let inner : a * len + i < rest = omega (arith, whole, mul-add-lt a len i (size lens) a_below i_below) in
+    let is : r ≡ b * rest + (a * len + i) = parts len (size lens) rest r whole (div-add-mod' r len) (div-add-mod' q (size lens)) in
+    let slow : r / rest ≡ b = ap (λ m. m / rest) is ∙ div-mul-add b rest (a * len + i) inner in
+    let fast : r % rest ≡ a * len + i = ap (λ m. m % rest) is ∙ mod-mul-add b rest (a * len + i) inner in
+    ap (λ m. m ∷ index_of_flat (lens ++ len ∷ []) (r % rest)) slow
+    ∙ ap (λ m. b ∷ index_of_flat (lens ++ len ∷ []) m) fast
+    ∙ ap (λ index. b ∷ index) (index_of_flat-push lens len (a * len + i) inner)
+    ∙ ap (λ m. b ∷ (index_of_flat lens m ++ ((a * len + i) % len) ∷ [])) (div-mul-add a len i i_below)
+    ∙ ap (λ m. b ∷ (index_of_flat lens a ++ m ∷ [])) (mod-mul-add a len i i_below)
+  where
+    factors : (n len s rest r : ℕ) → r < n * rest → rest ≡ len * s → (0 < len) × (0 < s) × (0 < rest)
+    factors n zero s rest r h e = absurd (omega (arith, ap (λ m. n * m) e))
+    factors n (suc len) zero rest r h e = absurd (omega (arith, ap (λ m. n * m) e))
+    factors n (suc len) (suc s) rest r h e = (omega arith, omega arith, omega arith)
+
+    parts : (len s rest r : ℕ) → rest ≡ len * s → r / len * len + r % len ≡ r → r / len / s * s + r / len % s ≡ r / len
+        → r ≡ r / len / s * rest + (r / len % s * len + r % len)
+    parts len s rest r whole one two =
+        sym one ∙ ap (λ m. m * len + r % len) (sym two) ∙ omega (arith, ap (λ m. r / len / s * m) whole)
+
+-- so the fastest axis moves by the remainder, and the others by the quotient
+pub offset_of-flat_index : {order : Order} {shape lens : List ℕ} {strides others : List ℤ} {len : ℕ} {stride : ℤ} (r : ℕ)
+    → EndsIn order shape lens len
+    → EndsIn order strides others stride → length shape ≡ length strides → r < size shape
+    → offset_of strides (index_of_flat_in order shape r)
+    ≡ (pos (r % len) *ℤ stride) +ℤ offset_of others (index_of_flat_in order lens (r / len))
+offset_of-flat_index {order} {shape} {lens} {strides} {others} {len} {stride} r e g count below =
+    let index = index_of_flat (as_read order shape) r in
+    let slow = index_of_flat (as_read order lens) (r / len) in
+    let within : r < size (as_read order lens ++ len ∷ []) = omega (arith, size-as_read order shape, ap size e.is) in
+    let is : index ≡ slow ++ (r % len) ∷ [] = ap (λ xs. index_of_flat xs r) e.is ∙ index_of_flat-push (as_read order lens) len r within in
+    let counts : length (as_read order strides) ≡ length index =
+    omega (arith, length-as_read order strides, length-as_read order shape, length-index_of_flat (as_read order shape) r) in
+    let slow_counts : length (as_read order others) ≡ length slow =
+    omega (
+      arith,
+      length-as_read order others,
+      length-as_read order lens,
+      length-index_of_flat (as_read order lens) (r / len),
+      length-others e,
+      length-others g,
+    ) in
+    ap (λ xs. offset_of xs (as_read order index)) (sym (as_read-as_read order strides))
+    ∙ offset_of-as_read order (as_read order strides) index counts
+    ∙ ap (λ xs. offset_of xs index) g.is
+    ∙ ap (offset_of (as_read order others ++ stride ∷ [])) is
+    ∙ offset_of-push (as_read order others) slow stride (r % len) slow_counts
+    ∙ ap (λ z. (pos (r % len) *ℤ stride) +ℤ z) (sym (offset_of-as_read order (as_read order others) slow slow_counts)
+    ∙ ap (λ xs. offset_of xs (as_read order slow)) (as_read-as_read order others))
+
+-- which is the same place
+pub place-flat_index : {order : Order} {shape lens : List ℕ} {strides others : List ℤ} {len : ℕ} {stride : ℤ} {here : ℕ} (start r : ℕ)
+    → EndsIn order shape lens len → EndsIn order strides others stride → length shape ≡ length strides → r < size shape
+    → pos here ≡ pos start +ℤ (pos (r % len) *ℤ stride)
+    → place here others (index_of_flat_in order lens (r / len)) ≡ place start strides (index_of_flat_in order shape r)
+place-flat_index start r e g count below at = omega (arith, ints, at, offset_of-flat_index r e g count below)
+
+-- ---- an index of a shape by its flat index
+product_some : (a b r : ℕ) → r < a * b → 0 < a
+product_some zero b r h = absurd (omega arith)
+product_some (suc a) b r h = omega arith
+
+pub some_entry : {order : Order} {shape lens : List ℕ} {len : ℕ} (r : ℕ) → EndsIn order shape lens len → r < size shape → 0 < len
+some_entry {lens = lens} {len = len} r e below = product_some len (size lens) r (omega (arith, size-others e))
+
+pub others_below : {order : Order} {shape lens : List ℕ} {len : ℕ} (r : ℕ) → EndsIn order shape lens len → r < size shape
+    → r / len < size lens
+others_below {lens = lens} {len = len} r e below = div_below r len (size lens) (some_entry r e below) (omega (arith, size-others e))
