@@ -5,6 +5,7 @@ use Rattle.std.specs.List.{All, AllPairs, drop-map, list_all}
 use Rattle.std.specs.Prelude.{IsSomeAnd, MatchOption, slice_get}
 use Rattle.std.specs.Option.{option_or, option_map}
 use Rattle.std.specs.Result.{IsErrAnd}
+use Rattle.std.proofs.lemmas.Bool.{eq-eqb}
 use Rattle.std.proofs.lemmas.List.{drop_more, drop_all, get_or-map, length-map, length-drop, take_all}
 use Rattle.std.proofs.lemmas.List.Elements.{All-append, All-cons}
 use Rattle.std.proofs.lemmas.List.Kept.{AllPairs-cons}
@@ -14,9 +15,11 @@ use Rattle.ndarray_layout.specs.declared.ErrorKind.TheVariants.{IncompatibleShap
 use Rattle.ndarray_layout.specs.declared.Fit.TheVariants.{Strict}
 use Rattle.ndarray_layout.specs.declared.LayoutError.{LayoutError}
 use Rattle.ndarray_layout.specs.declared.LayoutError.TheVariants.{Shape, Memory}
-use Rattle.ndarray_layout.specs.ArgumentFault.{argument_fault}
+use Rattle.ndarray_layout.specs.declared.SliceInfoElem.{SliceInfoElem}
+use Rattle.ndarray_layout.specs.ArgumentFault.{argument_fault, out_count}
 use Rattle.ndarray_layout.specs.Meet.{Meet}
 use Rattle.ndarray_layout.specs.ShapeFault.{shape_fault}
+use Rattle.ndarray_layout.specs.SlicedView.{slice_refusal}
 use Rattle.nd_owned.specs.private.Checks.{IsIntersectionFaultOf}
 use Rattle.nd_owned.specs.Writes.{Write, IsFaultOfWrites, IsIntersectionFault, counts_fault, has_count, slices_fault}
 
@@ -123,7 +126,7 @@ got_later (suc n) (x ∷ xs) k = let e : suc n + k ≡ suc (n + k) = omega arith
 -- one that shares an index with a slice after it is one of two that do
 pub of_two : {T : Type 0} (shape : List ℕ) (writes after : List (Write T)) (i : ℕ) (write : Write T) (kind : ErrorKind)
     → slice_get writes i ≡ Some write → after ≡ drop (i + 1) writes
-    → IsIntersectionFaultOf shape write after (Some kind) → IsIntersectionFault shape writes (Some kind)
+    → IsIntersectionFaultOf shape write.slice after (Some kind) → IsIntersectionFault shape writes (Some kind)
 of_two {T = T} shape writes after i write kind here e (is, at, shared) =
     let meets = λ (one : Write T). λ (other : Write T). Meet Strict shape one.slice other.slice in
     let there : slice_get after at ≡ slice_get writes (i + 1 + at) = ap (λ xs. slice_get xs at) e ∙ got_later (i + 1) writes at in (
@@ -156,3 +159,9 @@ pub no_fault : {T : Type 0} (shape : List ℕ) (writes : List (Write T)) → cou
     → IsIntersectionFault shape writes None → IsFaultOfWrites shape writes None
 no_fault shape writes none apart = subst (λ fault. MatchOption fault (IsIntersectionFault shape writes None) (λ kind. None ≡ Some kind))
     (sym none) apart
+
+-- a slice that leaves as many axes as a type fixes has no error but its own
+pub refusal_of_count : (count : ℕ) (shape : List ℕ) (elems : List SliceInfoElem) → out_count elems ≡ count
+    → slice_refusal Strict (Some count) shape elems ≡ argument_fault Strict shape elems
+refusal_of_count count shape elems same =
+    ap (λ test. cond test (argument_fault Strict shape elems) (Some IncompatibleShape)) (eq-eqb (out_count elems) count same)

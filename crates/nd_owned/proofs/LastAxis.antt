@@ -1,7 +1,7 @@
 -- What taking the first entry of the last axis leaves of a view: where its rows begin.
 use Rattle.std.proofs.Common.{◌≡◌, ℕ, zero, suc, ◌*◌, ◌<◌, ◌^◌, ℤ, pos, negsuc, ◌≤ℤ◌, cond, Result, Ok, Err, Some, None, List, [], ◌∷◌}
 use Rattle.std.proofs.Common.{length, get_or, set, map, nat_lt, refl, sym, ap, ◌∙◌, arith}
-use Rattle.std.specs.List.{flat_map}
+use Rattle.std.specs.List.{All, flat_map}
 use Rattle.std.specs.Prelude.{OnErr, OnOk, ◌&&◌}
 use Rattle.std.specs.Result.{result_err}
 use Rattle.std.proofs.lemmas.Bool.{lt-ltb}
@@ -14,7 +14,7 @@ use Rattle.ndarray_layout.specs.Inside.{IsInside}
 use Rattle.ndarray_layout.specs.Size.{size, limit}
 use Rattle.ndarray_layout.specs.View.{View, IsView, LiesWithin, place_at, view_places}
 use Rattle.ndarray_layout.proofs.laws.CollapsedView.{entry_of_no_fault, places-collapse_of_last}
-use Rattle.ndarray_layout.proofs.laws.View.{no_places, places_lie_within, view_place}
+use Rattle.ndarray_layout.proofs.laws.View.{lens_fit, no_places, places_lie_within, view_place}
 use Rattle.nd_owned.specs.private.Rows.{AreInside, IsLastAxis, row_places}
 use Rattle.nd_owned.proofs.RowPlaces.{rows_of_none}
 
@@ -78,14 +78,18 @@ none_left {view} left {axis} (Ok u) last fault stays collapsed none =
     ∙ none_of_product (get_or view.shape axis 0) (size (set view.shape axis 1)) entry.1 (sym (size_by_axis view.shape axis entry.0) ∙ none)
 none_left left (Err e) last fault stays collapsed none = ap (λ v. size v.shape) stays ∙ none
 
+-- its length is that of an axis
+pub last_len_fits : {view : View} {axis : ℕ} {stride : ℤ} {len : ℕ} → IsView view → IsLastAxis view axis stride len → len < 2 ^ 63
+last_len_fits {view} {axis} v last = omega (arith, last.is_len, lens_fit v axis 0 (omega (arith, last.last)))
+
 -- ---- where the places of a view lie
 below_limit : (z : ℤ) → pos 0 ≤ℤ z → z ≤ℤ pos limit → IsInside (2 ^ 63) z
 below_limit (pos n) low high = omega (arith, ints)
 below_limit (negsuc n) low high = absurd (omega (arith, ints))
 
+pub places_fit : {view : View} → IsView view → All (IsInside (2 ^ 63)) (view_places RowMajor view)
+places_fit {view} v =
+    places_lie_within (2 ^ 63) RowMajor view (λ index is. (let here = view_place index v is in below_limit (place_at view index) here.low here.high))
+
 pub places_inside : {len : ℕ} {view : View} → IsView view → LiesWithin len view → AreInside len (view_places RowMajor view)
-places_inside {len} {view} v within = record {
-  within = places_lie_within len RowMajor view within;
-  fit = places_lie_within (2 ^ 63) RowMajor view (λ index is. (let here = view_place index v is in below_limit (place_at view index)
-      here.low here.high));
-}
+places_inside {len} {view} v within = record { within = places_lie_within len RowMajor view within; fit = places_fit v }

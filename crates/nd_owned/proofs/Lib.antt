@@ -1,3 +1,4 @@
+pub mod BlockPlaces
 pub mod Faults
 pub mod LastAxis
 pub mod Placed

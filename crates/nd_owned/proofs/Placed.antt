@@ -96,7 +96,7 @@ parts_pushed f g old x ys i {y} pushed below is same before =
     ∙ ap (λ zs. zs ++ g y) before
     ∙ sym (parts_more g ys i below is)
 
-all_of_part : {A X : Type 0} (P : X → Type 0) (f : A → List X) (xs : List A) (i : ℕ) {x : A} → i < length xs → x ≡ get_or xs i x
+pub all_of_part : {A X : Type 0} (P : X → Type 0) (f : A → List X) (xs : List A) (i : ℕ) {x : A} → i < length xs → x ≡ get_or xs i x
     → All P (flat_map f xs) → All P (f x)
 all_of_part P f xs i {x} below is all =
     all_second P (flat_map f (take i xs)) (f x) (all_first P (flat_map f (take i xs) ++ f x) (flat_map f (drop (i + 1) xs))

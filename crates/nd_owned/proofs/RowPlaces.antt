@@ -15,11 +15,11 @@ use Rattle.nd_owned.specs.private.Rows.{HasWritten, row_places}
 use Rattle.nd_owned.proofs.Placed.{all_first, both_written, one_written, pairs_first}
 
 -- ---- a row
-length-row_places : (start : ℕ) (stride : ℤ) (len : ℕ) → length (row_places start stride len) ≡ len
+pub length-row_places : (start : ℕ) (stride : ℤ) (len : ℕ) → length (row_places start stride len) ≡ len
 length-row_places start stride len = length-map-range_with_len (λ entry. pos start +ℤ (pos entry *ℤ stride)) 0 len
 
 -- the place of an entry
-get_or-row_places : (start : ℕ) (stride : ℤ) (len entry : ℕ) (d : ℤ) → entry < len
+pub get_or-row_places : (start : ℕ) (stride : ℤ) (len entry : ℕ) (d : ℤ) → entry < len
     → get_or (row_places start stride len) entry d ≡ pos start +ℤ (pos entry *ℤ stride)
 get_or-row_places start stride len entry d below = get_or-map-range_with_len (λ n. pos start +ℤ (pos n *ℤ stride)) 0 len entry entry d below
     (omega arith)
@@ -30,7 +30,7 @@ row_more : (start : ℕ) (stride : ℤ) (len : ℕ)
 row_more start stride len = map-range_with_len_more (λ n. pos start +ℤ (pos n *ℤ stride)) 0 len len (omega arith)
 
 -- its first places
-take-row_places : (start : ℕ) (stride : ℤ) (len entry : ℕ) → entry ≤ len
+pub take-row_places : (start : ℕ) (stride : ℤ) (len entry : ℕ) → entry ≤ len
     → take entry (row_places start stride len) ≡ row_places start stride entry
 take-row_places start stride len entry within = take-map-range_with_len (λ n. pos start +ℤ (pos n *ℤ stride)) 0 len entry within
 

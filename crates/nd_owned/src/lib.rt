@@ -2,6 +2,7 @@
 //! places of its layout.
 #![tactic(auto)]
 
+mod blocks;
 mod owned;
 mod rows;
 mod writes;

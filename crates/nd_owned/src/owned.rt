@@ -196,7 +196,7 @@ impl<T: Copy, D: Lengths> OwnedArray<T, D> {
 
     /// Copies of the items that a slice picks, in row-major order.
     ///
-    /// Each row of neighbours is copied as a whole; where the rows begin is listed first.
+    /// Each row of neighbours is copied as a whole. Where rows begin is listed first only if more than two axes are left.
     ///
     /// # Errors
     ///
@@ -220,8 +220,9 @@ impl<T: Copy, D: Lengths> OwnedArray<T, D> {
     /// Each slice comes with the items for its indices, in row-major order. All other items are unchanged, spare ones too.
     /// A slice that picks nothing intersects no other, and an empty list of writes is no error.
     ///
-    /// Each slice is compared once with each one after it: of `k` slices `k * (k - 1) / 2` pairs, each on all axes. Where
-    /// the rows of the slices begin is listed before the first write.
+    /// Each slice is checked once, and compared once with each one after it: of `k` slices `k * (k - 1) / 2` pairs, each up
+    /// to the first axis on which their ranges are apart. The slices, and where the rows of one begin that leaves more than
+    /// two axes, are listed before the first write.
     ///
     /// # Errors
     ///

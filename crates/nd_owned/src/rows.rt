@@ -1,31 +1,56 @@
-//! The rows of a slice: where each of them begins, and the items of all of them, read and written row by row.
+//! The rows of a slice: where blocks of them begin, and the items of all of them, read and written block by block.
 ghost use Rattle.std.specs.List.{All, AllPairs, flat_map};
-ghost use Rattle.std.specs.Prelude.{◌≡◌, ◌≢◌, ℕ, ◌+◌, ◌*◌, ◌<◌, ◌≤◌, ◌^◌, pos, ◌+ℤ◌, Some, IfOk, IsOk, IsTrue, MatchOption, List, ◌++◌, length, map, vec_capacity, vec_len};
+ghost use Rattle.std.specs.Prelude.{◌≡◌, ◌≢◌, ℕ, ◌+◌, ◌<◌, ◌≤◌, ◌^◌, pos, ◌+ℤ◌, Some, IfOk, IsOk, IsTrue, MatchOption, List, ◌++◌, length, map, vec_capacity, vec_len};
 ghost use Rattle.ndarray_layout.specs.declared.Fit.TheVariants.{Strict};
 ghost use Rattle.ndarray_layout.specs.declared.Order.TheVariants.{RowMajor};
-ghost use Rattle.ndarray_layout.specs.ArgumentFault.{argument_fault};
+ghost use Rattle.ndarray_layout.specs.ArgumentFault.{argument_fault, out_count};
 ghost use Rattle.ndarray_layout.specs.Inside.{IsInside};
+ghost use Rattle.ndarray_layout.specs.Lengths.{NeedsNoMemory};
 ghost use Rattle.ndarray_layout.specs.ShapeFault.{shape_fault};
 ghost use Rattle.ndarray_layout.specs.Signed.{signed};
 ghost use Rattle.ndarray_layout.specs.Size.{size};
-ghost use Rattle.ndarray_layout.specs.SlicedView.{slice_of};
+ghost use Rattle.ndarray_layout.specs.Sliced.{sliced_shape};
+ghost use Rattle.ndarray_layout.specs.SlicedView.{slice_of, slice_refusal};
 ghost use Rattle.ndarray_layout.specs.View.{IsView, LiesWithin, view_places};
 ghost use Rattle.nd_owned.specs.Owned.{IsOfNone, item_at_place};
-ghost use Rattle.nd_owned.specs.private.Rows.{AreInside, HasWritten, IsLastAxis, row_places, rows_places};
+ghost use Rattle.nd_owned.specs.private.Rows.{AreInside, AreRowsInside, HasWritten, IsLastAxis, row_places, rows_places, start_list};
 
-use ndarray_layout::{Axis, Fit, IxDyn, LayoutError, Lengths, Order, SliceElems, Strided, signed};
+use crate::blocks::{Block, read_block, write_block};
+use ndarray_layout::{
+    Axis, Fit, Ix1, Ix2, IxDyn, LayoutError, Lengths, Order, SliceElems, Strided, out_ndim_of,
+    product, signed,
+};
 use std::alloc::{AllocError, Global};
+use std::slice;
 
-/// The rows of a slice: the place where each begins, how far its places lie apart, and how many it has.
+/// The places where blocks begin. A single one takes no memory.
 #[derive(Drop)]
-pub(crate) struct Rows {
-    starts: Vec<usize>,
-    // Kept as the `usize` of the same bits.
-    stride: usize,
-    len: usize,
+enum Starts {
+    One(usize),
+    Listed(Vec<usize>),
 }
 
-/// The rows of a slice of a view, in the order of its places.
+impl Starts {
+    fn as_slice(&self) -> &[usize]
+        ensures { result.now ≡ start_list self.now }
+    {
+        match self {
+            Starts::One(start) => slice::from_ref(start),
+            Starts::Listed(places) => places.as_slice(),
+        }
+    }
+}
+
+/// The rows of a slice: where blocks of them begin, how the rows of a block lie, and how many places all have.
+#[derive(Drop)]
+pub(crate) struct Rows {
+    starts: Starts,
+    block: Block,
+    size: usize,
+}
+
+/// The rows of a slice of a view, in the order of its places. One or two axes that are left are axes of a type that fixes
+/// their count, where slicing takes less time.
 pub(crate) fn rows_of<D: Lengths, S: SliceElems>(
     alloc: Global,
     view: &Strided<D>,
@@ -35,35 +60,83 @@ pub(crate) fn rows_of<D: Lengths, S: SliceElems>(
     ensures places { IfOk result (λ rows. rows_places rows
         ≡ view_places RowMajor (slice_of Strict (S.list slice.now) view.now)) }
     ensures inside { IfOk result (λ rows.
-        (len : ℕ) → LiesWithin len view.now → AreInside len (rows_places rows)) }
-    ensures fits { IfOk result (λ rows. vec_len rows.starts * rows.len < 2 ^ 64) }
+        (len : ℕ) → LiesWithin len view.now → AreRowsInside len rows) }
+    ensures size { IfOk result (λ rows. rows.size ≡ length (rows_places rows)) }
     ensures memory { IsOfNone view.now.shape (S.list slice.now) → IsOk result }
 {
-    let slice: Strided<IxDyn> = view.slice(alloc, slice, Fit::Strict)?;
-    Ok(rows_of_view(alloc, slice)?)
+    let ndim = out_ndim_of(slice.elems());
+    if ndim == 1 {
+        return rows_of_slice::<Ix1, D, S>(alloc, view, slice);
+    }
+    if ndim == 2 {
+        return rows_of_slice::<Ix2, D, S>(alloc, view, slice);
+    }
+    rows_of_slice::<IxDyn, D, S>(alloc, view, slice)
 }
 
-/// The rows of a view: its last axis gives their places, and its other axes where they begin.
+/// The rows of a slice that leaves as many axes as a type has.
+fn rows_of_slice<E: Lengths, D: Lengths, S: SliceElems>(
+    alloc: Global,
+    view: &Strided<D>,
+    slice: &S,
+) -> Result<Rows, LayoutError>
+    ensures fault { shape_fault result ≡
+        slice_refusal Strict E.NDIM view.now.shape (S.list slice.now) }
+    ensures places { IfOk result (λ rows. rows_places rows
+        ≡ view_places RowMajor (slice_of Strict (S.list slice.now) view.now)) }
+    ensures inside { IfOk result (λ rows.
+        (len : ℕ) → LiesWithin len view.now → AreRowsInside len rows) }
+    ensures size { IfOk result (λ rows. rows.size ≡ length (rows_places rows)) }
+    ensures memory { slice_refusal Strict E.NDIM view.now.shape (S.list slice.now) ≡ None →
+        NeedsNoMemory E.NDIM (out_count (S.list slice.now)) →
+        size (sliced_shape Strict (S.list slice.now) view.now.shape) ≡ 0 → IsOk result }
+{
+    let part: Strided<E> = view.slice(alloc, slice, Fit::Strict)?;
+    Ok(rows_of_view(alloc, part)?)
+}
+
+/// The rows of a view: its last axis gives their places, the axis before it the rows of a block, and its other axes where
+/// the blocks begin.
 fn rows_of_view<D: Lengths>(alloc: Global, mut view: Strided<D>) -> Result<Rows, AllocError>
     ensures places { IfOk result (λ rows. rows_places rows ≡ view_places RowMajor view) }
-    ensures inside { IfOk result (λ rows.
-        (len : ℕ) → LiesWithin len view → AreInside len (rows_places rows)) }
-    ensures fits { IfOk result (λ rows. vec_len rows.starts * rows.len < 2 ^ 64) }
+    ensures inside { IfOk result (λ rows. (len : ℕ) → LiesWithin len view → AreRowsInside len rows) }
+    ensures size { IfOk result (λ rows. rows.size ≡ length (rows_places rows)) }
     ensures memory { size view.shape ≡ 0 → IsOk result }
 {
+    let size = product(view.dim().slice());
     let (stride, len) = take_last_axis(&mut view);
-    let starts = view.places(alloc, Order::RowMajor)?;
-    Ok(Rows {
-        starts,
+    let (rows_stride, rows) = take_last_axis(&mut view);
+    let starts = starts_of(alloc, &view)?;
+    let block = Block {
+        rows_stride,
+        rows,
         stride,
         len,
+    };
+    Ok(Rows {
+        starts,
+        block,
+        size,
     })
+}
+
+/// The places of a view, where blocks begin.
+fn starts_of<D: Lengths>(alloc: Global, view: &Strided<D>) -> Result<Starts, AllocError>
+    ensures places { IfOk result (λ starts.
+        map pos (start_list starts) ≡ view_places RowMajor view.now) }
+    ensures memory { size view.now.shape ≤ 1 → IsOk result }
+{
+    if product(view.dim().slice()) == 1 {
+        return Ok(Starts::One(view.start()));
+    }
+    Ok(Starts::Listed(view.places(alloc, Order::RowMajor)?))
 }
 
 /// Leaves of a view where its rows begin. Returns the stride and the length of a row: those of the last axis, or one place
 /// where there are no axes.
 fn take_last_axis<D: Lengths>(view: &mut Strided<D>) -> (usize, usize)
     ensures is_view { IsView view.old }
+    ensures few { result.1 < 2 ^ 63 }
     ensures places { (starts : List ℕ) → map pos starts ≡ view_places RowMajor view.new →
         flat_map (λ start. row_places start (signed result.0) result.1) starts ≡
         view_places RowMajor view.old }
@@ -91,15 +164,15 @@ fn last_axis<D: Lengths>(view: &Strided<D>) -> Option<(Axis, usize, usize)>
 impl Rows {
     /// The items at the places of the rows of a list, one row after another.
     pub(crate) fn read<T: Copy>(&self, alloc: Global, stored: &[T]) -> Result<Vec<T>, AllocError>
-        requires inside { AreInside (length stored.now) (rows_places self.now) }
-        requires fits { vec_len self.now.starts * self.now.len < 2 ^ 64 }
+        requires inside { AreRowsInside (length stored.now) self.now }
+        requires size { self.now.size ≡ length (rows_places self.now) }
         ensures items { IfOk result (λ v.
             map Some v.items ≡ map (item_at_place stored.now) (rows_places self.now)) }
         ensures memory { length (rows_places self.now) ≡ 0 → IsOk result }
     {
-        let mut items = Vec::with_capacity(alloc, self.starts.len() * self.len)?;
-        for start in &self.starts {
-            items = read_row(items, stored, *start, self.stride, self.len);
+        let mut items = Vec::with_capacity(alloc, self.size)?;
+        for start in self.starts.as_slice() {
+            items = read_block(items, stored, *start, self.block);
         }
         Ok(items)
     }
@@ -107,16 +180,14 @@ impl Rows {
     /// Writes items at the places of the rows of a list, one row after another. Where a place occurs twice, the last
     /// item for it stays.
     pub(crate) fn write<T: Copy>(&self, stored: &mut [T], items: &[T])
-        requires inside { AreInside (length stored.old) (rows_places self.now) }
+        requires inside { AreRowsInside (length stored.old) self.now }
         requires counts { length (rows_places self.now) ≡ length items.now }
         ensures { AllPairs (λ one other. one ≢ other) (rows_places self.now) →
             HasWritten (rows_places self.now) items.now stored.old stored.new }
     {
         let mut left = items;
-        for start in &self.starts {
-            let (row, others) = left.split_at(self.len);
-            write_row(stored, *start, self.stride, row);
-            left = others;
+        for start in self.starts.as_slice() {
+            left = write_block(stored, *start, self.block, left);
         }
     }
 }
@@ -140,7 +211,7 @@ fn place_after(place: usize, stride: usize) -> usize
 
 /// Appends the items at the places of a row to a list with room for them. The list is passed by value: through a
 /// reference its length would be written at each place.
-fn read_row<T: Copy>(
+pub(crate) fn read_row<T: Copy>(
     mut items: Vec<T>,
     stored: &[T],
     start: usize,
@@ -173,7 +244,7 @@ fn read_row<T: Copy>(
 }
 
 /// Writes items at the places of a row, one after another.
-fn write_row<T: Copy>(stored: &mut [T], start: usize, stride: usize, items: &[T])
+pub(crate) fn write_row<T: Copy>(stored: &mut [T], start: usize, stride: usize, items: &[T])
     requires { AreInside (length stored.old) (row_places start (signed stride) (length items.now)) }
     ensures { AllPairs (λ one other. one ≢ other)
         (row_places start (signed stride) (length items.now)) →

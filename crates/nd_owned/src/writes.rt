@@ -1,6 +1,6 @@
 //! Items that are to be written at slices of a view: the error of such a list, the places, and the writes.
 ghost use Rattle.std.specs.List.{All, AllPairs, flat_map, list_all};
-ghost use Rattle.std.specs.Prelude.{◌≡◌, ◌≢◌, ℕ, None, IfOk, IsOk, length, map};
+ghost use Rattle.std.specs.Prelude.{◌≡◌, ◌≢◌, ℕ, ◌<◌, ◌^◌, None, IfOk, IsOk, length, map};
 ghost use Rattle.std.specs.Result.{result_err};
 ghost use Rattle.ndarray_layout.specs.declared.Fit.TheVariants.{Strict};
 ghost use Rattle.ndarray_layout.specs.ArgumentFault.{argument_fault};
@@ -8,11 +8,12 @@ ghost use Rattle.ndarray_layout.specs.ShapeFault.{shape_fault};
 ghost use Rattle.ndarray_layout.specs.View.{LiesWithin};
 ghost use Rattle.nd_owned.specs.Writes.{HaveNoItems, IsIntersectionFault, counts_fault, has_count, slices_fault, write_of, write_places};
 ghost use Rattle.nd_owned.specs.private.Checks.{IsIntersectionFaultOf};
-ghost use Rattle.nd_owned.specs.private.Rows.{AreInside, HasWritten, rows_places};
+ghost use Rattle.nd_owned.specs.private.Rows.{AreRowsInside, HasWritten, rows_places};
 
 use crate::rows::{Rows, rows_of};
 use ndarray_layout::{
-    ErrorKind, Fit, LayoutError, Lengths, ShapeError, SliceInfoElem, Strided, from_kind,
+    ErrorKind, Fit, LayoutError, Lengths, ShapeError, SliceInfoElem, Strided, elems_intersect,
+    from_kind,
 };
 use std::alloc::Global;
 
@@ -59,26 +60,27 @@ pub(crate) fn check_counts<T: Copy, D: Lengths>(
     }
 }
 
-/// Checks that a slice shares an index with none of those of a list.
-fn check_apart_from<T: Copy, D: Lengths>(
-    view: &Strided<D>,
-    one: &SliceItems<T>,
+/// Checks that a slice shares an index with none of those of a list, which all fit the shape.
+fn check_apart_from<T: Copy>(
+    shape: &[usize],
+    slice: &[SliceInfoElem],
     others: &[SliceItems<T>],
 ) -> Result<(), ShapeError>
-    requires fits { argument_fault Strict view.now.shape (write_of one.now).slice ≡ None }
-    requires others_fit { slices_fault view.now.shape (map write_of others.now) ≡ None }
-    ensures { IsIntersectionFaultOf view.now.shape (write_of one.now) (map write_of others.now)
+    requires lens_fit { All (λ len. len < 2 ^ 63) shape.now }
+    requires fits { argument_fault Strict shape.now slice.now ≡ None }
+    requires others_fit { slices_fault shape.now (map write_of others.now) ≡ None }
+    ensures { IsIntersectionFaultOf shape.now slice.now (map write_of others.now)
         (result_err result) }
 {
     for (other, _) in others {
-        if view.meets(&one.0, other, Fit::Strict)? {
+        if elems_intersect(shape, slice, other.as_slice(), Fit::Strict) {
             return Err(from_kind(ErrorKind::Unsupported));
         }
     }
     Ok(())
 }
 
-/// Checks that no two slices share an index.
+/// Checks that no two slices share an index. Each fits the shape of the view, so none is checked again.
 pub(crate) fn check_apart<T: Copy, D: Lengths>(
     view: &Strided<D>,
     writes: &[SliceItems<T>],
@@ -86,8 +88,9 @@ pub(crate) fn check_apart<T: Copy, D: Lengths>(
     requires { slices_fault view.now.shape (map write_of writes.now) ≡ None }
     ensures { IsIntersectionFault view.now.shape (map write_of writes.now) (result_err result) }
 {
+    let shape = view.dim().slice();
     for (at, write) in writes.iter().enumerate() {
-        check_apart_from(view, write, &writes[at + 1..])?;
+        check_apart_from(shape, write.0.as_slice(), &writes[at + 1..])?;
     }
     Ok(())
 }
@@ -108,7 +111,7 @@ pub(crate) fn rows_of_each<'a, T: Copy, D: Lengths>(
     ensures counts { IfOk result (λ v.
         All (λ one. length (rows_places one.rows) ≡ length one.items.now) v.items) }
     ensures inside { IfOk result (λ v. (len : ℕ) → LiesWithin len view.now →
-        All (λ one. AreInside len (rows_places one.rows)) v.items) }
+        All (λ one. AreRowsInside len one.rows) v.items) }
 {
     let mut row_items = Vec::new(alloc);
     for (slice, items) in writes {
@@ -124,7 +127,7 @@ pub(crate) fn rows_of_each<'a, T: Copy, D: Lengths>(
 
 /// Writes the items of each slice at the places of its rows, one slice after another.
 pub(crate) fn write_all<T: Copy>(stored: &mut [T], writes: &[RowItems<'_, T>])
-    requires inside { All (λ one. AreInside (length stored.old) (rows_places one.rows)) writes.now }
+    requires inside { All (λ one. AreRowsInside (length stored.old) one.rows) writes.now }
     requires counts { All (λ one. length (rows_places one.rows) ≡ length one.items.now) writes.now }
     ensures { AllPairs (λ one other. one ≢ other)
         (flat_map (λ one. rows_places one.rows) writes.now) →

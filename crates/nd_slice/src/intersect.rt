@@ -66,8 +66,11 @@ fn slice_of(len: usize, elem: SliceInfoElem) -> Slice
     }
 }
 
-/// Whether two slice arguments without a fault share an index of a shape.
-fn elems_intersect(
+/// Whether two slice arguments that fit a shape share an index of it: what `slices_intersect` returns, of lists that were
+/// checked before. The caller ensures that both fit, and that each length is below 2^63. Where the ranges of an axis are
+/// apart, the axes after it are not looked at. The project's own.
+#[inline]
+pub fn elems_intersect(
     shape: &[usize],
     first: &[SliceInfoElem],
     second: &[SliceInfoElem],

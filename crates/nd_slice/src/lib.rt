@@ -23,7 +23,8 @@ pub use elems::SliceElems;
 pub use fit::Fit;
 pub use info::SliceInfo;
 pub use intersect::{
-    arith_seq_intersect, extended_gcd, slices_intersect, solve_linear_diophantine_eq,
+    arith_seq_intersect, elems_intersect, extended_gcd, slices_intersect,
+    solve_linear_diophantine_eq,
 };
 pub use picks::{abs_index, count_of_picks, entry_of, slice_min_max, to_abs_slice};
 pub use slice::Slice;

@@ -34,8 +34,8 @@ pub use nd_shape::{
 pub use nd_slice::{
     Fit, NewAxis, Slice, SliceArg, SliceElems, SliceInfo, SliceInfoElem, abs_index,
     arith_seq_intersect, check_elems, check_slice, count_of_picks, do_collapse_axis, do_slice,
-    entry_of, extended_gcd, in_ndim_of, out_ndim_of, slice_min_max, slices_intersect,
-    solve_linear_diophantine_eq, to_abs_slice,
+    elems_intersect, entry_of, extended_gcd, in_ndim_of, out_ndim_of, slice_min_max,
+    slices_intersect, solve_linear_diophantine_eq, to_abs_slice,
 };
 
 // Reshapes that move no element.

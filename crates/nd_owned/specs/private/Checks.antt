@@ -4,16 +4,17 @@ use Rattle.std.proofs.lemmas.Bool.{ltb-true}
 use Rattle.std.specs.List.{All}
 use Rattle.ndarray_layout.specs.declared.ErrorKind.{ErrorKind}
 use Rattle.ndarray_layout.specs.declared.ErrorKind.TheVariants.{Unsupported}
+use Rattle.ndarray_layout.specs.declared.SliceInfoElem.{SliceInfoElem}
 use Rattle.ndarray_layout.specs.declared.SliceInfoElem.TheVariants as elem
-use Rattle.nd_owned.specs.Writes.{Write, AreApart}
+use Rattle.nd_owned.specs.Writes.{Write}
 use Rattle.ndarray_layout.specs.declared.Fit.TheVariants.{Strict}
 use Rattle.ndarray_layout.specs.Meet.{Meet}
 
 -- the error, or none, of a slice that is to share an index with none of those of a list
-abbrev pub IsIntersectionFaultOf : {T : Type 0} → List ℕ → Write T → List (Write T) → Option ErrorKind → Type 0
-IsIntersectionFaultOf shape one others None = All (AreApart shape one) others
-IsIntersectionFaultOf shape one others (Some kind) =
-    (kind ≡ Unsupported) × (at : ℕ) × IsSomeAnd (slice_get others at) (λ other. Meet Strict shape one.slice other.slice)
+abbrev pub IsIntersectionFaultOf : {T : Type 0} → List ℕ → List SliceInfoElem → List (Write T) → Option ErrorKind → Type 0
+IsIntersectionFaultOf shape slice others None = All (λ other. Meet Strict shape slice other.slice → ⊥) others
+IsIntersectionFaultOf shape slice others (Some kind) =
+    (kind ≡ Unsupported) × (at : ℕ) × IsSomeAnd (slice_get others at) (λ other. Meet Strict shape slice other.slice)
 
 -- examples
 abbrev first : Write ℕ
@@ -25,8 +26,8 @@ second = record { slice = elem.Index (pos 1) ∷ []; items = 8 ∷ [] }
 abbrev shared : Meet Strict (2 ∷ []) first.slice first.slice
 shared = (0 ∷ [], refl, ((0, ltb-true 0 1 refl, refl), tt), ((0, ltb-true 0 1 refl, refl), tt))
 
-intersects_itself : IsIntersectionFaultOf (2 ∷ []) first (second ∷ first ∷ []) (Some Unsupported)
+intersects_itself : IsIntersectionFaultOf (2 ∷ []) first.slice (second ∷ first ∷ []) (Some Unsupported)
 intersects_itself = (refl, 1, shared)
 
-not_unsaid : IsIntersectionFaultOf (2 ∷ []) first (first ∷ []) None → ⊥
+not_unsaid : IsIntersectionFaultOf (2 ∷ []) first.slice (first ∷ []) None → ⊥
 not_unsaid apart = apart 0 first (ltb-true 0 1 refl) shared

@@ -81,6 +81,11 @@ pub between_below : (step : ℤ) (start end j : ℕ) → 0 < magnitude step → 
 between_below (pos k) start end j p below = omega (arith, pick_up k start end j p below, between_within (pos k) start end j p below)
 between_below (negsuc k) start end j p below = omega (arith, pick_down k start end j below)
 
+pub between_above : (step : ℤ) (start end j : ℕ) → 0 < magnitude step → j < length (between step start end)
+    → start ≤ get_or (between step start end) j 0
+between_above (pos k) start end j p below = omega (arith, pick_up k start end j p below)
+between_above (negsuc k) start end j p below = omega (arith, pick_down k start end j below, between_within (negsuc k) start end j p below)
+
 -- the pick at j lies j steps from the first
 pub between_apart : (step : ℤ) (start end j : ℕ) → j < length (between step start end)
     → pos (get_or (between step start end) j 0) ≡ pos (get_or (between step start end) 0 0) +ℤ (pos j *ℤ step)

@@ -6,10 +6,12 @@ use Rattle.std.proofs.lemmas.Grind.{get_or_default_zero}
 use Rattle.std.proofs.lemmas.Int.{ints}
 use Rattle.std.proofs.lemmas.List.Elements.{All-contains}
 use Rattle.std.specs.Int.{◌∣◌}
-use Rattle.nd_slice.proofs.Definitions.{Fit, InSequence, PicksMeet, SequencesMeet, Slice, SliceFits, between, magnitude, picks}
+use Rattle.nd_slice.proofs.Definitions.{Fit, InSequence, PicksMeet, SequencesMeet, Slice, SliceFits, between, end_meaning, magnitude, picks}
+use Rattle.nd_slice.proofs.Definitions.{start_meaning}
 use Rattle.nd_base.proofs.laws.Lists.{Contains-at}
 use Rattle.nd_slice.proofs.laws.Picks.{pick_below}
-use Rattle.nd_slice.proofs.laws.Between.{pick_up, pick_down}
+use Rattle.nd_slice.proofs.laws.Between.{between_above, between_below, pick_up, pick_down}
+use Rattle.nd_slice.proofs.laws.SliceFault.{step_moves}
 
 -- both are among the picks, and every pick lies between them
 abbrev pub AreEnds : List ℕ → ℕ → ℕ → Type 0
@@ -145,3 +147,20 @@ picks_meet {one = one} {other = other} {a = a} {b = b} {c = c} {d = d} p q = (
 pub contained_below : (fit : Fit) (len : ℕ) (slice : Slice) (pick : ℕ) → SliceFits fit len slice → Contains (picks fit len slice) pick
     → pick < len
 contained_below fit len slice pick fits h = omega (arith, (placed h).at, pick_below fit len slice h.0 fits h.1)
+
+-- where the range of one slice stops before that of another begins, they share no entry
+pub apart_by_ranges : (fit : Fit) (len : ℕ) (one other : Slice) → SliceFits fit len one → SliceFits fit len other
+    → magnitude (end_meaning fit len one) ≤ magnitude (start_meaning fit len other)
+    → PicksMeet (picks fit len one) (picks fit len other) → ⊥
+apart_by_ranges fit len one other one_fits other_fits order (entry, p, q) =
+    let first = placed p in
+    let second = placed q in
+    omega (
+      arith,
+      first.at,
+      second.at,
+      between_below one.step (magnitude (start_meaning fit len one)) (magnitude (end_meaning fit len one)) p.0 (step_moves fit len one one_fits)
+          p.1,
+      between_above other.step (magnitude (start_meaning fit len other)) (magnitude (end_meaning fit len other)) q.0
+          (step_moves fit len other other_fits) q.1,
+    )

@@ -1,5 +1,5 @@
--- The rows are those of the slice, which lies within the data of the view.
+-- A slice that leaves one axis or two has them at a type that fixes their count, and no error but its own.
+use Rattle.std.proofs.Common.{◌≡◌, sym, ap, ◌∙◌}
+use Rattle.ndarray_layout.specs.ArgumentFault.{out_count}
+use Rattle.nd_owned.proofs.Faults.{refusal_of_count}
 use Rattle.nd_owned.proofs.rows.rows_of.Goals as goal
-
-pub returns-clause-inside : goal.returns-clause-inside
-returns-clause-inside g c = λ len within. c.in_ok-rows_of_view.ensures.inside len (c.in_ok-slice.ensures.kept.inside len within)

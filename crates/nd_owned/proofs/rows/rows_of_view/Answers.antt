@@ -1,29 +1,60 @@
 -- The rows have the places of the view, in order.
-use Rattle.std.proofs.Common.{◌≡◌, ◌*◌, length, sym, ap, subst, arith}
+use Rattle.std.proofs.Common.{◌≡◌, ◌<◌, ◌^◌, ◌∙◌, length, sym, ap, subst, arith}
+use Rattle.std.proofs.lemmas.Bool.{false≢true}
+use Rattle.std.specs.List.{All, flat_map}
 use Rattle.ndarray_layout.specs.declared.Order.TheVariants.{RowMajor}
-use Rattle.ndarray_layout.specs.Signed.{signed}
+use Rattle.ndarray_layout.specs.Inside.{IsInside}
+use Rattle.ndarray_layout.specs.Size.{size}
+use Rattle.ndarray_layout.specs.View.{view_places}
 use Rattle.ndarray_layout.proofs.laws.View.{length-view_places, size_fits}
-use Rattle.nd_owned.specs.private.Rows.{AreInside}
-use Rattle.nd_owned.proofs.LastAxis.{places_inside}
-use Rattle.nd_owned.proofs.RowPlaces.{length-rows}
+use Rattle.nd_owned.specs.declared.blocks.Block.{Block}
+use Rattle.nd_owned.specs.private.Rows.{AreInside, block_places, start_list}
+use Rattle.nd_owned.proofs.BlockPlaces.{blocks_of_rows}
+use Rattle.nd_owned.proofs.LastAxis.{places_fit, places_inside}
 use Rattle.nd_owned.proofs.rows.rows_of_view.Goals as goal
+
+pub product-size-requires : goal.product-size-requires
+product-size-requires g c =
+    subst (λ lens. size lens < 2 ^ 64) (sym (c.slice.ensures.list ∙ c.dim.ensures.list)) (size_fits c.dim.ensures.is_view)
+
+pub returns-clause-places : goal.returns-clause-places
+returns-clause-places g c =
+    let one = c.take_last_axis-stride in
+    let two = c.take_last_axis-rows_stride in
+    let starts = start_list c.in_ok-starts.starts in
+    let block : Block = record { rows_stride = two.result.0; rows = two.result.1; stride = one.result.0; len = one.result.1 } in
+    blocks_of_rows block starts (view_places RowMajor one.new.view) (view_places RowMajor c.args.view)
+    (two.ensures.places starts c.in_ok-starts.ensures.places) (places_fit two.ensures.is_view) one.ensures.places
 
 pub returns-clause-inside : goal.returns-clause-inside
 returns-clause-inside g c = λ len within.
-    subst (AreInside len) (sym (c.take_last_axis-stride.ensures.places c.in_ok-starts.starts.items c.in_ok-starts.ensures.items))
-    (places_inside c.take_last_axis-stride.ensures.is_view within)
+    let one = c.take_last_axis-stride in
+    let two = c.take_last_axis-rows_stride in
+    let starts = start_list c.in_ok-starts.starts in
+    let block : Block = record { rows_stride = two.result.0; rows = two.result.1; stride = one.result.0; len = one.result.1 } in
+    let middle = two.ensures.places starts c.in_ok-starts.ensures.places in
+    let places = blocks_of_rows block starts (view_places RowMajor one.new.view) (view_places RowMajor c.args.view) middle
+    (places_fit two.ensures.is_view) one.ensures.places in
+    record {
+      places = subst (AreInside len) (sym places) (places_inside one.ensures.is_view within);
+      begin = subst (All (IsInside (2 ^ 63))) (sym middle) (places_fit two.ensures.is_view);
+      few = two.ensures.few;
+    }
 
-pub returns-clause-fits : goal.returns-clause-fits
-returns-clause-fits g c =
-    let starts = c.in_ok-starts.starts in
-    let stride = c.take_last_axis-stride.result.0 in
-    let len = c.take_last_axis-stride.result.1 in
-    let count : starts.len * len ≡ length starts.items * len = ap (λ n. n * len) starts.ok.0 in
-    omega (
-      arith,
-      count,
-      length-rows (signed stride) len starts.items,
-      ap length (c.take_last_axis-stride.ensures.places starts.items c.in_ok-starts.ensures.items),
-      length-view_places RowMajor c.args.view,
-      size_fits c.take_last_axis-stride.ensures.is_view,
-    )
+pub returns-clause-size : goal.returns-clause-size
+returns-clause-size g c =
+    let one = c.take_last_axis-stride in
+    let two = c.take_last_axis-rows_stride in
+    let starts = start_list c.in_ok-starts.starts in
+    let block : Block = record { rows_stride = two.result.0; rows = two.result.1; stride = one.result.0; len = one.result.1 } in
+    let places = blocks_of_rows block starts (view_places RowMajor one.new.view) (view_places RowMajor c.args.view)
+    (two.ensures.places starts c.in_ok-starts.ensures.places) (places_fit two.ensures.is_view) one.ensures.places in
+    c.product-size.ensures
+    ∙ ap size (c.slice.ensures.list ∙ c.dim.ensures.list)
+    ∙ sym (length-view_places RowMajor c.args.view)
+    ∙ ap length (sym places)
+
+pub returns-in_err-starts-clause-memory : goal.returns-in_err-starts-clause-memory
+returns-in_err-starts-clause-memory g c = λ none.
+    absurd (false≢true (c.in_err-starts.ensures.memory
+    (omega (arith, c.take_last_axis-rows_stride.ensures.none (c.take_last_axis-stride.ensures.none none)))))

@@ -1,12 +1,15 @@
 -- The rows begin where the last axis has its first entry.
 use Rattle.std.proofs.Common.{◌∙◌}
 use Rattle.ndarray_layout.specs.Signed.{signed}
-use Rattle.nd_owned.proofs.LastAxis.{none_left, rows_left}
+use Rattle.nd_owned.proofs.LastAxis.{last_len_fits, none_left, rows_left}
 use Rattle.nd_owned.proofs.RowPlaces.{rows_of_one}
 use Rattle.nd_owned.proofs.rows.take_last_axis.Goals as goal
 
 pub returns-in_default-clause-places : goal.returns-in_default-clause-places
 returns-in_default-clause-places g c = λ starts same. rows_of_one starts ∙ same
+
+pub returns-clause-few : goal.returns-clause-few
+returns-clause-few g c = last_len_fits c.in-Some.ensures.is_view c.in-Some.ensures.last
 
 pub returns-clause-places : goal.returns-clause-places
 returns-clause-places g c =

@@ -5,7 +5,7 @@ use Rattle.std.proofs.lemmas.List.{length-map}
 use Rattle.ndarray_layout.specs.declared.Fit.TheVariants.{Strict}
 use Rattle.ndarray_layout.specs.ArgumentFault.{argument_fault}
 use Rattle.nd_owned.specs.declared.rows.Rows.{Rows}
-use Rattle.nd_owned.specs.private.Rows.{AreInside, rows_places}
+use Rattle.nd_owned.specs.private.Rows.{AreRowsInside, rows_places}
 use Rattle.nd_owned.specs.Writes.{write_of, write_places}
 use Rattle.nd_owned.proofs.Faults.{all_pushed, handed_on, have_counts, of_this, this}
 use Rattle.nd_owned.proofs.Placed.{parts_pushed, parts_skipped}
@@ -77,6 +77,6 @@ loop-slice-preserved g c =
           c.loop-slice.invariant.items;
       counts = all_pushed (λ one. length (rows_places one.rows) ≡ length one.items.now) old _ pushed c.loop-slice.invariant.counts
           (ap length c.in_ok-rows.ensures.places ∙ as_many ∙ sym (ap length c.as_slice-items.ensures.value));
-      inside = λ len within. all_pushed (λ one. AreInside len (rows_places one.rows)) old _ pushed
+      inside = λ len within. all_pushed (λ one. AreRowsInside len one.rows) old _ pushed
           (c.loop-slice.invariant.inside len within) (c.in_ok-rows.ensures.inside len within);
     }

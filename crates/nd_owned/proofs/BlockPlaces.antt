@@ -1,0 +1,145 @@
+-- The places of blocks of rows: how many there are, where a row of one begins, and what the last two axes of a view make of it.
+use Rattle.std.proofs.Common.{◌≡◌, ℕ, zero, suc, ◌+◌, ◌*◌, ◌<◌, ◌^◌, ℤ, pos, negsuc, ◌+ℤ◌, ◌*ℤ◌, List, [], ◌∷◌, ◌++◌, length, get_or, map, take}
+use Rattle.std.proofs.Common.{append_assoc, replicate, refl, sym, ap, subst, ◌∙◌, arith}
+use Rattle.std.proofs.lemmas.Int.{ints}
+use Rattle.std.proofs.lemmas.Grind.{flat_map-append}
+use Rattle.std.proofs.lemmas.List.{append-nil, length-append, map-append}
+use Rattle.std.proofs.lemmas.List.Elements.{All-head, All-tail}
+use Rattle.std.proofs.lemmas.List.Folds.{flat_map-map}
+use Rattle.std.proofs.Math.Nat.{dvd-mul_right, eq-one_of_dvd-one}
+use Rattle.std.specs.Int.{◌∣◌}
+use Rattle.std.specs.List.{All, flat_map}
+use Rattle.ndarray_layout.specs.declared.Order.TheVariants.{RowMajor}
+use Rattle.ndarray_layout.specs.Indices.{indices}
+use Rattle.ndarray_layout.specs.Inside.{IsInside}
+use Rattle.ndarray_layout.specs.Signed.{magnitude, signed}
+use Rattle.ndarray_layout.specs.Size.{size}
+use Rattle.ndarray_layout.specs.View.{View, place_at, view_places}
+use Rattle.ndarray_layout.proofs.laws.Offset.{offset_of-zeros}
+use Rattle.nd_owned.specs.declared.blocks.Block.{Block}
+use Rattle.nd_owned.specs.declared.rows.Rows.{Rows}
+use Rattle.nd_owned.specs.private.Rows.{IsBlockInside, AreInside, AreRowsInside, block_places, row_places, start_list}
+use Rattle.nd_owned.proofs.Placed.{all_of_part, inside_of_part, parts_more}
+use Rattle.nd_owned.proofs.RowPlaces.{begins, entry_inside, get_or-row_places, length-row_places}
+
+-- ---- how many there are
+each_long : {A X : Type 0} (f : A → List X) (n : ℕ) (xs : List A) → ((a : A) → length (f a) ≡ n) → length (flat_map f xs) ≡ length xs * n
+each_long f n [] long = omega arith
+each_long f n (x ∷ xs) long = omega (arith, length-append (f x) (flat_map f xs), long x, each_long f n xs long)
+
+-- the row that begins at a place
+abbrev pub row_from : Block → ℤ → List ℤ
+row_from block first = row_places (magnitude first) (signed block.stride) block.len
+
+-- where the rows of a block begin
+abbrev pub row_starts : Block → ℕ → List ℤ
+row_starts block start = row_places start (signed block.rows_stride) block.rows
+
+pub length-block_places : (block : Block) (start : ℕ) → length (block_places block start) ≡ block.rows * block.len
+length-block_places block start =
+    each_long (row_from block) block.len (row_starts block start)
+    (λ first. length-row_places (magnitude first) (signed block.stride) block.len)
+    ∙ ap (λ n. n * block.len) (length-row_places start (signed block.rows_stride) block.rows)
+
+pub length-blocks : (block : Block) (starts : List ℕ)
+    → length (flat_map (block_places block) starts) ≡ length starts * (block.rows * block.len)
+length-blocks block starts = each_long (block_places block) (block.rows * block.len) starts (length-block_places block)
+
+-- ---- a row of a block, by its number
+module _ (block : Block) (start row : ℕ) where
+  abbrev first : ℤ
+  first = pos start +ℤ (pos row *ℤ signed block.rows_stride)
+
+  pub is_row : row < block.rows → (row < length (row_starts block start)) × (first ≡ get_or (row_starts block start) row first)
+  is_row below = (
+    omega (arith, length-row_places start (signed block.rows_stride) block.rows),
+    sym (get_or-row_places start (signed block.rows_stride) block.rows row first below),
+  )
+
+  -- its place, as a number
+  pub row_there : {place : ℕ} → pos place ≡ first → row_from block first ≡ row_places place (signed block.stride) block.len
+  row_there {place} is = ap (λ n. row_places n (signed block.stride) block.len) (ap magnitude (sym is))
+
+  pub row_inside : {place : ℕ} (count : ℕ) → row < block.rows → pos place ≡ first → IsBlockInside count block start
+      → AreInside count (row_places place (signed block.stride) block.len)
+  row_inside count below is inside =
+      let here = is_row below in
+      subst (AreInside count) (row_there is) (inside_of_part (row_from block) (row_starts block start) row here.0 here.1 inside.places)
+
+  pub row_begins : row < block.rows → All (IsInside (2 ^ 63)) (row_starts block start)
+      → (start < 2 ^ 63) × IsInside (2 ^ 63) first
+  row_begins below inside = (
+    begins (2 ^ 63) start (signed block.rows_stride) block.rows inside (omega arith),
+    entry_inside (2 ^ 63) start (signed block.rows_stride) block.rows row inside below,
+  )
+
+-- ---- a block of several
+pub block_inside : {count : ℕ} (rows : Rows) (i : ℕ) {start : ℕ} → i < length (start_list rows.starts)
+    → start ≡ get_or (start_list rows.starts) i start → AreRowsInside count rows → IsBlockInside count rows.block start
+block_inside rows i below is inside = record {
+  places = inside_of_part (block_places rows.block) (start_list rows.starts) i below is inside.places;
+  begins = all_of_part (IsInside (2 ^ 63)) (row_starts rows.block) (start_list rows.starts) i below is inside.begin;
+  few = inside.few;
+}
+
+-- ---- one more list of places that is read
+module _ {A Y : Type 0} (f : A → List ℤ) (xs : List A) (i : ℕ) {x : A} (got : ℤ → Y) where
+  pub more_read : (before old : List Y) {new : List Y} → i < length xs → x ≡ get_or xs i x → new ≡ old ++ map got (f x)
+      → old ≡ before ++ map got (flat_map f (take i xs)) → new ≡ before ++ map got (flat_map f (take (i + 1) xs))
+  more_read before old below is added so_far =
+      let places = flat_map f (take i xs) in
+      added
+      ∙ ap (λ ys. ys ++ map got (f x)) so_far
+      ∙ append_assoc before (map got places) (map got (f x))
+      ∙ ap (λ ys. before ++ ys) (sym (map-append got places (f x)) ∙ ap (map got) (sym (parts_more f xs i below is)))
+
+-- ---- lists of lists of lists
+flat_map-flat_map : {A B C : Type 0} (g : B → List C) (f : A → List B) (xs : List A)
+    → flat_map (λ x. flat_map g (f x)) xs ≡ flat_map g (flat_map f xs)
+flat_map-flat_map g f [] = refl
+flat_map-flat_map g f (x ∷ xs) = ap (λ ys. flat_map g (f x) ++ ys) (flat_map-flat_map g f xs) ∙ sym (flat_map-append g (f x) (flat_map f xs))
+
+-- places inside are natural numbers
+natural : (places : List ℤ) → All (IsInside (2 ^ 63)) places → map pos (map magnitude places) ≡ places
+natural [] inside = refl
+natural (z ∷ places) inside =
+    ap (λ zs. pos (magnitude z) ∷ zs) (natural places (All-tail (IsInside (2 ^ 63)) z places inside))
+    ∙ ap (λ n. n ∷ places) (by z (All-head (IsInside (2 ^ 63)) z places inside))
+  where
+    by : (z : ℤ) → IsInside (2 ^ 63) z → pos (magnitude z) ≡ z
+    by (pos n) inside = refl
+    by (negsuc n) inside = absurd inside
+
+-- where rows begin at the places of one view, and those places lie evenly themselves, the rows make blocks
+pub blocks_of_rows : (block : Block) (starts : List ℕ) (middle places : List ℤ)
+    → flat_map (λ start. row_starts block start) starts ≡ middle → All (IsInside (2 ^ 63)) middle
+    → ((begin : List ℕ) → map pos begin ≡ middle → flat_map (λ start. row_places start (signed block.stride) block.len) begin ≡ places)
+    → flat_map (block_places block) starts ≡ places
+blocks_of_rows block starts middle places rows inside made =
+    flat_map-flat_map (row_from block) (row_starts block) starts
+    ∙ ap (flat_map (row_from block)) rows
+    ∙ sym (flat_map-map (λ start. row_places start (signed block.stride) block.len) magnitude middle)
+    ∙ made (map magnitude middle) (natural middle inside)
+
+-- ---- a view with one index
+one_of_product : (a b : ℕ) → a * b ≡ 1 → (a ≡ 1) × (b ≡ 1)
+one_of_product a b is =
+    let first : a ≡ 1 = eq-one_of_dvd-one (subst (λ n. a ∣ n) is (dvd-mul_right a b)) in
+    (first, by b (ap (λ n. n * b) (sym first) ∙ is))
+  where
+    by : (b : ℕ) → 1 * b ≡ 1 → b ≡ 1
+    by b is = omega arith
+
+one_index : (shape : List ℕ) → size shape ≡ 1 → indices shape ≡ replicate (length shape) 0 ∷ []
+one_index [] is = refl
+one_index (len ∷ lens) is =
+    let ones = one_of_product len (size lens) is in
+    rw ones.0 (append-nil (map (λ index. 0 ∷ index) (indices lens)) ∙ ap (map (λ index. 0 ∷ index)) (one_index lens ones.1))
+
+-- lies at its start
+pub one_place : (view : View) → size view.shape ≡ 1 → view_places RowMajor view ≡ pos view.start ∷ []
+one_place view is =
+    let there : view.start + 0 ≡ view.start = omega arith in
+    ap (map (place_at view)) (one_index view.shape is)
+    ∙ ap (λ z. (pos view.start +ℤ z) ∷ []) (offset_of-zeros view.strides (length view.shape))
+    ∙ ap (λ n. pos n ∷ []) there
