@@ -1,10 +1,11 @@
 //! The shape that two shapes have in common.
+ghost use Rattle.std.specs.Bool.{OnTrue};
 ghost use Rattle.std.specs.Prelude.{◌≡◌, ◌≤◌, true, length, Some, is_some, max, None, IsOk, IfOk};
 ghost use Rattle.nd_shape.specs.CommonShape.{common_length, common_shape, common_shape_fault};
 ghost use Rattle.nd_base.specs.Lengths.{IsCount, NeedsNoMemory};
 ghost use Rattle.nd_base.specs.ShapeFault.{shape_fault};
 
-use nd_base::{ErrorKind, LayoutError, Lengths, from_kind};
+use nd_base::{ErrorKind, INLINE_AXES, LayoutError, Lengths, from_kind};
 use std::alloc::Global;
 
 /// Whether two lengths of one axis are equal, or one of them is 1.
@@ -69,6 +70,36 @@ pub fn fill_common_shape(longer: &[usize], shorter: &[usize], common: &mut [usiz
     }
 }
 
+/// The length that two axes have in common, if there is one, and whether there is.
+#[inline(always)]
+fn join(len: usize, other: usize) -> (usize, bool)
+    ensures fits { result.1 ≡ is_some (common_length len other) }
+    ensures common { OnTrue result.1 (common_length len other ≡ Some result.0) }
+{
+    let common = if len == 1 { other } else { len };
+    (common, (common == other) | (other == 1))
+}
+
+/// Writes the common shape of two shapes over `common`, and returns whether there is one; where there is
+/// none, what is written there means nothing.
+#[inline(always)]
+fn join_shapes(longer: &[usize], shorter: &[usize], common: &mut [usize]) -> bool
+    requires shorter { length shorter.now ≤ length longer.now }
+    requires room { length common.old ≡ length longer.now }
+    ensures fits { result ≡ is_some (common_shape longer.now shorter.now) }
+    ensures common { OnTrue result (common_shape longer.now shorter.now ≡ Some common.new) }
+{
+    let first = longer.len() - shorter.len();
+    common[..first].copy_from_slice(&longer[..first]);
+    let mut fits = true;
+    for axis in 0..shorter.len() {
+        let (len, is_common) = join(longer[first + axis], shorter[axis]);
+        fits &= is_common;
+        common[first + axis] = len;
+    }
+    fits
+}
+
 /// The common shape of a list of lengths and one that is no longer.
 #[inline(always)]
 fn common_of<Output: Lengths>(
@@ -84,12 +115,16 @@ fn common_of<Output: Lengths>(
     ensures memory { common_shape_fault longer.now shorter.now ≡ None →
         NeedsNoMemory Output.NDIM (length longer.now) → IsOk result }
 {
-    if !have_common_shape(longer, shorter) {
+    // (one pass where the result needs no memory; else two, so that none is asked for in vain)
+    if longer.len() > INLINE_AXES && !have_common_shape(longer, shorter) {
         return Err(from_kind(ErrorKind::IncompatibleShape).into());
     }
     let mut common = Output::zeros(alloc, longer.len())?;
-    fill_common_shape(longer, shorter, common.slice_mut());
-    Ok(common)
+    if join_shapes(longer, shorter, common.slice_mut()) {
+        Ok(common)
+    } else {
+        Err(from_kind(ErrorKind::IncompatibleShape).into())
+    }
 }
 
 /// The common shape of two shapes, by NumPy's rule: arrays of both can be broadcast to it.

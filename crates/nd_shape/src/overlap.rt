@@ -1,6 +1,6 @@
 //! Whether two indices of a layout may share an element.
 ghost use Rattle.std.specs.Option.{IfSome};
-ghost use Rattle.std.specs.Prelude.{◌≡◌, ℕ, List, ◌<◌, ◌≤◌, ◌-◌, not, ◌&&◌, if◌then◌else◌, [], ◌∷◌, length, ◌↔◌, ◌⊎◌, IsTrue, IsFalse};
+ghost use Rattle.std.specs.Prelude.{◌≡◌, ℕ, List, ◌<◌, ◌≤◌, ◌-◌, not, ◌&&◌, if◌then◌else◌, [], ◌∷◌, length, remove, ◌↔◌, ◌⊎◌, IsTrue, IsFalse};
 ghost use Rattle.nd_base.specs.declared.order.Order.TheVariants.{RowMajor, ColumnMajor};
 ghost use Rattle.nd_base.specs.Signed.{signed as signed_reading, all_signed};
 ghost use Rattle.nd_base.specs.Size.{is_empty, limit};
@@ -30,15 +30,20 @@ fn reach_up_to(len: usize, stride: usize, magnitude: usize) -> usize
     }
 }
 
-/// The summed spans of the axes whose strides are of magnitude at most `magnitude`.
+/// The summed spans of the axes but one, of those whose strides are of magnitude at most `magnitude`.
 #[inline(always)]
-fn span_up_to(shape: &[usize], strides: &[usize], magnitude: usize) -> usize
-    requires { span shape.now (all_signed strides.now) ≤ limit }
-    ensures { result ≡ span_up_to_magnitude magnitude shape.now (all_signed strides.now) }
+fn span_of_others(shape: &[usize], strides: &[usize], axis: usize, magnitude: usize) -> usize
+    requires axis { axis < length shape.now }
+    requires same_count { length shape.now ≡ length strides.now }
+    requires span_fits { span shape.now (all_signed strides.now) ≤ limit }
+    ensures { result ≡ span_up_to_magnitude magnitude
+        (remove shape.now axis) (remove (all_signed strides.now) axis) }
 {
+    // (the axis is left out in the sum: to sum over all and take it away keeps LLVM from unrolling both loops)
     let mut total = 0usize;
-    for (len, stride) in shape.iter().zip(strides) {
-        total += reach_up_to(*len, *stride, magnitude);
+    for other in 0..shape.len() {
+        let far = reach_up_to(shape[other], strides[other], magnitude);
+        total += if other == axis { 0 } else { far };
     }
     total
 }
@@ -52,10 +57,8 @@ fn overlaps_others(shape: &[usize], strides: &[usize], axis: usize) -> bool
     requires span_fits { span shape.now (all_signed strides.now) ≤ limit }
     ensures { result ≡ not (steps_over_others shape.now (all_signed strides.now) axis) }
 {
-    let len = shape[axis];
-    let stride = signed(strides[axis]);
-    let magnitude = stride.unsigned_abs();
-    len > 1 && magnitude <= span_up_to(shape, strides, magnitude) - reach(len, stride)
+    let magnitude = signed(strides[axis]).unsigned_abs();
+    shape[axis] > 1 && magnitude <= span_of_others(shape, strides, axis, magnitude)
 }
 
 /// Whether some axis of length greater than 1 has a stride that steps over no more than the axes of
@@ -114,6 +117,26 @@ fn overlap_on_walk(shape: &[usize], strides: &[usize], order: Order) -> Option<b
     Some(false)
 }
 
+/// What `overlap_on_walk` tells in the order that the first and the last stride suggest: the axes
+/// are mostly in this one, if in one of the two.
+#[inline(always)]
+fn overlap_in_order(shape: &[usize], strides: &[usize]) -> Option<bool>
+    requires some_axis { 0 < length shape.now }
+    requires same_count { length shape.now ≡ length strides.now }
+    requires span_fits { span shape.now (all_signed strides.now) ≤ limit }
+    ensures { IfSome result
+        (λ overlaps. overlaps ≡ not (meets_owned_rule shape.now (all_signed strides.now))) }
+{
+    let first = signed(strides[0]).unsigned_abs();
+    let last = signed(strides[strides.len() - 1]).unsigned_abs();
+    // (two calls, so that LLVM makes a loop for each order)
+    if first < last {
+        overlap_on_walk(shape, strides, Order::ColumnMajor)
+    } else {
+        overlap_on_walk(shape, strides, Order::RowMajor)
+    }
+}
+
 /// Whether an axis of length greater than 1 has a stride that steps over no more than the axes of no
 /// greater stride span together.
 ///
@@ -126,10 +149,7 @@ fn breaks_owned_rule(shape: &[usize], strides: &[usize]) -> bool
     ensures { result ≡ not (meets_owned_rule shape.now (all_signed strides.now)) }
 {
     if shape.len() > 2 {
-        if let Some(overlaps) = overlap_on_walk(shape, strides, Order::RowMajor) {
-            return overlaps;
-        }
-        if let Some(overlaps) = overlap_on_walk(shape, strides, Order::ColumnMajor) {
+        if let Some(overlaps) = overlap_in_order(shape, strides) {
             return overlaps;
         }
     }

@@ -1,4 +1,4 @@
-use Rattle.std.proofs.Common.{◌≡◌, true, false, arith, sym, ◌∙◌, below_more}
+use Rattle.std.proofs.Common.{arith, sym, ◌∙◌, below_more}
 use Rattle.std.proofs.lemmas.Bool.{not_from_true, not_from_false, not-true, not-false}
 use Rattle.nd_base.specs.Signed.{all_signed}
 use Rattle.nd_shape.specs.OwnedRule.{meets_owned_rule, steps_over_others}
