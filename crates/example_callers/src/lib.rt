@@ -9,6 +9,7 @@ mod places;
 mod reshapes;
 mod rows;
 mod slices;
+mod steps;
 mod writes;
 
 pub use broadcasts::on_common_shape;
@@ -19,4 +20,5 @@ pub use places::{picture, pixel};
 pub use reshapes::along_shape;
 pub use rows::{grid, in_rows, in_shape};
 pub use slices::{alternate_rows, pixels_of};
+pub use steps::{flat_plane, flat_plane_by_steps};
 pub use writes::write_parts;

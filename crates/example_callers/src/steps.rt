@@ -1,0 +1,47 @@
+//! Several steps from one view to another: call by call, and as a list.
+ghost use Rattle.std.specs.Option.{option_or};
+ghost use Rattle.std.specs.Prelude.{◌≡◌, if◌then◌else◌, None, IfErr, IfOk, IsOk, OnErr, [], ◌∷◌};
+ghost use Rattle.std.specs.Result.{result_err};
+ghost use Rattle.ndarray_layout.specs.CollapsedView.{collapse_fault, collapse_of};
+ghost use Rattle.ndarray_layout.specs.MergedView.{axes_fault, merge_of};
+ghost use Rattle.ndarray_layout.specs.Run.{run_of, Leave, StopsAt};
+ghost use Rattle.ndarray_layout.specs.Step.{CollapseTo, MergeInto};
+
+use ndarray_layout::{Axis, IxDyn, Lengths, ShapeError, Step, Stopped, Strided, run};
+use std::alloc::Global;
+
+/// One plane of a stack of planes, its rows merged into one axis of pixels where one stride serves for all of them.
+///
+/// Axis 0 has the planes, axis 1 the rows, axis 2 the columns. Returns whether the rows are merged; else the view is
+/// the plane with its rows.
+///
+/// Errors: `OutOfBounds` where there is no such plane, and then the view is unchanged, or no axis 1 or 2.
+pub fn flat_plane<D: Lengths>(stack: &mut Strided<D>, plane: usize) -> Result<bool, ShapeError>
+    ensures fault { result_err result ≡ option_or (collapse_fault stack.old.shape 0 plane)
+        (axes_fault (collapse_of 0 plane stack.old).shape 1 2) }
+    ensures flat { IfOk result (λ merged. stack.new ≡ (if merged
+        then merge_of 1 2 (collapse_of 0 plane stack.old)
+        else collapse_of 0 plane stack.old)) }
+{
+    stack.collapse(Axis(0), plane)?;
+    stack.merge(Axis(1), Axis(2))
+}
+
+/// The same as a list of steps: a plane whose rows can't be merged ends the run with `IncompatibleLayout`, and the view
+/// that the steps before left comes with the error. Neither step asks for memory.
+pub fn flat_plane_by_steps(
+    alloc: Global,
+    stack: Strided<IxDyn>,
+    plane: usize,
+) -> Result<Strided<IxDyn>, Stopped>
+    ensures left { IfOk result (Leave (CollapseTo 0 plane ∷ MergeInto 1 2 ∷ []) stack) }
+    ensures stopped { IfErr result (λ stop. StopsAt (CollapseTo 0 plane ∷ MergeInto 1 2 ∷ []) stack
+        stop.at stop.fault stop.view) }
+    ensures memory { (run_of (CollapseTo 0 plane ∷ MergeInto 1 2 ∷ []) stack).fault ≡ None → IsOk result }
+{
+    let steps = [
+        Step::Collapse(Axis(0), plane),
+        Step::Merge(Axis(1), Axis(2)),
+    ];
+    run(alloc, stack, &steps)
+}
