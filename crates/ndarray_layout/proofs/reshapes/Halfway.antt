@@ -7,8 +7,7 @@ use Rattle.nd_base.specs.declared.error.ErrorKind.TheVariants.{IncompatibleShape
 use Rattle.nd_base.specs.Size.{size, is_empty, limit}
 use Rattle.nd_base.proofs.laws.Size.{size_take_more, size_take_le}
 use Rattle.ndarray_layout.specs.reshape.Joints.{cumulative_products}
-use Rattle.ndarray_layout.specs.reshape.ReshapeFault.{fault_as_read}
-use Rattle.ndarray_layout.specs.private.ReshapeProgress.{Member, GoodBelow, CanWalk, IsReached, IsBlock}
+use Rattle.ndarray_layout.specs.private.ReshapeProgress.{Member, Layouts, fault_of, GoodBelow, CanWalk, IsReached, IsBlock}
 use Rattle.ndarray_layout.proofs.reshapes.Blocks.{IsBetween, first-block, block-longer, block-one, longer-first, longer-one, between-first}
 use Rattle.ndarray_layout.proofs.reshapes.Blocks.{between-to, between-from, between-none}
 use Rattle.ndarray_layout.proofs.reshapes.Reached.{LastLonger, take-mono, member-product, good-more, joint-of-apart, no-joint}
@@ -16,16 +15,16 @@ use Rattle.ndarray_layout.proofs.reshapes.Reached.{bad-joint-fault, sizes-fault}
 use Rattle.nd_base.proofs.laws.Size.{length_pos}
 
 -- the products are those of the lengths read since the axes i and k
-pub record IsHalfway (from : List ℕ) (strides : List ℤ) (to : List ℕ) (i k from_end to_end from_product to_product : ℕ) (step : ℤ) : Type 0
-  where
-    pub from_in : from_end ≤ length from
-    pub to_in : to_end ≤ length to
-    pub to_ahead : k < to_end
-    pub from_size : size (take from_end from) ≡ size (take i from) * from_product
-    pub to_size : size (take to_end to) ≡ size (take i from) * to_product
-    pub joints : GoodBelow from strides to (size (take from_end from))
-    pub block : IsBlock from strides i from_end step
-    pub between : from_product ≢ to_product → IsBetween from strides to from_end to_end step
+pub record IsHalfway (both : Layouts) (i k from_end to_end from_product to_product : ℕ) (step : ℤ) : Type 0 where
+  pub can_walk : CanWalk both
+  pub from_in : from_end ≤ length both.from
+  pub to_in : to_end ≤ length both.to
+  pub to_ahead : k < to_end
+  pub from_size : size (take from_end both.from) ≡ size (take i both.from) * from_product
+  pub to_size : size (take to_end both.to) ≡ size (take i both.from) * to_product
+  pub joints : GoodBelow both.from both.strides both.to (size (take from_end both.from))
+  pub block : IsBlock both.from both.strides i from_end step
+  pub between : from_product ≢ to_product → IsBetween both.from both.strides both.to from_end to_end step
 
 -- ---- products
 pub next-product : (lens : List ℕ) (k start product : ℕ) {len : ℕ} → k < length lens → size (take k lens) ≡ start * product
@@ -61,136 +60,149 @@ len-fits lens k h f l =
     turned a b = omega arith
 
 -- ---- one more axis
-module _ {from : List ℕ} {strides : List ℤ} {to : List ℕ} {i k : ℕ} where
-  pub halfway-first : (len other : ℕ) (step : ℤ) → CanWalk from strides to → IsReached from strides to i k → i < length from → k < length to
-      → (get_or from i 0 ≡ get_or to k 0) ⊎ ((1 < get_or from i 0) × (1 < get_or to k 0)) → len ≡ get_or from i 0 → other ≡ get_or to k 0
-      → step ≡ get_or strides i (pos 0) → IsHalfway from strides to i k (i + 1) (k + 1) len other step
-  halfway-first len other step w at l g lens e f s =
-      let here : Member (cumulative_products to) (size (take i from)) = subst (Member (cumulative_products to)) (sym at.sizes)
-      (member-product to k (omega arith)) in
+module _ {both : Layouts} {i k : ℕ} where
+  pub halfway-first : {len other : ℕ} {step : ℤ} → IsReached both i k → i < length both.from → k < length both.to
+      → (get_or both.from i 0 ≡ get_or both.to k 0) ⊎ ((1 < get_or both.from i 0) × (1 < get_or both.to k 0)) → len ≡ get_or both.from i 0
+      → other ≡ get_or both.to k 0
+      → step ≡ get_or both.strides i (pos 0) → IsHalfway both i k (i + 1) (k + 1) len other step
+  halfway-first at l g lens e f s =
+      let here : Member (cumulative_products both.to) (size (take i both.from)) =
+      subst (Member (cumulative_products both.to)) (sym at.sizes)
+      (member-product both.to k (omega arith)) in
       record {
+        can_walk = at.can_walk;
         from_in = omega arith;
         to_in = omega arith;
         to_ahead = omega arith;
-        from_size = size_take_more from i l ∙ ap (λ n. size (take i from) * n) (sym e);
-        to_size = size_take_more to k g ∙ ap₂ (λ x y. x * y) (sym at.sizes) (sym f);
-        joints = good-more from strides to i w.some (λ m. here) at.joints;
-        block = subst (IsBlock from strides i (i + 1)) (sym s) (first-block from strides i w.same_count l);
+        from_size = size_take_more both.from i l ∙ ap (λ n. size (take i both.from) * n) (sym e);
+        to_size = size_take_more both.to k g ∙ ap₂ (λ x y. x * y) (sym at.sizes) (sym f);
+        joints = good-more both.from both.strides both.to i at.can_walk.some (λ m. here) at.joints;
+        block = subst (IsBlock both.from both.strides i (i + 1)) (sym s) (first-block both.from both.strides i at.can_walk.same_count l);
         between = λ apart. elim lens [
           | inl same ↦ absurd (apart (e ∙ same ∙ sym f))
-          | inr long ↦ subst (IsBetween from strides to (i + 1) (k + 1)) (sym s) (between-first i k w.some w.more l g at.sizes long.0
+          | inr long ↦ subst (IsBetween both.from both.strides both.to (i + 1) (k + 1)) (sym s)
+              (between-first i k at.can_walk.some at.can_walk.more l g at.sizes long.0
               long.1)
         ];
       }
 
-  pub halfway-to : {from_end to_end from_product to_product len : ℕ} {step : ℤ} → CanWalk from strides to
-      → IsHalfway from strides to i k from_end to_end from_product to_product step → to_product < from_product → to_end < length to
-      → len ≡ get_or to to_end 0 → IsHalfway from strides to i k from_end (to_end + 1) from_product (to_product * len) step
-  halfway-to {to_end} {from_product} {to_product} w at less l e =
+  pub halfway-to : {from_end to_end from_product to_product len : ℕ} {step : ℤ}
+      → IsHalfway both i k from_end to_end from_product to_product step → to_product < from_product → to_end < length both.to
+      → len ≡ get_or both.to to_end 0 → IsHalfway both i k from_end (to_end + 1) from_product (to_product * len) step
+  halfway-to {to_end} {from_product} {to_product} at less l e =
       let before = at.between (omega arith) in
       let ahead = at.to_ahead in
       let from_size = at.from_size in
       let to_size = at.to_size in
-      let below = sizes-below from i to_product from_product w.some less in
+      let below = sizes-below both.from i to_product from_product at.can_walk.some less in
       record {
+        can_walk = at.can_walk;
         from_in = at.from_in;
         to_in = omega arith;
         to_ahead = omega arith;
         from_size = at.from_size;
-        to_size = next-product to to_end (size (take i from)) to_product l at.to_size e;
+        to_size = next-product both.to to_end (size (take i both.from)) to_product l at.to_size e;
         joints = at.joints;
         block = at.block;
-        between = λ apart. between-to w.more l (omega arith) before;
+        between = λ apart. between-to at.can_walk.more l (omega arith) before;
       }
 
-  pub halfway-one : {from_end to_end from_product to_product len : ℕ} {step : ℤ} → CanWalk from strides to
-      → IsHalfway from strides to i k from_end to_end from_product to_product step → from_product < to_product → from_end < length from
-      → len ≡ get_or from from_end 0 → len ≤ 1 → IsHalfway from strides to i k (from_end + 1) to_end (from_product * len) to_product step
-  halfway-one {from_end} {from_product} {to_product} w at less l e short =
+  pub halfway-one : {from_end to_end from_product to_product len : ℕ} {step : ℤ}
+      → IsHalfway both i k from_end to_end from_product to_product step → from_product < to_product → from_end < length both.from
+      → len ≡ get_or both.from from_end 0 → len ≤ 1 → IsHalfway both i k (from_end + 1) to_end (from_product * len) to_product step
+  halfway-one {from_end} {from_product} {to_product} at less l e short =
       let before = at.between (omega arith) in
-      let some = length_pos from from_end w.some l in
-      let one : get_or from from_end 0 ≡ 1 = omega arith in
-      let same : size (take (from_end + 1) from) ≡ size (take from_end from) = size_take_more from from_end l
-      ∙ ap (λ n. size (take from_end from) * n) one ∙ mul-one (size (take from_end from)) in
+      let some = length_pos both.from from_end at.can_walk.some l in
+      let one : get_or both.from from_end 0 ≡ 1 = omega arith in
+      let same : size (take (from_end + 1) both.from) ≡ size (take from_end both.from) = size_take_more both.from from_end l
+      ∙ ap (λ n. size (take from_end both.from) * n) one ∙ mul-one (size (take from_end both.from)) in
       let from_size = at.from_size in
       let to_size = at.to_size in
-      let below = sizes-below from i from_product to_product w.some less in
+      let below = sizes-below both.from i from_product to_product at.can_walk.some less in
       record {
+        can_walk = at.can_walk;
         from_in = omega arith;
         to_in = at.to_in;
         to_ahead = at.to_ahead;
-        from_size = next-product from from_end (size (take i from)) from_product l at.from_size e;
+        from_size = next-product both.from from_end (size (take i both.from)) from_product l at.from_size e;
         to_size = at.to_size;
-        joints = subst (GoodBelow from strides to) (sym same) at.joints;
-        block = block-one w.same_count l one at.block;
-        between = λ apart. between-from w.some l (omega arith) (longer-one one before.last) before;
+        joints = subst (GoodBelow both.from both.strides both.to) (sym same) at.joints;
+        block = block-one at.can_walk.same_count l one at.block;
+        between = λ apart. between-from at.can_walk.some l (omega arith) (longer-one one before.last) before;
       }
 
-  pub halfway-longer : {from_end to_end from_product to_product len : ℕ} {step next : ℤ} → CanWalk from strides to
-      → IsHalfway from strides to i k from_end to_end from_product to_product step → from_product < to_product → from_end < length from
-      → len ≡ get_or from from_end 0 → 1 < len → next ≡ get_or strides from_end (pos 0) → step ≡ pos len *ℤ next
-      → IsHalfway from strides to i k (from_end + 1) to_end (from_product * len) to_product next
-  halfway-longer {from_end} {from_product} {to_product} {step} w at less l e long s whole =
+  pub halfway-longer : {from_end to_end from_product to_product len : ℕ} {step next : ℤ}
+      → IsHalfway both i k from_end to_end from_product to_product step → from_product < to_product → from_end < length both.from
+      → len ≡ get_or both.from from_end 0 → 1 < len → next ≡ get_or both.strides from_end (pos 0) → step ≡ pos len *ℤ next
+      → IsHalfway both i k (from_end + 1) to_end (from_product * len) to_product next
+  halfway-longer {from_end} {from_product} {to_product} {step} at less l e long s whole =
       let before = at.between (omega arith) in
-      let more : 1 < get_or from from_end 0 = omega arith in
-      let fits : step ≡ pos (get_or from from_end 0) *ℤ get_or strides from_end (pos 0) = whole ∙ ap₂ (λ n z. pos n *ℤ z) e s in
+      let more : 1 < get_or both.from from_end 0 = omega arith in
+      let fits : step ≡ pos (get_or both.from from_end 0) *ℤ get_or both.strides from_end (pos 0) = whole ∙ ap₂ (λ n z. pos n *ℤ z) e s in
       let from_size = at.from_size in
       let to_size = at.to_size in
-      let below = sizes-below from i from_product to_product w.some less in
+      let below = sizes-below both.from i from_product to_product at.can_walk.some less in
       record {
+        can_walk = at.can_walk;
         from_in = omega arith;
         to_in = at.to_in;
         to_ahead = at.to_ahead;
-        from_size = next-product from from_end (size (take i from)) from_product l at.from_size e;
+        from_size = next-product both.from from_end (size (take i both.from)) from_product l at.from_size e;
         to_size = at.to_size;
-        joints = good-more from strides to from_end w.some (λ m. absurd (no-joint w.some w.same_count l before.last more fits m)) at.joints;
-        block = subst (IsBlock from strides i (from_end + 1)) (sym s) (block-longer w.same_count l fits at.block);
-        between = λ apart. between-from w.some l (omega arith) (subst (LastLonger from strides (from_end + 1)) (sym s)
+        joints = good-more both.from both.strides both.to from_end at.can_walk.some
+            (λ m. absurd (no-joint at.can_walk.some at.can_walk.same_count l before.last more fits m)) at.joints;
+        block = subst (IsBlock both.from both.strides i (from_end + 1)) (sym s) (block-longer at.can_walk.same_count l fits at.block);
+        between = λ apart. between-from at.can_walk.some l (omega arith) (subst (LastLonger both.from both.strides (from_end + 1)) (sym s)
             (longer-first from_end more)) before;
       }
 
   -- both products are one
   pub halfway-reached : {from_end to_end from_product to_product : ℕ} {step : ℤ}
-      → IsHalfway from strides to i k from_end to_end from_product to_product step → from_product ≡ to_product
-      → IsReached from strides to from_end to_end
+      → IsHalfway both i k from_end to_end from_product to_product step → from_product ≡ to_product
+      → IsReached both from_end to_end
   halfway-reached at same = record {
+    can_walk = at.can_walk;
     from_in = at.from_in;
     to_in = at.to_in;
-    sizes = at.from_size ∙ ap (λ n. size (take i from) * n) same ∙ sym at.to_size;
+    sizes = at.from_size ∙ ap (λ n. size (take i both.from) * n) same ∙ sym at.to_size;
     joints = at.joints;
   }
 
 -- ---- faults
-module _ {from : List ℕ} {strides : List ℤ} {to : List ℕ} {i k from_end to_end from_product to_product : ℕ} {step : ℤ} where
-  pub halfway-to-end : CanWalk from strides to → IsHalfway from strides to i k from_end to_end from_product to_product step
-      → to_product < from_product → to_end ≡ length to → fault_as_read from strides to ≡ Some IncompatibleShape
-  halfway-to-end w at less l =
-      let whole : size to ≡ size (take to_end to) = sym (ap size (take_all to_end to (omega arith))) in
-      let part = size_take_le from from_end w.some in
+module _ {both : Layouts} {i k from_end to_end from_product to_product : ℕ} {step : ℤ} where
+  pub halfway-to-end : IsHalfway both i k from_end to_end from_product to_product step
+      → to_product < from_product → to_end ≡ length both.to → fault_of both ≡ Some IncompatibleShape
+  halfway-to-end at less l =
+      let whole : size both.to ≡ size (take to_end both.to) = sym (ap size (take_all to_end both.to (omega arith))) in
+      let part = size_take_le both.from from_end at.can_walk.some in
       let from_size = at.from_size in
       let to_size = at.to_size in
-      let below = sizes-below from i to_product from_product w.some less in
-      sizes-fault from strides to (size (take from_end from)) w.some at.joints (inr (omega arith)) (λ same. omega arith)
+      let below = sizes-below both.from i to_product from_product at.can_walk.some less in
+      sizes-fault both.from both.strides both.to (size (take from_end both.from)) at.can_walk.some at.joints (inr (omega arith))
+      (λ same. omega arith)
 
-  pub halfway-from-end : CanWalk from strides to → IsHalfway from strides to i k from_end to_end from_product to_product step
-      → from_product < to_product → from_end ≡ length from → fault_as_read from strides to ≡ Some IncompatibleShape
-  halfway-from-end w at less l =
-      let whole : size from ≡ size (take from_end from) = sym (ap size (take_all from_end from (omega arith))) in
-      let part = size_take_le to to_end w.more in
+  pub halfway-from-end : IsHalfway both i k from_end to_end from_product to_product step
+      → from_product < to_product → from_end ≡ length both.from → fault_of both ≡ Some IncompatibleShape
+  halfway-from-end at less l =
+      let whole : size both.from ≡ size (take from_end both.from) = sym (ap size (take_all from_end both.from (omega arith))) in
+      let part = size_take_le both.to to_end at.can_walk.more in
       let from_size = at.from_size in
       let to_size = at.to_size in
-      let below = sizes-below from i from_product to_product w.some less in
-      sizes-fault from strides to (size (take from_end from)) w.some at.joints (inl (omega arith)) (λ same. omega arith)
+      let below = sizes-below both.from i from_product to_product at.can_walk.some less in
+      sizes-fault both.from both.strides both.to (size (take from_end both.from)) at.can_walk.some at.joints (inl (omega arith))
+      (λ same. omega arith)
 
-  pub halfway-apart : {len : ℕ} {next : ℤ} → CanWalk from strides to
-      → IsHalfway from strides to i k from_end to_end from_product to_product step → from_product < to_product → from_end < length from
-      → len ≡ get_or from from_end 0 → 1 < len → next ≡ get_or strides from_end (pos 0) → step ≢ pos len *ℤ next
-      → fault_as_read from strides to ≡ Some IncompatibleLayout
-  halfway-apart w at less l e long s apart =
+  pub halfway-apart : {len : ℕ} {next : ℤ} → IsHalfway both i k from_end to_end from_product to_product step → from_product < to_product
+      → from_end < length both.from
+      → len ≡ get_or both.from from_end 0 → 1 < len → next ≡ get_or both.strides from_end (pos 0) → step ≢ pos len *ℤ next
+      → fault_of both ≡ Some IncompatibleLayout
+  halfway-apart at less l e long s apart =
       let before = at.between (omega arith) in
       let from_size = at.from_size in
       let to_size = at.to_size in
-      let below = sizes-below from i from_product to_product w.some less in
-      let part = size_take_le to to_end w.more in
-      let joint = joint-of-apart w.same_count l before.last (omega arith) (λ same. apart (same ∙ sym (ap₂ (λ n z. pos n *ℤ z) e s))) in
-      bad-joint-fault from strides to (size (take from_end from)) joint (omega arith) (between-none w.more (omega arith) before)
+      let below = sizes-below both.from i from_product to_product at.can_walk.some less in
+      let part = size_take_le both.to to_end at.can_walk.more in
+      let joint =
+      joint-of-apart at.can_walk.same_count l before.last (omega arith) (λ same. apart (same ∙ sym (ap₂ (λ n z. pos n *ℤ z) e s))) in
+      bad-joint-fault both.from both.strides both.to (size (take from_end both.from)) joint (omega arith)
+      (between-none at.can_walk.more (omega arith) before)

@@ -14,7 +14,7 @@ use Rattle.nd_dim.specs.Strides.{size_after}
 use Rattle.ndarray_layout.specs.reshape.ForcedStrides.{is_one_at, ones_before, strides_of_ones, stride_of_one, stride_at}
 use Rattle.ndarray_layout.specs.reshape.ForcedStrides.{offset_at_flat_index}
 use Rattle.ndarray_layout.specs.reshape.Joints.{cumulative_products}
-use Rattle.ndarray_layout.specs.private.ReshapeProgress.{CanWalk, IsReached, IsInside, OnesAlike, PlacesAlike, previous}
+use Rattle.ndarray_layout.specs.private.ReshapeProgress.{Layouts, IsReached, IsInside, OnesAlike, PlacesAlike, previous}
 use Rattle.ndarray_layout.proofs.reshapes.Forced.{forced-of-alike, stride_at-long}
 use Rattle.ndarray_layout.proofs.reshapes.Members.{member-of-any, any-of-member}
 use Rattle.ndarray_layout.proofs.reshapes.Reached.{member-product, product-member, take-mono}
@@ -188,86 +188,96 @@ written-kept {from} {strides} {to} {out} news {k} kept ones j l one = kept j l �
     (sym (previous-kept out news k j (omega arith) kept))
 
 -- ---- the walk's steps
-module _ {from : List ℕ} {strides : List ℤ} {to : List ℕ} {news : List ℤ} where
-  pub ones-first : OnesAlike from strides to news 0 0
+module _ {both : Layouts} {news : List ℤ} where
+  pub ones-first : OnesAlike both.from both.strides both.to news 0 0
   ones-first = record {
     written = λ j l one. absurd (omega arith);
     from_first = λ e. omega arith;
     to_first = λ e. omega arith;
   }
 
-  pub ones-from : {i k : ℕ} → i < length from → get_or from i 0 ≡ 1 → get_or to k 0 ≢ 1 → OnesAlike from strides to news i k
-      → OnesAlike from strides to news (i + 1) k
+  pub ones-from : {i k : ℕ} → i < length both.from → get_or both.from i 0 ≡ 1 → get_or both.to k 0 ≢ 1
+      → OnesAlike both.from both.strides both.to news i k
+      → OnesAlike both.from both.strides both.to news (i + 1) k
   ones-from {i} l one other ones =
       let few = ones.from_first one in
-      let same = stays from i l one in
-      let more : ones_before from (size (take (i + 1) from)) (i + 1) ≡ ones_before from (size (take i from)) i + 1 =
-      ap (λ n. ones_before from n (i + 1)) same ∙ ones-next from (size (take i from)) i one refl in
+      let same = stays both.from i l one in
+      let more : ones_before both.from (size (take (i + 1) both.from)) (i + 1) ≡ ones_before both.from (size (take i both.from)) i + 1 =
+      ap (λ n. ones_before both.from n (i + 1)) same ∙ ones-next both.from (size (take i both.from)) i one refl in
       record {
         written = ones.written;
         from_first = λ e. omega arith;
         to_first = λ e. absurd (other e);
       }
 
-  pub ones-to : {out : List ℤ} {i k : ℕ} → is_empty from ≡ false → i ≤ length from → k < length to → size (take i from) ≡ size (take k to)
-      → get_or from i 0 ≢ 1 → get_or to k 0 ≡ 1 → Kept out news k → get_or news k (pos 0) ≡ pos 1 → OnesAlike from strides to out i k
-      → OnesAlike from strides to news i (k + 1)
-  ones-to {i} {k} h l g e other one kept here ones =
+  pub ones-to : {out : List ℤ} {i k : ℕ} → IsReached both i k → k < length both.to → get_or both.from i 0 ≢ 1 → get_or both.to k 0 ≡ 1
+      → Kept out news k → get_or news k (pos 0) ≡ pos 1 → OnesAlike both.from both.strides both.to out i k
+      → OnesAlike both.from both.strides both.to news i (k + 1)
+  ones-to {i} {k} at g other one kept here ones =
+      let l = at.from_in in
+      let e = at.sizes in
       let few = ones.to_first one in
-      let same = stays to k g one in
-      let more : ones_before to (size (take (k + 1) to)) (k + 1) ≡ ones_before to (size (take k to)) k + 1 =
-      ap (λ n. ones_before to n (k + 1)) same ∙ ones-next to (size (take k to)) k one refl in
-      let read : stride_of_one from strides to k (previous news k) ≡ pos 1 = at-product from strides to i k (previous news k) l e
-      ∙ ap (λ n. get_or (strides_of_ones from strides n) (ones_before to (size (take k to)) k) (pos 1)) (sym e)
-      ∙ past-ones from strides i (ones_before to (size (take k to)) k) h l other few in
+      let same = stays both.to k g one in
+      let more : ones_before both.to (size (take (k + 1) both.to)) (k + 1) ≡ ones_before both.to (size (take k both.to)) k + 1 =
+      ap (λ n. ones_before both.to n (k + 1)) same ∙ ones-next both.to (size (take k both.to)) k one refl in
+      let read : stride_of_one both.from both.strides both.to k (previous news k) ≡ pos 1 =
+      at-product both.from both.strides both.to i k (previous news k) l e
+      ∙ ap (λ n. get_or (strides_of_ones both.from both.strides n) (ones_before both.to (size (take k both.to)) k) (pos 1)) (sym e)
+      ∙ past-ones both.from both.strides i (ones_before both.to (size (take k both.to)) k) at.can_walk.some l other few in
       record {
         written = λ j under entry. elim (cases_eq j k) [
           | inl last ↦ ap (λ n. get_or news n (pos 0)) last ∙ here ∙ sym read
-              ∙ sym (ap (λ n. stride_of_one from strides to n (previous news n)) last)
+              ∙ sym (ap (λ n. stride_of_one both.from both.strides both.to n (previous news n)) last)
           | inr before ↦ written-kept news kept ones j (omega arith) entry
         ];
         from_first = λ entry. absurd (other entry);
         to_first = λ entry. omega arith;
       }
 
-  pub ones-both : {out : List ℤ} {i k : ℕ} → is_empty from ≡ false → is_empty to ≡ false → i < length from → k < length to
-      → size (take i from) ≡ size (take k to) → get_or from i 0 ≡ get_or to k 0 → Kept out news k
-      → get_or news k (pos 0) ≡ get_or strides i (pos 0) → OnesAlike from strides to out i k
-      → OnesAlike from strides to news (i + 1) (k + 1)
-  ones-both {i} {k} h f l g e lens kept here ones =
-      let product = size (take k to) in
-      let from_next = size_take_more from i l in
-      let to_next = size_take_more to k g in
-      elim (cases_eq (get_or to k 0) 1) [
+  pub ones-both : {out : List ℤ} {i k : ℕ} → IsReached both i k → i < length both.from → k < length both.to
+      → get_or both.from i 0 ≡ get_or both.to k 0 → Kept out news k
+      → get_or news k (pos 0) ≡ get_or both.strides i (pos 0) → OnesAlike both.from both.strides both.to out i k
+      → OnesAlike both.from both.strides both.to news (i + 1) (k + 1)
+  ones-both {i} {k} at l g lens kept here ones =
+      let h = at.can_walk.some in
+      let f = at.can_walk.more in
+      let e = at.sizes in
+      let product = size (take k both.to) in
+      let from_next = size_take_more both.from i l in
+      let to_next = size_take_more both.to k g in
+      elim (cases_eq (get_or both.to k 0) 1) [
         | inl one ↦
-            let first : get_or from i 0 ≡ 1 = lens ∙ one in
+            let first : get_or both.from i 0 ≡ 1 = lens ∙ one in
             let few = ones.from_first first in
             let most = ones.to_first one in
-            let equal : ones_before to product k ≡ ones_before from (size (take i from)) i = omega arith in
-            let from_more : ones_before from (size (take (i + 1) from)) (i + 1) ≡ ones_before from (size (take i from)) i + 1 =
-            ap (λ n. ones_before from n (i + 1)) (stays from i l first) ∙ ones-next from (size (take i from)) i first refl in
-            let to_more : ones_before to (size (take (k + 1) to)) (k + 1) ≡ ones_before to product k + 1 =
-            ap (λ n. ones_before to n (k + 1)) (stays to k g one) ∙ ones-next to product k one refl in
-            let read : stride_of_one from strides to k (previous news k) ≡ get_or strides i (pos 0) = at-product from strides to i k
+            let equal : ones_before both.to product k ≡ ones_before both.from (size (take i both.from)) i = omega arith in
+            let from_more : ones_before both.from (size (take (i + 1) both.from)) (i + 1) ≡ ones_before both.from (size (take i both.from))
+            i + 1 =
+            ap (λ n. ones_before both.from n (i + 1)) (stays both.from i l first)
+            ∙ ones-next both.from (size (take i both.from)) i first refl in
+            let to_more : ones_before both.to (size (take (k + 1) both.to)) (k + 1) ≡ ones_before both.to product k + 1 =
+            ap (λ n. ones_before both.to n (k + 1)) (stays both.to k g one) ∙ ones-next both.to product k one refl in
+            let read : stride_of_one both.from both.strides both.to k (previous news k) ≡ get_or both.strides i (pos 0) =
+            at-product both.from both.strides both.to i k
             (previous news k) (omega arith) e
-            ∙ ap₂ (λ n m. get_or (strides_of_ones from strides n) m (pos 1)) (sym e) equal
-            ∙ nth-one from strides (size (take i from)) i l first refl in
+            ∙ ap₂ (λ n m. get_or (strides_of_ones both.from both.strides n) m (pos 1)) (sym e) equal
+            ∙ nth-one both.from both.strides (size (take i both.from)) i l first refl in
             record {
               written = λ j under entry. elim (cases_eq j k) [
                 | inl last ↦ ap (λ n. get_or news n (pos 0)) last ∙ here ∙ sym read
-                    ∙ sym (ap (λ n. stride_of_one from strides to n (previous news n)) last)
+                    ∙ sym (ap (λ n. stride_of_one both.from both.strides both.to n (previous news n)) last)
                 | inr before ↦ written-kept news kept ones j (omega arith) entry
               ];
               from_first = λ entry. omega arith;
               to_first = λ entry. omega arith;
             }
         | inr other ↦
-            let longer : get_or from i 0 ≢ 1 = λ z. other (sym lens ∙ z) in
-            let from_none = ones-none from (i + 1) i (size (take (i + 1) from)) h (omega arith) (grows from i h l longer) in
-            let to_none = ones-none to (k + 1) k (size (take (k + 1) to)) f (omega arith) (grows to k f g other) in
+            let longer : get_or both.from i 0 ≢ 1 = λ z. other (sym lens ∙ z) in
+            let from_none = ones-none both.from (i + 1) i (size (take (i + 1) both.from)) h (omega arith) (grows both.from i h l longer) in
+            let to_none = ones-none both.to (k + 1) k (size (take (k + 1) both.to)) f (omega arith) (grows both.to k f g other) in
             record {
               written = λ j under entry. elim (cases_eq j k) [
-                | inl last ↦ absurd (other (sym (ap (λ n. get_or to n 0) last) ∙ entry))
+                | inl last ↦ absurd (other (sym (ap (λ n. get_or both.to n 0) last) ∙ entry))
                 | inr before ↦ written-kept news kept ones j (omega arith) entry
               ];
               from_first = λ entry. omega arith;
@@ -290,16 +300,18 @@ block-before to news k k_end j step l above under one written =
     ∙ ap (λ n. pos n *ℤ step) (sym same ∙ ap (λ n. size (drop n part)) (sym (add-one j)))
     ∙ sym (written j above (omega arith))
 
-pub ones-block : {from : List ℕ} {strides : List ℤ} {to : List ℕ} {out news : List ℤ} {i i_end k k_end : ℕ} (step : ℤ)
-    → is_empty from ≡ false → is_empty to ≡ false → k < k_end → k_end ≤ length to → size (take i_end from) ≡ size (take k_end to)
-    → 1 < get_or to k 0 → IsInside from to k i_end k_end → Kept out news k
-    → ((a : ℕ) → k ≤ a → a < k_end → get_or news a (pos 0) ≡ pos (size (drop (a + 1) (take k_end to))) *ℤ step)
-    → OnesAlike from strides to out i k → OnesAlike from strides to news i_end k_end
-ones-block {from} {strides} {to} {news} {i_end} {k} {k_end} step h f ahead within e longer inside kept written ones =
+pub ones-block : {both : Layouts} {out news : List ℤ} {i i_end k k_end : ℕ} (step : ℤ)
+    → IsReached both i_end k_end → k < k_end → 1 < get_or both.to k 0 → IsInside both.from both.to k i_end k_end → Kept out news k
+    → ((a : ℕ) → k ≤ a → a < k_end → get_or news a (pos 0) ≡ pos (size (drop (a + 1) (take k_end both.to))) *ℤ step)
+    → OnesAlike both.from both.strides both.to out i k → OnesAlike both.from both.strides both.to news i_end k_end
+ones-block {both} {news = news} {i_end} {k} {k_end} step next ahead longer inside kept written ones =
+    let h = next.can_walk.some in
+    let f = next.can_walk.more in
+    let e = next.sizes in
     let from_below = inside.from_below in
     let to_below = inside.to_below in
-    let from_none = ones-none from i_end (i_end - 1) (size (take i_end from)) h (omega arith) (omega arith) in
-    let to_none = ones-none to k_end (k_end - 1) (size (take k_end to)) f (omega arith) (omega arith) in
+    let from_none = ones-none both.from i_end (i_end - 1) (size (take i_end both.from)) h (omega arith) (omega arith) in
+    let to_none = ones-none both.to k_end (k_end - 1) (size (take k_end both.to)) f (omega arith) (omega arith) in
     record {
       written = λ j under entry. elim (cases_lt j k) [
         | inl before ↦ written-kept news kept ones j before entry
@@ -309,17 +321,18 @@ ones-block {from} {strides} {to} {news} {i_end} {k} {k_end} step h f ahead withi
       to_first = λ entry. omega arith;
     }
   where
-    at_one : (j : ℕ) → k ≤ j → j < k_end → get_or to j 0 ≡ 1 → get_or news j (pos 0) ≡ stride_of_one from strides to j (previous news j)
+    at_one : (j : ℕ) → k ≤ j → j < k_end → get_or both.to j 0 ≡ 1
+        → get_or news j (pos 0) ≡ stride_of_one both.from both.strides both.to j (previous news j)
     at_one zero above under entry =
         let none : k ≡ 0 = omega arith in
-        let same = ap (λ n. get_or to n 0) none in
+        let same = ap (λ n. get_or both.to n 0) none in
         absurd (omega arith)
     at_one (suc j) above under entry =
         elim (cases_eq k (suc j)) [
-          | inl first ↦ let same = ap (λ n. get_or to n 0) first in absurd (omega arith)
+          | inl first ↦ let same = ap (λ n. get_or both.to n 0) first in absurd (omega arith)
           | inr later ↦
-              block-before to news k k_end j step within (omega arith) under entry written
-              ∙ sym (off-product from strides to (suc j) (inside.apart (suc j) (omega arith) under))
+              block-before both.to news k k_end j step next.to_in (omega arith) under entry written
+              ∙ sym (off-product both.from both.strides both.to (suc j) (inside.apart (suc j) (omega arith) under))
         ]
 
 -- ---- the whole walk
@@ -358,22 +371,26 @@ strides-forced {from} {strides} {to} {news} more sizes e end alike ones = fill_b
         ]
 
 -- both shapes are read whole
-pub strides-whole : {from : List ℕ} {strides : List ℤ} {to : List ℕ} {news : List ℤ} {i k : ℕ} → CanWalk from strides to
-    → IsReached from strides to i k → length from ≤ i → length to ≤ k → length to ≡ length news
-    → PlacesAlike (take i from) (take i strides) (take k to) (take k news) → OnesAlike from strides to news i k
-    → news ≡ map (stride_at from strides to) (below (length to))
-strides-whole {from} {strides} {to} {news} {i} {k} w at from_end to_end e alike ones =
-    let counts = w.same_count in
+pub strides-whole : {both : Layouts} {news : List ℤ} {i k : ℕ} → IsReached both i k → length both.from ≤ i → length both.to ≤ k
+    → length both.to ≡ length news
+    → PlacesAlike (take i both.from) (take i both.strides) (take k both.to) (take k news)
+    → OnesAlike both.from both.strides both.to news i k
+    → news ≡ map (stride_at both.from both.strides both.to) (below (length both.to))
+strides-whole {both} {news} {i} {k} at from_end to_end e alike ones =
+    let counts = at.can_walk.same_count in
     let to_in = at.to_in in
-    let from_all = take_all i from from_end in
-    let strides_all = take_all i strides (omega arith) in
-    let to_all = take_all k to to_end in
+    let from_all = take_all i both.from from_end in
+    let strides_all = take_all i both.strides (omega arith) in
+    let to_all = take_all k both.to to_end in
     let news_all = take_all k news (omega arith) in
-    let sizes : size from ≡ size to = sym (ap size from_all) ∙ at.sizes ∙ ap size to_all in
-    let first : PlacesAlike from (take i strides) (take k to) (take k news) = subst (λ xs. PlacesAlike xs (take i strides) (take k to)
+    let sizes : size both.from ≡ size both.to = sym (ap size from_all) ∙ at.sizes ∙ ap size to_all in
+    let first : PlacesAlike both.from (take i both.strides) (take k both.to) (take k news) =
+    subst (λ xs. PlacesAlike xs (take i both.strides) (take k both.to)
     (take k news)) from_all alike in
-    let second : PlacesAlike from strides (take k to) (take k news) = subst (λ xs. PlacesAlike from xs (take k to) (take k news))
+    let second : PlacesAlike both.from both.strides (take k both.to) (take k news) =
+    subst (λ xs. PlacesAlike both.from xs (take k both.to) (take k news))
     strides_all first in
-    let third : PlacesAlike from strides to (take k news) = subst (λ xs. PlacesAlike from strides xs (take k news)) to_all second in
-    let whole : PlacesAlike from strides to news = subst (PlacesAlike from strides to) news_all third in
-    strides-forced w.more sizes e (omega arith) whole ones
+    let third : PlacesAlike both.from both.strides both.to (take k news) =
+    subst (λ xs. PlacesAlike both.from both.strides xs (take k news)) to_all second in
+    let whole : PlacesAlike both.from both.strides both.to news = subst (PlacesAlike both.from both.strides both.to) news_all third in
+    strides-forced at.can_walk.more sizes e (omega arith) whole ones

@@ -12,7 +12,7 @@ use Rattle.ndarray_layout.specs.reshape.ForcedStrides.{forced_strides, stride_at
 use Rattle.ndarray_layout.specs.reshape.Joints.{has_bad_joint}
 use Rattle.ndarray_layout.specs.reshape.Keeps.{Keeps}
 use Rattle.ndarray_layout.specs.reshape.ReshapeFault.{reshape_fault, fault_as_read}
-use Rattle.ndarray_layout.specs.private.ReshapeProgress.{CanWalk, PlacesAlike}
+use Rattle.ndarray_layout.specs.private.ReshapeProgress.{CanWalk, PlacesAlike, layouts}
 use Rattle.ndarray_layout.proofs.reshapes.Complete.{good-of-alike}
 use Rattle.nd_base.proofs.laws.Reading.{length-as_read, as_read-as_read, size-as_read, is_empty-as_read}
 use Rattle.ndarray_layout.proofs.laws.Keeps.{fault-exactly, forced-keeps}
@@ -29,7 +29,7 @@ signed-reverse (item ∷ items) =
 
 -- a layout that is valid can be walked
 pub can-walk : (order : Order) {from : List ℕ} (strides to : List ℕ) → IsValidLayout from (all_signed strides) → is_empty from ≡ false
-    → is_empty to ≡ false → nonzero_size to ≤ limit → CanWalk (as_read order from) (all_signed (as_read order strides)) (as_read order to)
+    → is_empty to ≡ false → nonzero_size to ≤ limit → CanWalk (layouts (as_read order from) (as_read order strides) (as_read order to))
 can-walk order {from} strides to valid some more fits =
     let count = valid.same_count in
     let size_fits = valid.size_fits in
@@ -59,7 +59,7 @@ fault-read order from strides to = ap (λ ss. fault_as_read (as_read order from)
 
 -- strides that keep the places, as they are read, leave no fault
 none-read : (order : Order) (from strides to out : List ℕ)
-    → CanWalk (as_read order from) (all_signed (as_read order strides)) (as_read order to) → length out ≡ length to
+    → CanWalk (layouts (as_read order from) (as_read order strides) (as_read order to)) → length out ≡ length to
     → size (as_read order from) ≡ size (as_read order to) →
     PlacesAlike (as_read order from) (all_signed (as_read order strides)) (as_read order to) (all_signed out) → reshape_fault order from
     (all_signed strides) to ≡ None
@@ -92,7 +92,7 @@ module _ {X : Type 0} {order read : Order} where
       ∙ sym (fault-read read from strides to) ∙ fault
 
   pub filled-fits : (from strides to out : List ℕ) (result : Result X ShapeError) → order ≡ read
-      → CanWalk (as_read read from) (all_signed (as_read read strides)) (as_read read to)
+      → CanWalk (layouts (as_read read from) (as_read read strides) (as_read read to))
       → IfOk result (λ done. length (as_read read out) ≡ length (as_read read to))
       → IfOk result (λ done. size (as_read read from) ≡ size (as_read read to))
       → IfOk result (λ done. PlacesAlike (as_read read from) (all_signed (as_read read strides)) (as_read read to)

@@ -4,7 +4,7 @@ use Rattle.std.proofs.Common.{◌∙◌, arith, subst}
 use Rattle.std.proofs.lemmas.List.{take-take, drop-take, take-append-drop, drop-drop, get_or-drop, get_or-take, length-take-le}
 use Rattle.nd_base.specs.Size.{size, is_empty}
 use Rattle.nd_base.proofs.laws.Size.{size_of_nonempty, size-append, drop_nonempty}
-use Rattle.ndarray_layout.specs.private.ReshapeProgress.{PlacesAlike, IsDense, segment}
+use Rattle.ndarray_layout.specs.private.ReshapeProgress.{Layouts, IsReached, PlacesAlike, IsDense, segment}
 use Rattle.ndarray_layout.proofs.reshapes.Blocks.{length-seg}
 use Rattle.ndarray_layout.proofs.reshapes.Products.{nonempty-parts}
 use Rattle.ndarray_layout.proofs.reshapes.DenseRuns.{run-of-dense, places-append, dense-of-products}
@@ -23,49 +23,55 @@ take-nonempty lens k h = (nonempty-parts (take k lens) (drop k lens) (ap is_empt
 pub segment-nonempty : (lens : List ℕ) (start end : ℕ) → is_empty lens ≡ false → is_empty (segment start end lens) ≡ false
 segment-nonempty lens start end h = take-nonempty (drop start lens) (end - start) (drop_nonempty lens start h)
 
-pub segments-size : (from to : List ℕ) (i i_end k k_end : ℕ) → is_empty from ≡ false → i ≤ i_end → k ≤ k_end
-    → size (take i from) ≡ size (take k to) → size (take i_end from) ≡ size (take k_end to)
-    → size (segment i i_end from) ≡ size (segment k k_end to)
-segments-size from to i i_end k k_end h l g e f =
-    let some = size_of_nonempty (take i from) (take-nonempty from i h) in
-    let from_parts = ap size (take-split i i_end from l) ∙ size-append (take i from) (segment i i_end from) in
-    let to_parts = ap size (take-split k k_end to g) ∙ size-append (take k to) (segment k k_end to) in
-    cancel (size (take i from)) some
-    (sym from_parts ∙ f ∙ to_parts ∙ ap (λ n. n * size (segment k k_end to)) (sym e))
+pub segments-size : {both : Layouts} {i i_end k k_end : ℕ} → IsReached both i k → IsReached both i_end k_end → i ≤ i_end → k ≤ k_end
+    → size (segment i i_end both.from) ≡ size (segment k k_end both.to)
+segments-size {both} {i} {i_end} {k} {k_end} at further l g =
+    let some = size_of_nonempty (take i both.from) (take-nonempty both.from i at.can_walk.some) in
+    let from_parts = ap size (take-split i i_end both.from l) ∙ size-append (take i both.from) (segment i i_end both.from) in
+    let to_parts = ap size (take-split k k_end both.to g) ∙ size-append (take k both.to) (segment k k_end both.to) in
+    cancel (size (take i both.from)) some
+    (sym from_parts ∙ further.sizes ∙ to_parts ∙ ap (λ n. n * size (segment k k_end both.to)) (sym at.sizes))
 
-pub alike-step : (from : List ℕ) (strides : List ℤ) (to : List ℕ) (others news : List ℤ) (i i_end k k_end : ℕ) (step : ℤ)
-    → is_empty from ≡ false → is_empty to ≡ false → length from ≡ length strides → length to ≡ length news →
-    i ≤ i_end → k ≤ k_end → i_end ≤ length from → k_end ≤ length to → size (take i from) ≡ size (take k to) → size (take i_end from)
-    ≡ size (take k_end to) → take k news ≡ take k others →
-    IsDense (segment i i_end from) (segment i i_end strides) step → IsDense (segment k k_end to) (segment k k_end news) step
-    → PlacesAlike (take i from) (take i strides) (take k to) (take k others) →
-    PlacesAlike (take i_end from) (take i_end strides) (take k_end to) (take k_end news)
-alike-step from strides to others news i i_end k k_end step h g c d l m f t e u kept dense news_dense alike =
-    let lens = segment i i_end from in
-    let new_lens = segment k k_end to in
-    let seg_size = segments-size from to i i_end k k_end h l m e u in
-    let like : PlacesAlike lens (segment i i_end strides) new_lens (segment k k_end news) = λ r below.
-    run-of-dense new_lens (segment k k_end news) step r (segment-nonempty to k k_end g) news_dense (omega arith)
-    ∙ sym (run-of-dense lens (segment i i_end strides) step r (segment-nonempty from i i_end h) dense below) in
-    let front : PlacesAlike (take i from) (take i strides) (take k to) (take k news) =
-    subst (PlacesAlike (take i from) (take i strides) (take k to)) (sym kept) alike in
-    let from_count : length (take i from) ≡ length (take i strides) = length-take-le i from (omega arith)
-    ∙ sym (length-take-le i strides (omega arith)) in
-    let to_count : length (take k to) ≡ length (take k news) = length-take-le k to (omega arith)
+pub alike-step : {both : Layouts} (others news : List ℤ) {i i_end k k_end : ℕ} (step : ℤ) → IsReached both i k → IsReached both i_end k_end
+    → length both.to ≡ length news → i ≤ i_end → k ≤ k_end → take k news ≡ take k others →
+    IsDense (segment i i_end both.from) (segment i i_end both.strides) step → IsDense (segment k k_end both.to) (segment k k_end news) step
+    → PlacesAlike (take i both.from) (take i both.strides) (take k both.to) (take k others) →
+    PlacesAlike (take i_end both.from) (take i_end both.strides) (take k_end both.to) (take k_end news)
+alike-step {both} others news {i} {i_end} {k} {k_end} step at further d l m kept dense news_dense alike =
+    let h = at.can_walk.some in
+    let g = at.can_walk.more in
+    let c = at.can_walk.same_count in
+    let f = further.from_in in
+    let t = further.to_in in
+    let lens = segment i i_end both.from in
+    let new_lens = segment k k_end both.to in
+    let seg_size = segments-size at further l m in
+    let like : PlacesAlike lens (segment i i_end both.strides) new_lens (segment k k_end news) = λ r below.
+    run-of-dense new_lens (segment k k_end news) step r (segment-nonempty both.to k k_end g) news_dense (omega arith)
+    ∙ sym (run-of-dense lens (segment i i_end both.strides) step r (segment-nonempty both.from i i_end h) dense below) in
+    let front : PlacesAlike (take i both.from) (take i both.strides) (take k both.to) (take k news) =
+    subst (PlacesAlike (take i both.from) (take i both.strides) (take k both.to)) (sym kept) alike in
+    let from_count : length (take i both.from) ≡ length (take i both.strides) = length-take-le i both.from (omega arith)
+    ∙ sym (length-take-le i both.strides (omega arith)) in
+    let to_count : length (take k both.to) ≡ length (take k news) = length-take-le k both.to (omega arith)
     ∙ sym (length-take-le k news (omega arith)) in
-    let whole = places-append (take i from) (take i strides) (take k to) (take k news) lens (segment i i_end strides) new_lens
-    (segment k k_end news) from_count to_count (take-nonempty from i h) (take-nonempty to k g) (segment-nonempty from i i_end h) e
+    let whole =
+    places-append (take i both.from) (take i both.strides) (take k both.to) (take k news) lens (segment i i_end both.strides) new_lens
+    (segment k k_end news) from_count to_count (take-nonempty both.from i h) (take-nonempty both.to k g)
+    (segment-nonempty both.from i i_end h) at.sizes
     seg_size front like in
-    let first : PlacesAlike (take i_end from) (take i strides ++ segment i i_end strides) (take k to ++ new_lens)
-    (take k news ++ segment k k_end news) = subst (λ xs. PlacesAlike xs (take i strides ++ segment i i_end strides)
-    (take k to ++ new_lens) (take k news ++ segment k k_end news)) (sym (take-split i i_end from l)) whole in
-    let second : PlacesAlike (take i_end from) (take i_end strides) (take k to ++ new_lens) (take k news ++ segment k k_end news) =
-    subst (λ xs. PlacesAlike (take i_end from) xs (take k to ++ new_lens) (take k news ++ segment k k_end news))
-    (sym (take-split i i_end strides l)) first in
-    let third : PlacesAlike (take i_end from) (take i_end strides) (take k_end to) (take k news ++ segment k k_end news) =
-    subst (λ xs. PlacesAlike (take i_end from) (take i_end strides) xs (take k news ++ segment k k_end news))
-    (sym (take-split k k_end to m)) second in
-    subst (λ xs. PlacesAlike (take i_end from) (take i_end strides) (take k_end to) xs) (sym (take-split k k_end news m)) third
+    let first : PlacesAlike (take i_end both.from) (take i both.strides ++ segment i i_end both.strides) (take k both.to ++ new_lens)
+    (take k news ++ segment k k_end news) = subst (λ xs. PlacesAlike xs (take i both.strides ++ segment i i_end both.strides)
+    (take k both.to ++ new_lens) (take k news ++ segment k k_end news)) (sym (take-split i i_end both.from l)) whole in
+    let second : PlacesAlike (take i_end both.from) (take i_end both.strides) (take k both.to ++ new_lens)
+    (take k news ++ segment k k_end news) =
+    subst (λ xs. PlacesAlike (take i_end both.from) xs (take k both.to ++ new_lens) (take k news ++ segment k k_end news))
+    (sym (take-split i i_end both.strides l)) first in
+    let third : PlacesAlike (take i_end both.from) (take i_end both.strides) (take k_end both.to) (take k news ++ segment k k_end news) =
+    subst (λ xs. PlacesAlike (take i_end both.from) (take i_end both.strides) xs (take k news ++ segment k k_end news))
+    (sym (take-split k k_end both.to m)) second in
+    subst (λ xs. PlacesAlike (take i_end both.from) (take i_end both.strides) (take k_end both.to) xs) (sym (take-split k k_end news m))
+    third
 
 -- no axes step as one
 pub none-dense : (lens : List ℕ) (strides : List ℤ) (k : ℕ) (step : ℤ) → IsDense (segment k k lens) (segment k k strides) step

@@ -1,12 +1,30 @@
 -- Words of private contracts alone, of the calls below `reshape_dim`: how far two shapes have been read from the slowest axis on. All
 -- lists are in the order of reading.
-use Rattle.std.specs.Prelude.{◌≡◌, ℕ, zero, suc, ◌-◌, ◌<◌, ◌≤◌, false, ℤ, pos, ◌*ℤ◌, ◌⊎◌, List, [], ◌∷◌, length, take, drop, slice_index, slice_index_or, refl}
+use Rattle.std.specs.Prelude.{◌≡◌, ℕ, zero, suc, ◌-◌, ◌<◌, ◌≤◌, false, ℤ, pos, negsuc, ◌*ℤ◌, ◌⊎◌, Option, Some, List, [], ◌∷◌, length, take, drop, slice_index, slice_index_or, refl}
 use Rattle.nd_base.specs.Offset.{offset_of}
 use Rattle.nd_base.specs.FlatIndex.{index_of_flat}
+use Rattle.nd_base.specs.Signed.{all_signed}
 use Rattle.nd_base.specs.Size.{size, is_empty, limit}
 use Rattle.nd_base.specs.Span.{span}
 use Rattle.ndarray_layout.specs.reshape.ForcedStrides.{ones_before, stride_of_one}
 use Rattle.ndarray_layout.specs.reshape.Joints.{loose_joints, cumulative_products}
+use Rattle.ndarray_layout.specs.reshape.ReshapeFault.{fault_as_read}
+use Rattle.nd_base.specs.declared.error.ErrorKind.{ErrorKind}
+use Rattle.nd_base.specs.declared.error.ErrorKind.TheVariants.{IncompatibleShape}
+
+-- what a walk reads: a layout, and the shape that takes its places
+pub record Layouts : Type 0 where
+  pub from : List ℕ
+  pub strides : List ℤ
+  pub to : List ℕ
+
+-- with the strides as the code has them
+abbrev pub layouts : List ℕ → List ℕ → List ℕ → Layouts
+layouts from strides to = record { from = from; strides = all_signed strides; to = to }
+
+-- the fault of the reshape
+abbrev pub fault_of : Layouts → Option ErrorKind
+fault_of both = fault_as_read both.from both.strides both.to
 
 -- as far as the flat indices go, the index of a flat index lies as far along the one layout as along the other
 abbrev pub PlacesAlike : List ℕ → List ℤ → List ℕ → List ℤ → Type 0
@@ -31,20 +49,21 @@ abbrev pub GoodBelow : List ℕ → List ℤ → List ℕ → ℕ → Type 0
 GoodBelow from strides to product = (j : ℕ) → Member (loose_joints from strides) j → j < product → Member (cumulative_products to) j
 
 -- a layout whose numbers fit, and a shape with an index each
-pub record CanWalk (from : List ℕ) (strides : List ℤ) (to : List ℕ) : Type 0 where
-  pub same_count : length from ≡ length strides
-  pub some : is_empty from ≡ false
-  pub more : is_empty to ≡ false
-  pub from_fits : size from ≤ limit
-  pub to_fits : size to ≤ limit
-  pub span_fits : span from strides ≤ limit
+pub record CanWalk (both : Layouts) : Type 0 where
+  pub same_count : length both.from ≡ length both.strides
+  pub some : is_empty both.from ≡ false
+  pub more : is_empty both.to ≡ false
+  pub from_fits : size both.from ≤ limit
+  pub to_fits : size both.to ≤ limit
+  pub span_fits : span both.from both.strides ≤ limit
 
 -- so many axes of each shape are read, which have as many indices
-pub record IsReached (from : List ℕ) (strides : List ℤ) (to : List ℕ) (from_axes to_axes : ℕ) : Type 0 where
-  pub from_in : from_axes ≤ length from
-  pub to_in : to_axes ≤ length to
-  pub sizes : size (take from_axes from) ≡ size (take to_axes to)
-  pub joints : GoodBelow from strides to (size (take from_axes from))
+pub record IsReached (both : Layouts) (from_axes to_axes : ℕ) : Type 0 where
+  pub can_walk : CanWalk both
+  pub from_in : from_axes ≤ length both.from
+  pub to_in : to_axes ≤ length both.to
+  pub sizes : size (take from_axes both.from) ≡ size (take to_axes both.to)
+  pub joints : GoodBelow both.from both.strides both.to (size (take from_axes both.from))
 
 -- the axes read next step as one
 pub record IsBlock (from : List ℕ) (strides : List ℤ) (from_axes from_end : ℕ) (step : ℤ) : Type 0 where
@@ -71,10 +90,10 @@ pub record OnesAlike (from : List ℕ) (strides : List ℤ) (to : List ℕ) (new
   pub to_first : slice_index to to_axes ≡ 1 → ones_before from (size (take from_axes from)) from_axes ≤ ones_before to (size (take to_axes to)) to_axes
 
 -- so many axes of each are read, and those of the new shape have their strides
-pub record HasStridesUpTo (from : List ℕ) (strides : List ℤ) (to : List ℕ) (news : List ℤ) (from_axes to_axes : ℕ) : Type 0 where
-  pub reached : IsReached from strides to from_axes to_axes
-  pub alike : PlacesAlike (take from_axes from) (take from_axes strides) (take to_axes to) (take to_axes news)
-  pub ones : OnesAlike from strides to news from_axes to_axes
+pub record HasStridesUpTo (both : Layouts) (news : List ℤ) (from_axes to_axes : ℕ) : Type 0 where
+  pub reached : IsReached both from_axes to_axes
+  pub alike : PlacesAlike (take from_axes both.from) (take from_axes both.strides) (take to_axes both.to) (take to_axes news)
+  pub ones : OnesAlike both.from both.strides both.to news from_axes to_axes
 
 -- examples
 middle : segment {A = ℕ} 1 3 (5 ∷ 6 ∷ 7 ∷ 8 ∷ []) ≡ 6 ∷ 7 ∷ []
@@ -82,3 +101,9 @@ middle = refl
 
 before_the_third : previous (pos 6 ∷ pos 2 ∷ []) 2 ≡ pos 2
 before_the_third = refl
+
+as_signed : layouts (2 ∷ []) (18446744073709551615 ∷ []) (1 ∷ 2 ∷ []) ≡ record { from = 2 ∷ []; strides = negsuc 0 ∷ []; to = 1 ∷ 2 ∷ [] }
+as_signed = refl
+
+sizes_apart : fault_of (layouts (2 ∷ 3 ∷ []) (3 ∷ 1 ∷ []) (2 ∷ 2 ∷ [])) ≡ Some IncompatibleShape
+sizes_apart = refl

@@ -6,9 +6,9 @@ ghost use Rattle.nd_base.specs.Indices.{below};
 ghost use Rattle.nd_base.specs.Signed.{signed as signed_reading, all_signed};
 ghost use Rattle.nd_base.specs.Size.{size, nonzero_size, is_empty, limit};
 ghost use Rattle.nd_base.specs.ValidLayout.{IsValidLayout};
-ghost use Rattle.ndarray_layout.specs.private.ReshapeProgress.{CanWalk, IsReached, IsBlock, IsInside, HasStridesUpTo, PlacesAlike};
+ghost use Rattle.ndarray_layout.specs.private.ReshapeProgress.{CanWalk, IsReached, IsBlock, IsInside, HasStridesUpTo, PlacesAlike, layouts, fault_of};
 ghost use Rattle.ndarray_layout.specs.reshape.ForcedStrides.{forced_strides, stride_at};
-ghost use Rattle.ndarray_layout.specs.reshape.ReshapeFault.{reshape_fault, fault_as_read};
+ghost use Rattle.ndarray_layout.specs.reshape.ReshapeFault.{reshape_fault};
 
 use crate::sequence::{Forward, Reverse, Sequence, SequenceMut};
 use nd_base::{ErrorKind, Lengths, Order, ShapeError, from_kind, signed, unsigned};
@@ -56,10 +56,8 @@ fn next_block<S: Sequence, T: Sequence>(
     to: &T,
     start: Reached,
 ) -> Result<Block, ShapeError>
-    requires can_walk { CanWalk
-        (S.items from.now) (all_signed (S.items strides.now)) (T.items to.now) }
-    requires reached { IsReached (S.items from.now) (all_signed (S.items strides.now))
-        (T.items to.now) start.from_axes start.to_axes }
+    requires reached { IsReached (layouts (S.items from.now) (S.items strides.now) (T.items to.now))
+        start.from_axes start.to_axes }
     requires from_count { length (S.items from.now) ≤ usize.MAX }
     requires to_count { length (T.items to.now) ≤ usize.MAX }
     requires from_left { start.from_axes < length (S.items from.now) }
@@ -67,10 +65,10 @@ fn next_block<S: Sequence, T: Sequence>(
     requires from_longer { 1 < slice_index (S.items from.now) start.from_axes }
     requires to_longer { 1 < slice_index (T.items to.now) start.to_axes }
     ensures fault { IfErr result
-        (λ kind. fault_as_read (S.items from.now) (all_signed (S.items strides.now))
-        (T.items to.now) ≡ Some kind) }
+        (λ kind. fault_of (layouts (S.items from.now) (S.items strides.now) (T.items to.now))
+        ≡ Some kind) }
     ensures reached { IfOk result
-        (λ block. IsReached (S.items from.now) (all_signed (S.items strides.now)) (T.items to.now)
+        (λ block. IsReached (layouts (S.items from.now) (S.items strides.now) (T.items to.now))
         block.end.from_axes block.end.to_axes) }
     ensures further { IfOk result (λ block. start.to_axes < block.end.to_axes) }
     ensures block { IfOk result
@@ -159,24 +157,23 @@ fn advance<S: Sequence, T: Sequence, O: SequenceMut>(
     out: &mut O,
     at: Reached,
 ) -> Result<Reached, ShapeError>
-    requires can_walk { CanWalk
-        (S.items from.now) (all_signed (S.items strides.now)) (T.items to.now) }
     requires from_count { length (S.items from.now) ≤ usize.MAX }
     requires to_count { length (T.items to.now) ≤ usize.MAX }
     requires from_left { at.from_axes < length (S.items from.now) }
     requires to_left { at.to_axes < length (T.items to.now) }
     requires room { length (O.items out.old) ≡ length (T.items to.now) }
-    requires written { HasStridesUpTo (S.items from.now) (all_signed (S.items strides.now))
-        (T.items to.now) (all_signed (O.items out.old)) at.from_axes at.to_axes }
+    requires written { HasStridesUpTo
+        (layouts (S.items from.now) (S.items strides.now) (T.items to.now))
+        (all_signed (O.items out.old)) at.from_axes at.to_axes }
     ensures fault { IfErr result
-        (λ kind. fault_as_read (S.items from.now) (all_signed (S.items strides.now))
-        (T.items to.now) ≡ Some kind) }
+        (λ kind. fault_of (layouts (S.items from.now) (S.items strides.now) (T.items to.now))
+        ≡ Some kind) }
     ensures further { IfOk result
         (λ next. at.from_axes + at.to_axes < next.from_axes + next.to_axes) }
     ensures room { IfOk result (λ next. length (O.items out.new) ≡ length (T.items to.now)) }
     ensures written { IfOk result
-        (λ next. HasStridesUpTo (S.items from.now) (all_signed (S.items strides.now))
-        (T.items to.now) (all_signed (O.items out.new)) next.from_axes next.to_axes) }
+        (λ next. HasStridesUpTo (layouts (S.items from.now) (S.items strides.now) (T.items to.now))
+        (all_signed (O.items out.new)) next.from_axes next.to_axes) }
     ensures target { O.same_target out.old out.new }
 {
     let from_len = item(from, at.from_axes);
@@ -249,11 +246,11 @@ fn walk<S: Sequence, T: Sequence, O: SequenceMut>(
     out: &mut O,
 ) -> Result<(), ShapeError>
     requires can_walk { CanWalk
-        (S.items from.now) (all_signed (S.items strides.now)) (T.items to.now) }
+        (layouts (S.items from.now) (S.items strides.now) (T.items to.now)) }
     requires room { length (O.items out.old) ≡ length (T.items to.now) }
     ensures fault { IfErr result
-        (λ kind. fault_as_read (S.items from.now) (all_signed (S.items strides.now))
-        (T.items to.now) ≡ Some kind) }
+        (λ kind. fault_of (layouts (S.items from.now) (S.items strides.now) (T.items to.now))
+        ≡ Some kind) }
     ensures sizes { IfOk result (λ done. size (S.items from.now) ≡ size (T.items to.now)) }
     ensures alike { IfOk result
         (λ done. PlacesAlike (S.items from.now) (all_signed (S.items strides.now)) (T.items to.now)

@@ -3,7 +3,7 @@ use Rattle.std.proofs.lemmas.Bool.{cases_lt}
 use Rattle.nd_base.proofs.laws.Definitions.{all_signed}
 use Rattle.ndarray_layout.proofs.reshapes.Advance.{from-left-fault, to-left-fault}
 use Rattle.ndarray_layout.proofs.reshapes.Written.{written-first, written-whole, whole-sizes, whole-alike, whole-strides}
-use Rattle.ndarray_layout.specs.private.ReshapeProgress.{HasStridesUpTo}
+use Rattle.ndarray_layout.specs.private.ReshapeProgress.{HasStridesUpTo, layouts}
 use Rattle.ndarray_layout.proofs.reshape.walk.walk.Given.{Over}
 use Rattle.ndarray_layout.proofs.reshape.walk.walk.Goals as goal
 use Rattle.ndarray_layout.proofs.reshape.walk.walk.Goals.{then-loop-at-test+else-at-len, else-loop-at-test}
@@ -30,17 +30,17 @@ returns-then-not-only_ones-clause-fault g c =
     elim c.then-not-only_ones.branch [
       | then-not-only_ones-via-then-not-only_ones w ↦
           let left = c.only_ones.ensures.longer w.if-not-only_ones.true in
-          from-left-fault left.0 c.requires.can_walk at (over (omega (arith, left.1, left.2))) left.1 left.2 left.3
+          from-left-fault left.0 at (over (omega (arith, left.1, left.2))) left.1 left.2 left.3
       | then-not-only_ones-via-else-not-only_ones+then-not-only_ones-2 w ↦
           let left = w.only_ones-else-not-only_ones.ensures.longer w.if-not-only_ones-2.true in
-          to-left-fault left.0 c.requires.can_walk at (elim (cases_lt l.at.from_axes (length (g.S.Sequence.items c.args.from.now)))
+          to-left-fault left.0 at (elim (cases_lt l.at.from_axes (length (g.S.Sequence.items c.args.from.now)))
           [ inl some ↦ absurd (let end = over some in omega (arith, left.1, left.2)) | inr past ↦ past ]) left.1 left.2 left.3
     ]
     ∙ ap Some (sym c.from_kind.ensures)
 
 -- at the end both shapes are read whole, and all strides are written
-whole : (g : Over) (c : goal.After-write_ones g) → HasStridesUpTo (g.S.Sequence.items c.args.from.now)
-    (all_signed (g.S.Sequence.items c.args.strides.now)) (g.T.Sequence.items c.args.to.now)
+whole : (g : Over) (c : goal.After-write_ones g) → HasStridesUpTo
+    (layouts (g.S.Sequence.items c.args.from.now) (g.S.Sequence.items c.args.strides.now) (g.T.Sequence.items c.args.to.now))
     (all_signed (g.O.Sequence.items c.write_ones.new.out)) (length (g.S.Sequence.items c.args.from.now))
     (length (g.T.Sequence.items c.args.to.now))
 whole g c =
@@ -54,8 +54,8 @@ whole g c =
     ] in
     let from_ones = c.only_ones.ensures.ones c.if-not-only_ones.false in
     let to_ones = c.only_ones-else-not-only_ones.ensures.ones c.if-not-only_ones-2.false in
-    written-whole (g.O.Sequence.items l.out) (g.O.Sequence.items c.write_ones.new.out) l.at.from_axes l.at.to_axes c.requires.can_walk
-    over from_ones to_ones l.invariant.room (count ∙ l.invariant.room) c.write_ones.ensures.kept
+    written-whole over from_ones to_ones
+    (record { room = l.invariant.room; count = count ∙ l.invariant.room; same = c.write_ones.ensures.kept })
     (λ j above below. c.write_ones.ensures.written j above (omega (arith, count, below))) l.invariant.written
 
 pub returns-clause-sizes : goal.returns-clause-sizes
@@ -63,10 +63,8 @@ returns-clause-sizes g c = whole-sizes (whole g c)
 
 pub returns-clause-alike : goal.returns-clause-alike
 returns-clause-alike g c =
-    whole-alike (g.O.Sequence.items c.write_ones.new.out) c.requires.can_walk
-    (c.write_ones.ensures.room ∙ c.loop-at.invariant.room) (whole g c)
+    whole-alike (g.O.Sequence.items c.write_ones.new.out) (c.write_ones.ensures.room ∙ c.loop-at.invariant.room) (whole g c)
 
 pub returns-clause-strides : goal.returns-clause-strides
 returns-clause-strides g c =
-    whole-strides (g.O.Sequence.items c.write_ones.new.out) c.requires.can_walk
-    (c.write_ones.ensures.room ∙ c.loop-at.invariant.room) (whole g c)
+    whole-strides (g.O.Sequence.items c.write_ones.new.out) (c.write_ones.ensures.room ∙ c.loop-at.invariant.room) (whole g c)
