@@ -1,3 +1,4 @@
+pub mod ByteStrides
 pub mod Common
 pub mod Cropping
 pub mod Sizes

@@ -4,21 +4,25 @@
 mod broadcasts;
 mod counts;
 mod crops;
+mod foreign;
 mod parts;
 mod places;
 mod reshapes;
 mod rows;
 mod slices;
 mod steps;
+mod transposes;
 mod writes;
 
 pub use broadcasts::on_common_shape;
 pub use counts::count_bright;
 pub use crops::{band, crop, cut};
+pub use foreign::from_bytes;
 pub use parts::separate_places;
 pub use places::{picture, pixel};
 pub use reshapes::along_shape;
 pub use rows::{grid, in_rows, in_shape};
 pub use slices::{alternate_rows, pixels_of};
 pub use steps::{flat_plane, flat_plane_by_steps};
+pub use transposes::{pixel_across, transposed_part};
 pub use writes::write_parts;

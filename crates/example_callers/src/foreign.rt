@@ -1,0 +1,81 @@
+//! Takes a layout from foreign code, whose strides are counted in bytes as those of NumPy and of C are.
+ghost use Rattle.std.specs.Option.{IfNone, IfSome};
+ghost use Rattle.std.specs.Prelude.{◌≡◌, ℕ, ℤ, ◌<◌, ◌≤◌, ◌*ℤ◌, pos, IfOk, IsFalse, IsTrue, List, Some, map};
+ghost use Rattle.std.specs.Result.{result_err};
+ghost use Rattle.ndarray_layout.specs.declared.CanIndexCheckMode.TheVariants.{OwnedMutable};
+ghost use Rattle.ndarray_layout.specs.declared.ErrorKind.TheVariants.{IncompatibleLayout};
+ghost use Rattle.ndarray_layout.specs.AcceptanceFrom.{acceptance_from};
+ghost use Rattle.ndarray_layout.specs.DistinctPlaces.{HasDistinctPlaces};
+ghost use Rattle.ndarray_layout.specs.Signed.{all_signed, signed as signed_reading};
+ghost use Rattle.ndarray_layout.specs.Size.{limit};
+ghost use Rattle.ndarray_layout.specs.View.{LiesWithin};
+
+use ndarray_layout::{
+    CanIndexCheckMode, ErrorKind, Lengths, ShapeError, Strided, from_kind, signed, unsigned,
+};
+
+/// A stride in elements of so many bytes, for one in bytes; `None` where it is no multiple of them.
+fn in_elements(byte_stride: usize, elem_size: usize) -> Option<usize>
+    requires some { 0 < elem_size }
+    requires fits { elem_size ≤ limit }
+    ensures some { IfSome result (λ stride. signed_reading stride *ℤ pos elem_size ≡ signed_reading byte_stride) }
+    ensures none { IfNone result ((stride : ℤ) → stride *ℤ pos elem_size ≡ signed_reading byte_stride → ⊥) }
+{
+    let (byte_stride, elem_size) = (signed(byte_stride), elem_size as isize);
+    if byte_stride % elem_size != 0 {
+        return None;
+    }
+    Some(unsigned(byte_stride / elem_size))
+}
+
+/// Writes strides in elements of so many bytes over those in bytes, and returns whether each of them is a multiple.
+fn divide(strides: &mut [usize], elem_size: usize) -> bool
+    requires some { 0 < elem_size }
+    requires fits { elem_size ≤ limit }
+    ensures divided { IsTrue result →
+        map (λ stride. stride *ℤ pos elem_size) (all_signed strides.new) ≡ all_signed strides.old }
+    ensures remainder { IsFalse result → (given : List ℤ) →
+        map (λ stride. stride *ℤ pos elem_size) given ≡ all_signed strides.old → ⊥ }
+{
+    for stride in strides.iter_mut() {
+        let Some(found) = in_elements(*stride, elem_size) else {
+            return false;
+        };
+        *stride = found;
+    }
+    true
+}
+
+/// The view of a layout whose strides are counted in bytes, over `len` elements of `elem_size` bytes. The first index lies at the
+/// element `start`. The caller ensures that an element has a byte, and at most `isize::MAX`.
+///
+/// Errors: `IncompatibleLayout` where a stride is no multiple of `elem_size`; then those of `Strided::from_parts`.
+pub fn from_bytes<D: Lengths>(
+    start: usize,
+    dim: D,
+    byte_strides: D,
+    elem_size: usize,
+    len: usize,
+    mode: CanIndexCheckMode,
+) -> Result<Strided<D>, ShapeError>
+    requires some { 0 < elem_size }
+    requires fits { elem_size ≤ limit }
+    ensures fault { (strides : List ℤ) →
+        map (λ stride. stride *ℤ pos elem_size) strides ≡ all_signed (D.list byte_strides) →
+        result_err result ≡ acceptance_from start elem_size len mode (D.list dim) strides }
+    ensures remainder { ((strides : List ℤ) →
+        map (λ stride. stride *ℤ pos elem_size) strides ≡ all_signed (D.list byte_strides) → ⊥) →
+        result_err result ≡ Some IncompatibleLayout }
+    ensures start { IfOk result (λ view. view.start ≡ start) }
+    ensures shape { IfOk result (λ view. view.shape ≡ D.list dim) }
+    ensures strides { IfOk result (λ view.
+        map (λ stride. stride *ℤ pos elem_size) view.strides ≡ all_signed (D.list byte_strides)) }
+    ensures inside { IfOk result (λ view. LiesWithin len view) }
+    ensures distinct { IfOk result (λ view. mode ≡ OwnedMutable → HasDistinctPlaces view) }
+{
+    let mut strides = byte_strides;
+    if !divide(strides.slice_mut(), elem_size) {
+        return Err(from_kind(ErrorKind::IncompatibleLayout));
+    }
+    Strided::from_parts(start, dim, strides, elem_size, len, mode)
+}
