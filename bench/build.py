@@ -1,0 +1,145 @@
+"""Builds what the benchmark runs, in a folder of its own; this repository is only read.
+
+The crate in ffi/ is a static library in Rattle above this repository's crates. Its sources are kept as texts, since the gate reads no
+`.rt` or `.antt` file outside of crates. It is proved, with each crate below it that isn't built yet.
+"""
+import argparse, contextlib, os, shutil, subprocess, sys, tempfile, time
+
+HERE = os.path.dirname(os.path.abspath(__file__))
+TOP = os.path.dirname(HERE)
+sys.path.insert(0, f"{TOP}/tools")
+from crate_list import crates_below, read_list
+
+from ndarray_layer import cut_layer
+
+CRATE = "bench_ffi"
+LINE = f"{CRATE} staticlib: ndarray_layout nd_base nd_owned"
+PARTS = ("src", "specs", "proofs")
+# As a user of ndarray builds it: optimized, nothing checked, for any x86-64 processor. It is one unit, so that nothing depends on
+# how rustc cuts it.
+FLAGS = ("opt-level=3", "codegen-units=1", "overflow-checks=off", "debug-assertions=off")
+RUSTC = ["rustc", "--edition", "2024", *(word for flag in FLAGS for word in ("-C", flag))]
+
+
+class NotBuilt(Exception):
+    """Something that the benchmark needs couldn't be built."""
+
+
+class Room:
+    """A folder to work in, with the time since it was opened."""
+
+    def __init__(self, folder):
+        self.folder, self.began = os.path.abspath(folder), time.monotonic()
+
+    def say(self, text):
+        with open("/proc/loadavg", encoding="utf-8") as file:
+            load = " ".join(file.read().split()[:3])
+        print(f"bench: {time.monotonic() - self.began:.0f} s, load {load}: {text}", file=sys.stderr, flush=True)
+
+    def must(self, words, where, log, **how):
+        """Runs a command that has to end well, its output in a log."""
+        path = f"{self.folder}/{log}"
+        with open(path, "a", encoding="utf-8") as file:
+            done = subprocess.run(words, cwd=where, stdin=subprocess.DEVNULL, stdout=file, stderr=subprocess.STDOUT, **how)
+        if done.returncode:
+            with open(path, encoding="utf-8", errors="replace") as file:
+                end = "".join(file.readlines()[-20:])
+            raise NotBuilt(f"{os.path.basename(words[0])} ended with status {done.returncode}; its log is {path}:\n{end}")
+
+
+@contextlib.contextmanager
+def opened_room(keep):
+    """The folder that is kept, or else one for this run alone."""
+    if keep:
+        os.makedirs(keep, exist_ok=True)
+        yield Room(keep)
+    else:
+        with tempfile.TemporaryDirectory(prefix="bench-") as folder:
+            yield Room(folder)
+
+
+def arguments(text):
+    """The options that every script here has."""
+    parser = argparse.ArgumentParser(description=text, formatter_class=argparse.RawDescriptionHelpFormatter)
+    parser.add_argument("--markdown", action="store_true", help="print the tables as docs/PERFORMANCE.md has them")
+    parser.add_argument("--keep", metavar="FOLDER", help="work there and keep it, so that the next run proves only what has changed")
+    return parser
+
+
+def copy_crate(crate, to):
+    """Copies a crate's sources, and the library that was built of them, which rt takes where it fits."""
+    os.makedirs(f"{to}/out", exist_ok=True)
+    for part in PARTS:
+        shutil.rmtree(f"{to}/{part}", ignore_errors=True)
+        if os.path.isdir(f"{crate}/{part}"):
+            shutil.copytree(f"{crate}/{part}", f"{to}/{part}")
+    if os.path.isfile(f"{crate}/out/rlib/stamp") and not os.path.isdir(f"{to}/out/rlib"):
+        shutil.copytree(f"{crate}/out/rlib", f"{to}/out/rlib")
+
+
+def copy_own_crate(to):
+    """Copies the sources of the crate in ffi/ under their real names."""
+    for part in PARTS:
+        shutil.rmtree(f"{to}/{part}", ignore_errors=True)
+    for folder, _, names in os.walk(f"{HERE}/ffi"):
+        target = os.path.normpath(f"{to}/{os.path.relpath(folder, f'{HERE}/ffi')}")
+        os.makedirs(target, exist_ok=True)
+        for name in names:
+            shutil.copy(f"{folder}/{name}", f"{target}/{name.removesuffix('.txt')}")
+
+
+def copy_repository(room, *crates):
+    """Copies the crates that some of them use, and these themselves, to the room, and returns the copy's folder."""
+    lines, copy = read_list(TOP), f"{room.folder}/repository"
+    names = {line.name: line.text() for crate in crates for line in crates_below(lines, crate)}
+    for name in names:
+        copy_crate(f"{TOP}/crates/{name}", f"{copy}/crates/{name}")
+    copy_own_crate(f"{copy}/crates/{CRATE}")
+    shutil.copy(f"{TOP}/HANDLES", copy)
+    with open(f"{copy}/crates.txt", "w", encoding="utf-8") as file:
+        file.write("\n".join([*names.values(), LINE, ""]))
+    return copy
+
+
+def kit_folder():
+    told = subprocess.run(["rt", "doc"], stdin=subprocess.DEVNULL, capture_output=True, text=True, check=True)
+    return os.path.dirname(told.stdout.strip())
+
+
+def link_words(room):
+    """Proves and builds the crate in ffi/, and returns how a Rust program is linked with it."""
+    copy = copy_repository(room, "ndarray_layout", "nd_owned")
+    room.say(f"proving and building ours, some minutes where nothing is built yet; log: {room.folder}/ours.log")
+    room.must(["rt", "lib"], f"{copy}/crates/{CRATE}", "ours.log")
+    archives = [f"{copy}/crates/{CRATE}/out/lib{CRATE}.a", f"{kit_folder()}/c/liblibc_c.a"]
+    return [word for archive in archives for word in ("-C", f"link-arg={archive}")]
+
+
+def build_layer(room, source):
+    """Compiles ndarray's lowest layer, and returns its library."""
+    root = cut_layer(source, f"{HERE}/layer", f"{room.folder}/layer")
+    library = f"{room.folder}/libndarray_layer.rlib"
+    words = ["--crate-type", "rlib", "--crate-name", "ndarray_layer", "--cfg", 'feature="std"', "--cap-lints", "allow"]
+    older = ["2021" if word == "2024" else word for word in RUSTC]
+    room.must([*older, *words, root, "-o", library], room.folder, "layer.log")
+    return library
+
+
+def build_program(room, name, *words, shift=0):
+    """Compiles a program of src/, and returns its file. Another shift moves its code, so that it is another build."""
+    program = f"{room.folder}/{name}-{shift}"
+    env = {**os.environ, "SHIFT": str(shift)}
+    room.must([*RUSTC, f"{HERE}/src/{name}.rs", "-o", program, *words], room.folder, f"{name}.log", env=env)
+    return program
+
+
+def print_table(head, rows, is_markdown):
+    """Prints a table: as Markdown, or in columns."""
+    if is_markdown:
+        for cells in (head, ["---", *["---:"] * (len(head) - 1)], *rows):
+            print(f"| {' | '.join(cells)} |")
+        return
+    widths = [max(map(len, column)) for column in zip(head, *rows)]
+    for cells in (head, *rows):
+        first, *others = (cell.ljust(width) if at == 0 else cell.rjust(width) for at, (cell, width) in enumerate(zip(cells, widths)))
+        print("  ".join([first, *others]))

@@ -1,0 +1,103 @@
+//! How the cost of a call grows with the size of its arguments.
+//!
+//! usage: growth time CALL SIZE     nanoseconds of a call, least of some rounds, less what making its arguments takes
+//!        growth peak CALL SIZE N   the greatest memory of this process in KiB, where the call is made N times
+
+mod ours;
+mod tables;
+
+use std::hint::black_box;
+use std::time::Instant;
+use tables::Lists;
+
+const ROUNDS: usize = 5;
+const ROUND_NS: f64 = 2e7;
+
+/// How many axes of a layout have two coordinates; the others have one, as the size of a shape has a limit.
+const LONG_AXES: usize = 16;
+
+/// A row-major layout of so many axes, its long ones spread over all of them.
+fn layout(axes: usize) -> Lists {
+    let apart = axes.div_ceil(LONG_AXES);
+    let dims: Vec<usize> = (0..axes).map(|axis| if axis % apart == 0 { 2 } else { 1 }).collect();
+    let mut strides = vec![0; axes];
+    let mut size = 1;
+    for axis in (0..axes).rev() {
+        strides[axis] = size;
+        size *= dims[axis];
+    }
+    Lists { kind: 0, axes, dims, strides, index: vec![0; axes], lens: vec![size] }
+}
+
+/// The same, with the first two strides exchanged, so that the layout is neither row-major nor column-major.
+fn out_of_order(axes: usize) -> Lists {
+    let mut lists = layout(axes);
+    let apart = axes.div_ceil(LONG_AXES);
+    lists.strides.swap(apart, 2 * apart);
+    lists
+}
+
+/// The call of that name on arguments of a size, made so many times.
+fn call_of(name: &str, size: usize) -> Box<dyn Fn(usize) -> usize> {
+    let of_layout = |call: usize, lists: Lists| move |passes| ours::layouts(call, &lists, passes);
+    match name {
+        "can_index_slice" => Box::new(of_layout(0, layout(size))),
+        "dim_stride_overlap" => Box::new(of_layout(1, out_of_order(size))),
+        "index_checked" => Box::new(of_layout(2, layout(size))),
+        "is_contiguous" => Box::new(of_layout(3, out_of_order(size))),
+        "default_strides" => {
+            let dims = layout(size).dims;
+            Box::new(move |passes| ours::default_strides(size, &dims, passes))
+        }
+        "co_broadcast" => {
+            let dims = layout(size).dims;
+            Box::new(move |passes| ours::co_broadcast(0, size, &dims, &dims, passes))
+        }
+        "slice" => {
+            let lists = layout(size);
+            Box::new(move |passes| ours::slice_axes(&lists.dims, &lists.strides, lists.lens[0], passes))
+        }
+        "run" => Box::new(move |passes| ours::steps(size, passes)),
+        "places" => Box::new(move |passes| {
+            ours::places(size.div_ceil(1000), size.min(1000), [size.min(1000), 1], size, passes)
+        }),
+        "multi_set" => Box::new(move |passes| ours::rows(size, 8, passes)),
+        _ => panic!("{name} is no call here"),
+    }
+}
+
+fn time_ns(call: &dyn Fn(usize) -> usize, passes: usize) -> f64 {
+    let start = Instant::now();
+    let sum = black_box(call(black_box(passes)));
+    assert_ne!(sum, usize::MAX, "the arguments can't be made");
+    start.elapsed().as_nanos() as f64
+}
+
+fn least_ns(call: &dyn Fn(usize) -> usize, passes: usize) -> f64 {
+    (0..ROUNDS).map(|_| time_ns(call, passes)).fold(f64::INFINITY, f64::min)
+}
+
+fn print_time(call: &dyn Fn(usize) -> usize) {
+    let without = least_ns(call, 0);
+    let one = (time_ns(call, 1) - without).max(10.0);
+    let passes = ((ROUND_NS / one) as usize).max(1);
+    println!("{}", (least_ns(call, passes) - without) / passes as f64);
+}
+
+/// What Linux calls the high-water mark of the memory of this process.
+fn peak_kib() -> usize {
+    let status = std::fs::read_to_string("/proc/self/status").expect("Linux");
+    let line = status.lines().find(|line| line.starts_with("VmHWM")).expect("a peak");
+    line.split_whitespace().nth(1).expect("a number").parse().expect("a number")
+}
+
+fn main() {
+    let words: Vec<String> = std::env::args().skip(1).collect();
+    let call = call_of(&words[1], words[2].parse().expect("a size"));
+    if words[0] == "time" {
+        print_time(&*call);
+    } else {
+        black_box(call(words[3].parse().expect("a count")));
+        println!("{}", peak_kib());
+    }
+}
