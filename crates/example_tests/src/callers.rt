@@ -2,6 +2,7 @@
 use crate::arrays::are_written;
 use crate::assertions::hold;
 use crate::numbers::pixels;
+use crate::parts::of_list;
 use crate::views::{of_picture, of_view};
 use std::alloc::Global;
 use test_tables::{Asked, List, Row};
@@ -24,7 +25,10 @@ impl Asked for Callers {
         let pixels = pixels(alloc, given.length()?)?;
         match row.call {
             "write_parts" => are_written(alloc, pixels, &layout, &mut given, &mut answer),
-            "alternate_rows" | "count_bright" => {
+            "grid" | "in_shape" => {
+                of_list(alloc, row.call, pixels.as_slice(), &layout, &mut answer)
+            }
+            "alternate_rows" | "count_bright" | "band" | "crop" | "cut" => {
                 of_picture(
                     alloc,
                     row.call,
@@ -69,6 +73,32 @@ separate_places 2,3 3,1 6 ..,0 0,.. => meet
 separate_places 2,3 3,1 6 .. 2,.. => IncompatibleShape
 separate_places 10,10,2,10,10 2000,200,100,10,1 20000 ..,..,0,..,.. ..,..,1,..;-1,..;-1 => rows:0,200,1 rows:199,200,-1";
 
+/// Views that are made of a picture or of a list: their shapes and places.
+const PARTS: &str = "\
+band 4,3 - 12 1 3 => 2,3 3,4,5,6,7,8
+band 4,3 - 12 4 4 / 4,3 - 12 3 1 => 0,3 -
+band 4,3 - 12 3 5 / 4,3 - 12 0 4294967295 => OutOfBounds
+band 200,100 - 20000 100 200 => 100,100 rows:10000,100,1
+crop 4,3 - 12 1 3 0 2 => 2,2 3,4,6,7
+crop 4,3 - 12 1 3 0 4 => OutOfBounds
+crop 200,200 - 40000 50 150 99 199 => 100,100 rows:10099,200,1
+cut 4,3 - 12 1 4 => 1,3 0,1,2 3,3 3,4,5,6,7,8,9,10,11
+cut 4,3 - 12 5 4 => OutOfBounds
+cut 200,100 - 20000 100 200 => 100,100 rows:0,100,1 100,100 rows:10000,100,1
+grid 2,3 - 7 => 2,3 0,1,2,3,4,5
+grid 0,3 - 0 => 0,3 -
+grid 2,3 - 5 => OutOfBounds
+grid 9223372036854775808,0 - 5 => Overflow
+grid 100,100 - 10000 => 100,100 rows:0,100,1
+in_shape - - 1 => - 0
+in_shape 3,1,2,1,1 - 6 => 3,1,2,1,1 0,1,2,3,4,5
+in_shape 3,1,2,1,1 - 5 => OutOfBounds
+in_shape 10,2,5,10,2,5 - 10000 => 10,2,5,10,2,5 rows:0,100,1
+in_rows 3,2 -2,-1 6 2 3 / 6 -1 6 2 3 => 2,3 5,4,3,2,1,0
+in_rows 6 1 6 2 4 => IncompatibleShape
+in_rows 3,2 -2,1 6 2 3 => IncompatibleLayout
+in_rows 10,2,5,10,2,5 -1000,-500,-100,-10,-5,-1 10000 100 100 => 100,100 rows:9999,-100,-1";
+
 const WRITES: &str = "\
 write_parts 2,3 3,1 7 0,.. 10,11,12 1,..;2 20,21 => written 10,11,12,20,4,21,6
 write_parts 2,3 3,1 7 1,.. 10,11,12 ..,0 20 => refused 0,1,2,3,4,5,6
@@ -78,5 +108,6 @@ write_parts 10,2,5,10,2,5 1000,500,100,10,5,1 10000 ..;-1,..;-1,..;-1,..;-1,..;-
 fn rows_of_callers(rt: HostRuntime) {
     hold(&rt, rt.alloc(), PIXELS, &Callers);
     hold(&rt, rt.alloc(), VIEWS, &Callers);
+    hold(&rt, rt.alloc(), PARTS, &Callers);
     hold(&rt, rt.alloc(), WRITES, &Callers);
 }

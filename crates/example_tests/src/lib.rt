@@ -11,6 +11,8 @@ mod callers;
 #[cfg(test)]
 mod numbers;
 #[cfg(test)]
+mod parts;
+#[cfg(test)]
 mod tiles;
 #[cfg(test)]
 mod views;

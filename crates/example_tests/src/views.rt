@@ -5,8 +5,9 @@ ghost use Rattle.ndarray_layout.specs.View.{LiesWithin};
 
 use crate::callers::Layout;
 use crate::numbers::{are, are_pixels};
+use crate::parts::{is_made, of_bounds};
 use example_callers::{
-    along_shape, alternate_rows, count_bright, on_common_shape, picture, pixel, pixels_of,
+    along_shape, alternate_rows, count_bright, in_rows, on_common_shape, picture, pixel, pixels_of,
     separate_places,
 };
 use ndarray_layout::{CanIndexCheckMode, Ix2, IxDyn, Lengths, Strided};
@@ -26,7 +27,8 @@ pub fn of_picture(
     let view = picture(pixels, rows, columns).ok()?;
     match call {
         "count_bright" => is_count(alloc, pixels, &view, given, answer),
-        _ => are_alternate(alloc, pixels, &view, answer.word()?),
+        "alternate_rows" => are_alternate(alloc, pixels, &view, answer.word()?),
+        _ => of_bounds(alloc, call, &view, given, answer),
     }
 }
 
@@ -80,6 +82,10 @@ pub fn of_view(
         "pixels_of" => are_seen(alloc, pixels, &view, answer.word()?),
         "on_common_shape" => are_common(alloc, pixels, &view, given, answer),
         "along_shape" => is_along(alloc, &view, given, answer),
+        "in_rows" => {
+            let (rows, columns) = (given.length()?, given.length()?);
+            is_made(alloc, in_rows(alloc, &view, rows, columns), answer)
+        }
         "separate_places" => are_separate(alloc, &view, given, answer),
         _ => None,
     }

@@ -3,15 +3,20 @@
 use ErrorKind::{
     IncompatibleLayout, IncompatibleShape, OutOfBounds, Overflow, RangeLimited, Unsupported,
 };
-use nd_base::{ErrorKind, ShapeError};
+use nd_base::{ErrorKind, ShapeError, new_ix4, new_ixdyn};
 use nd_shape::Layout;
 use std::alloc::Global;
 use std::fmt::Debug;
 use test_tables::is_printed;
 
-/// Whether a value's debug text is this one, in each form.
-fn shows<T: Debug>(alloc: Global, value: &T, text: &str) -> bool {
+/// Whether a value's debug text is this one.
+fn is_shown<T: Debug>(alloc: Global, value: &T, text: &str) -> bool {
     is_printed(format!(in alloc; "{value:?}"), text)
+}
+
+/// The same in each form.
+fn shows<T: Debug>(alloc: Global, value: &T, text: &str) -> bool {
+    is_shown(alloc, value, text)
         && is_printed(format!(in alloc; "{value:#?}"), text)
         && is_printed(format!(in alloc; "{value:80?}"), text)
         && is_printed(format!(in alloc; "{value:>80.3?}"), text)
@@ -56,6 +61,14 @@ fn r1_rows(rt: HostRuntime) {
     for (kind, text) in &REFUSALS {
         assert!(rt; prints(rt.alloc(), *kind, *text), "{text}");
     }
+}
+
+// A dimension shows its lengths, whatever its type.
+#[test]
+fn dimensions(rt: HostRuntime) {
+    let (alloc, text) = (rt.alloc(), "Dim { index: [3, 4, 5, 6] }");
+    let any = new_ixdyn(alloc, &[3, 4, 5, 6]).unwrap();
+    assert!(rt; is_shown(alloc, &any, text) && is_shown(alloc, &new_ix4(3, 4, 5, 6), text));
 }
 
 /// Whether a set of bits shows this text and has this tendency.
