@@ -1,0 +1,81 @@
+-- Each item of the loop is the next place of the view. It counts where its pixel is dark, and in the end no place is left.
+use Rattle.std.proofs.Common.{◌≡◌, ◌+◌, ◌<◌, ◌^◌, ℕ, ℤ, pos, Bool, true, false, cond, List, ◌∷◌, length, arith, subst, sym, ap, ◌∙◌}
+use Rattle.std.specs.List.{All, count_by}
+use Rattle.std.specs.Prelude.{nat_lt, slice_index}
+use Rattle.std.proofs.lemmas.Bool.{le-ltb, lt-ltb}
+use Rattle.std.proofs.lemmas.List.Elements.{All-head, All-tail}
+use Rattle.std.proofs.lemmas.List.Sums.{count_by-le-length, sum_by-cons}
+use Rattle.ndarray_layout.specs.declared.Order.TheVariants.{RowMajor}
+use Rattle.ndarray_layout.specs.Inside.{IsInside}
+use Rattle.ndarray_layout.specs.Signed.{magnitude}
+use Rattle.ndarray_layout.specs.View.{View, IsView, LiesWithin, view_places}
+use Rattle.ndarray_layout.proofs.laws.View.{length-view_places, places_lie_within, size_fits}
+use Rattle.example_callers.proofs.scans.count_dark.Goals as goal
+
+-- the pixel at a place is dark
+abbrev is_dark : List ℕ → ℕ → ℤ → Bool
+is_dark pixels bound place = nat_lt (slice_index pixels (magnitude place)) bound
+
+-- the first of the places that are left counts or not
+first_counts : (pixels : List ℕ) (bound place : ℕ) {left rest : List ℤ} {b : Bool} → left ≡ pos place ∷ rest
+    → nat_lt (slice_index pixels place) bound ≡ b
+    → count_by (is_dark pixels bound) left ≡ cond b 1 0 + count_by (is_dark pixels bound) rest
+first_counts pixels bound place {rest = rest} first is =
+    ap (count_by (is_dark pixels bound)) first
+    ∙ sum_by-cons (λ place. cond (is_dark pixels bound place) 1 0) (pos place) rest
+    ∙ ap (λ t. cond t 1 0 + count_by (is_dark pixels bound) rest) is
+
+-- it lies among the pixels, and so do the others
+first_inside : {len place : ℕ} {left rest : List ℤ} → left ≡ pos place ∷ rest → All (IsInside len) left
+    → (place < len) × All (IsInside len) rest
+first_inside {len} {place} {rest = rest} first all =
+    let inside = subst (All (IsInside len)) first all in
+    (All-head (IsInside len) (pos place) rest inside, All-tail (IsInside len) (pos place) rest inside)
+
+-- no more are counted than there are places
+count_fits : (pixels : List ℕ) (bound : ℕ) {view : View} {count : ℕ} → IsView view
+    → count ≡ count_by (is_dark pixels bound) (view_places RowMajor view) → count < 2 ^ 64
+count_fits pixels bound {view} v is =
+    let places = view_places RowMajor view in
+    omega (arith, count_by-le-length (is_dark pixels bound) places, length-view_places RowMajor view, size_fits v)
+
+-- at first all places of the view are left
+begins : (pixels : List ℕ) (bound : ℕ) (view : View) {left : List ℤ} → LiesWithin (length pixels) view
+    → left ≡ view_places RowMajor view
+    → (0 + count_by (is_dark pixels bound) left ≡ count_by (is_dark pixels bound) (view_places RowMajor view))
+    × All (IsInside (length pixels)) left
+begins pixels bound view within all = (
+  omega (arith, ap (count_by (is_dark pixels bound)) all),
+  subst (All (IsInside (length pixels))) (sym all) (places_lie_within (length pixels) RowMajor view within),
+)
+
+pub loop-place-init : goal.loop-place-init
+loop-place-init g c =
+    let all = c.into_iter-place-iterator.ensures.into_iter_gives ∙ c.iter_places-place-items.ensures.items in
+    let both = begins c.args.pixels.now c.args.bound c.args.view.now c.requires all in
+    record { counted = both.0; inside = both.1 }
+
+pub bounds-pixels-place : goal.bounds-pixels-place
+bounds-pixels-place g c = (first_inside c.in-Some.ensures.steps c.loop-place.invariant.inside).0
+
+pub overflow_add-count : goal.overflow_add-count
+overflow_add-count g c =
+    let here = first_counts c.args.pixels.now c.args.bound c.in-Some.place c.in-Some.ensures.steps (lt-ltb _ _ c.if-pixels-place.true) in
+    let fits = count_fits c.args.pixels.now c.args.bound c.iter_places-place-items.ensures.is_view c.loop-place.invariant.counted in
+    omega (arith, here, fits)
+
+pub loop-place-preserved-then-pixels-place : goal.loop-place-preserved-then-pixels-place
+loop-place-preserved-then-pixels-place g c =
+    let here = first_counts c.args.pixels.now c.args.bound c.in-Some.place c.in-Some.ensures.steps (lt-ltb _ _ c.if-pixels-place.true) in
+    record {
+      counted = omega (arith, here, c.loop-place.invariant.counted);
+      inside = (first_inside c.in-Some.ensures.steps c.loop-place.invariant.inside).1;
+    }
+
+pub loop-place-preserved : goal.loop-place-preserved
+loop-place-preserved g c =
+    let here = first_counts c.args.pixels.now c.args.bound c.in-Some.place c.in-Some.ensures.steps (le-ltb _ _ c.if-pixels-place.false) in
+    record {
+      counted = omega (arith, here, c.loop-place.invariant.counted);
+      inside = (first_inside c.in-Some.ensures.steps c.loop-place.invariant.inside).1;
+    }
