@@ -27,4 +27,4 @@ pub use scans::count_dark;
 pub use slices::{alternate_rows, pixels_of};
 pub use steps::{flat_plane, flat_plane_by_steps};
 pub use transposes::{pixel_across, transposed_part};
-pub use writes::write_parts;
+pub use writes::{with_two_parts, write_parts};

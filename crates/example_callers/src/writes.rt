@@ -1,7 +1,8 @@
 //! Writes several parts of an owned array at once, all of them or none.
-ghost use Rattle.std.specs.Prelude.{◌≡◌, IfOk, IsOk, IsTrue, None, OnErr, Some, false, map};
+ghost use Rattle.std.specs.Prelude.{◌≡◌, IfErr, IfOk, IsOk, IsTrue, None, OnErr, Some, false, length, map};
 ghost use Rattle.std.specs.List.{All};
 ghost use Rattle.ndarray_layout.specs.declared.ErrorKind.{ErrorKind};
+ghost use Rattle.nd_owned.specs.Owned.{shape_fault_of};
 ghost use Rattle.nd_owned.specs.Writes.{HaveNoItems, IsFaultOfWrites, IsWritten, KeepsOthers, write_of};
 
 use nd_owned::OwnedArray;
@@ -35,5 +36,28 @@ pub fn write_parts<D: Lengths>(
         Ok(()) => Ok(true),
         Err(LayoutError::Shape(_)) => Ok(false),
         Err(LayoutError::Memory(refused)) => Err(refused),
+    }
+}
+
+/// The pixels of a picture, as they are stored, after two parts of it were written. The picture comes back unchanged with the
+/// error of a part that doesn't fit, of a count of pixels, of two parts that share an index, or of memory.
+pub fn with_two_parts<D: Lengths>(
+    alloc: Global,
+    picture: OwnedArray<u8, D>,
+    parts: &[(Vec<SliceInfoElem>, Vec<u8>); 2],
+) -> Result<Vec<u8>, (LayoutError, OwnedArray<u8, D>)>
+    ensures fault { IsFaultOfWrites picture.view.shape (map write_of parts.now)
+        (shape_fault_of result) }
+    ensures written { IfOk result (λ pixels.
+        All (IsWritten picture.view pixels.items) (map write_of parts.now)) }
+    ensures kept { IfOk result (λ pixels.
+        KeepsOthers picture.view (map write_of parts.now) picture.items pixels.items) }
+    ensures count { IfOk result (λ pixels. length pixels.items ≡ length picture.items) }
+    ensures handed_back { IfErr result (λ refusal. refusal.1 ≡ picture) }
+{
+    let mut picture = picture;
+    match picture.multi_set(alloc, parts) {
+        Ok(()) => Ok(picture.into_stored()),
+        Err(fault) => Err((fault, picture)),
     }
 }

@@ -1,6 +1,6 @@
 //! The rows of a slice: where blocks of them begin, and the items of all of them, read and written block by block.
 ghost use Rattle.std.specs.List.{All, AllPairs, flat_map};
-ghost use Rattle.std.specs.Prelude.{◌≡◌, ◌≢◌, ℕ, ◌+◌, ◌<◌, ◌≤◌, ◌^◌, pos, ◌+ℤ◌, Some, IfOk, IsOk, IsTrue, MatchOption, List, ◌++◌, length, map, vec_capacity, vec_len};
+ghost use Rattle.std.specs.Prelude.{◌≡◌, ◌≢◌, ℕ, ◌+◌, ◌<◌, ◌≤◌, ◌^◌, pos, ◌+ℤ◌, Some, IfOk, IfSome, IsOk, IsTrue, MatchOption, List, ◌++◌, length, map, vec_capacity, vec_len};
 ghost use Rattle.ndarray_layout.specs.declared.Fit.TheVariants.{Strict};
 ghost use Rattle.ndarray_layout.specs.declared.Order.TheVariants.{RowMajor};
 ghost use Rattle.ndarray_layout.specs.ArgumentFault.{argument_fault, out_count};
@@ -17,8 +17,8 @@ ghost use Rattle.nd_owned.specs.private.Rows.{AreInside, AreRowsInside, HasWritt
 
 use crate::blocks::{Block, read_block, write_block};
 use ndarray_layout::{
-    Axis, Fit, Ix1, Ix2, IxDyn, LayoutError, Lengths, Order, SliceElems, Strided, out_ndim_of,
-    product, signed,
+    Axis, Fit, Ix1, Ix2, IxDyn, LayoutError, Lengths, Order, SliceElems, Strided, new_ix1,
+    out_ndim_of, product, signed,
 };
 use std::alloc::{AllocError, Global};
 use std::slice;
@@ -95,8 +95,7 @@ fn rows_of_slice<E: Lengths, D: Lengths, S: SliceElems>(
     Ok(rows_of_view(alloc, part)?)
 }
 
-/// The rows of a view: its last axis gives their places, the axis before it the rows of a block, and its other axes where
-/// the blocks begin.
+/// The rows of a view: its last axis gives their places, and its other axes where they begin.
 fn rows_of_view<D: Lengths>(alloc: Global, mut view: Strided<D>) -> Result<Rows, AllocError>
     ensures places { IfOk result (λ rows. rows_places rows ≡ view_places RowMajor view) }
     ensures inside { IfOk result (λ rows. (len : ℕ) → LiesWithin len view → AreRowsInside len rows) }
@@ -105,8 +104,7 @@ fn rows_of_view<D: Lengths>(alloc: Global, mut view: Strided<D>) -> Result<Rows,
 {
     let size = product(view.dim().slice());
     let (stride, len) = take_last_axis(&mut view);
-    let (rows_stride, rows) = take_last_axis(&mut view);
-    let starts = starts_of(alloc, &view)?;
+    let (starts, rows_stride, rows) = blocks_of(alloc, view)?;
     let block = Block {
         rows_stride,
         rows,
@@ -118,6 +116,37 @@ fn rows_of_view<D: Lengths>(alloc: Global, mut view: Strided<D>) -> Result<Rows,
         block,
         size,
     })
+}
+
+/// The places of a view as blocks of places that lie evenly: where each begins, the stride and the length. One block where
+/// all its axes step as one does, as where at most one is longer than 1; else each place is a block.
+fn blocks_of<D: Lengths>(
+    alloc: Global,
+    view: Strided<D>,
+) -> Result<(Starts, usize, usize), AllocError>
+    ensures is_view { IsView view }
+    ensures places { IfOk result (λ (starts, stride, len).
+        flat_map (λ start. row_places start (signed stride) len) (start_list starts) ≡
+        view_places RowMajor view) }
+    ensures few { IfOk result (λ (starts, stride, len). len < 2 ^ 63) }
+    ensures memory { size view.shape ≡ 0 → IsOk result }
+{
+    let Some(even) = in_one_axis(alloc, &view) else {
+        return Ok((Starts::Listed(view.places(alloc, Order::RowMajor)?), 1, 1));
+    };
+    let mut even = even;
+    let (stride, len) = take_last_axis(&mut even);
+    Ok((starts_of(alloc, &even)?, stride, len))
+}
+
+/// The same places along one axis, where they lie evenly.
+fn in_one_axis<D: Lengths>(alloc: Global, view: &Strided<D>) -> Option<Strided<Ix1>>
+    ensures is_view { IsView view.now }
+    ensures places { IfSome result (λ even.
+        view_places RowMajor even ≡ view_places RowMajor view.now) }
+{
+    let size = product(view.dim().slice());
+    view.reshape(alloc, &new_ix1(size), Order::RowMajor).ok()
 }
 
 /// The places of a view, where blocks begin.

@@ -20,35 +20,35 @@ product-size-requires g c =
 pub returns-clause-places : goal.returns-clause-places
 returns-clause-places g c =
     let one = c.take_last_axis-stride in
-    let two = c.take_last_axis-rows_stride in
+    let blocks = c.in_ok-starts in
     let starts = start_list c.in_ok-starts.starts in
-    let block : Block = record { rows_stride = two.result.0; rows = two.result.1; stride = one.result.0; len = one.result.1 } in
+    let block : Block = record { rows_stride = blocks.rows_stride; rows = blocks.rows; stride = one.result.0; len = one.result.1 } in
     blocks_of_rows block starts (view_places RowMajor one.new.view) (view_places RowMajor c.args.view)
-    (two.ensures.places starts c.in_ok-starts.ensures.places) (places_fit two.ensures.is_view) one.ensures.places
+    blocks.ensures.places (places_fit blocks.ensures.is_view) one.ensures.places
 
 pub returns-clause-inside : goal.returns-clause-inside
 returns-clause-inside g c = λ len within.
     let one = c.take_last_axis-stride in
-    let two = c.take_last_axis-rows_stride in
+    let blocks = c.in_ok-starts in
     let starts = start_list c.in_ok-starts.starts in
-    let block : Block = record { rows_stride = two.result.0; rows = two.result.1; stride = one.result.0; len = one.result.1 } in
-    let middle = two.ensures.places starts c.in_ok-starts.ensures.places in
+    let block : Block = record { rows_stride = blocks.rows_stride; rows = blocks.rows; stride = one.result.0; len = one.result.1 } in
+    let middle = blocks.ensures.places in
     let places = blocks_of_rows block starts (view_places RowMajor one.new.view) (view_places RowMajor c.args.view) middle
-    (places_fit two.ensures.is_view) one.ensures.places in
+    (places_fit blocks.ensures.is_view) one.ensures.places in
     record {
       places = subst (AreInside len) (sym places) (places_inside one.ensures.is_view within);
-      begin = subst (All (IsInside (2 ^ 63))) (sym middle) (places_fit two.ensures.is_view);
-      few = two.ensures.few;
+      begin = subst (All (IsInside (2 ^ 63))) (sym middle) (places_fit blocks.ensures.is_view);
+      few = blocks.ensures.few;
     }
 
 pub returns-clause-size : goal.returns-clause-size
 returns-clause-size g c =
     let one = c.take_last_axis-stride in
-    let two = c.take_last_axis-rows_stride in
+    let blocks = c.in_ok-starts in
     let starts = start_list c.in_ok-starts.starts in
-    let block : Block = record { rows_stride = two.result.0; rows = two.result.1; stride = one.result.0; len = one.result.1 } in
+    let block : Block = record { rows_stride = blocks.rows_stride; rows = blocks.rows; stride = one.result.0; len = one.result.1 } in
     let places = blocks_of_rows block starts (view_places RowMajor one.new.view) (view_places RowMajor c.args.view)
-    (two.ensures.places starts c.in_ok-starts.ensures.places) (places_fit two.ensures.is_view) one.ensures.places in
+    blocks.ensures.places (places_fit blocks.ensures.is_view) one.ensures.places in
     c.product-size.ensures
     ∙ ap size (c.slice.ensures.list ∙ c.dim.ensures.list)
     ∙ sym (length-view_places RowMajor c.args.view)
@@ -56,5 +56,4 @@ returns-clause-size g c =
 
 pub returns-in_err-starts-clause-memory : goal.returns-in_err-starts-clause-memory
 returns-in_err-starts-clause-memory g c = λ none.
-    absurd (false≢true (c.in_err-starts.ensures.memory
-    (omega (arith, c.take_last_axis-rows_stride.ensures.none (c.take_last_axis-stride.ensures.none none)))))
+    absurd (false≢true (c.in_err-starts.ensures.memory (c.take_last_axis-stride.ensures.none none)))
