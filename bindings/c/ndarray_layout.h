@@ -1,0 +1,288 @@
+/*
+ * ndarray_layout: shapes, signed strides and slices turned into places in a buffer, as ndarray 0.17.2 has them. Every call
+ * is proved: it returns, for every input that keeps to the rules below, and its status is the one that is stated.
+ *
+ * Words. A shape is a list of lengths, one for each axis. A stride is how many elements lie between two neighbours of an
+ * axis, with its sign. A place is a position in the buffer, counted in elements from its first one. The start of a layout is
+ * the place of its index (0, .., 0). Strides and places count elements, and never bytes. The limit is PTRDIFF_MAX.
+ *
+ * Lists. A list is a pointer and, after it, its count. Every list has a count of its own: counts that don't go together are
+ * a status. A list that a call writes (no `const`) is lent by the caller, with exactly the count that is due.
+ *
+ * Statuses. Each call returns one of ND_OK to ND_OUT_OF_MEMORY. After any status but ND_OK nothing has been written.
+ * ND_BAD_ARGUMENT is a number that has no meaning (an order, a mode, a fit, a kind of element), or a list to be written of
+ * another count than is due. It comes before everything else, but for the counts of what nd_places, nd_slice and
+ * nd_permute_axes write, which come after everything else. ND_OUT_OF_MEMORY may come before other statuses than
+ * ND_BAD_ARGUMENT: of lists of more than four entries alone, and of nd_places, which takes memory for the places once.
+ *
+ * What the caller ensures. Nothing else can make a call misbehave:
+ *   - no pointer is null, and each is aligned as its type asks; for an empty list pass the address of anything of the type;
+ *   - each count is true: so many entries can be read, and written where the list is written;
+ *   - what a call writes overlaps nothing else that it is given, and no other thread uses it meanwhile;
+ *   - `malloc`, `realloc` and `free` are those of one allocator, and no call is made from a signal handler.
+ * Calls keep nothing: any threads may call at once.
+ */
+#ifndef NDARRAY_LAYOUT_H
+#define NDARRAY_LAYOUT_H
+
+#include <stddef.h>
+#include <stdint.h>
+
+#ifdef __cplusplus
+extern "C" {
+#endif
+
+/* Statuses. */
+enum {
+    ND_OK = 0,
+    ND_INCOMPATIBLE_SHAPE = 1,  /* counts of axes or lengths do not go together */
+    ND_INCOMPATIBLE_LAYOUT = 2, /* the strides do not go with the shape, or with the data as it lies */
+    ND_RANGE_LIMITED = 3,       /* never returned */
+    ND_OUT_OF_BOUNDS = 4,       /* an index, or a layout as a whole, leaves its bounds */
+    ND_UNSUPPORTED = 5,         /* what is asked for is not offered */
+    ND_OVERFLOW = 6,            /* a size or a span is greater than the limit */
+    ND_BAD_ARGUMENT = 7,
+    ND_OUT_OF_MEMORY = 8
+};
+
+/* The order in which indices are read: the last axis moves fastest, or the first one. */
+enum { ND_ROW_MAJOR = 0, ND_COLUMN_MAJOR = 1 };
+
+/* How a layout is used: elements are only read, or owned and written, so that no two indices may alias. */
+enum { ND_READ_ONLY = 0, ND_OWNED = 1 };
+
+/* What becomes of a bound of a slice that lies outside its axis: ND_OUT_OF_BOUNDS, or the nearest bound. */
+enum { ND_STRICT = 0, ND_CLAMPED = 1 };
+
+/* Kinds of elements of a slice. */
+enum { ND_SLICE = 0, ND_INDEX = 1, ND_NEW_AXIS = 2 };
+
+/*
+ * An element of a slice. ND_SLICE keeps an axis: from `start` to before `end`, or to the end of the axis where `has_end` is
+ * 0, each `step`-th entry, from the last one back where `step` is negative. ND_INDEX takes the entry `start` and drops the
+ * axis. ND_NEW_AXIS adds an axis of length 1. Numbers below 0 count from the end of the axis. Fields that a kind doesn't
+ * name are not looked at.
+ */
+typedef struct nd_slice_elem {
+    int32_t kind;
+    int32_t has_end;
+    ptrdiff_t start;
+    ptrdiff_t end;
+    ptrdiff_t step;
+} nd_slice_elem;
+
+/* ---- Layouts --------------------------------------------------------------------------------------------------------- */
+
+/*
+ * Accepts a layout over a buffer of `len` elements of `elem_size` bytes, and writes the place of its first index, where its
+ * lowest place is 0. `mode`: ND_READ_ONLY or ND_OWNED.
+ *
+ * ND_INCOMPATIBLE_LAYOUT: not one stride for each length. ND_OVERFLOW: the product of the lengths that are not 0, or the
+ * span, in elements or in bytes, is greater than the limit. ND_OUT_OF_BOUNDS: the layout needs more than `len` elements.
+ * ND_UNSUPPORTED: owned, and two indices may alias.
+ *
+ * (3), strides (-1), over 3 elements: 2.
+ */
+int32_t nd_layout_start(size_t elem_size, size_t len, const size_t *shape, size_t shape_len, const ptrdiff_t *strides,
+                        size_t strides_len, int32_t mode, size_t *start);
+
+/*
+ * Accepts a layout whose first index lies at `start`, over a buffer of `len` elements of `elem_size` bytes.
+ *
+ * The statuses of nd_layout_start, in their order; ND_OUT_OF_BOUNDS where an index lies before the buffer or past it.
+ *
+ * (3), strides (-1), over 5 elements: ND_OK from 4, ND_OUT_OF_BOUNDS from 1.
+ */
+int32_t nd_check_layout(size_t start, size_t elem_size, size_t len, const size_t *shape, size_t shape_len,
+                        const ptrdiff_t *strides, size_t strides_len, int32_t mode);
+
+/*
+ * Writes 1 where two indices of a layout may alias, else 0: it has an index, and breaks the rule of owned layouts. After 0
+ * no two indices have one place.
+ *
+ * ND_INCOMPATIBLE_LAYOUT and ND_OVERFLOW as of nd_layout_start with an element of one byte.
+ *
+ * (2,3), strides (3,1): 0. (3,2), strides (2,3): 1.
+ */
+int32_t nd_has_overlap(const size_t *shape, size_t shape_len, const ptrdiff_t *strides, size_t strides_len, int32_t *answer);
+
+/*
+ * Writes the strides by which the last axis of a shape moves fastest (nd_default_strides) or the first one
+ * (nd_fortran_strides); all 0 where a length is 0. `strides`: one for each axis.
+ *
+ * ND_OVERFLOW: the product of the lengths that are not 0 is greater than the limit.
+ *
+ * (3,4,5): (20,5,1), and (1,3,12).
+ */
+int32_t nd_default_strides(const size_t *shape, size_t shape_len, ptrdiff_t *strides, size_t strides_len);
+int32_t nd_fortran_strides(const size_t *shape, size_t shape_len, ptrdiff_t *strides, size_t strides_len);
+
+/*
+ * Writes 1 or 0. nd_is_contiguous: whether the indices fill a stretch of the buffer without a gap, whatever their order,
+ * by a rule that is exact where no length is 0. nd_is_layout_c: whether the places of all indices in row-major order follow
+ * one another without a gap, or there is no index. nd_is_layout_f: the same in column-major order.
+ *
+ * The statuses of nd_has_overlap.
+ *
+ * (2,3), strides (-3,1): 1, 0, 0.
+ */
+int32_t nd_is_contiguous(const size_t *shape, size_t shape_len, const ptrdiff_t *strides, size_t strides_len,
+                         int32_t *answer);
+int32_t nd_is_layout_c(const size_t *shape, size_t shape_len, const ptrdiff_t *strides, size_t strides_len,
+                       int32_t *answer);
+int32_t nd_is_layout_f(const size_t *shape, size_t shape_len, const ptrdiff_t *strides, size_t strides_len,
+                       int32_t *answer);
+
+/* ---- Indices --------------------------------------------------------------------------------------------------------- */
+
+/*
+ * Writes the place of an index: the start plus, for each axis, the entry times the stride.
+ *
+ * Those of nd_check_layout for a buffer of all places up to the limit; then ND_OUT_OF_BOUNDS where the list is no index of
+ * the shape: not one entry for each axis, or one that is not less than its length.
+ *
+ * From 3, (2,3), strides (-3,1): (1,2) lies at 2.
+ */
+int32_t nd_place(size_t start, const size_t *shape, size_t shape_len, const ptrdiff_t *strides, size_t strides_len,
+                 const size_t *index, size_t index_len, size_t *place);
+
+/*
+ * Moves an index of a shape to the next one in an order, and writes 1. The last index becomes the first one, (0, .., 0),
+ * with 0. `order`: ND_ROW_MAJOR or ND_COLUMN_MAJOR.
+ *
+ * ND_OUT_OF_BOUNDS: `index` is no index of the shape.
+ *
+ * (2,3): (0,2) becomes (1,0) in row-major order, (1,2) in column-major order.
+ */
+int32_t nd_next_index(const size_t *shape, size_t shape_len, size_t *index, size_t index_len, int32_t order,
+                      int32_t *has_next);
+
+/*
+ * Writes the places of all indices, in an order. `places`: as many as the product of the lengths.
+ *
+ * ND_BAD_ARGUMENT for the order; then those of nd_place for the layout; then ND_BAD_ARGUMENT for another count of places.
+ *
+ * From 3, (2,3), strides (-3,1): 3 4 5 0 1 2 in row-major order, 3 0 4 1 5 2 in column-major order.
+ */
+int32_t nd_places(size_t start, const size_t *shape, size_t shape_len, const ptrdiff_t *strides, size_t strides_len,
+                  int32_t order, size_t *places, size_t places_len);
+
+/* ---- Slices ---------------------------------------------------------------------------------------------------------- */
+
+/*
+ * Slices a layout: writes the start, the shape and the strides of what is left. `new_shape`, `new_strides`: one for each
+ * element but an ND_INDEX. `fit`: ND_STRICT or ND_CLAMPED.
+ *
+ * Those of nd_place for the layout; then ND_INCOMPATIBLE_SHAPE where the elements are for more axes than there are or for
+ * fewer; then that of the first element with one: ND_OUT_OF_BOUNDS for an index that is not on its axis, or a bound that is
+ * not and is not to be clamped, ND_UNSUPPORTED for a step of 0.
+ *
+ * From 5, (4), strides (3), by `1..` with a step of -2: from 14, (2), strides (-6).
+ */
+int32_t nd_slice(size_t start, const size_t *shape, size_t shape_len, const ptrdiff_t *strides, size_t strides_len,
+                 const nd_slice_elem *elems, size_t elems_len, int32_t fit, size_t *new_start, size_t *new_shape,
+                 size_t new_shape_len, ptrdiff_t *new_strides, size_t new_strides_len);
+
+/*
+ * Writes 1 where two slices of a shape share an index, else 0. Where no two indices of a layout of the shape alias, this is
+ * whether they share an element.
+ *
+ * ND_OVERFLOW: the product of the lengths that are not 0 is greater than the limit; then those of nd_slice for `first`, then
+ * for `second`.
+ *
+ * (2,3), the first row and the last column: 1. The first row and the last row: 0.
+ */
+int32_t nd_slices_intersect(const size_t *shape, size_t shape_len, const nd_slice_elem *first, size_t first_len,
+                            const nd_slice_elem *second, size_t second_len, int32_t fit, int32_t *answer);
+
+/*
+ * Writes how many indices a slice leaves of a shape.
+ *
+ * ND_OVERFLOW as of nd_slices_intersect; then those of nd_slice for the elements.
+ *
+ * (4), by `1..` with a step of -2: 2.
+ */
+int32_t nd_picked(const size_t *shape, size_t shape_len, const nd_slice_elem *elems, size_t elems_len, int32_t fit,
+                  size_t *count);
+
+/* ---- Shapes ---------------------------------------------------------------------------------------------------------- */
+
+/*
+ * Writes the shape that two shapes have in common, by NumPy's rule. `common`: as many as the longer of the two.
+ *
+ * ND_INCOMPATIBLE_SHAPE: they have none.
+ *
+ * (4,1) and (3): (4,3).
+ */
+int32_t nd_common_shape(const size_t *first, size_t first_len, const size_t *second, size_t second_len, size_t *common,
+                        size_t common_len);
+
+/*
+ * Writes the strides along which a layout is read as one of the shape `target`: 0 along new axes, which come first, and
+ * along axes of length 1 that have another length now. The start stays. `new_strides`: one for each axis of `target`.
+ *
+ * ND_INCOMPATIBLE_LAYOUT and ND_OVERFLOW as of nd_has_overlap; then ND_INCOMPATIBLE_SHAPE where `target` is not the shape
+ * that both have in common; then ND_OVERFLOW where it is too large.
+ *
+ * (1,4), strides (9,-1), to (2,3,4): (0,0,-1).
+ */
+int32_t nd_broadcast_strides(const size_t *shape, size_t shape_len, const ptrdiff_t *strides, size_t strides_len,
+                             const size_t *target, size_t target_len, ptrdiff_t *new_strides, size_t new_strides_len);
+
+/*
+ * Merges the axis `take` into the axis `into`, in place, where one stride has the entries of both, and writes 1; else writes
+ * 0 and changes neither list. Then the axis `into` has all entries, that of `take` moving slowest among them, and `take`
+ * keeps one entry, or none where there are none.
+ *
+ * ND_INCOMPATIBLE_LAYOUT and ND_OVERFLOW as of nd_has_overlap; then ND_OUT_OF_BOUNDS where there is no such axis; then
+ * ND_UNSUPPORTED for one axis twice.
+ *
+ * Axis 0 into axis 1 of (2,3), strides (3,1): (1,6), strides (3,1).
+ */
+int32_t nd_merge_axes(size_t *shape, size_t shape_len, ptrdiff_t *strides, size_t strides_len, size_t take, size_t into,
+                      int32_t *merged);
+
+/*
+ * Writes the strides along which the shape `new_shape` has the places of a layout in an order. The start stays. Where there
+ * is no index they are 0. `new_strides`: one for each axis of `new_shape`. `order`: ND_ROW_MAJOR or ND_COLUMN_MAJOR.
+ *
+ * ND_INCOMPATIBLE_LAYOUT and ND_OVERFLOW as of nd_has_overlap; then ND_OVERFLOW where `new_shape` is too large; then
+ * ND_INCOMPATIBLE_SHAPE where one of the two shapes alone has no index; then ND_INCOMPATIBLE_LAYOUT where two axes would
+ * have to step as one and don't; then ND_INCOMPATIBLE_SHAPE where the sizes differ.
+ *
+ * (2,3), strides (3,1), to (3,2): (2,1) in row-major order, ND_INCOMPATIBLE_LAYOUT in column-major order.
+ */
+int32_t nd_reshape(const size_t *shape, size_t shape_len, const ptrdiff_t *strides, size_t strides_len, int32_t order,
+                   const size_t *new_shape, size_t new_shape_len, ptrdiff_t *new_strides, size_t new_strides_len);
+
+/*
+ * Writes the shape and the strides with the axes in another order: axis k is axis `axes[k]`. The start stays. `new_shape`,
+ * `new_strides`: one for each entry of `shape`.
+ *
+ * ND_INCOMPATIBLE_LAYOUT and ND_OVERFLOW as of nd_has_overlap; then ND_INCOMPATIBLE_SHAPE where `axes` doesn't have each
+ * axis once.
+ *
+ * (2,3,4), strides (12,4,1), by (2,0,1): (4,2,3), strides (1,12,4).
+ */
+int32_t nd_permute_axes(const size_t *shape, size_t shape_len, const ptrdiff_t *strides, size_t strides_len,
+                        const size_t *axes, size_t axes_len, size_t *new_shape, size_t new_shape_len,
+                        ptrdiff_t *new_strides, size_t new_strides_len);
+
+/* ---- Statuses -------------------------------------------------------------------------------------------------------- */
+
+/* How many bytes the longest text has, with the 0 that ends it. */
+#define ND_TEXT_SIZE 80
+
+/*
+ * Writes what a status means, in English, as ASCII text that ends with a 0, and how many bytes it has without that 0.
+ * `text`: room for ND_TEXT_SIZE bytes or more; bytes after the 0 stay as they are.
+ *
+ * ND_BAD_ARGUMENT: a number that is no status, or less room.
+ */
+int32_t nd_status_text(int32_t status, char *text, size_t text_len, size_t *used);
+
+#ifdef __cplusplus
+}
+#endif
+
+#endif

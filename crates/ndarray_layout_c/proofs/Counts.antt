@@ -1,0 +1,28 @@
+-- How long lists are, and the strides of views that are one.
+use Rattle.std.proofs.Common.{◌≡◌, ◌≤◌, ℕ, List, length, ap}
+use Rattle.std.proofs.lemmas.List.{length-map}
+use Rattle.ndarray_layout.specs.declared.Order.{Order}
+use Rattle.ndarray_layout.specs.declared.Order.TheVariants.{RowMajor, ColumnMajor}
+use Rattle.ndarray_layout.specs.Signed.{signed, all_signed}
+use Rattle.ndarray_layout.specs.Size.{nonzero_size, size}
+use Rattle.ndarray_layout.specs.View.{View}
+use Rattle.ndarray_layout.proofs.laws.NonzeroSize.{size_le_nonzero_size}
+use Rattle.ndarray_layout.proofs.laws.Strides.{default_count, fortran_count}
+use Rattle.ndarray_layout_c.specs.OwnStrides.{own_strides}
+
+-- strides that are kept as numbers of the same bits are as many as the signed ones
+pub length_all_signed : (strides : List ℕ) → length (all_signed strides) ≡ length strides
+length_all_signed strides = length-map strides signed
+
+-- a shape has as many strides of its own as axes
+pub length_own_strides : (order : Order) (shape : List ℕ) → length (own_strides order shape) ≡ length shape
+length_own_strides RowMajor shape = default_count shape
+length_own_strides ColumnMajor shape = fortran_count shape
+
+-- the size of a shape is at most the product of its lengths that are not 0
+pub size_le : (shape : List ℕ) → size shape ≤ nonzero_size shape
+size_le shape = size_le_nonzero_size shape
+
+-- views that are one have the same strides
+pub strides_of_view : (v w : View) → v ≡ w → v.strides ≡ w.strides
+strides_of_view v w same = ap View.strides same

@@ -1,0 +1,2 @@
+pub mod CommonShapes
+pub mod Counts

@@ -1,0 +1,132 @@
+//! Lists of numbers as the layer's values: layouts, and views of them.
+ghost use Rattle.std.specs.Prelude.{◌≡◌, ◌≢◌, ◌==◌, ◌||◌, not, None, Some, length, if◌then◌else◌, IfOk, IsOk, OnOk};
+ghost use Rattle.ndarray_layout.specs.declared.ErrorKind.{ErrorKind};
+ghost use Rattle.ndarray_layout.specs.Acceptance.{size_fault};
+ghost use Rattle.ndarray_layout.specs.Dim.{lengths};
+ghost use Rattle.ndarray_layout.specs.Lengths.{NeedsNoMemory};
+ghost use Rattle.ndarray_layout.specs.ShapeFault.{shape_fault};
+ghost use Rattle.ndarray_layout.specs.Signed.{all_signed};
+ghost use Rattle.ndarray_layout.specs.ValidLayout.{IsValidLayout};
+ghost use Rattle.ndarray_layout.specs.View.{view_of};
+ghost use Rattle.ndarray_layout_c.specs.Status.{bad_argument, ok};
+ghost use Rattle.ndarray_layout_c.specs.LayoutFault.{layout_fault, layout_fault_from, lowest_view, own_layout_fault};
+
+use crate::statuses::{BAD_ARGUMENT, OK};
+use ndarray_layout::{
+    CanIndexCheckMode, IxDyn, LayoutError, Lengths, StrideShape, Strided, Strides, new_ixdyn, span_of_lengths,
+};
+use std::alloc::Global;
+
+/// A shape and its strides, of which every sum fits.
+///
+/// Errors: those of `span_of_lengths` for elements of one byte; out of memory, never for at most four entries.
+pub(crate) fn layout(
+    alloc: Global,
+    shape: &[usize],
+    strides: &[usize],
+) -> Result<(IxDyn, IxDyn), LayoutError>
+    ensures fits { OnOk result (size_fault 1 shape.now (all_signed strides.now) ≡ None) }
+    ensures fault { (kind : ErrorKind) → shape_fault result ≡ Some kind →
+        size_fault 1 shape.now (all_signed strides.now) ≡ Some kind }
+    ensures memory { NeedsNoMemory None (length shape.now) →
+        NeedsNoMemory None (length strides.now) → shape_fault result ≡ None → IsOk result }
+    ensures shape { IfOk result (λ both. lengths both.0 ≡ shape.now) }
+    ensures strides { IfOk result (λ both. lengths both.1 ≡ strides.now) }
+    ensures valid { OnOk result (IsValidLayout shape.now (all_signed strides.now)) }
+{
+    span_of_lengths(1, shape, strides)?;
+    Ok((new_ixdyn(alloc, shape)?, new_ixdyn(alloc, strides)?))
+}
+
+/// The view of a layout from the lowest start that it can have.
+///
+/// Errors: those of `Strided::new`; out of memory, never for at most four entries.
+pub(crate) fn view(
+    alloc: Global,
+    shape: &[usize],
+    strides: &[usize],
+) -> Result<Strided<IxDyn>, LayoutError>
+    ensures fits { OnOk result (layout_fault shape.now (all_signed strides.now) ≡ None) }
+    ensures fault { (kind : ErrorKind) → shape_fault result ≡ Some kind →
+        layout_fault shape.now (all_signed strides.now) ≡ Some kind }
+    ensures memory { NeedsNoMemory None (length shape.now) →
+        NeedsNoMemory None (length strides.now) → shape_fault result ≡ None → IsOk result }
+    ensures view { IfOk result (λ v. v ≡ lowest_view shape.now strides.now) }
+{
+    let (dim, strides) = (new_ixdyn(alloc, shape)?, new_ixdyn(alloc, strides)?);
+    Ok(Strided::new(
+        dim,
+        strides,
+        1,
+        usize::MAX,
+        CanIndexCheckMode::ReadOnly,
+    )?)
+}
+
+/// The view of a layout from a start.
+///
+/// Errors: those of `Strided::from_parts`; out of memory, never for at most four entries.
+pub(crate) fn view_from(
+    alloc: Global,
+    start: usize,
+    shape: &[usize],
+    strides: &[usize],
+) -> Result<Strided<IxDyn>, LayoutError>
+    ensures fits { OnOk result
+        (layout_fault_from start shape.now (all_signed strides.now) ≡ None) }
+    ensures fault { (kind : ErrorKind) → shape_fault result ≡ Some kind →
+        layout_fault_from start shape.now (all_signed strides.now) ≡ Some kind }
+    ensures memory { NeedsNoMemory None (length shape.now) →
+        NeedsNoMemory None (length strides.now) → shape_fault result ≡ None → IsOk result }
+    ensures view { IfOk result (λ v. v ≡ view_of start shape.now strides.now) }
+{
+    let (dim, strides) = (new_ixdyn(alloc, shape)?, new_ixdyn(alloc, strides)?);
+    Ok(Strided::from_parts(
+        start,
+        dim,
+        strides,
+        1,
+        usize::MAX,
+        CanIndexCheckMode::ReadOnly,
+    )?)
+}
+
+/// The view of a shape by its own strides.
+///
+/// Errors: those of `Strided::from_shape`; out of memory, never for at most four entries.
+pub(crate) fn own_view(alloc: Global, shape: &[usize]) -> Result<Strided<IxDyn>, LayoutError>
+    ensures fits { OnOk result (own_layout_fault shape.now ≡ None) }
+    ensures fault { (kind : ErrorKind) → shape_fault result ≡ Some kind →
+        own_layout_fault shape.now ≡ Some kind }
+    ensures memory { NeedsNoMemory None (length shape.now) →
+        shape_fault result ≡ None → IsOk result }
+    ensures shape { IfOk result (λ v. v.shape ≡ shape.now) }
+{
+    let dim = new_ixdyn(alloc, shape)?;
+    let strides = Strides::C;
+    Strided::from_shape(
+        alloc,
+        StrideShape { dim, strides },
+        1,
+        usize::MAX,
+        CanIndexCheckMode::ReadOnly,
+    )
+}
+
+/// Writes the lengths and the strides of a view, and returns the status.
+#[tactic(auto, using(crate::proofs::Counts::length_all_signed))]
+pub(crate) fn write_axes(view: &Strided<IxDyn>, shape: &mut [usize], strides: &mut [usize]) -> i32
+    ensures status { result ≡ (if not (length shape.old == length view.now.shape)
+        || not (length strides.old == length view.now.shape) then bad_argument else ok) }
+    ensures shape { result ≡ ok → shape.new ≡ view.now.shape }
+    ensures strides { result ≡ ok → all_signed strides.new ≡ view.now.strides }
+    ensures unchanged { result ≢ ok → (shape.new ≡ shape.old) × (strides.new ≡ strides.old) }
+{
+    let (dim, kept) = (view.dim(), view.strides());
+    if shape.len() != dim.ndim() || strides.len() != dim.ndim() {
+        return BAD_ARGUMENT;
+    }
+    shape.copy_from_slice(dim.slice());
+    strides.copy_from_slice(kept.slice());
+    OK
+}
