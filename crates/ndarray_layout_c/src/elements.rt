@@ -68,10 +68,7 @@ pub(crate) fn few_elems(raws: &[RawElem]) -> [SliceInfoElem; FEW]
 }
 
 /// The meanings of any number of elements.
-pub(crate) fn many_elems(
-    alloc: Global,
-    raws: &[RawElem],
-) -> Result<Vec<SliceInfoElem>, AllocError>
+pub(crate) fn many_elems(alloc: Global, raws: &[RawElem]) -> Result<Vec<SliceInfoElem>, AllocError>
     ensures { IfOk result (λ elems. elems.items ≡ elems_named raws.now) }
 {
     let mut elems = Vec::with_capacity(alloc, raws.len())?;

@@ -18,8 +18,8 @@ use crate::arguments::{answer_of, is_choice, order_named};
 use crate::lists::view_from;
 use crate::statuses::{BAD_ARGUMENT, OK, OUT_OF_BOUNDS, OUT_OF_MEMORY, status_of};
 use ndarray_layout::{
-    ErrorKind, IxDyn, LayoutError, Lengths, Order, Strided, from_kind, is_index, new_ixdyn, product,
-    step_by_columns, step_by_rows,
+    ErrorKind, IxDyn, LayoutError, Lengths, Order, Strided, from_kind, is_index, new_ixdyn,
+    product, step_by_columns, step_by_rows,
 };
 use std::alloc::Global;
 

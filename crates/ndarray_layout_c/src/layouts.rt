@@ -21,8 +21,9 @@ use crate::arguments::{answer_of, is_choice, mode_named};
 use crate::lists::layout;
 use crate::statuses::{BAD_ARGUMENT, OK, OUT_OF_MEMORY, status_of};
 use ndarray_layout::{
-    CanIndexCheckMode, Dimension, IxDyn, LayoutError, Lengths, Order, Strided, accept, default_strides, fortran_strides, has_overlap,
-    is_layout_c, is_layout_f, low_span, new_ixdyn, size_of_shape_checked, span_of_lengths,
+    CanIndexCheckMode, Dimension, IxDyn, LayoutError, Lengths, Order, Strided, accept,
+    default_strides, fortran_strides, has_overlap, is_layout_c, is_layout_f, low_span, new_ixdyn,
+    size_of_shape_checked, span_of_lengths,
 };
 use std::alloc::Global;
 

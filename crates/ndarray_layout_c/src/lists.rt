@@ -13,7 +13,8 @@ ghost use Rattle.ndarray_layout_c.specs.LayoutFault.{layout_fault, layout_fault_
 
 use crate::statuses::{BAD_ARGUMENT, OK};
 use ndarray_layout::{
-    CanIndexCheckMode, IxDyn, LayoutError, Lengths, StrideShape, Strided, Strides, new_ixdyn, span_of_lengths,
+    CanIndexCheckMode, IxDyn, LayoutError, Lengths, StrideShape, Strided, Strides, new_ixdyn,
+    span_of_lengths,
 };
 use std::alloc::Global;
 
@@ -54,13 +55,7 @@ pub(crate) fn view(
     ensures view { IfOk result (λ v. v ≡ lowest_view shape.now strides.now) }
 {
     let (dim, strides) = (new_ixdyn(alloc, shape)?, new_ixdyn(alloc, strides)?);
-    Ok(Strided::new(
-        dim,
-        strides,
-        1,
-        usize::MAX,
-        CanIndexCheckMode::ReadOnly,
-    )?)
+    Ok(Strided::new(dim, strides, 1, usize::MAX, CanIndexCheckMode::ReadOnly)?)
 }
 
 /// The view of a layout from a start.

@@ -24,8 +24,8 @@ use crate::statuses::{
     BAD_ARGUMENT, INCOMPATIBLE_SHAPE, OK, OUT_OF_BOUNDS, OUT_OF_MEMORY, UNSUPPORTED, status_of,
 };
 use ndarray_layout::{
-    Axis, IxDyn, LayoutError, Lengths, Order, Strided, fill_common_shape, have_common_shape, merge_fitting, new_ixdyn,
-    span_of_lengths,
+    Axis, IxDyn, LayoutError, Lengths, Order, Strided, fill_common_shape, have_common_shape,
+    merge_fitting, new_ixdyn, span_of_lengths,
 };
 use std::alloc::{AllocError, Global};
 
