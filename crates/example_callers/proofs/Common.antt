@@ -22,7 +22,8 @@ in_common one other common found =
 takes : (one other common : List ℕ) → common_shape one other ≡ Some common → takes_in common one ≡ true
 takes one other common found = (takes_in-Decides common one).1 (in_common one other common found)
 
-pub same_fault : (one other common : List ℕ) → common_shape one other ≡ Some common → broadcast_fault common other ≡ broadcast_fault common one
+pub same_fault : (one other common : List ℕ) → common_shape one other ≡ Some common
+    → broadcast_fault common other ≡ broadcast_fault common one
 same_fault one other common found =
     rw (takes one other common found, takes other one common (common_shape-commutes other one ∙ found)) refl
 
@@ -30,10 +31,12 @@ same_fault one other common found =
 abbrev pub fault_of_both : List ℕ → List ℕ → Option ErrorKind
 fault_of_both one other = option_map_or (λ common. broadcast_fault common one) (common_shape one other) (Some IncompatibleShape)
 
-pub fault_in_common : (one other common : List ℕ) → common_shape one other ≡ Some common → broadcast_fault common one ≡ fault_of_both one other
+pub fault_in_common : (one other common : List ℕ) → common_shape one other ≡ Some common
+    → broadcast_fault common one ≡ fault_of_both one other
 fault_in_common one other common found = rw found refl
 
-pub fault_of_none : (one other : List ℕ) (fault : Option ErrorKind) → fault ≡ common_shape_fault one other → (common_shape_fault one other ≡ None → ⊥) → fault ≡ fault_of_both one other
+pub fault_of_none : (one other : List ℕ) (fault : Option ErrorKind) → fault ≡ common_shape_fault one other
+    → (common_shape_fault one other ≡ None → ⊥) → fault ≡ fault_of_both one other
 fault_of_none one other fault is refused = by (common_shape one other) refl
   where
     by : (common : Option (List ℕ)) → common_shape one other ≡ common → fault ≡ fault_of_both one other
@@ -48,13 +51,15 @@ pub fault_with_none : (one other : List ℕ) → common_shape one other ≡ None
 fault_with_none one other none = rw none refl
 
 -- an error that is handed on has the same fault
-pub handed_on : {X : Type 0} (Y : Type 0) (result : Result X LayoutError) (error : LayoutError) (fault : Option ErrorKind) → IsErrAnd result (λ e. e ≡ error) → shape_fault {X = Y} (Err error) ≡ fault
+pub handed_on : {X : Type 0} (Y : Type 0) (result : Result X LayoutError) (error : LayoutError) (fault : Option ErrorKind) → IsErrAnd
+    result (λ e. e ≡ error) → shape_fault {X = Y} (Err error) ≡ fault
     → shape_fault result ≡ fault
 handed_on Y (Ok x) error fault is same = absurd is
 handed_on Y (Err e) error fault is same = ap (λ f. shape_fault {X = Y} (Err f)) is ∙ same
 
 -- where it has none, there was none
-pub unrefused : {X : Type 0} {fault : Option ErrorKind} (Y : Type 0) (result : Result X LayoutError) (error : LayoutError) → IsErrAnd result (λ e. e ≡ error) → shape_fault {X = Y} (Err error) ≡ fault
+pub unrefused : {X : Type 0} {fault : Option ErrorKind} (Y : Type 0) (result : Result X LayoutError) (error : LayoutError) → IsErrAnd
+    result (λ e. e ≡ error) → shape_fault {X = Y} (Err error) ≡ fault
     → shape_fault result ≡ None → fault ≡ None
 unrefused Y (Ok x) error is same none = absurd is
 unrefused Y (Err e) error is same none = sym same ∙ sym (ap (λ f. shape_fault {X = Y} (Err f)) is) ∙ none

@@ -17,9 +17,11 @@ use Rattle.ndarray_layout.proofs.laws.ArgumentFault.{elements_of_no_fault}
 use Rattle.ndarray_layout.proofs.laws.SlicedView.{fits_of_no_refusal}
 use Rattle.ndarray_layout.proofs.laws.UnitStep.{length-picks_by_one, ranges, selected_by_ranges}
 
-pub place_in_crop : (view : View) (elems : List SliceInfoElem) (top left : ℕ) (bottom right : Option ℤ) (made : Result View LayoutError) → elems ≡ ranges (top ∷ left ∷ []) (bottom ∷ right ∷ [])
+pub place_in_crop : (view : View) (elems : List SliceInfoElem) (top left : ℕ) (bottom right : Option ℤ) (made : Result View LayoutError)
+    → elems ≡ ranges (top ∷ left ∷ []) (bottom ∷ right ∷ [])
     → IfOk made (λ crop. crop ≡ slice_of Strict elems view) → IfOk made (λ crop. Descends (selected Strict elems view.shape) view crop)
-    → IfOk made (λ crop. (i j : ℕ) → IsTrue (is_index crop.shape (i ∷ j ∷ [])) → place_at crop (i ∷ j ∷ []) ≡ place_at view ((top + i) ∷ (left + j) ∷ []))
+    → IfOk made (λ crop. (i j : ℕ) → IsTrue (is_index crop.shape (i ∷ j ∷ [])) → place_at crop (i ∷ j ∷ []) ≡ place_at view
+    ((top + i) ∷ (left + j) ∷ []))
 place_in_crop view elems top left bottom right (Ok crop) are is kept = λ i j here.
     let of_slice = rw (is, are) at here in
     (kept.places (i ∷ j ∷ []) here).1
@@ -28,7 +30,9 @@ place_in_crop view elems top left bottom right (Ok crop) are is kept = λ i j he
 place_in_crop view elems top left bottom right (Err e) are is kept = tt
 
 -- two elements for two axes
-sizes : (top bottom left right : ℕ) (shape : List ℕ) → 2 ≡ length shape → sliced_shape Strict (ranges (top ∷ left ∷ []) (Some (pos bottom) ∷ Some (pos right) ∷ [])) shape ≡ (bottom - top) ∷ (right - left) ∷ []
+sizes : (top bottom left right : ℕ) (shape : List ℕ) → 2 ≡ length shape
+    → sliced_shape Strict (ranges (top ∷ left ∷ []) (Some (pos bottom) ∷ Some (pos right) ∷ []))
+    shape ≡ (bottom - top) ∷ (right - left) ∷ []
 sizes top bottom left right [] count = absurd (omega arith)
 sizes top bottom left right (rows ∷ []) count = absurd (omega arith)
 sizes top bottom left right (rows ∷ columns ∷ []) count =
@@ -38,29 +42,37 @@ sizes top bottom left right (rows ∷ columns ∷ []) count =
 sizes top bottom left right (rows ∷ columns ∷ more ∷ shape) count = absurd (omega arith)
 
 -- `..` leaves all columns
-sizes_of_band : (top bottom : ℕ) (shape : List ℕ) → 2 ≡ length shape → sliced_shape Strict (ranges (top ∷ 0 ∷ []) (Some (pos bottom) ∷ None ∷ [])) shape ≡ (bottom - top) ∷ slice_index shape 1 ∷ []
+sizes_of_band : (top bottom : ℕ) (shape : List ℕ) → 2 ≡ length shape
+    → sliced_shape Strict (ranges (top ∷ 0 ∷ []) (Some (pos bottom) ∷ None ∷ [])) shape ≡ (bottom - top) ∷ slice_index shape 1 ∷ []
 sizes_of_band top bottom [] count = absurd (omega arith)
 sizes_of_band top bottom (rows ∷ []) count = absurd (omega arith)
 sizes_of_band top bottom (rows ∷ columns ∷ []) count =
     let first = length-picks_by_one Strict rows (pos top) (Some (pos bottom)) in
-    let all : length (picks Strict columns (slice_with (pos 0) None (pos 1))) ≡ columns = omega (arith, length-picks_by_one Strict columns (pos 0) None) in
+    let all : length (picks Strict columns (slice_with (pos 0) None (pos 1))) ≡ columns =
+    omega (arith, length-picks_by_one Strict columns (pos 0) None) in
     cc
 sizes_of_band top bottom (rows ∷ columns ∷ more ∷ shape) count = absurd (omega arith)
 
 -- an argument with two elements that fits is for two axes
-two_axes : (view : View) (elems : List SliceInfoElem) → in_count elems ≡ 2 → None ≡ slice_refusal Strict (Some 2) view.shape elems → 2 ≡ length view.shape
-two_axes view elems two none = sym two ∙ (elements_of_no_fault Strict view.shape elems (fits_of_no_refusal Strict (Some 2) view.shape elems (sym none))).0
+two_axes : (view : View) (elems : List SliceInfoElem) → in_count elems ≡ 2 → None ≡ slice_refusal Strict (Some 2) view.shape elems
+    → 2 ≡ length view.shape
+two_axes view elems two none = sym two
+    ∙ (elements_of_no_fault Strict view.shape elems (fits_of_no_refusal Strict (Some 2) view.shape elems (sym none))).0
 
-pub shape_of_band : (view : View) (elems : List SliceInfoElem) (top bottom : ℕ) (made : Result View LayoutError) → elems ≡ ranges (top ∷ 0 ∷ []) (Some (pos bottom) ∷ None ∷ [])
+pub shape_of_band : (view : View) (elems : List SliceInfoElem) (top bottom : ℕ) (made : Result View LayoutError)
+    → elems ≡ ranges (top ∷ 0 ∷ []) (Some (pos bottom) ∷ None ∷ [])
     → shape_fault made ≡ slice_refusal Strict (Some 2) view.shape elems → IfOk made (λ band. band ≡ slice_of Strict elems view)
     → IfOk made (λ band. band.shape ≡ (bottom - top) ∷ slice_index view.shape 1 ∷ [])
 shape_of_band view elems top bottom (Ok band) are fault is =
-    ap (λ made. made.shape) is ∙ ap (λ all. sliced_shape Strict all view.shape) are ∙ sizes_of_band top bottom view.shape (two_axes view elems (ap in_count are) fault)
+    ap (λ made. made.shape) is ∙ ap (λ all. sliced_shape Strict all view.shape) are
+    ∙ sizes_of_band top bottom view.shape (two_axes view elems (ap in_count are) fault)
 shape_of_band view elems top bottom (Err e) are fault is = tt
 
-pub shape_of_crop : (view : View) (elems : List SliceInfoElem) (top bottom left right : ℕ) (made : Result View LayoutError) → elems ≡ ranges (top ∷ left ∷ []) (Some (pos bottom) ∷ Some (pos right) ∷ [])
+pub shape_of_crop : (view : View) (elems : List SliceInfoElem) (top bottom left right : ℕ) (made : Result View LayoutError)
+    → elems ≡ ranges (top ∷ left ∷ []) (Some (pos bottom) ∷ Some (pos right) ∷ [])
     → shape_fault made ≡ slice_refusal Strict (Some 2) view.shape elems → IfOk made (λ crop. crop ≡ slice_of Strict elems view)
     → IfOk made (λ crop. crop.shape ≡ (bottom - top) ∷ (right - left) ∷ [])
 shape_of_crop view elems top bottom left right (Ok crop) are fault is =
-    ap (λ made. made.shape) is ∙ ap (λ all. sliced_shape Strict all view.shape) are ∙ sizes top bottom left right view.shape (two_axes view elems (ap in_count are) fault)
+    ap (λ made. made.shape) is ∙ ap (λ all. sliced_shape Strict all view.shape) are
+    ∙ sizes top bottom left right view.shape (two_axes view elems (ap in_count are) fault)
 shape_of_crop view elems top bottom left right (Err e) are fault is = tt

@@ -1,5 +1,6 @@
 -- What the next word makes of words that begin as the text of a picture does.
-use Rattle.std.proofs.Common.{◌≡◌, ℕ, ◌*◌, ◌<◌, ◌≤◌, List, [], ◌∷◌, ◌++◌, length, take, get_or, Some, None, inl, inr, refl, sym, ap, subst, ◌∙◌, arith, append_assoc, length-append}
+use Rattle.std.proofs.Common.{◌≡◌, ℕ, ◌*◌, ◌<◌, ◌≤◌, List, [], ◌∷◌, ◌++◌, length, take, get_or, Some, None, inl, inr, refl, sym, ap, subst}
+use Rattle.std.proofs.Common.{◌∙◌, arith, append_assoc, length-append}
 use Rattle.std.specs.List.{EachIndex}
 use Rattle.std.proofs.Math.ListN.{get_or-append}
 use Rattle.std.proofs.Math.Seq.{take-append_seam, get_or-append_seam}
@@ -9,7 +10,8 @@ use Rattle.example_tiles_edits.specs.picture.BinaryPicture.{HasHeader}
 use Rattle.example_tiles_edits.specs.FirstWords.{StandsFirst, StandsNumber}
 use Rattle.example_tiles_edits.specs.Numbers.{number_of}
 use Rattle.example_tiles_edits.specs.Words.{NumberedWord}
-use Rattle.example_tiles_edits.specs.picture.PictureWords.{BeginWith, Bounds, GoesOn, HasNoNumber, IsBetween, IsFaultOfWords, MayFollow, greatest_white, magic_of, next_number}
+use Rattle.example_tiles_edits.specs.picture.PictureWords.{BeginWith, Bounds, GoesOn, HasNoNumber, IsBetween, IsFaultOfWords, MayFollow}
+use Rattle.example_tiles_edits.specs.picture.PictureWords.{greatest_white, magic_of, next_number}
 use Rattle.example_tiles_edits.specs.declared.picture.header.Format.{Format}
 use Rattle.example_tiles_edits.specs.declared.picture.header.Format.TheVariants.{Plain, Binary}
 use Rattle.example_tiles_edits.specs.declared.picture.fault.Fault.TheVariants.{Ended}
@@ -17,14 +19,18 @@ use Rattle.example_tiles_edits.specs.declared.picture.fault.Fault.TheVariants.{E
 abbrev pub AreAllowed : Format → List ℕ → Type 0
 AreAllowed format numbers = EachIndex numbers (λ k. MayFollow format (take k numbers) (get_or numbers k 0))
 
-allowed_more : (format : Format) (numbers : List ℕ) (n : ℕ) → AreAllowed format numbers → MayFollow format numbers n → AreAllowed format (numbers ++ n ∷ [])
+allowed_more : (format : Format) (numbers : List ℕ) (n : ℕ) → AreAllowed format numbers → MayFollow format numbers n
+    → AreAllowed format (numbers ++ n ∷ [])
 allowed_more format numbers n allowed last k below = elim (cases_lt k (length numbers)) [
-  | inl before ↦ let some : k ≤ length numbers = omega arith in rw (take-append-le k numbers (n ∷ []) some, get_or-append numbers (n ∷ []) 0 k before) (allowed k before)
-  | inr past ↦ let at_the_end : k ≡ length numbers = omega (arith, length-append numbers (n ∷ [])) in rw (at_the_end, take-append_seam numbers (n ∷ []), get_or-append_seam numbers n [] 0) last
+  | inl before ↦ let some : k ≤ length numbers = omega arith in rw
+      (take-append-le k numbers (n ∷ []) some, get_or-append numbers (n ∷ []) 0 k before) (allowed k before)
+  | inr past ↦ let at_the_end : k ≡ length numbers = omega (arith, length-append numbers (n ∷ [])) in rw
+      (at_the_end, take-append_seam numbers (n ∷ []), get_or-append_seam numbers n [] 0) last
 ]
 
 -- ---- the first word
-pub begun_by_magic : (format : Format) (words rest : List NumberedWord) (line : ℕ) (word : List ℕ) → words ≡ (line, word) ∷ rest → word ≡ magic_of format → BeginWith format words [] rest
+pub begun_by_magic : (format : Format) (words rest : List NumberedWord) (line : ℕ) (word : List ℕ) → words ≡ (line, word) ∷ rest
+    → word ≡ magic_of format → BeginWith format words [] rest
 begun_by_magic format words rest line word first magic = record {
   line = line;
   spelled = [];
@@ -34,21 +40,29 @@ begun_by_magic format words rest line word first magic = record {
 }
 
 -- ---- the words after it
-number_more : (format : Format) (all rest : List NumberedWord) (numbers : List ℕ) (line n : ℕ) (word : List ℕ) → BeginWith format all numbers ((line, word) ∷ rest) → number_of word ≡ Some n → MayFollow format numbers n → BeginWith format all (numbers ++ n ∷ []) rest
+number_more : (format : Format) (all rest : List NumberedWord) (numbers : List ℕ) (line n : ℕ) (word : List ℕ)
+    → BeginWith format all numbers ((line, word) ∷ rest) → number_of word ≡ Some n → MayFollow format numbers n
+    → BeginWith format all (numbers ++ n ∷ []) rest
 number_more format all rest numbers line n word begun spells follows = record {
   line = begun.line;
   spelled = begun.spelled ++ (line, word) ∷ [];
-  parts = begun.parts ∙ ap (λ (others : List NumberedWord). (begun.line, magic_of format) ∷ others) (sym (append_assoc begun.spelled ((line, word) ∷ []) rest));
-  spell = rw (map-append (λ (word : NumberedWord). number_of word.1) begun.spelled ((line, word) ∷ []), begun.spell, spells) (sym (map-append Some numbers (n ∷ [])));
+  parts = begun.parts
+      ∙ ap (λ (others : List NumberedWord). (begun.line, magic_of format) ∷ others)
+      (sym (append_assoc begun.spelled ((line, word) ∷ []) rest));
+  spell = rw (map-append (λ (word : NumberedWord). number_of word.1) begun.spelled ((line, word) ∷ []), begun.spell, spells)
+      (sym (map-append Some numbers (n ∷ [])));
   allowed = allowed_more format numbers n begun.allowed follows;
 }
 
-pub one_more : (format : Format) (all words rest : List NumberedWord) (numbers : List ℕ) (line n : ℕ) (word : List ℕ) (bounds : Bounds) → BeginWith format all numbers words → next_number format numbers ≡ Some bounds
+pub one_more : (format : Format) (all words rest : List NumberedWord) (numbers : List ℕ) (line n : ℕ) (word : List ℕ) (bounds : Bounds)
+    → BeginWith format all numbers words → next_number format numbers ≡ Some bounds
     → words ≡ (line, word) ∷ rest → number_of word ≡ Some n → IsBetween bounds n → BeginWith format all (numbers ++ n ∷ []) rest
 one_more format all words rest numbers line n word bounds begun expected first spells between =
-    number_more format all rest numbers line n word (subst (λ (left : List NumberedWord). BeginWith format all numbers left) first begun) spells (rw expected between)
+    number_more format all rest numbers line n word (subst (λ (left : List NumberedWord). BeginWith format all numbers left) first begun)
+    spells (rw expected between)
 
-pub no_number : (format : Format) (all words rest : List NumberedWord) (numbers : List ℕ) (line : ℕ) (word : List ℕ) (bounds : Bounds) → BeginWith format all numbers words → next_number format numbers ≡ Some bounds
+pub no_number : (format : Format) (all words rest : List NumberedWord) (numbers : List ℕ) (line : ℕ) (word : List ℕ) (bounds : Bounds)
+    → BeginWith format all numbers words → next_number format numbers ≡ Some bounds
     → words ≡ (line, word) ∷ rest → ((n : ℕ) → number_of word ≡ Some n → ¬ (IsBetween bounds n)) → HasNoNumber all line bounds
 no_number format all words rest numbers line word bounds begun expected first other = record {
   format = format;
@@ -60,7 +74,8 @@ no_number format all words rest numbers line word bounds begun expected first ot
   other = other;
 }
 
-pub unfinished : (format : Format) (all words : List NumberedWord) (numbers : List ℕ) (bounds : Bounds) → BeginWith format all numbers words → next_number format numbers ≡ Some bounds → words ≡ [] → IsFaultOfWords all Ended
+pub unfinished : (format : Format) (all words : List NumberedWord) (numbers : List ℕ) (bounds : Bounds)
+    → BeginWith format all numbers words → next_number format numbers ≡ Some bounds → words ≡ [] → IsFaultOfWords all Ended
 unfinished format all words numbers bounds begun expected none = inr (record {
   format = format;
   numbers = numbers;
@@ -69,7 +84,8 @@ unfinished format all words numbers bounds begun expected none = inr (record {
   expected = expected;
 })
 
-pub goes_on : (all words rest : List NumberedWord) (numbers : List ℕ) (line : ℕ) (word : List ℕ) → BeginWith Plain all numbers words → next_number Plain numbers ≡ None → words ≡ (line, word) ∷ rest → GoesOn all line
+pub goes_on : (all words rest : List NumberedWord) (numbers : List ℕ) (line : ℕ) (word : List ℕ) → BeginWith Plain all numbers words
+    → next_number Plain numbers ≡ None → words ≡ (line, word) ∷ rest → GoesOn all line
 goes_on all words rest numbers line word begun complete first = record {
   numbers = numbers;
   word = word;
@@ -79,15 +95,19 @@ goes_on all words rest numbers line word begun complete first = record {
 }
 
 -- ---- the pixels
-pub pixel_next : (columns rows white : ℕ) (pixels : List ℕ) → length pixels < rows * columns → next_number Plain (columns ∷ rows ∷ white ∷ pixels) ≡ Some (record { least = 0; greatest = white })
+pub pixel_next : (columns rows white : ℕ) (pixels : List ℕ) → length pixels < rows * columns → next_number Plain
+    (columns ∷ rows ∷ white ∷ pixels) ≡ Some (record { least = 0; greatest = white })
 pixel_next columns rows white pixels below = rw (lt-ltb (length pixels) (rows * columns) below) refl
 
-pub none_next : (columns rows white : ℕ) (pixels : List ℕ) → rows * columns ≤ length pixels → next_number Plain (columns ∷ rows ∷ white ∷ pixels) ≡ None
+pub none_next : (columns rows white : ℕ) (pixels : List ℕ) → rows * columns ≤ length pixels
+    → next_number Plain (columns ∷ rows ∷ white ∷ pixels) ≡ None
 none_next columns rows white pixels all = rw (le-ltb (length pixels) (rows * columns) all) refl
 
 -- ---- the header of a binary picture
-pub header_of_numbers : (text after_magic after_columns after_rows rest : List ℕ) (columns rows white : ℕ) → StandsFirst text (magic_of Binary) after_magic → StandsNumber after_magic columns after_columns
-    → StandsNumber after_columns rows after_rows → StandsNumber after_rows white rest → IsBetween (record { least = 1; greatest = greatest_white Binary }) white
+pub header_of_numbers : (text after_magic after_columns after_rows rest : List ℕ) (columns rows white : ℕ)
+    → StandsFirst text (magic_of Binary) after_magic → StandsNumber after_magic columns after_columns
+    → StandsNumber after_columns rows after_rows → StandsNumber after_rows white rest → IsBetween
+    (record { least = 1; greatest = greatest_white Binary }) white
     → HasHeader text (record { rows = rows; columns = columns }) white rest
 header_of_numbers text after_magic after_columns after_rows rest columns rows white magic first second third allowed = record {
   words = first.word ∷ second.word ∷ third.word ∷ [];

@@ -1,5 +1,6 @@
 -- What `parse` reads, in the words of the definition.
-use Rattle.std.proofs.Common.{◌≡◌, ◌≢◌, ℕ, ◌^◌, ◌<◌, Bool, true, false, cond, ◌&&◌, eqb, List, [], ◌∷◌, length, get_or, Some, None, Result, Ok, Err, refl, sym, ap, ◌∙◌, arith, eqb-true, nat_eq, Bor, MatchResult}
+use Rattle.std.proofs.Common.{◌≡◌, ◌≢◌, ℕ, ◌^◌, ◌<◌, Bool, true, false, cond, ◌&&◌, eqb, List, [], ◌∷◌, length, get_or, Some, None, Result}
+use Rattle.std.proofs.Common.{Ok, Err, refl, sym, ap, ◌∙◌, arith, eqb-true, nat_eq, Bor, MatchResult}
 use Rattle.std.specs.Result.{OkIff, result_ok}
 use Rattle.std.specs.Bool.{Decides}
 use Rattle.std.specs.Str.{IsUtf8, IsAscii, all_ascii_digits}
@@ -24,7 +25,8 @@ chosen : {A E : Type 0} (r : Result A E) (P : Type 0) (b : Bool) (x : A) → OkI
 chosen (Ok y) P b x h d = rw (d.1 h.0) (ap Some h.1)
 chosen (Err e) P b x h d = rw (false_from_ne_true b (λ t. h (d.0 t))) refl
 
-in_range : (ds : List ℕ) (fits : Bool) (Q : Type 0) → Decides fits Q → Decides (is_decimal ds && fits) ((all_ascii_digits ds ≡ true) × (0 < length ds) × Q)
+in_range : (ds : List ℕ) (fits : Bool) (Q : Type 0) → Decides fits Q
+    → Decides (is_decimal ds && fits) ((all_ascii_digits ds ≡ true) × (0 < length ds) × Q)
 in_range ds fits Q d = (
   λ t. (let p = and_parts (is_decimal ds) fits t in let q = and_parts _ _ p.0 in (q.1, ltb-true _ _ q.0, d.0 p.1)),
   λ h. and_from _ _ (and_from _ _ (lt-ltb _ _ h.1) h.0) (d.1 h.2),
@@ -38,7 +40,8 @@ pub digits_of_decimal : (ds : List ℕ) → is_decimal ds ≡ true → all_ascii
 digits_of_decimal ds e = (and_parts _ _ e).1
 
 plus_is_not : (text : List ℕ) → get_or text 0 0 ≡ plus_sign → is_decimal text ≡ false
-plus_is_not text e = false_from_ne_true _ (λ t. let p = and_parts _ _ t in not_in_digits own text plus_sign p.1 (λ r. omega arith) 0 (ltb-true _ _ p.0) e)
+plus_is_not text e =
+    false_from_ne_true _ (λ t. let p = and_parts _ _ t in not_in_digits own text plus_sign p.1 (λ r. omega arith) 0 (ltb-true _ _ p.0) e)
 
 digits_ascii : (ds : List ℕ) → all_ascii_digits ds ≡ true → IsAscii ds
 digits_ascii ds h = IsAscii-from_digits ds (own.to ds h)
@@ -47,8 +50,10 @@ not_utf8_is_not : (text : List ℕ) → ¬ (IsUtf8 text) → is_decimal text ≡
 not_utf8_is_not text bad = false_from_ne_true _ (λ t. bad (IsUtf8-from_ascii text (digits_ascii text (digits_of_decimal text t))))
 
 -- ---- numbers
-pub number_parsed : {E : Type 0} (text : List ℕ) (r : Result ℕ E) → ParsesUnsigned 32 10 text r → get_or text 0 0 ≢ plus_sign → result_ok r ≡ number_of text
-number_parsed text r h ne = chosen r _ _ _ (parse_plain own 32 text r h ne) (in_range text _ _ (Decides-ltb (digits_value 10 text) (2 ^ 32)))
+pub number_parsed : {E : Type 0} (text : List ℕ) (r : Result ℕ E) → ParsesUnsigned 32 10 text r → get_or text 0 0 ≢ plus_sign
+    → result_ok r ≡ number_of text
+number_parsed text r h ne =
+    chosen r _ _ _ (parse_plain own 32 text r h ne) (in_range text _ _ (Decides-ltb (digits_value 10 text) (2 ^ 32)))
 
 pub number_with_plus : (text : List ℕ) → get_or text 0 0 ≡ plus_sign → number_of text ≡ None
 number_with_plus text e = not_decimal text _ _ (plus_is_not text e)
@@ -65,10 +70,12 @@ pub no_plus : (text : List ℕ) → starts_with nat_eq text (plus_sign ∷ []) �
 no_plus [] e f = absurd (omega arith)
 no_plus (b ∷ bs) e f = eqb-false plus_sign b (sym (and-true (eqb plus_sign b)) ∙ e) (sym f)
 
-pub not_a_text : {S E : Type 0} (r : Result S E) (P : S → Type 0) (Q : E → Type 0) (text : List ℕ) → MatchResult r P (λ e. ¬ (IsUtf8 text) × Q e) → result_ok r ≡ None → ¬ (IsUtf8 text)
+pub not_a_text : {S E : Type 0} (r : Result S E) (P : S → Type 0) (Q : E → Type 0) (text : List ℕ)
+    → MatchResult r P (λ e. ¬ (IsUtf8 text) × Q e) → result_ok r ≡ None → ¬ (IsUtf8 text)
 not_a_text (Ok s) P Q text h e = absurd (cc)
 not_a_text (Err d) P Q text h e = h.0
 
-pub a_text : {E : Type 0} (r : Result (Bor (List ℕ)) E) (P : Type 0) (Q : E → Type 0) (text : List ℕ) (s : Bor (List ℕ)) → MatchResult r (λ t. (t.now ≡ text) × P) Q → result_ok r ≡ Some s → s.now ≡ text
+pub a_text : {E : Type 0} (r : Result (Bor (List ℕ)) E) (P : Type 0) (Q : E → Type 0) (text : List ℕ) (s : Bor (List ℕ))
+    → MatchResult r (λ t. (t.now ≡ text) × P) Q → result_ok r ≡ Some s → s.now ≡ text
 a_text (Ok t) P Q text s h e = ap (λ (x : Bor (List ℕ)). x.now) (sym (same_Some t s e)) ∙ h.0
 a_text (Err d) P Q text s h e = absurd (cc)

@@ -1,5 +1,6 @@
 -- A list up to the first byte that passes a test, and from there on.
-use Rattle.std.proofs.Common.{◌≡◌, ℕ, ◌+◌, ◌≤◌, ◌<◌, Bool, true, false, cond, eqb, Some, None, List, ◌∷◌, ◌++◌, length, get_or, take, drop, drop-cons, add-one, refl, sym, ap, ◌∙◌, arith}
+use Rattle.std.proofs.Common.{◌≡◌, ℕ, ◌+◌, ◌≤◌, ◌<◌, Bool, true, false, cond, eqb, Some, None, List, ◌∷◌, ◌++◌, length, get_or, take, drop}
+use Rattle.std.proofs.Common.{drop-cons, add-one, refl, sym, ap, ◌∙◌, arith}
 use Rattle.std.specs.List.{All, position, position_or_len}
 use Rattle.std.proofs.lemmas.Bool.{eqb-true, ltb-false}
 use Rattle.std.proofs.lemmas.List.{get_or-take, length-take-le, take-append-drop}
@@ -36,6 +37,8 @@ line_at xs at e =
     let found : get_or xs at 0 ≡ 10 = eqb-true (get_or xs at 0) 10 (position-Some (λ b. eqb b line_feed) xs at 0 e).1 in
     record {
       line = take at xs;
-      parts = sym (take-append-drop at xs) ∙ ap (λ (rest : List ℕ). take at xs ++ rest) (parts_at (λ b. eqb b line_feed) xs at e ∙ ap (λ (b : ℕ). b ∷ drop (at + 1) xs) found);
+      parts = sym (take-append-drop at xs)
+          ∙ ap (λ (rest : List ℕ). take at xs ++ rest)
+          (parts_at (λ b. eqb b line_feed) xs at e ∙ ap (λ (b : ℕ). b ∷ drop (at + 1) xs) found);
       plain = before_passes (λ b. eqb b line_feed) xs at e;
     }

@@ -1,10 +1,12 @@
 -- One piece more of a gap.
-use Rattle.std.proofs.Common.{◌≡◌, ℕ, ◌+◌, ◌≤◌, ◌<◌, eqb, eqb-true, Bool, true, false, List, [], ◌∷◌, ◌++◌, length, get_or, drop, inl, inr, refl, sym, ap, subst, ◌∙◌, append_assoc, length-append, lit≤, arith}
+use Rattle.std.proofs.Common.{◌≡◌, ℕ, ◌+◌, ◌≤◌, ◌<◌, eqb, eqb-true, Bool, true, false, List, [], ◌∷◌, ◌++◌, length, get_or, drop, inl, inr}
+use Rattle.std.proofs.Common.{refl, sym, ap, subst, ◌∙◌, append_assoc, length-append, lit≤, arith}
 use mir.Val.{bool_byte}
 use Rattle.std.specs.Char.{is_ascii_whitespace}
 use Rattle.std.specs.List.{All}
 use Rattle.std.proofs.lemmas.Bool.{cases_Bool}
-use Rattle.example_tiles_edits.specs.FirstWords.{HasGap, IsAfterLine, IsApart, IsAtWord, IsGap, IsSkipped, IsTaken, IsWord, TextLeft, ends_word, words_left}
+use Rattle.example_tiles_edits.specs.FirstWords.{HasGap, IsAfterLine, IsApart, IsAtWord, IsGap, IsSkipped, IsTaken, IsWord, TextLeft}
+use Rattle.example_tiles_edits.specs.FirstWords.{ends_word, words_left}
 use Rattle.example_tiles_edits.specs.FirstWords.IsGap.{none, blank, comment}
 use Rattle.example_tiles_edits.specs.Words.{line_feed, words_from}
 use Rattle.example_tiles_edits.proofs.laws.FirstWords.{words_from-blank, words_from-comment, words_from-last_comment, words_from-word}
@@ -13,7 +15,8 @@ pub IsGap-append : {gap other : List ℕ} → IsGap gap → IsGap other → IsGa
 IsGap-append none is = is
 IsGap-append (blank white gap) is = blank white (IsGap-append gap is)
 IsGap-append {other} (comment line gap plain is_gap) is =
-    subst (λ (text : List ℕ). IsGap (35 ∷ text)) (sym (append_assoc line (line_feed ∷ gap) other)) (comment line (gap ++ other) plain (IsGap-append is_gap is))
+    subst (λ (text : List ℕ). IsGap (35 ∷ text)) (sym (append_assoc line (line_feed ∷ gap) other))
+    (comment line (gap ++ other) plain (IsGap-append is_gap is))
 
 -- a text by its first byte
 pub by_first : (text rest : List ℕ) → 1 ≤ length text → rest ≡ drop 1 text → text ≡ get_or text 0 0 ∷ rest
@@ -32,13 +35,15 @@ pub shorter : (tail rest : List ℕ) → IsAfterLine tail rest → length rest �
 shorter tail rest (inl has) = omega (arith, ap length has.parts, length-append has.line (line_feed ∷ rest))
 shorter tail rest (inr (plain, is)) = omega (arith, ap length is)
 
-pub words_after_comment : (number : ℕ) (text tail rest : List ℕ) → text ≡ 35 ∷ tail → IsAfterLine tail rest → words_from (number + 1) rest ≡ words_from number text
+pub words_after_comment : (number : ℕ) (text tail rest : List ℕ) → text ≡ 35 ∷ tail → IsAfterLine tail rest
+    → words_from (number + 1) rest ≡ words_from number text
 words_after_comment number text tail rest is (inl has) =
     sym (ap (words_from number) (is ∙ ap (λ (others : List ℕ). 35 ∷ others) has.parts) ∙ words_from-comment number has.line rest has.plain)
 words_after_comment number text tail rest is (inr (plain, empty)) =
     ap (words_from (number + 1)) empty ∙ sym (ap (words_from number) is ∙ words_from-last_comment number tail plain)
 
-pub gap_after_comment : (initial text tail rest : List ℕ) → HasGap initial text → text ≡ 35 ∷ tail → IsAfterLine tail rest → 0 < length rest → HasGap initial rest
+pub gap_after_comment : (initial text tail rest : List ℕ) → HasGap initial text → text ≡ 35 ∷ tail → IsAfterLine tail rest
+    → 0 < length rest → HasGap initial rest
 gap_after_comment initial text tail rest has is (inl line) some =
     gap_and initial text rest (35 ∷ line.line ++ line_feed ∷ []) has
     (is ∙ ap (λ (others : List ℕ). 35 ∷ others) (line.parts ∙ sym (append_assoc line.line (line_feed ∷ []) rest)))
@@ -46,7 +51,8 @@ gap_after_comment initial text tail rest has is (inl line) some =
 gap_after_comment initial text tail rest has is (inr (plain, empty)) some = absurd (omega (arith, ap length empty))
 
 -- ---- white space
-pub words_after_blank : (number more b : ℕ) (text rest : List ℕ) → text ≡ b ∷ rest → is_ascii_whitespace b ≡ true → more ≡ bool_byte (eqb b 10) → words_from (number + more) rest ≡ words_from number text
+pub words_after_blank : (number more b : ℕ) (text rest : List ℕ) → text ≡ b ∷ rest → is_ascii_whitespace b ≡ true
+    → more ≡ bool_byte (eqb b 10) → words_from (number + more) rest ≡ words_from number text
 words_after_blank number more b text rest is white lines = elim (cases_Bool (eqb b 10)) [
   | inl same ↦
       let one : more ≡ 1 = lines ∙ rw same refl in
@@ -64,14 +70,16 @@ byte_small false = lit≤ tt
 pub one_line : (more b : ℕ) → more ≡ bool_byte (eqb b 10) → more ≤ 1
 one_line more b lines = omega (arith, lines, byte_small (eqb b 10))
 
-pub gap_after_blank : (initial text rest : List ℕ) (b : ℕ) → HasGap initial text → text ≡ b ∷ rest → is_ascii_whitespace b ≡ true → HasGap initial rest
+pub gap_after_blank : (initial text rest : List ℕ) (b : ℕ) → HasGap initial text → text ≡ b ∷ rest → is_ascii_whitespace b ≡ true
+    → HasGap initial rest
 gap_after_blank initial text rest b has is white = gap_and initial text rest (b ∷ []) has is (blank white none)
 
 pub no_gap : (text : List ℕ) → HasGap text text
 no_gap text = record { gap = []; parts = refl; is_gap = none }
 
 -- ---- a word
-pub word_taken : (text skipped : TextLeft) (word rest : List ℕ) → IsSkipped text skipped → skipped.bytes ≡ word ++ rest → All (λ b. ends_word b ≡ false) word → IsApart rest → 0 < length word
+pub word_taken : (text skipped : TextLeft) (word rest : List ℕ) → IsSkipped text skipped → skipped.bytes ≡ word ++ rest
+    → All (λ b. ends_word b ≡ false) word → IsApart rest → 0 < length word
     → IsTaken text (skipped.number, word) (record { number = skipped.number; bytes = rest })
 word_taken text skipped word rest is parts plain apart some =
     let is_word : IsWord word = record { some = some; plain = plain } in
@@ -91,6 +99,8 @@ none_taken : (number : ℕ) (bytes : List ℕ) → IsAtWord bytes → IsApart by
 none_taken number [] at apart = refl
 none_taken number (b ∷ bytes) at apart = absurd (let both : true ≡ false = sym apart ∙ at in cc)
 
-pub no_word : (text skipped : TextLeft) (word rest : List ℕ) → IsSkipped text skipped → skipped.bytes ≡ word ++ rest → IsApart rest → length word ≡ 0 → words_left text ≡ []
-no_word text skipped [] rest is parts apart empty = sym is.words ∙ none_taken skipped.number skipped.bytes is.at_word (subst IsApart (sym parts) apart)
+pub no_word : (text skipped : TextLeft) (word rest : List ℕ) → IsSkipped text skipped → skipped.bytes ≡ word ++ rest → IsApart rest
+    → length word ≡ 0 → words_left text ≡ []
+no_word text skipped [] rest is parts apart empty = sym is.words
+    ∙ none_taken skipped.number skipped.bytes is.at_word (subst IsApart (sym parts) apart)
 no_word text skipped (b ∷ word) rest is parts apart empty = absurd (omega arith)

@@ -1,5 +1,6 @@
 -- The bytes that follow the header of a binary picture.
-use Rattle.std.proofs.Common.{◌≡◌, ℕ, suc, ◌+◌, ◌<◌, ◌≤◌, Bool, true, false, ltb, Option, Some, None, List, ◌∷◌, length, get_or, take, drop, inr, refl, sym, ap, subst, ◌∙◌, arith}
+use Rattle.std.proofs.Common.{◌≡◌, ℕ, suc, ◌+◌, ◌<◌, ◌≤◌, Bool, true, false, ltb, Option, Some, None, List, ◌∷◌, length, get_or, take, drop}
+use Rattle.std.proofs.Common.{inr, refl, sym, ap, subst, ◌∙◌, arith}
 use Rattle.std.specs.Char.{is_ascii_whitespace}
 use Rattle.std.specs.List.{All, position}
 use Rattle.std.proofs.Math.Seq.{split_at}
@@ -27,9 +28,12 @@ none_found None none = refl
 none_found (Some at) none = absurd (none at refl)
 
 in_range : (white : ℕ) (bytes : List ℕ) → position (is_above white) bytes ≡ None → All (λ pixel. pixel ≤ white) bytes
-in_range white bytes found = All-weaker (λ b. is_above white b ≡ false) (λ b. b ≤ white) (λ b below. ltb-false white b below) bytes (none_passes (is_above white) bytes found)
+in_range white bytes found =
+    All-weaker (λ b. is_above white b ≡ false) (λ b. b ≤ white) (λ b below. ltb-false white b below) bytes
+    (none_passes (is_above white) bytes found)
 
-pub too_white : (text rest raster : List ℕ) (extent : Extent) (white space n at : ℕ) → rest ≡ space ∷ raster → is_ascii_whitespace space ≡ true → IsLeast (pixel_count extent) (length raster) n
+pub too_white : (text rest raster : List ℕ) (extent : Extent) (white space n at : ℕ) → rest ≡ space ∷ raster
+    → is_ascii_whitespace space ≡ true → IsLeast (pixel_count extent) (length raster) n
     → position (is_above white) (take n raster) ≡ Some at → HasHeader text extent white rest → HasTooWhite text (at + 1) white
 too_white text rest raster extent white space n at parts blank least found header =
     let passes = position-Some (is_above white) (take n raster) at 0 found in
@@ -56,8 +60,10 @@ too_white text rest raster extent white space n at parts blank least found heade
       next = omega (arith, front);
     }
 
-pub cut_off : (text rest raster : List ℕ) (extent : Extent) (white space n : ℕ) → rest ≡ space ∷ raster → is_ascii_whitespace space ≡ true → IsLeast (pixel_count extent) (length raster) n
-    → position (is_above white) (take n raster) ≡ None → length (take n raster) < pixel_count extent → HasHeader text extent white rest → IsCutOff text
+pub cut_off : (text rest raster : List ℕ) (extent : Extent) (white space n : ℕ) → rest ≡ space ∷ raster → is_ascii_whitespace space ≡ true
+    → IsLeast (pixel_count extent) (length raster) n
+    → position (is_above white) (take n raster) ≡ None → length (take n raster) < pixel_count extent → HasHeader text extent white rest
+    → IsCutOff text
 cut_off text rest raster extent white space n parts blank least found fewer header =
     let len : length (take n raster) ≡ n = length-take-le n raster least.of_len in
     let few : n < pixel_count extent = omega (arith, len) in
@@ -77,8 +83,10 @@ cut_off text rest raster extent white space n parts blank least found fewer head
       });
     }
 
-pub pixels_there : (rest raster : List ℕ) (extent : Extent) (white space n : ℕ) → rest ≡ space ∷ raster → is_ascii_whitespace space ≡ true → IsLeast (pixel_count extent) (length raster) n
-    → position (is_above white) (take n raster) ≡ None → pixel_count extent ≤ length (take n raster) → HasPixels rest (record { extent = extent; greatest = white; pixels = take n raster })
+pub pixels_there : (rest raster : List ℕ) (extent : Extent) (white space n : ℕ) → rest ≡ space ∷ raster → is_ascii_whitespace space ≡ true
+    → IsLeast (pixel_count extent) (length raster) n
+    → position (is_above white) (take n raster) ≡ None → pixel_count extent ≤ length (take n raster) → HasPixels rest
+    (record { extent = extent; greatest = white; pixels = take n raster })
 pixels_there rest raster extent white space n parts blank least found enough = record {
   space = space;
   others = drop n raster;

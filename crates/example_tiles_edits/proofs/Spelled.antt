@@ -1,5 +1,6 @@
 -- One edit more of those that words spell, and the span of a word by its parts at its first dot.
-use Rattle.std.proofs.Common.{◌≡◌, ◌≢◌, ◌⊎◌, inl, inr, eqb, ℕ, ◌+◌, ◌<◌, Bool, true, false, cond, IsSome, is_some, Option, Some, None, List, [], ◌∷◌, ◌++◌, Bor, length, get_or, map, take, drop, drop_of_length-le, refl, sym, ap, ◌∙◌, subst, arith}
+use Rattle.std.proofs.Common.{◌≡◌, ◌≢◌, ◌⊎◌, inl, inr, eqb, ℕ, ◌+◌, ◌<◌, Bool, true, false, cond, IsSome, is_some, Option, Some, None, List}
+use Rattle.std.proofs.Common.{[], ◌∷◌, ◌++◌, Bor, length, get_or, map, take, drop, drop_of_length-le, refl, sym, ap, ◌∙◌, subst, arith}
 use Rattle.std.specs.List.{before_first, position, position_or_len}
 use Rattle.std.proofs.lemmas.Bool.{ltb-false}
 use Rattle.std.proofs.lemmas.Bool.Decides.{eqb_tells}
@@ -13,26 +14,33 @@ cond_none : {A : Type 0} (b : Bool) (x : A) → cond b (Some x) None ≡ None �
 cond_none true x e = absurd (cc)
 cond_none false x e = refl
 
-spell_more : (words left : List (List ℕ)) (edits : List Edit) (edit : Edit) (taken : ℕ) → Spell words edits left → edit_first left ≡ Some (edit, taken) → Spell words (edits ++ edit ∷ []) (drop taken left)
+spell_more : (words left : List (List ℕ)) (edits : List Edit) (edit : Edit) (taken : ℕ) → Spell words edits left
+    → edit_first left ≡ Some (edit, taken) → Spell words (edits ++ edit ∷ []) (drop taken left)
 spell_more words left [] edit taken spell first = (taken, ap edit_first spell ∙ first, ap (drop taken) spell)
-spell_more words left (e ∷ edits) edit taken spell first = (spell.0, spell.1, spell_more (drop spell.0 words) left edits edit taken spell.2 first)
+spell_more words left (e ∷ edits) edit taken spell first =
+    (spell.0, spell.1, spell_more (drop spell.0 words) left edits edit taken spell.2 first)
 
-pub one_more : (words : List (List ℕ)) (edits : List Edit) (at taken : ℕ) (edit : Edit) → Spell words edits (drop at words) → edit_first (drop at words) ≡ Some (edit, taken) → Spell words (edits ++ edit ∷ []) (drop (at + taken) words)
+pub one_more : (words : List (List ℕ)) (edits : List Edit) (at taken : ℕ) (edit : Edit) → Spell words edits (drop at words)
+    → edit_first (drop at words) ≡ Some (edit, taken) → Spell words (edits ++ edit ∷ []) (drop (at + taken) words)
 one_more words edits at taken edit spell first =
     subst (Spell words (edits ++ edit ∷ [])) (drop-drop taken at words) (spell_more words (drop at words) edits edit taken spell first)
 
 -- where an edit more is spelled, words begin with one
-begins : (words left : List (List ℕ)) (edits : List Edit) (found : Edit × ℕ) → Spell words edits left → edit_first left ≡ Some found → IsSome (edit_first words)
+begins : (words left : List (List ℕ)) (edits : List Edit) (found : Edit × ℕ) → Spell words edits left → edit_first left ≡ Some found
+    → IsSome (edit_first words)
 begins words left [] found spell first = ap is_some (ap edit_first spell ∙ first)
 begins words left (e ∷ edits) found spell first = ap is_some spell.1
 
-pub begins_with : (words : List (Bor (List ℕ))) (edits : List Edit) (at : ℕ) (first : Edit × ℕ) (found : Option (Edit × ℕ)) → Spell (map (λ word. word.now) words) edits (drop at (map (λ word. word.now) words))
+pub begins_with : (words : List (Bor (List ℕ))) (edits : List Edit) (at : ℕ) (first : Edit × ℕ) (found : Option (Edit × ℕ))
+    → Spell (map (λ word. word.now) words) edits (drop at (map (λ word. word.now) words))
     → found ≡ edit_first (map (λ word. word.now) (drop at words)) → found ≡ Some first → IsSome (edit_first (map (λ word. word.now) words))
 begins_with words edits at first found spell read is =
-    begins (map (λ word. word.now) words) (drop at (map (λ word. word.now) words)) edits first spell (ap edit_first (drop-map (λ (word : Bor (List ℕ)). word.now) at words) ∙ sym read ∙ is)
+    begins (map (λ word. word.now) words) (drop at (map (λ word. word.now) words)) edits first spell
+    (ap edit_first (drop-map (λ (word : Bor (List ℕ)). word.now) at words) ∙ sym read ∙ is)
 
 -- ---- the word that can't be read
-pub stopped_at : (words : List (Bor (List ℕ))) (edits : List Edit) (at : ℕ) (found : Option (Edit × ℕ)) → Spell (map (λ word. word.now) words) edits (drop at (map (λ word. word.now) words)) → at < length words
+pub stopped_at : (words : List (Bor (List ℕ))) (edits : List Edit) (at : ℕ) (found : Option (Edit × ℕ))
+    → Spell (map (λ word. word.now) words) edits (drop at (map (λ word. word.now) words)) → at < length words
     → found ≡ edit_first (map (λ word. word.now) (drop at words)) → found ≡ None → IsUnreadable (map (λ word. word.now) words) (at + 1)
 stopped_at words edits at found spell below read none =
     record {
@@ -44,17 +52,22 @@ stopped_at words edits at found spell below read none =
       none = ap edit_first (drop-map (λ (word : Bor (List ℕ)). word.now) at words) ∙ sym read ∙ none;
     }
 
-pub read_more : (words : List (Bor (List ℕ))) (edits : List Edit) (at taken : ℕ) (edit : Edit) (found : Option (Edit × ℕ)) → Spell (map (λ word. word.now) words) edits (drop at (map (λ word. word.now) words))
-    → found ≡ edit_first (map (λ word. word.now) (drop at words)) → found ≡ Some (edit, taken) → Spell (map (λ word. word.now) words) (edits ++ edit ∷ []) (drop (at + taken) (map (λ word. word.now) words))
+pub read_more : (words : List (Bor (List ℕ))) (edits : List Edit) (at taken : ℕ) (edit : Edit) (found : Option (Edit × ℕ))
+    → Spell (map (λ word. word.now) words) edits (drop at (map (λ word. word.now) words))
+    → found ≡ edit_first (map (λ word. word.now) (drop at words)) → found ≡ Some (edit, taken)
+    → Spell (map (λ word. word.now) words) (edits ++ edit ∷ []) (drop (at + taken) (map (λ word. word.now) words))
 read_more words edits at taken edit found spell read is =
-    one_more (map (λ word. word.now) words) edits at taken edit spell (ap edit_first (drop-map (λ (word : Bor (List ℕ)). word.now) at words) ∙ sym read ∙ is)
+    one_more (map (λ word. word.now) words) edits at taken edit spell
+    (ap edit_first (drop-map (λ (word : Bor (List ℕ)). word.now) at words) ∙ sym read ∙ is)
 
 -- ---- the parts of a word at its first dot
 pub span_without : (word : List ℕ) → position is_dot word ≡ None → span_of word ≡ None
 span_without word e =
-    ap (span_between (number_of (before_first is_dot word))) (drop_of_length-le word {i = position_or_len is_dot word + 1} (omega (arith, ltb-false _ _ (cond_none _ _ e))))
+    ap (span_between (number_of (before_first is_dot word)))
+    (drop_of_length-le word {i = position_or_len is_dot word + 1} (omega (arith, ltb-false _ _ (cond_none _ _ e))))
 
-pub span_at : (word : List ℕ) (at : ℕ) → position is_dot word ≡ Some at → span_of word ≡ span_between (number_of (take at word)) (drop (at + 1) word)
+pub span_at : (word : List ℕ) (at : ℕ) → position is_dot word ≡ Some at
+    → span_of word ≡ span_between (number_of (take at word)) (drop (at + 1) word)
 span_at word at e =
     let same : position_or_len is_dot word ≡ at = (cond_some _ _ _ e).1 in
     rw same refl
@@ -78,11 +91,13 @@ not_dot b (inr differ) other = differ.0
 pub single_dot : (word : List ℕ) (at : ℕ) → position is_dot word ≡ Some at → get_or (drop (at + 1) word) 0 0 ≢ 46 → span_of word ≡ None
 single_dot word at e h = span_at word at e ∙ no_second_dot (number_of (take at word)) (drop (at + 1) word) (not_dot _ (eqb_tells _ 46) h)
 
-second_dot : (start : Option ℕ) (rest : List ℕ) → is_dot (get_or rest 0 0) ≡ true → span_between start rest ≡ both (λ first last. record { start = first; end = last }) start (number_of (drop 1 rest))
+second_dot : (start : Option ℕ) (rest : List ℕ) → is_dot (get_or rest 0 0) ≡ true → span_between start rest ≡ both
+    (λ first last. record { start = first; end = last }) start (number_of (drop 1 rest))
 second_dot start [] h = absurd (cc)
 second_dot start (b ∷ rest) h = rw h refl
 
-pub two_dots : (word : List ℕ) (at : ℕ) (start end : Option ℕ) → position is_dot word ≡ Some at → get_or (drop (at + 1) word) 0 0 ≡ 46 → start ≡ number_of (take at word) → end ≡ number_of (drop 1 (drop (at + 1) word))
+pub two_dots : (word : List ℕ) (at : ℕ) (start end : Option ℕ) → position is_dot word ≡ Some at → get_or (drop (at + 1) word) 0 0 ≡ 46
+    → start ≡ number_of (take at word) → end ≡ number_of (drop 1 (drop (at + 1) word))
     → span_of word ≡ both (λ first last. record { start = first; end = last }) start end
 two_dots word at start end e h s n =
     rw (s, n) (span_at word at e ∙ second_dot (number_of (take at word)) (drop (at + 1) word) (ap is_dot h))

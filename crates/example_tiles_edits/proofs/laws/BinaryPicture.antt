@@ -1,5 +1,6 @@
 -- Laws of the bytes of texts: what follows the header of a binary picture has the pixels of one picture or one fault.
-use Rattle.std.proofs.Common.{◌≡◌, ℕ, zero, suc, ◌+◌, ◌<◌, ◌≤◌, ◌⊎◌, true, cond, Option, Some, None, List, [], ◌∷◌, ◌++◌, length, map, take, inl, inr, refl, sym, ap, ◌∙◌, arith}
+use Rattle.std.proofs.Common.{◌≡◌, ℕ, zero, suc, ◌+◌, ◌<◌, ◌≤◌, ◌⊎◌, true, cond, Option, Some, None, List, [], ◌∷◌, ◌++◌, length, map, take}
+use Rattle.std.proofs.Common.{inl, inr, refl, sym, ap, ◌∙◌, arith}
 use Rattle.std.specs.Char.{is_ascii_whitespace}
 use Rattle.std.specs.List.{All, position}
 use Rattle.std.proofs.lemmas.Bool.{cases_Bool, cases_lt, lt-ltb, le-ltb}
@@ -30,10 +31,13 @@ same_extent : (extent other : Extent) → extent.rows ≡ other.rows → extent.
 unfolding extent_by
 same_extent extent other rows columns = ap (λ (n : ℕ). extent_by n extent.columns) rows ∙ ap (extent_by other.rows) columns
 
-pub same_header : (text : List ℕ) (extent other : Extent) (white another : ℕ) (rest others : List ℕ) → HasHeader text extent white rest → HasHeader text other another others → SameHeader extent other white another rest others
+pub same_header : (text : List ℕ) (extent other : Extent) (white another : ℕ) (rest others : List ℕ) → HasHeader text extent white rest
+    → HasHeader text other another others → SameHeader extent other white another rest others
 same_header text extent other white another rest others one two =
-    let count : length one.words ≡ length two.words = omega (arith, length-map one.words number_of, length-map two.words number_of, ap length one.spell, ap length two.spell) in
-    let words = same_words_first text (magic_of Binary ∷ one.words) (magic_of Binary ∷ two.words) rest others (omega arith) one.first two.first in
+    let count : length one.words ≡ length two.words =
+    omega (arith, length-map one.words number_of, length-map two.words number_of, ap length one.spell, ap length two.spell) in
+    let words =
+    same_words_first text (magic_of Binary ∷ one.words) (magic_of Binary ∷ two.words) rest others (omega arith) one.first two.first in
     let spelled : one.words ≡ two.words = (let all = words.0 in cc) in
     let numbers = sym one.spell ∙ ap (map number_of) spelled ∙ two.spell in
     record { extents = same_extent extent other (cc) (cc); whites = cc; rests = words.1 }
@@ -43,19 +47,23 @@ same_header text extent other white another rest others one two =
 abbrev raster_fault : ℕ → ℕ → ℕ → List ℕ → Option Fault
 raster_fault zero white number bytes = None
 raster_fault (suc count) white number [] = Some Ended
-raster_fault (suc count) white number (b ∷ bytes) = cond (is_above white b) (Some (TooWhite number white)) (raster_fault count white (number + 1) bytes)
+raster_fault (suc count) white number (b ∷ bytes) =
+    cond (is_above white b) (Some (TooWhite number white)) (raster_fault count white (number + 1) bytes)
 
 abbrev rest_fault : ℕ → ℕ → List ℕ → Option Fault
 rest_fault count white [] = Some Ended
 rest_fault count white (b ∷ bytes) = cond (is_ascii_whitespace b) (raster_fault count white 1 bytes) (Some NotApart)
 
-fault_of_short : (count white number : ℕ) (bytes : List ℕ) → All (λ pixel. pixel ≤ white) bytes → length bytes < count → raster_fault count white number bytes ≡ Some Ended
+fault_of_short : (count white number : ℕ) (bytes : List ℕ) → All (λ pixel. pixel ≤ white) bytes → length bytes < count
+    → raster_fault count white number bytes ≡ Some Ended
 fault_of_short zero white number bytes dark fewer = absurd (omega arith)
 fault_of_short (suc count) white number [] dark fewer = refl
 fault_of_short (suc count) white number (b ∷ bytes) dark fewer =
-    rw (le-ltb white b (All-head (λ pixel. pixel ≤ white) b bytes dark)) (fault_of_short count white (number + 1) bytes (All-tail (λ pixel. pixel ≤ white) b bytes dark) (omega arith))
+    rw (le-ltb white b (All-head (λ pixel. pixel ≤ white) b bytes dark))
+    (fault_of_short count white (number + 1) bytes (All-tail (λ pixel. pixel ≤ white) b bytes dark) (omega arith))
 
-fault_of_too_white : (count white number pixel : ℕ) (before rest : List ℕ) → All (λ pixel. pixel ≤ white) before → length before < count → white < pixel
+fault_of_too_white : (count white number pixel : ℕ) (before rest : List ℕ) → All (λ pixel. pixel ≤ white) before → length before < count
+    → white < pixel
     → raster_fault count white number (before ++ pixel ∷ rest) ≡ Some (TooWhite (number + length before) white)
 fault_of_too_white zero white number pixel before rest dark within above = absurd (omega arith)
 fault_of_too_white (suc count) white number pixel [] rest dark within above =
@@ -64,13 +72,16 @@ fault_of_too_white (suc count) white number pixel [] rest dark within above =
 fault_of_too_white (suc count) white number pixel (b ∷ before) rest dark within above =
     let same : number + 1 + length before ≡ number + suc (length before) = omega arith in
     rw (le-ltb white b (All-head (λ pixel. pixel ≤ white) b before dark))
-    (fault_of_too_white count white (number + 1) pixel before rest (All-tail (λ pixel. pixel ≤ white) b before dark) (omega arith) above ∙ ap (λ (n : ℕ). Some (TooWhite n white)) same)
+    (fault_of_too_white count white (number + 1) pixel before rest (All-tail (λ pixel. pixel ≤ white) b before dark) (omega arith) above ∙
+    ap (λ (n : ℕ). Some (TooWhite n white)) same)
 
-no_fault_of_pixels : (count white number : ℕ) (pixels others : List ℕ) → All (λ pixel. pixel ≤ white) pixels → length pixels ≡ count → raster_fault count white number (pixels ++ others) ≡ None
+no_fault_of_pixels : (count white number : ℕ) (pixels others : List ℕ) → All (λ pixel. pixel ≤ white) pixels → length pixels ≡ count
+    → raster_fault count white number (pixels ++ others) ≡ None
 no_fault_of_pixels zero white number pixels others dark all = refl
 no_fault_of_pixels (suc count) white number [] others dark all = absurd (omega arith)
 no_fault_of_pixels (suc count) white number (b ∷ pixels) others dark all =
-    rw (le-ltb white b (All-head (λ pixel. pixel ≤ white) b pixels dark)) (no_fault_of_pixels count white (number + 1) pixels others (All-tail (λ pixel. pixel ≤ white) b pixels dark) (omega arith))
+    rw (le-ltb white b (All-head (λ pixel. pixel ≤ white) b pixels dark))
+    (no_fault_of_pixels count white (number + 1) pixels others (All-tail (λ pixel. pixel ≤ white) b pixels dark) (omega arith))
 
 -- the header of a text, and what is wrong with the rest
 pub record IsFaultAfter (text : List ℕ) (fault : Option Fault) : Type 0 where
@@ -94,7 +105,8 @@ after_header text Ended f = elim f.short [
     is = rw (short.parts, short.blank) (sym (fault_of_short (pixel_count f.extent) f.white 1 short.pixels short.in_range short.fewer));
   }
 ]
-after_header text NotApart f = record { extent = f.extent; white = f.white; rest = f.byte ∷ f.rest; header = f.header; is = rw f.other refl }
+after_header text NotApart f =
+    record { extent = f.extent; white = f.white; rest = f.byte ∷ f.rest; header = f.header; is = rw f.other refl }
 after_header text (TooWhite number white) f =
     let same : 1 + length f.before ≡ number = omega (arith, f.next) in
     record {
@@ -102,7 +114,8 @@ after_header text (TooWhite number white) f =
       white = white;
       rest = f.space ∷ f.before ++ f.pixel ∷ f.rest;
       header = f.header;
-      is = rw f.blank (sym (fault_of_too_white (pixel_count f.extent) white 1 f.pixel f.before f.rest f.in_range f.within f.above ∙ ap (λ (n : ℕ). Some (TooWhite n white)) same));
+      is = rw f.blank (sym (fault_of_too_white (pixel_count f.extent) white 1 f.pixel f.before f.rest f.in_range f.within f.above ∙ ap
+          (λ (n : ℕ). Some (TooWhite n white)) same));
     }
 
 pub after_header_none : (text : List ℕ) (image : Image) → SpellBinary text image → IsFaultAfter text None
@@ -111,7 +124,9 @@ after_header_none text image spelled = record {
   white = image.greatest;
   rest = spelled.rest;
   header = spelled.header;
-  is = rw (spelled.pixels.parts, spelled.pixels.blank) (sym (no_fault_of_pixels (pixel_count image.extent) image.greatest 1 image.pixels spelled.pixels.others spelled.pixels.picture.in_range spelled.pixels.picture.complete));
+  is = rw (spelled.pixels.parts, spelled.pixels.blank)
+      (sym (no_fault_of_pixels (pixel_count image.extent) image.greatest 1 image.pixels spelled.pixels.others
+      spelled.pixels.picture.in_range spelled.pixels.picture.complete));
 }
 
 pub same_fault_after : (text : List ℕ) (fault other : Option Fault) → IsFaultAfter text fault → IsFaultAfter text other → fault ≡ other
@@ -136,7 +151,8 @@ same_pixels (b ∷ pixels) (c ∷ others) rest left count e =
 image_by : Extent → ℕ → List ℕ → Image
 image_by extent greatest pixels = record { extent = extent; greatest = greatest; pixels = pixels }
 
-same_image : (image other : Image) → image.extent ≡ other.extent → image.greatest ≡ other.greatest → image.pixels ≡ other.pixels → image ≡ other
+same_image : (image other : Image) → image.extent ≡ other.extent → image.greatest ≡ other.greatest → image.pixels ≡ other.pixels
+    → image ≡ other
 unfolding image_by
 same_image image other extents whites pixels =
     ap (λ (extent : Extent). image_by extent image.greatest image.pixels) extents
@@ -165,11 +181,16 @@ cases_found (Some at) = inl (at, refl)
 abbrev pub OutcomeOfBytes : List ℕ → Type 0
 OutcomeOfBytes text = ((image : Image) × SpellBinary text image) ⊎ ((fault : Fault) × IsFaultOfBytes text fault)
 
-raster_outcome : (text raster : List ℕ) (extent : Extent) (white space : ℕ) → is_ascii_whitespace space ≡ true → HasHeader text extent white (space ∷ raster) → OutcomeOfBytes text
+raster_outcome : (text raster : List ℕ) (extent : Extent) (white space : ℕ) → is_ascii_whitespace space ≡ true
+    → HasHeader text extent white (space ∷ raster) → OutcomeOfBytes text
 raster_outcome text raster extent white space blank header =
     let least = least_of (pixel_count extent) (length raster) in
     elim (cases_found (position (is_above white) (take least.0 raster))) [
-      | inl found ↦ inr (TooWhite (found.0 + 1) white, too_white text (space ∷ raster) raster extent white space least.0 found.0 refl blank least.1 found.1 header)
+      | inl found ↦ inr (
+        TooWhite (found.0 + 1) white,
+        too_white text (space ∷ raster) raster extent white space least.0 found.0 refl blank
+            least.1 found.1 header,
+      )
       | inr none ↦ elim (cases_lt (length (take least.0 raster)) (pixel_count extent)) [
         | inl fewer ↦ inr (Ended, cut_off text (space ∷ raster) raster extent white space least.0 refl blank least.1 none fewer header)
         | inr enough ↦ inl (
@@ -184,7 +205,8 @@ raster_outcome text raster extent white space blank header =
     ]
 
 pub outcome_of_bytes : (text rest : List ℕ) (extent : Extent) (white : ℕ) → HasHeader text extent white rest → OutcomeOfBytes text
-outcome_of_bytes text [] extent white header = inr (Ended, record { extent = extent; white = white; rest = []; header = header; short = inl refl })
+outcome_of_bytes text [] extent white header =
+    inr (Ended, record { extent = extent; white = white; rest = []; header = header; short = inl refl })
 outcome_of_bytes text (b ∷ raster) extent white header = elim (cases_Bool (is_ascii_whitespace b)) [
   | inl blank ↦ raster_outcome text raster extent white b blank header
   | inr other ↦ inr (NotApart, record { extent = extent; white = white; byte = b; rest = raster; header = header; other = other })

@@ -1,6 +1,8 @@
--- Laws of the first words of a text: they are those of its words that stand first, and the rest of the text has the others; no two readings of
+-- Laws of the first words of a text: they are those of its words that stand first, and the rest of the text has the others; no
+-- two readings of
 -- a text differ.
-use Rattle.std.proofs.Common.{◌≡◌, ℕ, suc, ◌+◌, ◌<◌, eqb, eqb-true, Bool, true, false, List, [], ◌∷◌, ◌++◌, length, map, inl, inr, refl, sym, ap, subst, ◌∙◌, append_assoc, arith}
+use Rattle.std.proofs.Common.{◌≡◌, ℕ, suc, ◌+◌, ◌<◌, eqb, eqb-true, Bool, true, false, List, [], ◌∷◌, ◌++◌, length, map, inl, inr, refl}
+use Rattle.std.proofs.Common.{sym, ap, subst, ◌∙◌, append_assoc, arith}
 use Rattle.std.specs.Char.{is_ascii_whitespace}
 use Rattle.std.specs.List.{All, before_first, enumerate_from, flat_map}
 use Rattle.std.proofs.lemmas.Bool.{cases_Bool, or_parts}
@@ -22,7 +24,8 @@ no_line_feed b plain = elim (cases_Bool (eqb b line_feed)) [
 
 no_comment : (b : ℕ) → is_ascii_whitespace b ≡ true → is_comment b ≡ false
 no_comment b white = elim (cases_Bool (is_comment b)) [
-  | inl same ↦ let is : b ≡ 35 = eqb-true b 35 same in let other : false ≡ true = subst (λ c. is_ascii_whitespace c ≡ true) is white in absurd (cc)
+  | inl same ↦ let is : b ≡ 35 = eqb-true b 35 same in let other : false ≡ true = subst (λ c. is_ascii_whitespace c ≡ true) is white in
+      absurd (cc)
   | inr other ↦ other
 ]
 
@@ -37,23 +40,32 @@ first_line : (text : List ℕ) → FirstLine text
 first_line [] = record { line = []; others = []; is = refl; apart = λ h. tt }
 first_line (b ∷ text) = elim (cases_Bool (eqb b line_feed)) [
   | inl same ↦ record { line = []; others = lines_of text; is = rw same refl; apart = λ h. tt }
-  | inr other ↦ let rest = first_line text in record { line = b ∷ rest.line; others = rest.others; is = rw (other, rest.is) refl; apart = λ h. h }
+  | inr other ↦ let rest = first_line text in record
+      { line = b ∷ rest.line; others = rest.others; is = rw (other, rest.is) refl; apart = λ h. h }
 ]
 
-lines_of-prepend : (word text line : List ℕ) (others : List (List ℕ)) → All (λ b. eqb b line_feed ≡ false) word → lines_of text ≡ line ∷ others → lines_of (word ++ text) ≡ (word ++ line) ∷ others
+lines_of-prepend : (word text line : List ℕ) (others : List (List ℕ)) → All (λ b. eqb b line_feed ≡ false) word
+    → lines_of text ≡ line ∷ others → lines_of (word ++ text) ≡ (word ++ line) ∷ others
 lines_of-prepend [] text line others plain is = is
 lines_of-prepend (b ∷ word) text line others plain is =
-    rw (All-head (λ b. eqb b line_feed ≡ false) b word plain, lines_of-prepend word text line others (All-tail (λ b. eqb b line_feed ≡ false) b word plain) is) refl
+    rw (
+      All-head (λ b. eqb b line_feed ≡ false) b word plain,
+      lines_of-prepend word text line others
+          (All-tail (λ b. eqb b line_feed ≡ false) b word plain) is,
+    ) refl
 
-words_by_lines : (number : ℕ) (text line : List ℕ) (others : List (List ℕ)) → lines_of text ≡ line ∷ others → words_from number text ≡ words_of_line (number, line) ++ flat_map words_of_line (enumerate_from (number + 1) others)
+words_by_lines : (number : ℕ) (text line : List ℕ) (others : List (List ℕ)) → lines_of text ≡ line ∷ others
+    → words_from number text ≡ words_of_line (number, line) ++ flat_map words_of_line (enumerate_from (number + 1) others)
 words_by_lines number text line others is = ap (λ lines. flat_map words_of_line (enumerate_from number lines)) is
 
 -- ---- the first word of a line
-before_comment-prepend : (word line : List ℕ) → All (λ b. is_comment b ≡ false) word → before_first is_comment (word ++ line) ≡ word ++ before_first is_comment line
+before_comment-prepend : (word line : List ℕ) → All (λ b. is_comment b ≡ false) word
+    → before_first is_comment (word ++ line) ≡ word ++ before_first is_comment line
 before_comment-prepend [] line plain = refl
 before_comment-prepend (b ∷ word) line plain =
     let more : (n : ℕ) → 1 + n ≡ suc n = λ n. omega arith in
-    rw (All-head (λ b. is_comment b ≡ false) b word plain, more) (ap (λ (rest : List ℕ). b ∷ rest) (before_comment-prepend word line (All-tail (λ b. is_comment b ≡ false) b word plain)))
+    rw (All-head (λ b. is_comment b ≡ false) b word plain, more)
+    (ap (λ (rest : List ℕ). b ∷ rest) (before_comment-prepend word line (All-tail (λ b. is_comment b ≡ false) b word plain)))
 
 -- white space is first, or nothing is there
 abbrev IsBlankFirst : List ℕ → Type 0
@@ -73,27 +85,35 @@ blank_first (b ∷ line) apart = elim (cases_Bool (is_comment b)) [
 words_of-blank : (b : ℕ) (line : List ℕ) → is_ascii_whitespace b ≡ true → words_of (b ∷ line) ≡ words_of line
 words_of-blank b line white = rw white refl
 
-words_of-word : (word line : List ℕ) → 0 < length word → All (λ b. is_ascii_whitespace b ≡ false) word → IsBlankFirst line → words_of (word ++ line) ≡ word ∷ words_of line
+words_of-word : (word line : List ℕ) → 0 < length word → All (λ b. is_ascii_whitespace b ≡ false) word → IsBlankFirst line
+    → words_of (word ++ line) ≡ word ∷ words_of line
 words_of-word word [] some plain white = rw (append-nil word) (words_of-last word some plain)
-words_of-word word (b ∷ line) some plain white = words_of-first word line b some plain white ∙ ap (λ (words : List (List ℕ)). word ∷ words) (sym (words_of-blank b line white))
+words_of-word word (b ∷ line) some plain white = words_of-first word line b some plain white
+    ∙ ap (λ (words : List (List ℕ)). word ∷ words) (sym (words_of-blank b line white))
 
-words_of_line-word : (number : ℕ) (word line : List ℕ) → IsWord word → IsApart line → words_of_line (number, word ++ line) ≡ (number, word) ∷ words_of_line (number, line)
+words_of_line-word : (number : ℕ) (word line : List ℕ) → IsWord word → IsApart line
+    → words_of_line (number, word ++ line) ≡ (number, word) ∷ words_of_line (number, line)
 words_of_line-word number word line is apart =
-    let no_white = All-weaker (λ b. ends_word b ≡ false) (λ b. is_ascii_whitespace b ≡ false) (λ b plain. (or_parts _ _ plain).0) word is.plain in
+    let no_white =
+    All-weaker (λ b. ends_word b ≡ false) (λ b. is_ascii_whitespace b ≡ false) (λ b plain. (or_parts _ _ plain).0) word is.plain in
     let no_mark = All-weaker (λ b. ends_word b ≡ false) (λ b. is_comment b ≡ false) (λ b plain. (or_parts _ _ plain).1) word is.plain in
     ap (λ (front : List ℕ). with_number number (words_of front)) (before_comment-prepend word line no_mark)
     ∙ ap (with_number number) (words_of-word word (before_first is_comment line) is.some no_white (blank_first line apart))
 
 -- ---- what stands first in a text
-pub words_from-word : (number : ℕ) (word rest : List ℕ) → IsWord word → IsApart rest → words_from number (word ++ rest) ≡ (number, word) ∷ words_from number rest
+pub words_from-word : (number : ℕ) (word rest : List ℕ) → IsWord word → IsApart rest
+    → words_from number (word ++ rest) ≡ (number, word) ∷ words_from number rest
 words_from-word number word rest is apart =
     let first = first_line rest in
     let plain = All-weaker (λ b. ends_word b ≡ false) (λ b. eqb b line_feed ≡ false) no_line_feed word is.plain in
-    words_by_lines number (word ++ rest) (word ++ first.line) first.others (lines_of-prepend word rest first.line first.others plain first.is)
-    ∙ ap (λ (words : List NumberedWord). words ++ flat_map words_of_line (enumerate_from (number + 1) first.others)) (words_of_line-word number word first.line is (first.apart apart))
+    words_by_lines number (word ++ rest) (word ++ first.line) first.others
+    (lines_of-prepend word rest first.line first.others plain first.is)
+    ∙ ap (λ (words : List NumberedWord). words ++ flat_map words_of_line (enumerate_from (number + 1) first.others))
+    (words_of_line-word number word first.line is (first.apart apart))
     ∙ ap (λ (words : List NumberedWord). (number, word) ∷ words) (sym (words_by_lines number rest first.line first.others first.is))
 
-pub words_from-blank : (number b : ℕ) (rest : List ℕ) → is_ascii_whitespace b ≡ true → eqb b line_feed ≡ false → words_from number (b ∷ rest) ≡ words_from number rest
+pub words_from-blank : (number b : ℕ) (rest : List ℕ) → is_ascii_whitespace b ≡ true → eqb b line_feed ≡ false
+    → words_from number (b ∷ rest) ≡ words_from number rest
 words_from-blank number b rest white other =
     let first = first_line rest in
     let more : (n : ℕ) → 1 + n ≡ suc n = λ n. omega arith in
@@ -102,14 +122,19 @@ words_from-blank number b rest white other =
     ∙ rw (no_comment b white, more) (rw white refl)
     ∙ sym (words_by_lines number rest first.line first.others first.is)
 
-pub words_from-comment : (number : ℕ) (line rest : List ℕ) → All (λ b. eqb b line_feed ≡ false) line → words_from number (35 ∷ line ++ line_feed ∷ rest) ≡ words_from (number + 1) rest
-words_from-comment number line rest plain = words_from-line number (35 ∷ line) rest (All-cons (λ b. eqb b line_feed ≡ false) 35 line refl plain)
+pub words_from-comment : (number : ℕ) (line rest : List ℕ) → All (λ b. eqb b line_feed ≡ false) line
+    → words_from number (35 ∷ line ++ line_feed ∷ rest) ≡ words_from (number + 1) rest
+words_from-comment number line rest plain =
+    words_from-line number (35 ∷ line) rest (All-cons (λ b. eqb b line_feed ≡ false) 35 line refl plain)
 
 pub words_from-last_comment : (number : ℕ) (line : List ℕ) → All (λ b. eqb b line_feed ≡ false) line → words_from number (35 ∷ line) ≡ []
-words_from-last_comment number line plain = words_by_lines number (35 ∷ line) (35 ∷ line) [] (slice_split_none (λ b. eqb b line_feed) (35 ∷ line) (All-cons (λ b. eqb b line_feed ≡ false) 35 line refl plain))
+words_from-last_comment number line plain =
+    words_by_lines number (35 ∷ line) (35 ∷ line) []
+    (slice_split_none (λ b. eqb b line_feed) (35 ∷ line) (All-cons (λ b. eqb b line_feed ≡ false) 35 line refl plain))
 
 -- a gap has no word
-pub words_from-gap : (number : ℕ) (rest : List ℕ) {gap : List ℕ} → IsGap gap → (after : ℕ) × (words_from number (gap ++ rest) ≡ words_from after rest)
+pub words_from-gap : (number : ℕ) (rest : List ℕ) {gap : List ℕ} → IsGap gap
+    → (after : ℕ) × (words_from number (gap ++ rest) ≡ words_from after rest)
 words_from-gap number rest none = (number, refl)
 words_from-gap number rest (blank {b} {gap} white is) = elim (cases_Bool (eqb b line_feed)) [
   | inl same ↦
@@ -119,8 +144,11 @@ words_from-gap number rest (blank {b} {gap} white is) = elim (cases_Bool (eqb b 
   | inr other ↦ let others = words_from-gap number rest is in (others.0, words_from-blank number b (gap ++ rest) white other ∙ others.1)
 ]
 words_from-gap number rest (comment line gap plain is) =
-    let others = words_from-gap (number + 1) rest is in
-    (others.0, ap (λ (text : List ℕ). words_from number (35 ∷ text)) (append_assoc line (line_feed ∷ gap) rest) ∙ words_from-comment number line (gap ++ rest) plain ∙ others.1)
+    let others = words_from-gap (number + 1) rest is in (
+      others.0,
+      ap (λ (text : List ℕ). words_from number (35 ∷ text)) (append_assoc line (line_feed ∷ gap) rest) ∙ words_from-comment number
+          line (gap ++ rest) plain ∙ others.1,
+    )
 
 -- ---- one reading
 -- nothing, or a byte that passes a test comes first
@@ -135,15 +163,19 @@ passes_now : (p : ℕ → Bool) (text rest : List ℕ) (b : ℕ) → PassesFirst
 passes_now p text rest b passes is = subst (PassesFirst p) is passes
 
 -- a list falls into what fails a test and the rest, which begins with what passes it, in one way
-same_front : (p : ℕ → Bool) (front other rest others : List ℕ) → All (λ b. p b ≡ false) front → All (λ b. p b ≡ false) other → PassesFirst p rest → PassesFirst p others → front ++ rest ≡ other ++ others
+same_front : (p : ℕ → Bool) (front other rest others : List ℕ) → All (λ b. p b ≡ false) front → All (λ b. p b ≡ false) other
+    → PassesFirst p rest → PassesFirst p others → front ++ rest ≡ other ++ others
     → (front ≡ other) × (rest ≡ others)
 same_front p [] [] rest others f g h k e = (refl, e)
-same_front p [] (c ∷ other) rest others f g h k e = fails_and_passes (p c) (All-head (λ b. p b ≡ false) c other g) (passes_now p rest (other ++ others) c h e)
-same_front p (b ∷ front) [] rest others f g h k e = fails_and_passes (p b) (All-head (λ b. p b ≡ false) b front f) (passes_now p others (front ++ rest) b k (sym e))
+same_front p [] (c ∷ other) rest others f g h k e =
+    fails_and_passes (p c) (All-head (λ b. p b ≡ false) c other g) (passes_now p rest (other ++ others) c h e)
+same_front p (b ∷ front) [] rest others f g h k e =
+    fails_and_passes (p b) (All-head (λ b. p b ≡ false) b front f) (passes_now p others (front ++ rest) b k (sym e))
 same_front p (b ∷ front) (c ∷ other) rest others f g h k e =
     let heads : b ≡ c = cc in
     let tails : front ++ rest ≡ other ++ others = cc in
-    let same = same_front p front other rest others (All-tail (λ b. p b ≡ false) b front f) (All-tail (λ b. p b ≡ false) c other g) h k tails in
+    let same =
+    same_front p front other rest others (All-tail (λ b. p b ≡ false) b front f) (All-tail (λ b. p b ≡ false) c other g) h k tails in
     (let fronts = same.0 in cc, same.1)
 
 apart_passes : (rest : List ℕ) → IsApart rest → PassesFirst ends_word rest
@@ -154,25 +186,33 @@ white_ends : (b : ℕ) → is_ascii_whitespace b ≡ true → ends_word b ≡ tr
 white_ends b white = rw white refl
 
 -- a word is first in one text only, after one gap
-same_gap : {gap other : List ℕ} (b c : ℕ) (rest others : List ℕ) → IsGap gap → IsGap other → ends_word b ≡ false → ends_word c ≡ false → gap ++ b ∷ rest ≡ other ++ c ∷ others → b ∷ rest ≡ c ∷ others
+same_gap : {gap other : List ℕ} (b c : ℕ) (rest others : List ℕ) → IsGap gap → IsGap other → ends_word b ≡ false → ends_word c ≡ false
+    → gap ++ b ∷ rest ≡ other ++ c ∷ others → b ∷ rest ≡ c ∷ others
 same_gap b c rest others none none f g e = e
 same_gap b c rest others none (blank {b = d} white gap) f g e =
     let same : b ≡ d = cc in
     fails_and_passes (ends_word b) f (white_ends b (rw same white))
 same_gap b c rest others none (comment line gap plain is) f g e = let same : b ≡ 35 = cc in fails_and_passes (ends_word b) f (rw same refl)
-same_gap b c rest others (blank {b = d} white gap) none f g e = let same : c ≡ d = cc in fails_and_passes (ends_word c) g (white_ends c (rw same white))
+same_gap b c rest others (blank {b = d} white gap) none f g e =
+    let same : c ≡ d = cc in fails_and_passes (ends_word c) g (white_ends c (rw same white))
 same_gap b c rest others (comment line gap plain is) none f g e = let same : c ≡ 35 = cc in fails_and_passes (ends_word c) g (rw same refl)
-same_gap b c rest others (blank {b = d} {gap = gap} white is) (blank {b = k} {gap = other} other_white other_is) f g e = let tails : gap ++ b ∷ rest ≡ other ++ c ∷ others = cc in same_gap b c rest others is other_is f g tails
-same_gap b c rest others (blank {b = d} white is) (comment line other plain other_is) f g e = let same : d ≡ 35 = cc in fails_and_passes (is_ascii_whitespace d) (rw same refl) white
-same_gap b c rest others (comment line gap plain is) (blank {b = d} white other_is) f g e = let same : d ≡ 35 = cc in fails_and_passes (is_ascii_whitespace d) (rw same refl) white
+same_gap b c rest others (blank {b = d} {gap = gap} white is) (blank {b = k} {gap = other} other_white other_is) f g e =
+    let tails : gap ++ b ∷ rest ≡ other ++ c ∷ others = cc in same_gap b c rest others is other_is f g tails
+same_gap b c rest others (blank {b = d} white is) (comment line other plain other_is) f g e =
+    let same : d ≡ 35 = cc in fails_and_passes (is_ascii_whitespace d) (rw same refl) white
+same_gap b c rest others (comment line gap plain is) (blank {b = d} white other_is) f g e =
+    let same : d ≡ 35 = cc in fails_and_passes (is_ascii_whitespace d) (rw same refl) white
 same_gap b c rest others (comment line gap plain is) (comment other_line other other_plain other_is) f g e =
     let tails : (line ++ line_feed ∷ gap) ++ b ∷ rest ≡ (other_line ++ line_feed ∷ other) ++ c ∷ others = cc in
     let texts = sym (append_assoc line (line_feed ∷ gap) (b ∷ rest)) ∙ tails ∙ append_assoc other_line (line_feed ∷ other) (c ∷ others) in
-    let after = (same_front (λ b. eqb b line_feed) line other_line (line_feed ∷ gap ++ b ∷ rest) (line_feed ∷ other ++ c ∷ others) plain other_plain refl refl texts).1 in
+    let after =
+    (same_front (λ b. eqb b line_feed) line other_line (line_feed ∷ gap ++ b ∷ rest) (line_feed ∷ other ++ c ∷ others) plain
+    other_plain refl refl texts).1 in
     let rests : gap ++ b ∷ rest ≡ other ++ c ∷ others = cc in
     same_gap b c rest others is other_is f g rests
 
-same_word : (gap other word another rest others : List ℕ) → IsGap gap → IsGap other → IsWord word → IsWord another → IsApart rest → IsApart others → gap ++ word ++ rest ≡ other ++ another ++ others
+same_word : (gap other word another rest others : List ℕ) → IsGap gap → IsGap other → IsWord word → IsWord another → IsApart rest
+    → IsApart others → gap ++ word ++ rest ≡ other ++ another ++ others
     → (word ≡ another) × (rest ≡ others)
 same_word gap other [] another rest others f g is another_is h k e = absurd (omega (arith, is.some))
 same_word gap other (b ∷ word) [] rest others f g is another_is h k e = absurd (omega (arith, another_is.some))
@@ -183,11 +223,14 @@ same_word gap other (b ∷ word) (c ∷ another) rest others f g is another_is h
     let after = same_gap b c (word ++ rest) (another ++ others) f g plain another_plain texts in
     same_front ends_word (b ∷ word) (c ∷ another) rest others is.plain another_is.plain (apart_passes rest h) (apart_passes others k) after
 
-pub same_first : (text word another rest others : List ℕ) → StandsFirst text word rest → StandsFirst text another others → (word ≡ another) × (rest ≡ others)
+pub same_first : (text word another rest others : List ℕ) → StandsFirst text word rest → StandsFirst text another others
+    → (word ≡ another) × (rest ≡ others)
 same_first text word another rest others first other =
-    same_word first.gap other.gap word another rest others first.is_gap other.is_gap first.is_word other.is_word first.apart other.apart (sym first.parts ∙ other.parts)
+    same_word first.gap other.gap word another rest others first.is_gap other.is_gap first.is_word other.is_word first.apart other.apart
+    (sym first.parts ∙ other.parts)
 
-pub same_words_first : (text : List ℕ) (words others : List (List ℕ)) (rest left : List ℕ) → length words ≡ length others → StandFirst text words rest → StandFirst text others left → (words ≡ others) × (rest ≡ left)
+pub same_words_first : (text : List ℕ) (words others : List (List ℕ)) (rest left : List ℕ) → length words ≡ length others
+    → StandFirst text words rest → StandFirst text others left → (words ≡ others) × (rest ≡ left)
 same_words_first text [] [] rest left count first other = (refl, sym first ∙ other)
 same_words_first text [] (word ∷ others) rest left count first other = absurd (omega arith)
 same_words_first text (word ∷ words) [] rest left count first other = absurd (omega arith)
@@ -198,11 +241,13 @@ same_words_first text (word ∷ words) (another ∷ others) rest left count firs
     (let word_same = one.0 in let words_same = same.0 in cc, same.1)
 
 -- ---- the words of a text
-pub words_of_first_word : (number : ℕ) (text word rest : List ℕ) → StandsFirst text word rest → (after : ℕ) × (words_from number text ≡ (after, word) ∷ words_from after rest)
+pub words_of_first_word : (number : ℕ) (text word rest : List ℕ) → StandsFirst text word rest
+    → (after : ℕ) × (words_from number text ≡ (after, word) ∷ words_from after rest)
 words_of_first_word number text word rest first =
     let skipped = words_from-gap number (word ++ rest) first.is_gap in (
       skipped.0,
-      ap (words_from number) (first.parts ∙ append_assoc first.gap word rest) ∙ skipped.1 ∙ words_from-word skipped.0 word rest first.is_word first.apart,
+      ap (words_from number) (first.parts ∙ append_assoc first.gap word rest) ∙ skipped.1
+          ∙ words_from-word skipped.0 word rest first.is_word first.apart,
     )
 
 -- the words that stand first, with the numbers of their lines
@@ -212,8 +257,10 @@ pub record Numbered (number : ℕ) (text : List ℕ) (words : List (List ℕ)) (
   pub parts : words_from number text ≡ numbered ++ words_from after rest
   pub texts : map (λ word. word.1) numbered ≡ words
 
-pub words_of_first_words : (number : ℕ) (text : List ℕ) (words : List (List ℕ)) (rest : List ℕ) → StandFirst text words rest → Numbered number text words rest
-words_of_first_words number text [] rest first = record { numbered = []; after = number; parts = ap (words_from number) first; texts = refl }
+pub words_of_first_words : (number : ℕ) (text : List ℕ) (words : List (List ℕ)) (rest : List ℕ) → StandFirst text words rest
+    → Numbered number text words rest
+words_of_first_words number text [] rest first =
+    record { numbered = []; after = number; parts = ap (words_from number) first; texts = refl }
 words_of_first_words number text (word ∷ words) rest first =
     let one = words_of_first_word number text word first.0 first.1 in
     let others = words_of_first_words one.0 first.0 words rest first.2 in

@@ -18,4 +18,6 @@ number_of-decimal n small =
     rw (lt-ltb 0 (length (decimal n)) (decimal_nonempty n fits), digits, digits_value-decimal own n fits, lt-ltb n (2 ^ 32) small) refl
 
 pub digits_of-decimal : (n : ℕ) → n < 2 ^ 64 → All (λ b. IsInRange 48 57 b) (decimal n)
-digits_of-decimal n fits = All-from_get_or (λ b. IsInRange 48 57 b) (decimal n) 0 (λ k below. digit_at (decimal n) k (own.to (decimal n) (digits_decimal own n fits)) below)
+digits_of-decimal n fits =
+    All-from_get_or (λ b. IsInRange 48 57 b) (decimal n) 0
+    (λ k below. digit_at (decimal n) k (own.to (decimal n) (digits_decimal own n fits)) below)

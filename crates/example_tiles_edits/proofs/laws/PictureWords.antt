@@ -1,6 +1,8 @@
--- Laws of the words of texts: they spell one picture in the plain format, have one fault, or begin with the header of a binary picture, and only one
+-- Laws of the words of texts: they spell one picture in the plain format, have one fault, or begin with the header of a binary
+-- picture, and only one
 -- of these; what they spell is a picture.
-use Rattle.std.proofs.Common.{Bool, true, false, ◌≡◌, ◌≢◌, ℕ, suc, ◌*◌, ◌<◌, ◌≤◌, ◌⊎◌, cond, length-append, eq-eqb, Option, Some, None, List, [], ◌∷◌, ◌++◌, length, take, get_or, codes, inl, inr, refl, sym, ap, subst, ◌∙◌, arith}
+use Rattle.std.proofs.Common.{Bool, true, false, ◌≡◌, ◌≢◌, ℕ, suc, ◌*◌, ◌<◌, ◌≤◌, ◌⊎◌, cond, length-append, eq-eqb, Option, Some, None}
+use Rattle.std.proofs.Common.{List, [], ◌∷◌, ◌++◌, length, take, get_or, codes, inl, inr, refl, sym, ap, subst, ◌∙◌, arith}
 use Rattle.std.specs.Prelude.{nat_eq}
 use Rattle.std.specs.Option.{IsSomeAnd}
 use Rattle.std.specs.Str.{bytes_eq}
@@ -12,7 +14,8 @@ use Rattle.std.proofs.lemmas.Slice.Eq.{bytes_eq-Decides}
 use Rattle.example_tiles_edits.specs.Numbers.{number_of}
 use Rattle.example_tiles_edits.specs.Words.{NumberedWord}
 use Rattle.example_tiles_edits.specs.picture.Picture.{Image, IsPicture, pixel_count}
-use Rattle.example_tiles_edits.specs.picture.PictureWords.{BeginWith, Bounds, IsBetween, IsFaultOfWords, MayFollow, SpellNumbers, SpellPicture, magic_of, next_number, numbers_of}
+use Rattle.example_tiles_edits.specs.picture.PictureWords.{BeginWith, Bounds, IsBetween, IsFaultOfWords, MayFollow, SpellNumbers}
+use Rattle.example_tiles_edits.specs.picture.PictureWords.{SpellPicture, magic_of, next_number, numbers_of}
 use Rattle.example_tiles_edits.proofs.Begun.{AreAllowed, begun_by_magic, goes_on, no_number, one_more, pixel_next, unfinished}
 use Rattle.example_tiles_edits.specs.declared.picture.fault.Fault.{Fault}
 use Rattle.example_tiles_edits.specs.declared.picture.fault.Fault.TheVariants.{NotPgm, NotNumber, Ended, NotEnded, NotApart, TooWhite}
@@ -33,9 +36,11 @@ record GoesFurther (left : List NumberedWord) (numbers longer : List ℕ) : Type
 
 -- the readings are one, or one goes further than the other
 abbrev Compared : List NumberedWord → List NumberedWord → List ℕ → List ℕ → Type 0
-Compared left right numbers others = ((numbers ≡ others) × (left ≡ right)) ⊎ GoesFurther left numbers others ⊎ GoesFurther right others numbers
+Compared left right numbers others =
+    ((numbers ≡ others) × (left ≡ right)) ⊎ GoesFurther left numbers others ⊎ GoesFurther right others numbers
 
-further_after : (n : ℕ) (left : List NumberedWord) (numbers longer : List ℕ) → GoesFurther left numbers longer → GoesFurther left (n ∷ numbers) (n ∷ longer)
+further_after : (n : ℕ) (left : List NumberedWord) (numbers longer : List ℕ) → GoesFurther left numbers longer
+    → GoesFurther left (n ∷ numbers) (n ∷ longer)
 further_after n left numbers longer goes = record {
   word = goes.word;
   rest = goes.rest;
@@ -46,22 +51,28 @@ further_after n left numbers longer goes = record {
   further = ap (λ (all : List ℕ). n ∷ all) goes.further;
 }
 
-compared_after : (m n : ℕ) (left right : List NumberedWord) (numbers others : List ℕ) → m ≡ n → Compared left right numbers others → Compared left right (m ∷ numbers) (n ∷ others)
+compared_after : (m n : ℕ) (left right : List NumberedWord) (numbers others : List ℕ) → m ≡ n → Compared left right numbers others
+    → Compared left right (m ∷ numbers) (n ∷ others)
 compared_after m n left right numbers others same compared = elim compared [
   | inl equal ↦ inl (let tails = equal.0 in cc, equal.1)
-  | inr (inl goes) ↦ inr (inl (subst (λ (k : ℕ). GoesFurther left (m ∷ numbers) (k ∷ others)) same (further_after m left numbers others goes)))
-  | inr (inr goes) ↦ inr (inr (subst (λ (k : ℕ). GoesFurther right (k ∷ others) (m ∷ numbers)) same (further_after m right others numbers goes)))
+  | inr (inl goes) ↦ inr (inl (subst (λ (k : ℕ). GoesFurther left (m ∷ numbers) (k ∷ others)) same
+      (further_after m left numbers others goes)))
+  | inr (inr goes) ↦ inr (inr (subst (λ (k : ℕ). GoesFurther right (k ∷ others) (m ∷ numbers)) same
+      (further_after m right others numbers goes)))
 ]
 
-compare : (first second left right : List NumberedWord) (numbers others : List ℕ) → first ++ left ≡ second ++ right → SpellNumbers first numbers → SpellNumbers second others → Compared left right numbers others
+compare : (first second left right : List NumberedWord) (numbers others : List ℕ) → first ++ left ≡ second ++ right
+    → SpellNumbers first numbers → SpellNumbers second others → Compared left right numbers others
 compare [] [] left right [] [] e f g = inl (refl, e)
 compare [] [] left right [] (n ∷ others) e f g = absurd (cc)
 compare [] [] left right (m ∷ numbers) others e f g = absurd (cc)
 compare [] (word ∷ second) left right [] [] e f g = absurd (cc)
-compare [] (word ∷ second) left right [] (n ∷ others) e f g = inr (inl (record { word = word; rest = second ++ right; n = n; others = others; first = e; spells = cc; further = refl }))
+compare [] (word ∷ second) left right [] (n ∷ others) e f g =
+    inr (inl (record { word = word; rest = second ++ right; n = n; others = others; first = e; spells = cc; further = refl }))
 compare [] (word ∷ second) left right (m ∷ numbers) others e f g = absurd (cc)
 compare (word ∷ first) [] left right [] others e f g = absurd (cc)
-compare (word ∷ first) [] left right (m ∷ numbers) [] e f g = inr (inr (record { word = word; rest = first ++ left; n = m; others = numbers; first = sym e; spells = cc; further = refl }))
+compare (word ∷ first) [] left right (m ∷ numbers) [] e f g =
+    inr (inr (record { word = word; rest = first ++ left; n = m; others = numbers; first = sym e; spells = cc; further = refl }))
 compare (word ∷ first) [] left right (m ∷ numbers) (n ∷ others) e f g = absurd (cc)
 compare (word ∷ first) (other ∷ second) left right [] others e f g = absurd (cc)
 compare (word ∷ first) (other ∷ second) left right (m ∷ numbers) [] e f g = absurd (cc)
@@ -72,27 +83,33 @@ compare (word ∷ first) (other ∷ second) left right (m ∷ numbers) (n ∷ ot
 
 -- no word that is left spells a number that may stand next
 abbrev pub Stops : Format → List NumberedWord → List ℕ → Type 0
-Stops format left numbers = (word : NumberedWord) (rest : List NumberedWord) (n : ℕ) → left ≡ word ∷ rest → number_of word.1 ≡ Some n → ¬ (MayFollow format numbers n)
+Stops format left numbers = (word : NumberedWord) (rest : List NumberedWord) (n : ℕ) → left ≡ word ∷ rest → number_of word.1 ≡ Some n
+    → ¬ (MayFollow format numbers n)
 
-allowed_at : (format : Format) (numbers others all : List ℕ) (n : ℕ) → all ≡ numbers ++ n ∷ others → AreAllowed format all → MayFollow format numbers n
+allowed_at : (format : Format) (numbers others all : List ℕ) (n : ℕ) → all ≡ numbers ++ n ∷ others → AreAllowed format all
+    → MayFollow format numbers n
 allowed_at format numbers others all n e allowed =
     let below : length numbers < length (numbers ++ n ∷ others) = omega (arith, length-append numbers (n ∷ others)) in
     let here = subst (AreAllowed format) e allowed (length numbers) below in
     rw (take-append_seam numbers (n ∷ others), get_or-append_seam numbers n others 0) at here
 
-stops_for_good : (format : Format) (all left right : List NumberedWord) (numbers longer : List ℕ) → Stops format left numbers → BeginWith format all longer right → ¬ (GoesFurther left numbers longer)
+stops_for_good : (format : Format) (all left right : List NumberedWord) (numbers longer : List ℕ) → Stops format left numbers
+    → BeginWith format all longer right → ¬ (GoesFurther left numbers longer)
 stops_for_good format all left right numbers longer stops begun goes =
     stops goes.word goes.rest goes.n goes.first goes.spells (allowed_at format numbers goes.others longer goes.n goes.further begun.allowed)
 
-same_words : (format other_format : Format) (all left right : List NumberedWord) (numbers others : List ℕ) (one : BeginWith format all numbers left) (other : BeginWith other_format all others right)
+same_words : (format other_format : Format) (all left right : List NumberedWord) (numbers others : List ℕ)
+    (one : BeginWith format all numbers left) (other : BeginWith other_format all others right)
     → one.spelled ++ left ≡ other.spelled ++ right
 same_words format other_format all left right numbers others one other = let parts = sym one.parts ∙ other.parts in cc
 
 -- words of one format are read up to one place
-one_stop_in : (format : Format) (all left right : List NumberedWord) (numbers others : List ℕ) → BeginWith format all numbers left → Stops format left numbers → BeginWith format all others right
+one_stop_in : (format : Format) (all left right : List NumberedWord) (numbers others : List ℕ) → BeginWith format all numbers left
+    → Stops format left numbers → BeginWith format all others right
     → Stops format right others → (numbers ≡ others) × (left ≡ right)
 one_stop_in format all left right numbers others one stops other stops_there =
-    elim (compare one.spelled other.spelled left right numbers others (same_words format format all left right numbers others one other) one.spell other.spell) [
+    elim (compare one.spelled other.spelled left right numbers others (same_words format format all left right numbers others one other)
+    one.spell other.spell) [
       | inl same ↦ same
       | inr (inl goes) ↦ absurd (stops_for_good format all left right numbers others stops other goes)
       | inr (inr goes) ↦ absurd (stops_for_good format all right left others numbers stops_there one goes)
@@ -113,15 +130,22 @@ format_of_magic Binary Plain same = absurd (two_words (sym same))
 format_of_magic Binary Binary same = refl
 
 -- words are of one format
-pub same_format : (format other : Format) (words left right : List NumberedWord) (numbers others : List ℕ) → BeginWith format words numbers left → BeginWith other words others right → format ≡ other
-same_format format other words left right numbers others one another = format_of_magic format other (ap first_text (sym one.parts ∙ another.parts))
+pub same_format : (format other : Format) (words left right : List NumberedWord) (numbers others : List ℕ)
+    → BeginWith format words numbers left → BeginWith other words others right → format ≡ other
+same_format format other words left right numbers others one another =
+    format_of_magic format other (ap first_text (sym one.parts ∙ another.parts))
 
 -- words are read up to one place
-pub one_stop : (format other_format : Format) (all left right : List NumberedWord) (numbers others : List ℕ) → BeginWith format all numbers left → Stops format left numbers
-    → BeginWith other_format all others right → Stops other_format right others → (format ≡ other_format) × (numbers ≡ others) × (left ≡ right)
+pub one_stop : (format other_format : Format) (all left right : List NumberedWord) (numbers others : List ℕ)
+    → BeginWith format all numbers left → Stops format left numbers
+    → BeginWith other_format all others right → Stops other_format right others
+    → (format ≡ other_format) × (numbers ≡ others) × (left ≡ right)
 one_stop format other_format all left right numbers others one stops other stops_there =
     let same = same_format format other_format all left right numbers others one other in
-    let there = one_stop_in format all left right numbers others one stops (subst (λ (f : Format). BeginWith f all others right) (sym same) other) (subst (λ (f : Format). Stops f right others) (sym same) stops_there) in
+    let there =
+    one_stop_in format all left right numbers others one stops
+    (subst (λ (f : Format). BeginWith f all others right) (sym same) other)
+    (subst (λ (f : Format). Stops f right others) (sym same) stops_there) in
     (same, there.0, there.1)
 
 -- ---- the fault where a reading stops
@@ -149,16 +173,19 @@ record IsLater (words : List NumberedWord) (fault : Fault) : Type 0 where
   in_words : format ≡ Binary → next_number format numbers ≢ None
   is : fault ≡ fault_at left (next_number format numbers)
 
-other_first : (format : Format) (words rest others : List NumberedWord) (line number : ℕ) (word : List ℕ) → words ≡ (line, word) ∷ rest → word ≢ magic_of format → words ≢ (number, magic_of format) ∷ others
+other_first : (format : Format) (words rest others : List NumberedWord) (line number : ℕ) (word : List ℕ) → words ≡ (line, word) ∷ rest
+    → word ≢ magic_of format → words ≢ (number, magic_of format) ∷ others
 other_first format words rest others line number word first other e = other (ap first_text (sym first ∙ e))
 
-no_number_stops : (format : Format) (rest : List NumberedWord) (numbers : List ℕ) (line : ℕ) (word : List ℕ) (bounds : Bounds) → next_number format numbers ≡ Some bounds
+no_number_stops : (format : Format) (rest : List NumberedWord) (numbers : List ℕ) (line : ℕ) (word : List ℕ) (bounds : Bounds)
+    → next_number format numbers ≡ Some bounds
     → ((n : ℕ) → number_of word ≡ Some n → ¬ (IsBetween bounds n)) → Stops format ((line, word) ∷ rest) numbers
 no_number_stops format rest numbers line word bounds expected other next others n first spells follows =
     let same : word ≡ next.1 = cc in
     other n (ap number_of same ∙ spells) (rw expected at follows)
 
-pub full_stops : (format : Format) (left : List NumberedWord) (numbers : List ℕ) → next_number format numbers ≡ None → Stops format left numbers
+pub full_stops : (format : Format) (left : List NumberedWord) (numbers : List ℕ) → next_number format numbers ≡ None
+    → Stops format left numbers
 full_stops format left numbers complete next others n first spells follows = rw complete at follows
 
 nothing_stops : (format : Format) (numbers : List ℕ) → Stops format [] numbers
@@ -206,10 +233,12 @@ placed words (NotEnded line) f = inr (record {
 placed words NotApart f = absurd f
 placed words (TooWhite number greatest) f = absurd f
 
-not_both : (words : List NumberedWord) (fault : Fault) (format : Format) (numbers : List ℕ) (left : List NumberedWord) → IsFirst words fault → ¬ (BeginWith format words numbers left)
+not_both : (words : List NumberedWord) (fault : Fault) (format : Format) (numbers : List ℕ) (left : List NumberedWord)
+    → IsFirst words fault → ¬ (BeginWith format words numbers left)
 not_both words fault format numbers left first begun = first.no_magic format begun.line (begun.spelled ++ left) begun.parts
 
-one_fault : (words : List NumberedWord) (fault other : Fault) → IsFirst words fault ⊎ IsLater words fault → IsFirst words other ⊎ IsLater words other → fault ≡ other
+one_fault : (words : List NumberedWord) (fault other : Fault) → IsFirst words fault ⊎ IsLater words fault
+    → IsFirst words other ⊎ IsLater words other → fault ≡ other
 one_fault words fault other (inl f) (inl g) = f.is ∙ sym g.is
 one_fault words fault other (inl f) (inr g) = absurd (not_both words fault g.format g.numbers g.left f g.begun)
 one_fault words fault other (inr f) (inl g) = absurd (not_both words other f.format f.numbers f.left g f.begun)
@@ -224,49 +253,64 @@ one_fault words fault other (inr f) (inr g) =
 -- ---- the laws
 
 -- the words of a text have one fault at most
-pub same_fault_of_words : (words : List NumberedWord) (fault other : Fault) → IsFaultOfWords words fault → IsFaultOfWords words other → fault ≡ other
+pub same_fault_of_words : (words : List NumberedWord) (fault other : Fault) → IsFaultOfWords words fault → IsFaultOfWords words other
+    → fault ≡ other
 same_fault_of_words words fault other f g = one_fault words fault other (placed words fault f) (placed words other g)
 
 abbrev image_of : List ℕ → Option Image
-image_of (columns ∷ rows ∷ white ∷ pixels) = Some (record { extent = record { rows = rows; columns = columns }; greatest = white; pixels = pixels })
+image_of (columns ∷ rows ∷ white ∷ pixels) =
+    Some (record { extent = record { rows = rows; columns = columns }; greatest = white; pixels = pixels })
 image_of _ = None
 
 -- they spell one picture at most
-pub same_picture_of_words : (words : List NumberedWord) (image other : Image) → SpellPicture words image → SpellPicture words other → image ≡ other
+pub same_picture_of_words : (words : List NumberedWord) (image other : Image) → SpellPicture words image → SpellPicture words other
+    → image ≡ other
 same_picture_of_words words image other one another =
-    let numbers : numbers_of image ≡ numbers_of other = (one_stop Plain Plain words [] [] (numbers_of image) (numbers_of other) one.begun (nothing_stops Plain (numbers_of image)) another.begun (nothing_stops Plain (numbers_of other))).1 in
+    let numbers : numbers_of image ≡ numbers_of other =
+    (one_stop Plain Plain words [] [] (numbers_of image) (numbers_of other) one.begun (nothing_stops Plain (numbers_of image))
+    another.begun (nothing_stops Plain (numbers_of other))).1 in
     let images : Some image ≡ Some other = ap image_of numbers in
     cc
 
 -- words that spell a picture have no fault
-pub no_fault_of_words : (words : List NumberedWord) (image : Image) (fault : Fault) → SpellPicture words image → ¬ (IsFaultOfWords words fault)
+pub no_fault_of_words : (words : List NumberedWord) (image : Image) (fault : Fault) → SpellPicture words image
+    → ¬ (IsFaultOfWords words fault)
 no_fault_of_words words image fault spelled f = elim (placed words fault f) [
   | inl first ↦ not_both words fault Plain (numbers_of image) [] first spelled.begun
   | inr later ↦
-      let same = one_stop later.format Plain words later.left [] later.numbers (numbers_of image) later.begun later.stops spelled.begun (nothing_stops Plain (numbers_of image)) in
-      later.wanting same.2 (ap (λ (format : Format). next_number format later.numbers) same.0 ∙ ap (next_number Plain) same.1 ∙ spelled.complete)
+      let same =
+      one_stop later.format Plain words later.left [] later.numbers (numbers_of image) later.begun later.stops spelled.begun
+      (nothing_stops Plain (numbers_of image)) in
+      later.wanting same.2 (ap (λ (format : Format). next_number format later.numbers) same.0 ∙ ap (next_number Plain) same.1 ∙
+      spelled.complete)
 ]
 
 -- words that begin with the header of a binary picture have none either
-pub no_fault_of_header : (words left : List NumberedWord) (numbers : List ℕ) (fault : Fault) → BeginWith Binary words numbers left → next_number Binary numbers ≡ None → ¬ (IsFaultOfWords words fault)
+pub no_fault_of_header : (words left : List NumberedWord) (numbers : List ℕ) (fault : Fault) → BeginWith Binary words numbers left
+    → next_number Binary numbers ≡ None → ¬ (IsFaultOfWords words fault)
 no_fault_of_header words left numbers fault begun complete f = elim (placed words fault f) [
   | inl first ↦ not_both words fault Binary numbers left first begun
   | inr later ↦
-      let same = one_stop later.format Binary words later.left left later.numbers numbers later.begun later.stops begun (full_stops Binary left numbers complete) in
+      let same =
+      one_stop later.format Binary words later.left left later.numbers numbers later.begun later.stops begun
+      (full_stops Binary left numbers complete) in
       later.in_words same.0 (ap (λ (format : Format). next_number format later.numbers) same.0 ∙ ap (next_number Binary) same.1 ∙ complete)
 ]
 
-between_of : (b : Bool) (bounds : Bounds) (n : ℕ) → IsSomeAnd (cond b (Some bounds) None) (λ bounds. IsBetween bounds n) → (b ≡ true) × IsBetween bounds n
+between_of : (b : Bool) (bounds : Bounds) (n : ℕ) → IsSomeAnd (cond b (Some bounds) None) (λ bounds. IsBetween bounds n)
+    → (b ≡ true) × IsBetween bounds n
 between_of true bounds n h = (refl, h)
 between_of false bounds n h = absurd h
 
-pixel_allowed : (columns rows white : ℕ) (pixels : List ℕ) → AreAllowed Plain (columns ∷ rows ∷ white ∷ pixels) → (k : ℕ) → k < length pixels → (k < rows * columns) × (get_or pixels k 0 ≤ white)
+pixel_allowed : (columns rows white : ℕ) (pixels : List ℕ) → AreAllowed Plain (columns ∷ rows ∷ white ∷ pixels) → (k : ℕ)
+    → k < length pixels → (k < rows * columns) × (get_or pixels k 0 ≤ white)
 pixel_allowed columns rows white pixels allowed k below =
     let here = between_of _ _ _ (allowed (suc (suc (suc k))) (omega arith)) in
     let before : length (take k pixels) ≡ k = length-take-le k pixels (omega arith) in
     (omega (arith, before, ltb-true _ _ here.0), here.1.not_above)
 
-pixels_enough : (columns rows white : ℕ) (pixels : List ℕ) → next_number Plain (columns ∷ rows ∷ white ∷ pixels) ≡ None → rows * columns ≤ length pixels
+pixels_enough : (columns rows white : ℕ) (pixels : List ℕ) → next_number Plain (columns ∷ rows ∷ white ∷ pixels) ≡ None
+    → rows * columns ≤ length pixels
 pixels_enough columns rows white pixels complete = elim (cases_lt (length pixels) (rows * columns)) [
   | inl fewer ↦ let wanted = pixel_next columns rows white pixels fewer in absurd (cc)
   | inr enough ↦ enough
@@ -309,20 +353,28 @@ cases_between bounds n = elim (cases_lt n bounds.least) [
   ]
 ]
 
-spelled_in_full : (words : List NumberedWord) (numbers : List ℕ) → BeginWith Plain words numbers [] → next_number Plain numbers ≡ None → OutcomeOfWords words
+spelled_in_full : (words : List NumberedWord) (numbers : List ℕ) → BeginWith Plain words numbers [] → next_number Plain numbers ≡ None
+    → OutcomeOfWords words
 spelled_in_full words [] begun complete = absurd (cc)
 spelled_in_full words (columns ∷ []) begun complete = absurd (cc)
 spelled_in_full words (columns ∷ rows ∷ []) begun complete = absurd (cc)
 spelled_in_full words (columns ∷ rows ∷ white ∷ pixels) begun complete =
-    inl (record { extent = record { rows = rows; columns = columns }; greatest = white; pixels = pixels }, record { begun = begun; complete = complete })
+    inl (
+      record { extent = record { rows = rows; columns = columns }; greatest = white; pixels = pixels },
+      record
+          { begun = begun; complete = complete },
+    )
 
 -- no number may follow
-in_full : (format : Format) (words left : List NumberedWord) (numbers : List ℕ) → BeginWith format words numbers left → next_number format numbers ≡ None → OutcomeOfWords words
+in_full : (format : Format) (words left : List NumberedWord) (numbers : List ℕ) → BeginWith format words numbers left
+    → next_number format numbers ≡ None → OutcomeOfWords words
 in_full Plain words [] numbers begun complete = spelled_in_full words numbers begun complete
-in_full Plain words (word ∷ left) numbers begun complete = inr (inl (NotEnded word.0, goes_on words (word ∷ left) left numbers word.0 word.1 begun complete refl))
+in_full Plain words (word ∷ left) numbers begun complete =
+    inr (inl (NotEnded word.0, goes_on words (word ∷ left) left numbers word.0 word.1 begun complete refl))
 in_full Binary words left numbers begun complete = inr (inr (record { numbers = numbers; left = left; begun = begun; complete = complete }))
 
-outcome_from : (format : Format) (words left : List NumberedWord) (numbers : List ℕ) → BeginWith format words numbers left → OutcomeOfWords words
+outcome_from : (format : Format) (words left : List NumberedWord) (numbers : List ℕ) → BeginWith format words numbers left
+    → OutcomeOfWords words
 outcome_from format words [] numbers begun = elim (cases_option (next_number format numbers)) [
   | inl some ↦ inr (inl (Ended, unfinished format words [] numbers some.0 begun some.1 refl))
   | inr complete ↦ in_full format words [] numbers begun complete
@@ -330,15 +382,26 @@ outcome_from format words [] numbers begun = elim (cases_option (next_number for
 outcome_from format words (word ∷ left) numbers begun = elim (cases_option (next_number format numbers)) [
   | inl some ↦ elim (cases_option (number_of word.1)) [
     | inl spells ↦ elim (cases_between some.0 spells.0) [
-      | inl between ↦ outcome_from format words left (numbers ++ spells.0 ∷ []) (one_more format words (word ∷ left) left numbers word.0 spells.0 word.1 some.0 begun some.1 refl spells.1 between)
-      | inr other ↦ inr (inl (NotNumber word.0 some.0.least some.0.greatest, no_number format words (word ∷ left) left numbers word.0 word.1 some.0 begun some.1 refl (λ n spelled between. other (subst (λ (m : ℕ). IsBetween some.0 m) (let one = spells.1 in cc) between))))
+      | inl between ↦ outcome_from format words left (numbers ++ spells.0 ∷ [])
+          (one_more format words (word ∷ left) left numbers word.0 spells.0 word.1 some.0 begun some.1 refl spells.1 between)
+      | inr other ↦ inr (inl (
+        NotNumber word.0 some.0.least some.0.greatest,
+        no_number format words (word ∷ left) left numbers word.0
+            word.1 some.0 begun some.1 refl
+            (λ n spelled between. other (subst (λ (m : ℕ). IsBetween some.0 m) (let one = spells.1 in cc) between)),
+      ))
     ]
-    | inr none ↦ inr (inl (NotNumber word.0 some.0.least some.0.greatest, no_number format words (word ∷ left) left numbers word.0 word.1 some.0 begun some.1 refl (λ n spelled between. absurd (cc))))
+    | inr none ↦ inr (inl (
+      NotNumber word.0 some.0.least some.0.greatest,
+      no_number format words (word ∷ left) left numbers word.0 word.1
+          some.0 begun some.1 refl (λ n spelled between. absurd (cc)),
+    ))
   ]
   | inr complete ↦ in_full format words (word ∷ left) numbers begun complete
 ]
 
-other_magic : (word : List ℕ) → bytes_eq word (codes "P2") ≡ false → bytes_eq word (codes "P5") ≡ false → (format : Format) → word ≢ magic_of format
+other_magic : (word : List ℕ) → bytes_eq word (codes "P2") ≡ false → bytes_eq word (codes "P5") ≡ false → (format : Format)
+    → word ≢ magic_of format
 other_magic word not_plain not_binary Plain same = both_ways _ not_plain ((bytes_eq-Decides word (codes "P2")).1 same)
 other_magic word not_plain not_binary Binary same = both_ways _ not_binary ((bytes_eq-Decides word (codes "P5")).1 same)
 

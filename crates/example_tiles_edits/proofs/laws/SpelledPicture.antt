@@ -1,5 +1,7 @@
 -- Laws of texts: each text spells one picture or has one fault, and not both, in either format; what a text spells is a picture.
-use Rattle.std.proofs.Common.{◌≡◌, ℕ, zero, suc, ◌+◌, ◌-◌, ◌^◌, ◌≤◌, ◌<◌, ◌⊎◌, eqb, Bool, true, false, Option, Some, None, Result, Ok, Err, List, [], ◌∷◌, ◌++◌, length, map, inl, inr, refl, sym, ap, subst, ◌∙◌, append_assoc, length-append, lit<, arith}
+use Rattle.std.proofs.Common.{◌≡◌, ℕ, zero, suc, ◌+◌, ◌-◌, ◌^◌, ◌≤◌, ◌<◌, ◌⊎◌, eqb, Bool, true, false, Option, Some, None, Result, Ok, Err}
+use Rattle.std.proofs.Common.{List, [], ◌∷◌, ◌++◌, length, map, inl, inr, refl, sym, ap, subst, ◌∙◌, append_assoc, length-append, lit<}
+use Rattle.std.proofs.Common.{arith}
 use Rattle.std.specs.Char.{is_ascii_whitespace}
 use Rattle.std.specs.List.{All}
 use Rattle.std.specs.Result.{IfErr, IsOkUnless}
@@ -19,14 +21,18 @@ use Rattle.example_tiles_edits.specs.FirstWords.{HasGap, IsAfterLine, IsApart, S
 use Rattle.example_tiles_edits.specs.FirstWords.IsGap.{none}
 use Rattle.example_tiles_edits.specs.Numbers.{is_decimal, number_of}
 use Rattle.example_tiles_edits.specs.picture.Picture.{Image, IsPicture}
-use Rattle.example_tiles_edits.specs.picture.PictureWords.{BeginWith, IsBetween, IsFaultOfWords, SpellPicture, greatest_white, magic_of, next_number, numbers_of}
+use Rattle.example_tiles_edits.specs.picture.PictureWords.{BeginWith, IsBetween, IsFaultOfWords, SpellPicture, greatest_white, magic_of}
+use Rattle.example_tiles_edits.specs.picture.PictureWords.{next_number, numbers_of}
 use Rattle.example_tiles_edits.specs.picture.SpelledPicture.{IsFaultOf, IsRefusedBy, IsTextOf}
 use Rattle.example_tiles_edits.specs.Words.{NumberedWord, is_comment, line_feed, words_from}
 use Rattle.example_tiles_edits.proofs.Begun.{AreAllowed}
-use Rattle.example_tiles_edits.proofs.Gaps.{IsGap-append, gap_after_blank, gap_after_comment, no_gap, shorter, words_after_blank, words_after_comment}
-use Rattle.example_tiles_edits.proofs.laws.BinaryPicture.{after_header, after_header_none, outcome_of_bytes, same_binary_picture, same_fault_after}
+use Rattle.example_tiles_edits.proofs.Gaps.{IsGap-append, gap_after_blank, gap_after_comment, no_gap, shorter, words_after_blank}
+use Rattle.example_tiles_edits.proofs.Gaps.{words_after_comment}
+use Rattle.example_tiles_edits.proofs.laws.BinaryPicture.{after_header, after_header_none, outcome_of_bytes, same_binary_picture}
+use Rattle.example_tiles_edits.proofs.laws.BinaryPicture.{same_fault_after}
 use Rattle.example_tiles_edits.proofs.laws.FirstWords.{words_of_first_word, words_of_first_words}
-use Rattle.example_tiles_edits.proofs.laws.PictureWords.{no_fault_of_header, no_fault_of_words, outcome_of_words, same_fault_of_words, same_format, same_picture_of_words, spelled_is_picture}
+use Rattle.example_tiles_edits.proofs.laws.PictureWords.{no_fault_of_header, no_fault_of_words, outcome_of_words, same_fault_of_words}
+use Rattle.example_tiles_edits.proofs.laws.PictureWords.{same_format, same_picture_of_words, spelled_is_picture}
 
 -- ---- the words of a header
 below_limit : (word : List ℕ) (n : ℕ) → number_of word ≡ Some n → n ≤ 2 ^ 32 - 1
@@ -40,7 +46,8 @@ record HeaderWords (text : List ℕ) (extent : Extent) (white : ℕ) : Type 0 wh
   left : List NumberedWord
   begun : BeginWith Binary (words_from 1 text) (extent.columns ∷ extent.rows ∷ white ∷ []) left
 
-allowed_numbers : (columns rows white : ℕ) → columns ≤ 2 ^ 32 - 1 → rows ≤ 2 ^ 32 - 1 → IsBetween (record { least = 1; greatest = greatest_white Binary }) white → AreAllowed Binary (columns ∷ rows ∷ white ∷ [])
+allowed_numbers : (columns rows white : ℕ) → columns ≤ 2 ^ 32 - 1 → rows ≤ 2 ^ 32 - 1 → IsBetween
+    (record { least = 1; greatest = greatest_white Binary }) white → AreAllowed Binary (columns ∷ rows ∷ white ∷ [])
 allowed_numbers columns rows white c r between zero below = record { not_below = omega arith; not_above = c }
 allowed_numbers columns rows white c r between (suc zero) below = record { not_below = omega arith; not_above = r }
 allowed_numbers columns rows white c r between (suc (suc zero)) below = between
@@ -50,8 +57,10 @@ map_texts : (words : List NumberedWord) → map (λ word. number_of word.1) word
 map_texts [] = refl
 map_texts (word ∷ words) = ap (λ (numbers : List (Option ℕ)). number_of word.1 ∷ numbers) (map_texts words)
 
-from_texts : (text : List ℕ) (words : List (List ℕ)) (numbered left : List NumberedWord) (extent : Extent) (white : ℕ) → words_from 1 text ≡ numbered ++ left → map (λ word. word.1) numbered ≡ magic_of Binary ∷ words
-    → map number_of words ≡ map Some (extent.columns ∷ extent.rows ∷ white ∷ []) → IsBetween (record { least = 1; greatest = greatest_white Binary }) white → HeaderWords text extent white
+from_texts : (text : List ℕ) (words : List (List ℕ)) (numbered left : List NumberedWord) (extent : Extent) (white : ℕ)
+    → words_from 1 text ≡ numbered ++ left → map (λ word. word.1) numbered ≡ magic_of Binary ∷ words
+    → map number_of words ≡ map Some (extent.columns ∷ extent.rows ∷ white ∷ []) → IsBetween
+    (record { least = 1; greatest = greatest_white Binary }) white → HeaderWords text extent white
 from_texts text words [] left extent white parts texts spell allowed = absurd (cc)
 from_texts text [] ((line, magic) ∷ numbered) left extent white parts texts spell allowed = absurd (cc)
 from_texts text (first ∷ []) ((line, magic) ∷ numbered) left extent white parts texts spell allowed = absurd (cc)
@@ -67,25 +76,31 @@ from_texts text (first ∷ second ∷ words) ((line, magic) ∷ numbered) left e
         spelled = numbered;
         parts = parts ∙ ap (λ (word : List ℕ). (line, word) ∷ numbered ++ left) magic_is;
         spell = map_texts numbered ∙ ap (map number_of) others ∙ spell;
-        allowed = allowed_numbers extent.columns extent.rows white (below_limit first extent.columns columns) (below_limit second extent.rows rows) allowed;
+        allowed = allowed_numbers extent.columns extent.rows white (below_limit first extent.columns columns)
+            (below_limit second extent.rows rows) allowed;
       };
     }
 
 header_words : (text rest : List ℕ) (extent : Extent) (white : ℕ) → HasHeader text extent white rest → HeaderWords text extent white
 header_words text rest extent white header =
     let words = words_of_first_words 1 text (magic_of Binary ∷ header.words) rest header.first in
-    from_texts text header.words words.numbered (words_from words.after rest) extent white words.parts words.texts header.spell header.allowed
+    from_texts text header.words words.numbered (words_from words.after rest) extent white words.parts words.texts header.spell
+    header.allowed
 
 -- ---- one picture, or one fault
-other_format : (words left right : List NumberedWord) (numbers others : List ℕ) → BeginWith Plain words numbers left → BeginWith Binary words others right → ⊥
-other_format words left right numbers others plain binary = let same : Plain ≡ Binary = same_format Plain Binary words left right numbers others plain binary in cc
+other_format : (words left right : List NumberedWord) (numbers others : List ℕ) → BeginWith Plain words numbers left
+    → BeginWith Binary words others right → ⊥
+other_format words left right numbers others plain binary =
+    let same : Plain ≡ Binary = same_format Plain Binary words left right numbers others plain binary in cc
 
-not_plain : (text rest : List ℕ) (extent : Extent) (white : ℕ) (image : Image) → HasHeader text extent white rest → ¬ (SpellPicture (words_from 1 text) image)
+not_plain : (text rest : List ℕ) (extent : Extent) (white : ℕ) (image : Image) → HasHeader text extent white rest
+    → ¬ (SpellPicture (words_from 1 text) image)
 not_plain text rest extent white image header spelled =
     let words = header_words text rest extent white header in
     other_format (words_from 1 text) [] words.left (numbers_of image) (extent.columns ∷ extent.rows ∷ white ∷ []) spelled.begun words.begun
 
-no_word_fault : (text rest : List ℕ) (extent : Extent) (white : ℕ) (fault : Fault) → HasHeader text extent white rest → ¬ (IsFaultOfWords (words_from 1 text) fault)
+no_word_fault : (text rest : List ℕ) (extent : Extent) (white : ℕ) (fault : Fault) → HasHeader text extent white rest
+    → ¬ (IsFaultOfWords (words_from 1 text) fault)
 no_word_fault text rest extent white fault header =
     let words = header_words text rest extent white header in
     no_fault_of_header (words_from 1 text) words.left (extent.columns ∷ extent.rows ∷ white ∷ []) fault words.begun refl
@@ -100,21 +115,25 @@ same_picture text image other (inr one) (inr two) = same_binary_picture text ima
 -- a text has one fault at most
 pub same_fault : (text : List ℕ) (fault other : Fault) → IsFaultOf text fault → IsFaultOf text other → fault ≡ other
 same_fault text fault other (inl one) (inl two) = same_fault_of_words (words_from 1 text) fault other one two
-same_fault text fault other (inl one) (inr two) = let after = after_header text other two in absurd (no_word_fault text after.rest after.extent after.white fault after.header one)
-same_fault text fault other (inr one) (inl two) = let after = after_header text fault one in absurd (no_word_fault text after.rest after.extent after.white other after.header two)
+same_fault text fault other (inl one) (inr two) =
+    let after = after_header text other two in absurd (no_word_fault text after.rest after.extent after.white fault after.header one)
+same_fault text fault other (inr one) (inl two) =
+    let after = after_header text fault one in absurd (no_word_fault text after.rest after.extent after.white other after.header two)
 same_fault text fault other (inr one) (inr two) =
     let same = same_fault_after text (Some fault) (Some other) (after_header text fault one) (after_header text other two) in cc
 
 -- a text that spells a picture has no fault
 pub no_fault : (text : List ℕ) (image : Image) (fault : Fault) → IsTextOf text image → ¬ (IsFaultOf text fault)
 no_fault text image fault (inl spelled) (inl f) = no_fault_of_words (words_from 1 text) image fault spelled f
-no_fault text image fault (inl spelled) (inr f) = let after = after_header text fault f in not_plain text after.rest after.extent after.white image after.header spelled
+no_fault text image fault (inl spelled) (inr f) =
+    let after = after_header text fault f in not_plain text after.rest after.extent after.white image after.header spelled
 no_fault text image fault (inr spelled) (inl f) = no_word_fault text spelled.rest image.extent image.greatest fault spelled.header f
 no_fault text image fault (inr spelled) (inr f) =
     let same = same_fault_after text None (Some fault) (after_header_none text image spelled) (after_header text fault f) in cc
 
 -- a reader that is refused a text which spells a picture was refused memory
-pub refused_for_memory : {A : Type 0} (text : List ℕ) (image : Image) (r : Result A ReadError) → IfErr r (IsRefusedBy text) → IsTextOf text image → IsOkUnless r Memory
+pub refused_for_memory : {A : Type 0} (text : List ℕ) (image : Image) (r : Result A ReadError) → IfErr r (IsRefusedBy text)
+    → IsTextOf text image → IsOkUnless r Memory
 refused_for_memory text image (Ok x) refused spelled = tt
 refused_for_memory text image (Err (Text fault)) refused spelled = absurd (no_fault text image fault spelled refused)
 refused_for_memory text image (Err Memory) refused spelled = refl
@@ -135,10 +154,24 @@ record Split (p : ℕ → Bool) (text : List ℕ) : Type 0 where
 split : (p : ℕ → Bool) (text : List ℕ) → Split p text
 split p [] = record { front = []; back = []; parts = refl; plain = All-nil (λ b. p b ≡ false); passes = inl refl }
 split p (b ∷ text) = elim (cases_Bool (p b)) [
-  | inl passes ↦ record { front = []; back = b ∷ text; parts = refl; plain = All-nil (λ c. p c ≡ false); passes = inr (b, text, refl, passes) }
+  | inl passes ↦ record {
+    front = [];
+    back = b ∷ text;
+    parts = refl;
+    plain = All-nil (λ c. p c ≡ false);
+    passes = inr
+        (b, text, refl, passes);
+  }
   | inr fails ↦
       let rest = split p text in
-      record { front = b ∷ rest.front; back = rest.back; parts = ap (λ (others : List ℕ). b ∷ others) rest.parts; plain = All-cons (λ c. p c ≡ false) b rest.front fails rest.plain; passes = rest.passes }
+      record {
+        front = b ∷ rest.front;
+        back = rest.back;
+        parts = ap (λ (others : List ℕ). b ∷ others) rest.parts;
+        plain = All-cons
+            (λ c. p c ≡ false) b rest.front fails rest.plain;
+        passes = rest.passes;
+      }
 ]
 
 -- the text after the first line of another
@@ -146,12 +179,20 @@ after_line : (text : List ℕ) → (rest : List ℕ) × IsAfterLine text rest
 after_line text =
     let parts = split (λ b. eqb b line_feed) text in
     elim parts.passes [
-      | inl nothing ↦ ([], inr (subst (All (λ b. eqb b line_feed ≡ false)) (sym (parts.parts ∙ ap (λ (back : List ℕ). parts.front ++ back) nothing ∙ append-nil parts.front)) parts.plain, refl))
+      | inl nothing ↦ (
+        [],
+        inr (
+          subst (All (λ b. eqb b line_feed ≡ false))
+              (sym (parts.parts ∙ ap (λ (back : List ℕ). parts.front ++ back) nothing ∙ append-nil parts.front)) parts.plain,
+          refl,
+        ),
+      )
       | inr some ↦ (
         some.1,
         inl (record {
           line = parts.front;
-          parts = parts.parts ∙ ap (λ (back : List ℕ). parts.front ++ back) (some.2 ∙ ap (λ (b : ℕ). b ∷ some.1) (eqb-true some.0 10 some.3));
+          parts = parts.parts
+              ∙ ap (λ (back : List ℕ). parts.front ++ back) (some.2 ∙ ap (λ (b : ℕ). b ∷ some.1) (eqb-true some.0 10 some.3));
           plain = parts.plain;
         }),
       )
@@ -182,7 +223,8 @@ FirstIn number text = (words_from number text ≡ []) ⊎ FirstOf text
 past_gap : (text rest : List ℕ) → FirstOf rest → HasGap text rest → FirstOf text
 past_gap text rest of has = record { word = of.word; rest = of.rest; first = after_gap text rest of.word of.rest has of.first }
 
-some_front : (front back : List ℕ) (b : ℕ) (rest : List ℕ) → ends_word b ≡ false → front ++ back ≡ b ∷ rest → (back ≡ []) ⊎ ((c : ℕ) × (others : List ℕ) × (back ≡ c ∷ others) × (ends_word c ≡ true)) → 0 < length front
+some_front : (front back : List ℕ) (b : ℕ) (rest : List ℕ) → ends_word b ≡ false → front ++ back ≡ b ∷ rest
+    → (back ≡ []) ⊎ ((c : ℕ) × (others : List ℕ) × (back ≡ c ∷ others) × (ends_word c ≡ true)) → 0 < length front
 some_front (c ∷ front) back b rest plain is passes = omega arith
 some_front [] back b rest plain is (inl nothing) = absurd (let both = sym nothing ∙ is in cc)
 some_front [] back b rest plain is (inr some) =
@@ -195,7 +237,14 @@ apart_back back (inl nothing) = subst IsApart (sym nothing) tt
 apart_back back (inr some) = subst IsApart (sym some.2) some.3
 
 some_bytes : (text : List ℕ) → FirstOf text → 0 < length text
-some_bytes text of = omega (arith, ap length of.first.parts, length-append (of.first.gap ++ of.word) of.rest, length-append of.first.gap of.word, of.first.is_word.some)
+some_bytes text of =
+    omega (
+      arith,
+      ap length of.first.parts,
+      length-append (of.first.gap ++ of.word) of.rest,
+      length-append of.first.gap of.word,
+      of.first.is_word.some,
+    )
 
 -- a byte of a word comes first
 in_word : (text : List ℕ) → Split ends_word text → (b : ℕ) (rest : List ℕ) → ends_word b ≡ false → text ≡ b ∷ rest → FirstOf text
@@ -212,7 +261,8 @@ in_word text parts b rest plain is = record {
 }
 
 -- the first word of what is left after a gap is that of the text
-skip : (number later : ℕ) (text rest : List ℕ) → words_from later rest ≡ words_from number text → (0 < length rest → HasGap text rest) → FirstIn later rest → FirstIn number text
+skip : (number later : ℕ) (text rest : List ℕ) → words_from later rest ≡ words_from number text → (0 < length rest → HasGap text rest)
+    → FirstIn later rest → FirstIn number text
 skip number later text rest same has (inl nothing) = inl (sym same ∙ nothing)
 skip number later text rest same has (inr of) = inr (past_gap text rest of (has (some_bytes rest of)))
 
@@ -225,13 +275,15 @@ first_in zero number (b ∷ text) enough = absurd (omega arith)
 first_in (suc fuel) number (b ∷ text) enough = elim (cases_Bool (is_ascii_whitespace b)) [
   | inl white ↦
       let later = number + bool_byte (eqb b 10) in
-      skip number later (b ∷ text) text (words_after_blank number (bool_byte (eqb b 10)) b (b ∷ text) text refl white refl) (λ some. gap_after_blank (b ∷ text) (b ∷ text) text b (no_gap (b ∷ text)) refl white)
+      skip number later (b ∷ text) text (words_after_blank number (bool_byte (eqb b 10)) b (b ∷ text) text refl white refl)
+      (λ some. gap_after_blank (b ∷ text) (b ∷ text) text b (no_gap (b ∷ text)) refl white)
       (first_in fuel later text (omega arith))
   | inr not_white ↦ elim (cases_Bool (is_comment b)) [
     | inl mark ↦
         let after = after_line text in
         let is : b ∷ text ≡ 35 ∷ text = ap (λ (c : ℕ). c ∷ text) (eqb-true b 35 mark) in
-        skip number (number + 1) (b ∷ text) after.0 (words_after_comment number (b ∷ text) text after.0 is after.1) (gap_after_comment (b ∷ text) (b ∷ text) text after.0 (no_gap (b ∷ text)) is after.1)
+        skip number (number + 1) (b ∷ text) after.0 (words_after_comment number (b ∷ text) text after.0 is after.1)
+        (gap_after_comment (b ∷ text) (b ∷ text) text after.0 (no_gap (b ∷ text)) is after.1)
         (first_in fuel (number + 1) after.0 (omega (arith, shorter text after.0 after.1)))
     | inr no_mark ↦ inr (begins (b ∷ text) b text (or_from _ _ not_white no_mark) refl)
   ]
@@ -243,7 +295,8 @@ first_text [] = []
 first_text (word ∷ rest) = word.1
 
 -- the words that a text begins with stand first in it
-stand : (number : ℕ) (text : List ℕ) (words left : List NumberedWord) → words_from number text ≡ words ++ left → (rest : List ℕ) × StandFirst text (map (λ word. word.1) words) rest
+stand : (number : ℕ) (text : List ℕ) (words left : List NumberedWord) → words_from number text ≡ words ++ left
+    → (rest : List ℕ) × StandFirst text (map (λ word. word.1) words) rest
 stand number text [] left is = (text, refl)
 stand number text (word ∷ words) left is = elim (first_in (length text) number text (omega arith)) [
   | inl nothing ↦ absurd (let both = sym nothing ∙ is in cc)
@@ -267,7 +320,8 @@ header_numbers : (numbers : List ℕ) → AreAllowed Binary numbers → next_num
 header_numbers [] allowed complete = absurd (cc)
 header_numbers (columns ∷ []) allowed complete = absurd (cc)
 header_numbers (columns ∷ rows ∷ []) allowed complete = absurd (cc)
-header_numbers (columns ∷ rows ∷ white ∷ []) allowed complete = record { extent = record { rows = rows; columns = columns }; white = white; is = refl; allowed = allowed 2 (lit< tt) }
+header_numbers (columns ∷ rows ∷ white ∷ []) allowed complete =
+    record { extent = record { rows = rows; columns = columns }; white = white; is = refl; allowed = allowed 2 (lit< tt) }
 header_numbers (columns ∷ rows ∷ white ∷ pixel ∷ pixels) allowed complete = absurd (allowed 3 (omega arith))
 
 record Header (text : List ℕ) : Type 0 where
@@ -276,7 +330,8 @@ record Header (text : List ℕ) : Type 0 where
   rest : List ℕ
   header : HasHeader text extent white rest
 
-header_of : (text : List ℕ) (numbers : List ℕ) (left : List NumberedWord) → BeginWith Binary (words_from 1 text) numbers left → next_number Binary numbers ≡ None → Header text
+header_of : (text : List ℕ) (numbers : List ℕ) (left : List NumberedWord) → BeginWith Binary (words_from 1 text) numbers left
+    → next_number Binary numbers ≡ None → Header text
 header_of text numbers left begun complete =
     let of = header_numbers numbers begun.allowed complete in
     let there = stand 1 text ((begun.line, magic_of Binary) ∷ begun.spelled) left begun.parts in

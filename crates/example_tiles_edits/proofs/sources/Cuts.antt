@@ -65,5 +65,6 @@ is_part len count number cut below =
 pub mirrored_below : (len count at : ℕ) → IsCut len count → at < len → mirrored (len / count) at < len
 mirrored_below len count at cut below =
     let here = is_in len count at cut below in
-    let more : (at / (len / count) + 1) * (len / count) ≤ count * (len / count) = mul-le-mul_right (len / count) (omega (arith, here.part)) in
+    let more : (at / (len / count) + 1) * (len / count) ≤ count * (len / count) =
+    mul-le-mul_right (len / count) (omega (arith, here.part)) in
     omega (arith, here.inner, more, cut.whole)

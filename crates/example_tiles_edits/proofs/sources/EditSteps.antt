@@ -1,5 +1,6 @@
 -- Edits as steps of a run: they fit a view, and leave of it what the edits do.
-use Rattle.std.proofs.Common.{◌≡◌, ℕ, ◌+◌, ◌-◌, ◌*◌, ◌<◌, pos, negsuc, true, Option, Some, None, List, [], ◌∷◌, map, refl, sym, ap, ◌∙◌, subst}
+use Rattle.std.proofs.Common.{◌≡◌, ℕ, ◌+◌, ◌-◌, ◌*◌, ◌<◌, pos, negsuc, true, Option, Some, None, List, [], ◌∷◌, map, refl, sym, ap, ◌∙◌}
+use Rattle.std.proofs.Common.{subst}
 use Rattle.std.proofs.lemmas.Bool.{and_parts}
 use Rattle.std.specs.Option.{option_map}
 use Rattle.ndarray_layout.specs.declared.Fit.TheVariants.{Strict}
@@ -31,14 +32,17 @@ abbrev pub element_of : Slice → SliceInfoElem
 element_of s = elem.Slice s.start s.end s.step
 
 -- ---- what two slices leave of two axes
-pub no_fault : (rows columns : ℕ) (one other : Slice) (r c : ℕ) (f g : ℕ → ℕ) → IsPick rows one r f → IsPick columns other c g → argument_fault Strict (rows ∷ columns ∷ []) (element_of one ∷ element_of other ∷ []) ≡ None
+pub no_fault : (rows columns : ℕ) (one other : Slice) (r c : ℕ) (f g : ℕ → ℕ) → IsPick rows one r f → IsPick columns other c g
+    → argument_fault Strict (rows ∷ columns ∷ []) (element_of one ∷ element_of other ∷ []) ≡ None
 no_fault rows columns one other r c f g first second =
     rw (no_fault_of_fits Strict rows one first.fits, no_fault_of_fits Strict columns other second.fits) refl
 
-pub left : (rows columns : ℕ) (one other : Slice) (r c : ℕ) (f g : ℕ → ℕ) → IsPick rows one r f → IsPick columns other c g → sliced_shape Strict (element_of one ∷ element_of other ∷ []) (rows ∷ columns ∷ []) ≡ r ∷ c ∷ []
+pub left : (rows columns : ℕ) (one other : Slice) (r c : ℕ) (f g : ℕ → ℕ) → IsPick rows one r f → IsPick columns other c g
+    → sliced_shape Strict (element_of one ∷ element_of other ∷ []) (rows ∷ columns ∷ []) ≡ r ∷ c ∷ []
 left rows columns one other r c f g first second = rw (first.count, second.count) refl
 
-pub stands_for : (rows columns : ℕ) (one other : Slice) (r c i j : ℕ) (f g : ℕ → ℕ) → IsPick rows one r f → IsPick columns other c g → i < r → j < c
+pub stands_for : (rows columns : ℕ) (one other : Slice) (r c i j : ℕ) (f g : ℕ → ℕ) → IsPick rows one r f → IsPick columns other c g
+    → i < r → j < c
     → selected Strict (element_of one ∷ element_of other ∷ []) (rows ∷ columns ∷ []) (i ∷ j ∷ []) ≡ f i ∷ g j ∷ []
 stands_for rows columns one other r c i j f g first second below right = rw (first.entry i below, second.entry j right) refl
 
@@ -50,54 +54,75 @@ pick_within len slice count f j pick below =
 pub record Leaves (extent : Extent) (edit : Edit) (elements : List SliceInfoElem) : Type 0 where
   pub none : argument_fault Strict (shape_of extent) elements ≡ None
   pub shape : sliced_shape Strict elements (shape_of extent) ≡ shape_of (extent_after extent edit)
-  pub sources : (at : Position) → IsWithin (extent_after extent edit) at → selected Strict elements (shape_of extent) (index_of at) ≡ index_of (source extent edit at)
+  pub sources : (at : Position) → IsWithin (extent_after extent edit) at
+      → selected Strict elements (shape_of extent) (index_of at) ≡ index_of (source extent edit at)
   pub within : (at : Position) → IsWithin (extent_after extent edit) at → IsWithin extent (source extent edit at)
 
 leaves_of : (extent : Extent) (edit : Edit) (one other : Slice) (f g : ℕ → ℕ)
     → IsPick extent.rows one (extent_after extent edit).rows f → IsPick extent.columns other (extent_after extent edit).columns g
-    → ((at : Position) → (f at.row ≡ (source extent edit at).row) × (g at.column ≡ (source extent edit at).column)) → Leaves extent edit (element_of one ∷ element_of other ∷ [])
+    → ((at : Position) → (f at.row ≡ (source extent edit at).row) × (g at.column ≡ (source extent edit at).column))
+    → Leaves extent edit (element_of one ∷ element_of other ∷ [])
 leaves_of extent edit one other f g first second from = record {
   none = no_fault _ _ one other _ _ f g first second;
   shape = left _ _ one other _ _ f g first second;
-  sources = λ at within. stands_for _ _ one other _ _ at.row at.column f g first second within.row_below within.column_below ∙ rw ((from at).0, (from at).1) refl;
+  sources = λ at within. stands_for _ _ one other _ _ at.row at.column f g first second within.row_below within.column_below
+      ∙ rw ((from at).0, (from at).1) refl;
   within = λ at within. record {
     row_below = subst (λ n. n < extent.rows) (from at).0 (pick_within _ one _ f at.row first within.row_below);
     column_below = subst (λ n. n < extent.columns) (from at).1 (pick_within _ other _ g at.column second within.column_below);
   };
 }
 
-same_elements : (extent : Extent) (edit : Edit) (one other : List SliceInfoElem) → Some one ≡ Some other → Leaves extent edit one → Leaves extent edit other
+same_elements : (extent : Extent) (edit : Edit) (one other : List SliceInfoElem) → Some one ≡ Some other → Leaves extent edit one
+    → Leaves extent edit other
 same_elements extent edit one other is here = let same : one ≡ other = cc in subst (Leaves extent edit) same here
 
-leaves : (extent : Extent) (edit : Edit) (elements : List SliceInfoElem) → elements_of edit ≡ Some elements → fits extent edit ≡ true → Leaves extent edit elements
+leaves : (extent : Extent) (edit : Edit) (elements : List SliceInfoElem) → elements_of edit ≡ Some elements → fits extent edit ≡ true
+    → Leaves extent edit elements
 leaves extent (Crop rows columns) elements is fit =
     let both = and_parts _ _ fit in
     let first = and_parts _ _ both.0 in
     let second = and_parts _ _ both.1 in
-    same_elements extent (Crop rows columns) _ elements is (leaves_of extent (Crop rows columns) (slice_with (pos rows.start) (Some (pos rows.end)) (pos 1)) (slice_with (pos columns.start) (Some (pos columns.end)) (pos 1)) (λ j. rows.start + j) (λ j. columns.start + j)
-    (of_span extent.rows rows.start rows.end first.0 first.1) (of_span extent.columns columns.start columns.end second.0 second.1) (λ at. (refl, refl)))
+    same_elements extent (Crop rows columns) _ elements is
+    (leaves_of extent (Crop rows columns) (slice_with (pos rows.start) (Some (pos rows.end)) (pos 1))
+    (slice_with (pos columns.start) (Some (pos columns.end)) (pos 1)) (λ j. rows.start + j) (λ j. columns.start + j)
+    (of_span extent.rows rows.start rows.end first.0 first.1) (of_span extent.columns columns.start columns.end second.0 second.1)
+    (λ at. (refl, refl)))
 leaves extent FlipRows elements is fit =
-    same_elements extent FlipRows _ elements is (leaves_of extent FlipRows (slice_with (pos 0) None (negsuc 0)) (slice_with (pos 0) None (pos 1)) (λ j. extent.rows - 1 - j) (λ j. j) (turned extent.rows) (all extent.columns) (λ at. (refl, refl)))
+    same_elements extent FlipRows _ elements is
+    (leaves_of extent FlipRows (slice_with (pos 0) None (negsuc 0)) (slice_with (pos 0) None (pos 1)) (λ j. extent.rows - 1 - j)
+    (λ j. j) (turned extent.rows) (all extent.columns) (λ at. (refl, refl)))
 leaves extent FlipColumns elements is fit =
-    same_elements extent FlipColumns _ elements is (leaves_of extent FlipColumns (slice_with (pos 0) None (pos 1)) (slice_with (pos 0) None (negsuc 0)) (λ j. j) (λ j. extent.columns - 1 - j) (all extent.rows) (turned extent.columns) (λ at. (refl, refl)))
+    same_elements extent FlipColumns _ elements is
+    (leaves_of extent FlipColumns (slice_with (pos 0) None (pos 1)) (slice_with (pos 0) None (negsuc 0)) (λ j. j)
+    (λ j. extent.columns - 1 - j) (all extent.rows) (turned extent.columns) (λ at. (refl, refl)))
 leaves extent (Every count) elements is fit =
-    same_elements extent (Every count) _ elements is (leaves_of extent (Every count) (slice_with (pos 0) None (pos count)) (slice_with (pos 0) None (pos count)) (λ j. j * count) (λ j. j * count) (by_step extent.rows count fit) (by_step extent.columns count fit) (λ at. (refl, refl)))
+    same_elements extent (Every count) _ elements is
+    (leaves_of extent (Every count) (slice_with (pos 0) None (pos count)) (slice_with (pos 0) None (pos count)) (λ j. j * count)
+    (λ j. j * count) (by_step extent.rows count fit) (by_step extent.columns count fit) (λ at. (refl, refl)))
 leaves extent (Mirror count) elements is fit = absurd (cc)
 
 -- ---- the source of a position lies within the picture
-source_within : (extent : Extent) (edit : Edit) (at : Position) → fits extent edit ≡ true → IsWithin (extent_after extent edit) at → IsWithin extent (source extent edit at)
+source_within : (extent : Extent) (edit : Edit) (at : Position) → fits extent edit ≡ true → IsWithin (extent_after extent edit) at
+    → IsWithin extent (source extent edit at)
 source_within extent (Crop rows columns) at fit within = (leaves extent (Crop rows columns) _ refl fit).within at within
 source_within extent FlipRows at fit within = (leaves extent FlipRows _ refl fit).within at within
 source_within extent FlipColumns at fit within = (leaves extent FlipColumns _ refl fit).within at within
 source_within extent (Every count) at fit within = (leaves extent (Every count) _ refl fit).within at within
 source_within extent (Mirror count) at fit within =
-    record { row_below = within.row_below; column_below = mirrored_below extent.columns count at.column (can_cut_parts extent count fit).columns within.column_below }
+    record {
+      row_below = within.row_below;
+      column_below = mirrored_below extent.columns count at.column
+          (can_cut_parts extent count fit).columns within.column_below;
+    }
 
-pub source_of_within : (edits : List Edit) (extent : Extent) (at : Position) → first_misfit edits extent ≡ None → IsWithin (extent_of edits extent) at → IsWithin extent (source_of edits extent at)
+pub source_of_within : (edits : List Edit) (extent : Extent) (at : Position) → first_misfit edits extent ≡ None
+    → IsWithin (extent_of edits extent) at → IsWithin extent (source_of edits extent at)
 source_of_within [] extent at none within = within
 source_of_within (edit ∷ edits) extent at none within =
     let fit = fits_first edit edits extent none in
-    source_within extent edit (source_of edits (extent_after extent edit) at) fit.0 (source_of_within edits (extent_after extent edit) at fit.1 within)
+    source_within extent edit (source_of edits (extent_after extent edit) at) fit.0
+    (source_of_within edits (extent_after extent edit) at fit.1 within)
 
 -- ---- what a run of edits leaves
 pub record IsRun (edits : List Edit) (extent : Extent) (outcome : Outcome) : Type 0 where
@@ -111,11 +136,13 @@ record IsStep (edit : Edit) (step : StepValue) : Type 0 where
   slice : elements_of edit ≡ Some elements
   is : step ≡ SliceBy elements Strict
 
-step_is : (edit : Edit) (o : Option (List SliceInfoElem)) (step : StepValue) → elements_of edit ≡ o → option_map (λ elements. SliceBy elements Strict) o ≡ Some step → IsStep edit step
+step_is : (edit : Edit) (o : Option (List SliceInfoElem)) (step : StepValue) → elements_of edit ≡ o
+    → option_map (λ elements. SliceBy elements Strict) o ≡ Some step → IsStep edit step
 step_is edit None step slice e = absurd (cc)
 step_is edit (Some elements) step slice e = record { elements = elements; slice = slice; is = cc }
 
-pub run_of_edits : (edits : List Edit) (steps : List StepValue) (extent : Extent) (view : View) → map Some steps ≡ map step_of edits → first_misfit edits extent ≡ None → view.shape ≡ shape_of extent → IsRun edits extent (run_of steps view)
+pub run_of_edits : (edits : List Edit) (steps : List StepValue) (extent : Extent) (view : View) → map Some steps ≡ map step_of edits
+    → first_misfit edits extent ≡ None → view.shape ≡ shape_of extent → IsRun edits extent (run_of steps view)
 run_of_edits [] [] extent view are none same = record { fault = refl; shape = same; sources = λ at within. refl }
 run_of_edits [] (step ∷ steps) extent view are none same = absurd (cc)
 run_of_edits (edit ∷ edits) [] extent view are none same = absurd (cc)
@@ -137,5 +164,6 @@ run_of_edits (edit ∷ edits) (step ∷ steps) extent view are none same =
           ∙ ap (λ s. selected Strict slice.elements s (index_of last)) same
           ∙ here.sources last (source_of_within edits (extent_after extent edit) at fit.1 within));
     } in
-    let run : IsRun (edit ∷ edits) extent (run_of (by_slice ∷ steps) view) = subst (IsRun (edit ∷ edits) extent) (sym (run_of_fitting by_slice steps view (rw same here.none))) whole in
+    let run : IsRun (edit ∷ edits) extent (run_of (by_slice ∷ steps) view) =
+    subst (IsRun (edit ∷ edits) extent) (sym (run_of_fitting by_slice steps view (rw same here.none))) whole in
     subst (λ s. IsRun (edit ∷ edits) extent (run_of (s ∷ steps) view)) (sym slice.is) run

@@ -1,5 +1,6 @@
 -- Pictures that edits make, one after another.
-use Rattle.std.proofs.Common.{◌≡◌, ℕ, ◌*◌, ◌/◌, ◌%◌, ◌<◌, ◌≤◌, zero, suc, None, Some, List, [], ◌∷◌, ◌++◌, length, get_or, map, refl, sym, ap, ◌∙◌, subst, arith}
+use Rattle.std.proofs.Common.{◌≡◌, ℕ, ◌*◌, ◌/◌, ◌%◌, ◌<◌, ◌≤◌, zero, suc, None, Some, List, [], ◌∷◌, ◌++◌, length, get_or, map, refl, sym}
+use Rattle.std.proofs.Common.{ap, ◌∙◌, subst, arith}
 use Rattle.std.specs.Prelude.{slice_get}
 use Rattle.std.proofs.lemmas.Nat.{div-add-mod', div_below, mod_below}
 use Rattle.std.proofs.lemmas.Option.{get_or_from_slice_get, slice_get-get_or, slice_get_within}
@@ -13,15 +14,18 @@ use Rattle.example_tiles_edits.proofs.sources.Misfits.{no_misfit-append}
 use Rattle.example_tiles_edits.proofs.sources.Pixels.{pixel_there, pixel_within, read_at}
 
 -- ---- some edits and those after them
-extent_of-append : (edits others : List Edit) (extent : Extent) → extent_of (edits ++ others) extent ≡ extent_of others (extent_of edits extent)
+extent_of-append : (edits others : List Edit) (extent : Extent)
+    → extent_of (edits ++ others) extent ≡ extent_of others (extent_of edits extent)
 extent_of-append [] others extent = refl
 extent_of-append (edit ∷ edits) others extent = extent_of-append edits others (extent_after extent edit)
 
-source_of-append : (edits others : List Edit) (extent : Extent) (at : Position) → source_of (edits ++ others) extent at ≡ source_of edits extent (source_of others (extent_of edits extent) at)
+source_of-append : (edits others : List Edit) (extent : Extent) (at : Position)
+    → source_of (edits ++ others) extent at ≡ source_of edits extent (source_of others (extent_of edits extent) at)
 source_of-append [] others extent at = refl
 source_of-append (edit ∷ edits) others extent at = ap (source extent edit) (source_of-append edits others (extent_after extent edit) at)
 
-pub IsEdited-append : (edits others : List Edit) (before between after : Image) → first_misfit others between.extent ≡ None → IsEdited edits before between → IsEdited others between after → IsEdited (edits ++ others) before after
+pub IsEdited-append : (edits others : List Edit) (before between after : Image) → first_misfit others between.extent ≡ None
+    → IsEdited edits before between → IsEdited others between after → IsEdited (edits ++ others) before after
 IsEdited-append edits others before between after fit first second =
     let left = extent_of-append edits others before.extent in
     record {
@@ -53,12 +57,17 @@ position_of extent place below = by extent.columns refl
         let some : 0 < extent.columns = omega (arith, e) in (
           record { row = place / extent.columns; column = place % extent.columns },
           record {
-            within = record { row_below = div_below place extent.columns extent.rows some below; column_below = mod_below place extent.columns some };
+            within = record {
+              row_below = div_below place extent.columns extent.rows some below;
+              column_below = mod_below place
+                  extent.columns some;
+            };
             there = div-add-mod' place extent.columns;
           },
         )
 
-pub IsPicture-edited : (edits : List Edit) (before after : Image) → IsEdited edits before after → length after.pixels ≡ pixel_count after.extent → IsPicture before → IsPicture after
+pub IsPicture-edited : (edits : List Edit) (before after : Image) → IsEdited edits before after
+    → length after.pixels ≡ pixel_count after.extent → IsPicture before → IsPicture after
 IsPicture-edited edits before after edited complete picture = record {
   complete = complete;
   in_range = λ k d below. (
@@ -67,29 +76,38 @@ IsPicture-edited edits before after edited complete picture = record {
       let from = source_of edits before.extent at in
       let value = get_or after.pixels k d in
       let here : slice_get before.pixels (place_in before.extent from) ≡ Some value =
-      pixel_there before from value (sym (edited.pixels at found.1.within) ∙ pixel_within after at found.1.within ∙ ap (slice_get after.pixels) found.1.there ∙ slice_get-get_or after.pixels k d below) in
+      pixel_there before from value (sym (edited.pixels at found.1.within) ∙ pixel_within after at found.1.within ∙ ap
+      (slice_get after.pixels) found.1.there ∙ slice_get-get_or after.pixels k d below) in
       let below_there = slice_get_within before.pixels _ value here in
       let in_range : get_or before.pixels (place_in before.extent from) d ≤ before.greatest = picture.in_range _ d below_there in
       rw (edited.greatest, sym (get_or_from_slice_get before.pixels _ value d here)) in_range);
 }
 
 -- ---- edits that are split: some are made, and then the others
-pub fits_before : (edits some others : List Edit) (extent : Extent) → edits ≡ some ++ others → first_misfit edits extent ≡ None → first_misfit some extent ≡ None
-fits_before edits some others extent whole fit = (no_misfit-append some others extent (ap (λ es. first_misfit es extent) (sym whole) ∙ fit)).0
+pub fits_before : (edits some others : List Edit) (extent : Extent) → edits ≡ some ++ others → first_misfit edits extent ≡ None
+    → first_misfit some extent ≡ None
+fits_before edits some others extent whole fit =
+    (no_misfit-append some others extent (ap (λ es. first_misfit es extent) (sym whole) ∙ fit)).0
 
-pub fits_after : (edits some others : List Edit) (before between : Image) → edits ≡ some ++ others → first_misfit edits before.extent ≡ None → IsEdited some before between → first_misfit others between.extent ≡ None
+pub fits_after : (edits some others : List Edit) (before between : Image) → edits ≡ some ++ others
+    → first_misfit edits before.extent ≡ None → IsEdited some before between → first_misfit others between.extent ≡ None
 fits_after edits some others before between whole fit edited =
-    ap (first_misfit others) edited.extent ∙ (no_misfit-append some others before.extent (ap (λ es. first_misfit es before.extent) (sym whole) ∙ fit)).1
+    ap (first_misfit others) edited.extent
+    ∙ (no_misfit-append some others before.extent (ap (λ es. first_misfit es before.extent) (sym whole) ∙ fit)).1
 
-pub goes_on : (edits some others : List Edit) (before between after : Image) → edits ≡ some ++ others → first_misfit edits before.extent ≡ None → IsEdited some before between → IsEdited others between after → IsEdited edits before after
+pub goes_on : (edits some others : List Edit) (before between after : Image) → edits ≡ some ++ others
+    → first_misfit edits before.extent ≡ None → IsEdited some before between → IsEdited others between after → IsEdited edits before after
 goes_on edits some others before between after whole fit edited rest =
-    subst (λ es. IsEdited es before after) (sym whole) (IsEdited-append some others before between after (fits_after edits some others before between whole fit edited) edited rest)
+    subst (λ es. IsEdited es before after) (sym whole)
+    (IsEdited-append some others before between after (fits_after edits some others before between whole fit edited) edited rest)
 
 -- the first edits are made, and the others are left
-pub fits_left : (edits left : List Edit) (before after : Image) → first_misfit edits before.extent ≡ None → AreBegun edits before after left → first_misfit left after.extent ≡ None
+pub fits_left : (edits left : List Edit) (before after : Image) → first_misfit edits before.extent ≡ None
+    → AreBegun edits before after left → first_misfit left after.extent ≡ None
 fits_left edits left before after fit begun = fits_after edits begun.made left before after begun.whole fit begun.edited
 
-pub goes_on_left : (edits left : List Edit) (before after last : Image) → first_misfit edits before.extent ≡ None → AreBegun edits before after left → IsEdited left after last → IsEdited edits before last
+pub goes_on_left : (edits left : List Edit) (before after last : Image) → first_misfit edits before.extent ≡ None
+    → AreBegun edits before after left → IsEdited left after last → IsEdited edits before last
 goes_on_left edits left before after last fit begun rest = goes_on edits begun.made left before after last begun.whole fit begun.edited rest
 
 pub nothing_left : (edits : List Edit) → length edits ≡ 0 → edits ≡ []
@@ -97,7 +115,9 @@ nothing_left [] none = refl
 nothing_left (edit ∷ edits) none = absurd (omega arith)
 
 -- ---- pixels at places that edits name
-pub IsEdited-gathered : (edits : List Edit) (before : Image) (extent : Extent) (pixels places : List ℕ) → first_misfit edits before.extent ≡ None → extent ≡ extent_of edits before.extent → map Some pixels ≡ map (slice_get before.pixels) places → ArePlaces edits before.extent places
+pub IsEdited-gathered : (edits : List Edit) (before : Image) (extent : Extent) (pixels places : List ℕ)
+    → first_misfit edits before.extent ≡ None → extent ≡ extent_of edits before.extent
+    → map Some pixels ≡ map (slice_get before.pixels) places → ArePlaces edits before.extent places
     → IsEdited edits before (record { extent = extent; greatest = before.greatest; pixels = pixels })
 IsEdited-gathered edits before extent pixels places fit left gathered found = record {
   extent = left;

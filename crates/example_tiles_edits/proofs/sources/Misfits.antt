@@ -1,5 +1,6 @@
 -- The first misfit, edit by edit.
-use Rattle.std.proofs.Common.{◌≡◌, ℕ, suc, ◌+◌, ◌<◌, Bool, true, false, cond, Option, Some, None, List, [], ◌∷◌, ◌++◌, length, get_or, drop, drop-cons, refl, sym, ap, ◌∙◌, arith}
+use Rattle.std.proofs.Common.{◌≡◌, ℕ, suc, ◌+◌, ◌<◌, Bool, true, false, cond, Option, Some, None, List, [], ◌∷◌, ◌++◌, length, get_or, drop}
+use Rattle.std.proofs.Common.{drop-cons, refl, sym, ap, ◌∙◌, arith}
 use Rattle.std.specs.Option.{option_map}
 use Rattle.example_tiles_edits.specs.declared.picture.Extent.{Extent}
 use Rattle.example_tiles_edits.specs.declared.edits.edit.Edit.{Edit}
@@ -31,11 +32,15 @@ from_none (Some misfit) =
     let same : misfit.number + 0 ≡ misfit.number = omega arith in
     ap (numbered misfit) same
 
-rest_of : (edits : List Edit) (at : ℕ) (edit : Edit) → at < length edits → edit ≡ get_or edits at edit → drop at edits ≡ edit ∷ drop (at + 1) edits
-rest_of edits at edit h read = let more : at + 1 ≡ suc at = omega arith in rw more (drop-cons edits at edit h ∙ ap (λ (x : Edit). x ∷ drop (suc at) edits) (sym read))
+rest_of : (edits : List Edit) (at : ℕ) (edit : Edit) → at < length edits → edit ≡ get_or edits at edit
+    → drop at edits ≡ edit ∷ drop (at + 1) edits
+rest_of edits at edit h read =
+    let more : at + 1 ≡ suc at = omega arith in rw more (drop-cons edits at edit h ∙ ap (λ (x : Edit). x ∷ drop (suc at) edits) (sym read))
 
-pub next_fits : (edits : List Edit) (extent : Extent) (at : ℕ) (edit : Edit) → at < length edits → edit ≡ get_or edits at edit → fits extent edit ≡ true
-    → from_first (at + 1) (first_misfit (drop (at + 1) edits) (extent_after extent edit)) ≡ from_first at (first_misfit (drop at edits) extent)
+pub next_fits : (edits : List Edit) (extent : Extent) (at : ℕ) (edit : Edit) → at < length edits → edit ≡ get_or edits at edit
+    → fits extent edit ≡ true
+    → from_first (at + 1) (first_misfit (drop (at + 1) edits) (extent_after extent edit)) ≡ from_first at
+    (first_misfit (drop at edits) extent)
 next_fits edits extent at edit h read fit =
     rw (rest_of edits at edit h read, fit) (later at (first_misfit (drop (at + 1) edits) (extent_after extent edit)))
 
@@ -43,7 +48,8 @@ pub next_leaves : (edits : List Edit) (extent : Extent) (at : ℕ) (edit : Edit)
     → extent_of (drop (at + 1) edits) (extent_after extent edit) ≡ extent_of (drop at edits) extent
 next_leaves edits extent at edit h read = rw (rest_of edits at edit h read) refl
 
-pub next_is_misfit : (edits : List Edit) (extent : Extent) (at : ℕ) (edit : Edit) → at < length edits → edit ≡ get_or edits at edit → fits extent edit ≡ false
+pub next_is_misfit : (edits : List Edit) (extent : Extent) (at : ℕ) (edit : Edit) → at < length edits → edit ≡ get_or edits at edit
+    → fits extent edit ≡ false
     → from_first at (first_misfit (drop at edits) extent) ≡ Some (record { number = at + 1; edit = edit; extent = extent })
 unfolding numbered
 next_is_misfit edits extent at edit h read misfit =
@@ -51,16 +57,20 @@ next_is_misfit edits extent at edit h read misfit =
     rw (rest_of edits at edit h read, misfit) (ap (numbered (record { number = 1; edit = edit; extent = extent })) same)
 
 -- ---- where no edit is a misfit, the first isn't, nor are the others
-pub no_misfit : (b : Bool) (misfit : Misfit) (o : Option Misfit) → cond b (option_map one_later o) (Some misfit) ≡ None → (b ≡ true) × (o ≡ None)
+pub no_misfit : (b : Bool) (misfit : Misfit) (o : Option Misfit) → cond b (option_map one_later o) (Some misfit) ≡ None
+    → (b ≡ true) × (o ≡ None)
 no_misfit true misfit None e = (refl, refl)
 no_misfit true misfit (Some later) e = absurd (cc)
 no_misfit false misfit o e = absurd (cc)
 
-pub fits_first : (edit : Edit) (edits : List Edit) (extent : Extent) → first_misfit (edit ∷ edits) extent ≡ None → (fits extent edit ≡ true) × (first_misfit edits (extent_after extent edit) ≡ None)
-fits_first edit edits extent none = no_misfit (fits extent edit) (record { number = 1; edit = edit; extent = extent }) (first_misfit edits (extent_after extent edit)) none
+pub fits_first : (edit : Edit) (edits : List Edit) (extent : Extent) → first_misfit (edit ∷ edits) extent ≡ None
+    → (fits extent edit ≡ true) × (first_misfit edits (extent_after extent edit) ≡ None)
+fits_first edit edits extent none =
+    no_misfit (fits extent edit) (record { number = 1; edit = edit; extent = extent }) (first_misfit edits (extent_after extent edit)) none
 
 -- the same of some edits and those after them
-pub no_misfit-append : (edits others : List Edit) (extent : Extent) → first_misfit (edits ++ others) extent ≡ None → (first_misfit edits extent ≡ None) × (first_misfit others (extent_of edits extent) ≡ None)
+pub no_misfit-append : (edits others : List Edit) (extent : Extent) → first_misfit (edits ++ others) extent ≡ None
+    → (first_misfit edits extent ≡ None) × (first_misfit others (extent_of edits extent) ≡ None)
 no_misfit-append [] others extent none = (refl, none)
 no_misfit-append (edit ∷ edits) others extent none =
     let first = fits_first edit (edits ++ others) extent none in

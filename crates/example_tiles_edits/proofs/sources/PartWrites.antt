@@ -1,5 +1,7 @@
--- The parts of a picture that is cut: they fit and share no pixel, and what is written at all of them is the picture with its parts mirrored.
-use Rattle.std.proofs.Common.{◌≡◌, ℕ, ◌+◌, ◌-◌, ◌*◌, ◌/◌, ◌%◌, ◌<◌, ◌≤◌, ℤ, pos, negsuc, true, Option, Some, None, List, [], ◌∷◌, ◌++◌, length, get_or, map, refl, sym, ap, ◌∙◌, subst, arith}
+-- The parts of a picture that is cut: they fit and share no pixel, and what is written at all of them is the picture with its
+-- parts mirrored.
+use Rattle.std.proofs.Common.{◌≡◌, ℕ, ◌+◌, ◌-◌, ◌*◌, ◌/◌, ◌%◌, ◌<◌, ◌≤◌, ℤ, pos, negsuc, true, Option, Some, None, List, [], ◌∷◌, ◌++◌}
+use Rattle.std.proofs.Common.{length, get_or, map, refl, sym, ap, ◌∙◌, subst, arith}
 use Rattle.std.specs.Prelude.{slice_get, IsSomeAnd, MatchOption, if◌then◌else◌}
 use Rattle.std.specs.List.{All, AllZip, Contains, list_all, range_with_len}
 use Rattle.std.specs.Option.{option_map, option_or}
@@ -30,13 +32,15 @@ use Rattle.ndarray_layout.proofs.laws.FlatIndex.{slice_get-flat_index_in}
 use Rattle.ndarray_layout.proofs.laws.SlicedView.{Descends-slice_of}
 use Rattle.ndarray_layout.proofs.laws.View.{length-view_places}
 use Rattle.nd_owned.specs.Owned.{Owned, item_at_place}
-use Rattle.nd_owned.specs.Writes.{IsFaultOfWrites, IsIntersectionFault, IsWritten, SomeIntersect, Write, counts_fault, has_count, slices_fault}
+use Rattle.nd_owned.specs.Writes.{IsFaultOfWrites, IsIntersectionFault, IsWritten, SomeIntersect, Write, counts_fault, has_count}
+use Rattle.nd_owned.specs.Writes.{slices_fault}
 use Rattle.example_tiles_edits.specs.declared.picture.Extent.{Extent}
 use Rattle.example_tiles_edits.specs.picture.Picture.{Image, IsWithin, Position}
 use Rattle.example_tiles_edits.specs.declared.edits.edit.Span.{Span}
 use Rattle.example_tiles_edits.specs.declared.edits.edit.Edit.TheVariants.{Mirror}
 use Rattle.example_tiles_edits.specs.Edits.{IsEdited, mirrored}
-use Rattle.example_tiles_edits.specs.Parts.{AreMirrored, IsArrayOf, IsMirrored, elements_of_part, mirrored_elements, part_of, part_span, parts_of, picked_pixels}
+use Rattle.example_tiles_edits.specs.Parts.{AreMirrored, IsArrayOf, IsMirrored, elements_of_part, mirrored_elements, part_of, part_span}
+use Rattle.example_tiles_edits.specs.Parts.{parts_of, picked_pixels}
 use Rattle.example_tiles_edits.specs.Slices.{index_of, shape_of, whole_view}
 use Rattle.example_tiles_edits.proofs.sources.Axes.{IsPick, back_over, of_span}
 use Rattle.example_tiles_edits.proofs.sources.Cuts.{CanCut, IsCut, is_in, is_part, mirrored_below}
@@ -47,46 +51,71 @@ use Rattle.example_tiles_edits.proofs.sources.Pixels.{is_index_of, pixel_within,
 abbrev slice_of_span : Span → ℤ → Slice
 slice_of_span span step = slice_with (pos span.start) (Some (pos span.end)) step
 
-up : (len count number : ℕ) → IsCut len count → number < count → IsPick len (slice_of_span (part_span len count number) (pos 1)) (len / count) (λ j. len / count * number + j)
+up : (len count number : ℕ) → IsCut len count → number < count
+    → IsPick len (slice_of_span (part_span len count number) (pos 1)) (len / count) (λ j. len / count * number + j)
 up len count number cut below =
     let part = is_part len count number cut below in
     subst (λ n. IsPick len (slice_of_span (part_span len count number) (pos 1)) n (λ j. len / count * number + j)) part.size
-    (of_span len (len / count * number) (len / count * (number + 1)) (le-leb (len / count * number) len (omega (arith, part.ordered, part.within))) (le-leb (len / count * (number + 1)) len part.within))
+    (of_span len (len / count * number) (len / count * (number + 1))
+    (le-leb (len / count * number) len (omega (arith, part.ordered, part.within)))
+    (le-leb (len / count * (number + 1)) len part.within))
 
-back : (len count number : ℕ) → IsCut len count → number < count → IsPick len (slice_of_span (part_span len count number) (negsuc 0)) (len / count) (λ j. len / count * (number + 1) - 1 - j)
+back : (len count number : ℕ) → IsCut len count → number < count
+    → IsPick len (slice_of_span (part_span len count number) (negsuc 0)) (len / count) (λ j. len / count * (number + 1) - 1 - j)
 back len count number cut below =
     let part = is_part len count number cut below in
     subst (λ n. IsPick len (slice_of_span (part_span len count number) (negsuc 0)) n (λ j. len / count * (number + 1) - 1 - j)) part.size
-    (back_over len (len / count * number) (len / count * (number + 1)) (le-leb (len / count * number) len (omega (arith, part.ordered, part.within))) (le-leb (len / count * (number + 1)) len part.within))
+    (back_over len (len / count * number) (len / count * (number + 1))
+    (le-leb (len / count * number) len (omega (arith, part.ordered, part.within)))
+    (le-leb (len / count * (number + 1)) len part.within))
 
 -- what the part of a number does
 record PartPicks (extent : Extent) (count number : ℕ) : Type 0 where
-  rows : IsPick extent.rows (slice_of_span (part_span extent.rows count (number / count)) (pos 1)) (extent.rows / count) (λ j. extent.rows / count * (number / count) + j)
-  columns : IsPick extent.columns (slice_of_span (part_span extent.columns count (number % count)) (pos 1)) (extent.columns / count) (λ j. extent.columns / count * (number % count) + j)
-  turned : IsPick extent.columns (slice_of_span (part_span extent.columns count (number % count)) (negsuc 0)) (extent.columns / count) (λ j. extent.columns / count * (number % count + 1) - 1 - j)
+  rows : IsPick extent.rows (slice_of_span (part_span extent.rows count (number / count)) (pos 1)) (extent.rows / count)
+      (λ j. extent.rows / count * (number / count) + j)
+  columns : IsPick extent.columns (slice_of_span (part_span extent.columns count (number % count)) (pos 1)) (extent.columns / count)
+      (λ j. extent.columns / count * (number % count) + j)
+  turned : IsPick extent.columns (slice_of_span (part_span extent.columns count (number % count)) (negsuc 0)) (extent.columns / count)
+      (λ j. extent.columns / count * (number % count + 1) - 1 - j)
 
 picks_of : (extent : Extent) (count number : ℕ) → CanCut extent count → number < count * count → PartPicks extent count number
 picks_of extent count number can below =
     let row = div_below number count count can.rows.some below in
     let column = mod_below number count can.rows.some in
-    record { rows = up extent.rows count (number / count) can.rows row; columns = up extent.columns count (number % count) can.columns column; turned = back extent.columns count (number % count) can.columns column }
+    record {
+      rows = up extent.rows count (number / count) can.rows row;
+      columns = up extent.columns count (number % count) can.columns
+          column;
+      turned = back extent.columns count (number % count) can.columns column;
+    }
 
 -- a part fits, and so does the part turned round
-pub part_fits : (extent : Extent) (count number : ℕ) → CanCut extent count → number < count * count → argument_fault Strict (shape_of extent) (elements_of_part (part_of extent count number)) ≡ None
-part_fits extent count number can below = let pick = picks_of extent count number can below in no_fault _ _ _ _ _ _ _ _ pick.rows pick.columns
+pub part_fits : (extent : Extent) (count number : ℕ) → CanCut extent count → number < count * count
+    → argument_fault Strict (shape_of extent) (elements_of_part (part_of extent count number)) ≡ None
+part_fits extent count number can below =
+    let pick = picks_of extent count number can below in no_fault _ _ _ _ _ _ _ _ pick.rows pick.columns
 
-pub mirrored_fits : (extent : Extent) (count number : ℕ) → CanCut extent count → number < count * count → argument_fault Strict (shape_of extent) (mirrored_elements (part_of extent count number)) ≡ None
-mirrored_fits extent count number can below = let pick = picks_of extent count number can below in no_fault _ _ _ _ _ _ _ _ pick.rows pick.turned
+pub mirrored_fits : (extent : Extent) (count number : ℕ) → CanCut extent count → number < count * count
+    → argument_fault Strict (shape_of extent) (mirrored_elements (part_of extent count number)) ≡ None
+mirrored_fits extent count number can below =
+    let pick = picks_of extent count number can below in no_fault _ _ _ _ _ _ _ _ pick.rows pick.turned
 
-part_shape : (extent : Extent) (count number : ℕ) → CanCut extent count → number < count * count → sliced_shape Strict (elements_of_part (part_of extent count number)) (shape_of extent) ≡ extent.rows / count ∷ extent.columns / count ∷ []
+part_shape : (extent : Extent) (count number : ℕ) → CanCut extent count → number < count * count
+    → sliced_shape Strict (elements_of_part (part_of extent count number)) (shape_of extent) ≡ extent.rows / count ∷ extent.columns /
+    count ∷ []
 part_shape extent count number can below = let pick = picks_of extent count number can below in left _ _ _ _ _ _ _ _ pick.rows pick.columns
 
-mirrored_shape : (extent : Extent) (count number : ℕ) → CanCut extent count → number < count * count → sliced_shape Strict (mirrored_elements (part_of extent count number)) (shape_of extent) ≡ extent.rows / count ∷ extent.columns / count ∷ []
-mirrored_shape extent count number can below = let pick = picks_of extent count number can below in left _ _ _ _ _ _ _ _ pick.rows pick.turned
+mirrored_shape : (extent : Extent) (count number : ℕ) → CanCut extent count → number < count * count
+    → sliced_shape Strict (mirrored_elements (part_of extent count number)) (shape_of extent) ≡ extent.rows / count ∷ extent.columns /
+    count ∷ []
+mirrored_shape extent count number can below =
+    let pick = picks_of extent count number can below in left _ _ _ _ _ _ _ _ pick.rows pick.turned
 
 -- ---- the place that a slice has at a flat index
-picked_at : (extent : Extent) (one other : Slice) (r c i j : ℕ) (f g : ℕ → ℕ) → IsView (whole_view extent) → IsPick extent.rows one r f → IsPick extent.columns other c g → i < r → j < c
-    → slice_get (view_places RowMajor (slice_of Strict (element_of one ∷ element_of other ∷ []) (whole_view extent))) (i * c + j) ≡ Some (pos (f i * extent.columns + g j))
+picked_at : (extent : Extent) (one other : Slice) (r c i j : ℕ) (f g : ℕ → ℕ) → IsView (whole_view extent) → IsPick extent.rows one r f
+    → IsPick extent.columns other c g → i < r → j < c
+    → slice_get (view_places RowMajor (slice_of Strict (element_of one ∷ element_of other ∷ []) (whole_view extent))) (i * c + j) ≡ Some
+    (pos (f i * extent.columns + g j))
 picked_at extent one other r c i j f g is_view first second below right =
     let elements = element_of one ∷ element_of other ∷ [] in
     let view = slice_of Strict elements (whole_view extent) in
@@ -94,17 +123,27 @@ picked_at extent one other r c i j f g is_view first second below right =
     let at : Position = record { row = i; column = j } in
     let from : Position = record { row = f i; column = g j } in
     let within : IsWithin extent_left at = record { row_below = below; column_below = right } in
-    let inside : IsWithin extent from = record { row_below = pick_within extent.rows one r f i first below; column_below = pick_within extent.columns other c g j second right } in
+    let inside : IsWithin extent from =
+    record {
+      row_below = pick_within extent.rows one r f i first below;
+      column_below = pick_within extent.columns other c g j second
+          right;
+    } in
     let shape : view.shape ≡ shape_of extent_left = left extent.rows extent.columns one other r c f g first second in
     let is : is_index view.shape (index_of at) ≡ true = ap (λ s. is_index s (index_of at)) shape ∙ is_index_of extent_left at within in
-    let flat_indices : flat_index view.shape (index_of at) ≡ i * c + j = ap (λ s. flat_index s (index_of at)) shape ∙ flat_index_of extent_left at in
-    let kept = (Descends-slice_of Strict elements (whole_view extent) is_view (no_fault extent.rows extent.columns one other r c f g first second)).places (index_of at) is in
+    let flat_indices : flat_index view.shape (index_of at) ≡ i * c + j = ap (λ s. flat_index s (index_of at)) shape
+    ∙ flat_index_of extent_left at in
+    let kept =
+    (Descends-slice_of Strict elements (whole_view extent) is_view
+    (no_fault extent.rows extent.columns one other r c f g first second)).places (index_of at) is in
     ap (slice_get (view_places RowMajor view)) (sym flat_indices)
     ∙ slice_get-map (place_at view) (indices_in RowMajor view.shape) (flat_index view.shape (index_of at))
     ∙ ap (option_map (place_at view)) (slice_get-flat_index_in RowMajor view.shape (index_of at) is)
-    ∙ ap (λ (z : ℤ). Some z) (kept.1 ∙ ap (place_at (whole_view extent)) (stands_for extent.rows extent.columns one other r c i j f g first second below right) ∙ place_of_whole extent from inside)
+    ∙ ap (λ (z : ℤ). Some z) (kept.1 ∙ ap (place_at (whole_view extent))
+    (stands_for extent.rows extent.columns one other r c i j f g first second below right) ∙ place_of_whole extent from inside)
 
-item_of : (stored : List ℕ) (places : List ℤ) (k place : ℕ) → slice_get places k ≡ Some (pos place) → slice_get (map (item_at_place stored) places) k ≡ Some (slice_get stored place)
+item_of : (stored : List ℕ) (places : List ℤ) (k place : ℕ) → slice_get places k ≡ Some (pos place)
+    → slice_get (map (item_at_place stored) places) k ≡ Some (slice_get stored place)
 item_of stored places k place at = slice_get-map (item_at_place stored) places k ∙ ap (option_map (item_at_place stored)) at
 
 -- ---- the write of a number
@@ -114,29 +153,43 @@ same_some one other e = cc
 number_at : (n k : ℕ) → k < n → slice_get (range_with_len 0 n) k ≡ Some k
 number_at n k below =
     let here : 0 + k ≡ k = omega arith in
-    slice_get-get_or (range_with_len 0 n) k 0 (omega (arith, length-range_with_len 0 n, below)) ∙ ap Some (get_or-range_with_len 0 n k 0 below ∙ here)
+    slice_get-get_or (range_with_len 0 n) k 0 (omega (arith, length-range_with_len 0 n, below))
+    ∙ ap Some (get_or-range_with_len 0 n k 0 below ∙ here)
 
 part_at : (extent : Extent) (count k : ℕ) → k < count * count → slice_get (parts_of extent count) k ≡ Some (part_of extent count k)
 part_at extent count k below =
-    slice_get-map (part_of extent count) (range_with_len 0 (count * count)) k ∙ ap (option_map (part_of extent count)) (number_at (count * count) k below)
+    slice_get-map (part_of extent count) (range_with_len 0 (count * count)) k
+    ∙ ap (option_map (part_of extent count)) (number_at (count * count) k below)
 
-pub length_writes : (array : Owned ℕ) (extent : Extent) (count : ℕ) (writes : List (Write ℕ)) → AreMirrored array extent count writes → length writes ≡ count * count
-length_writes array extent count writes are = AllZip-long (IsMirrored array) (parts_of extent count) writes are ∙ length-map-range_with_len (part_of extent count) 0 (count * count)
+pub length_writes : (array : Owned ℕ) (extent : Extent) (count : ℕ) (writes : List (Write ℕ)) → AreMirrored array extent count writes
+    → length writes ≡ count * count
+length_writes array extent count writes are = AllZip-long (IsMirrored array) (parts_of extent count) writes are
+    ∙ length-map-range_with_len (part_of extent count) 0 (count * count)
 
-pub each : (array : Owned ℕ) (extent : Extent) (count : ℕ) (writes : List (Write ℕ)) (k : ℕ) (write : Write ℕ) → AreMirrored array extent count writes → slice_get writes k ≡ Some write
+pub each : (array : Owned ℕ) (extent : Extent) (count : ℕ) (writes : List (Write ℕ)) (k : ℕ) (write : Write ℕ)
+    → AreMirrored array extent count writes → slice_get writes k ≡ Some write
     → (k < count * count) × IsMirrored array (part_of extent count k) write
 each array extent count writes k write are there =
-    let below : k < count * count = subst (λ n. k < n) (length_writes array extent count writes are) (slice_get_within writes k write there) in
-    let matched = subst (λ o. MatchOption o (Unit {0}) (λ part. IsSomeAnd (slice_get writes k) (IsMirrored array part))) (part_at extent count k below) (AllZip-left (IsMirrored array) (parts_of extent count) writes are k) in
+    let below : k < count * count =
+    subst (λ n. k < n) (length_writes array extent count writes are) (slice_get_within writes k write there) in
+    let matched =
+    subst (λ o. MatchOption o (Unit {0}) (λ part. IsSomeAnd (slice_get writes k) (IsMirrored array part)))
+    (part_at extent count k below) (AllZip-left (IsMirrored array) (parts_of extent count) writes are k) in
     (below, subst (λ o. IsSomeAnd o (IsMirrored array (part_of extent count k))) there matched)
 
 -- ---- no fault of a shape
-slices_fit : (shape : List ℕ) (writes : List (Write ℕ)) → All (λ write. argument_fault Strict shape write.slice ≡ None) writes → slices_fault shape writes ≡ None
+slices_fit : (shape : List ℕ) (writes : List (Write ℕ)) → All (λ write. argument_fault Strict shape write.slice ≡ None) writes
+    → slices_fault shape writes ≡ None
 slices_fit shape [] fit = refl
 slices_fit shape (write ∷ writes) fit =
-    rw (All-head (λ (w : Write ℕ). argument_fault Strict shape w.slice ≡ None) write writes fit, slices_fit shape writes (All-tail (λ (w : Write ℕ). argument_fault Strict shape w.slice ≡ None) write writes fit)) refl
+    rw (
+      All-head (λ (w : Write ℕ). argument_fault Strict shape w.slice ≡ None) write writes fit,
+      slices_fit shape writes
+          (All-tail (λ (w : Write ℕ). argument_fault Strict shape w.slice ≡ None) write writes fit),
+    ) refl
 
-counted : (extent : Extent) (count k : ℕ) (items : List ℕ) (write : Write ℕ) → CanCut extent count → k < count * count → IsMirrored (record { items = items; view = whole_view extent }) (part_of extent count k) write → has_count (shape_of extent) write ≡ true
+counted : (extent : Extent) (count k : ℕ) (items : List ℕ) (write : Write ℕ) → CanCut extent count → k < count * count → IsMirrored
+    (record { items = items; view = whole_view extent }) (part_of extent count k) write → has_count (shape_of extent) write ≡ true
 counted extent count k items write can below is =
     let mirrored_view = slice_of Strict (mirrored_elements (part_of extent count k)) (whole_view extent) in
     let listed : length write.items ≡ size (extent.rows / count ∷ extent.columns / count ∷ []) =
@@ -150,7 +203,8 @@ counted extent count k items write can below is =
     eq-eqb (length write.items) (size (sliced_shape Strict write.slice (shape_of extent))) (listed ∙ sym picked)
 
 -- an entry that a part picks tells which part it is
-picked_range : (len : ℕ) (slice : Slice) (picked start x : ℕ) → IsPick len slice picked (λ j. start + j) → Contains (picks Strict len slice) x → (start ≤ x) × (x < start + picked)
+picked_range : (len : ℕ) (slice : Slice) (picked start x : ℕ) → IsPick len slice picked (λ j. start + j)
+    → Contains (picks Strict len slice) x → (start ≤ x) × (x < start + picked)
 picked_range len slice picked start x pick (k, below, at) =
     let inside : k < picked = subst (λ n. k < n) pick.count below in
     let is : start + k ≡ x = sym (pick.entry k inside) ∙ sym (get_or_default_zero (picks Strict len slice) k x below) ∙ at in
@@ -165,9 +219,12 @@ part_is width number x range =
 
 same_number : (count one other : ℕ) → one / count ≡ other / count → one % count ≡ other % count → one ≡ other
 same_number count one other rows columns =
-    sym (div-add-mod' one count) ∙ ap (λ n. n * count + one % count) rows ∙ ap (λ n. other / count * count + n) columns ∙ div-add-mod' other count
+    sym (div-add-mod' one count) ∙ ap (λ n. n * count + one % count) rows ∙ ap (λ n. other / count * count + n) columns
+    ∙ div-add-mod' other count
 
-meet_in_one : (extent : Extent) (count one other : ℕ) → PartPicks extent count one → PartPicks extent count other → Meet Strict (shape_of extent) (elements_of_part (part_of extent count one)) (elements_of_part (part_of extent count other)) → one ≡ other
+meet_in_one : (extent : Extent) (count one other : ℕ) → PartPicks extent count one → PartPicks extent count other
+    → Meet Strict (shape_of extent) (elements_of_part (part_of extent count one)) (elements_of_part (part_of extent count other))
+    → one ≡ other
 meet_in_one extent count one other first second ([], is, p, q) = absurd p
 meet_in_one extent count one other first second (x ∷ [], is, p, q) = absurd p.1
 meet_in_one extent count one other first second (x ∷ y ∷ z ∷ index, is, p, q) = absurd p.1.1
@@ -175,15 +232,18 @@ meet_in_one extent count one other first second (x ∷ y ∷ [], is, p, q) =
     let height = extent.rows / count in
     let width = extent.columns / count in
     same_number count one other
-    (sym (part_is height (one / count) x (picked_range _ _ _ _ x first.rows p.0)) ∙ part_is height (other / count) x (picked_range _ _ _ _ x second.rows q.0))
-    (sym (part_is width (one % count) y (picked_range _ _ _ _ y first.columns p.1.0)) ∙ part_is width (other % count) y (picked_range _ _ _ _ y second.columns q.1.0))
+    (sym (part_is height (one / count) x (picked_range _ _ _ _ x first.rows p.0)) ∙ part_is height (other / count) x
+    (picked_range _ _ _ _ x second.rows q.0))
+    (sym (part_is width (one % count) y (picked_range _ _ _ _ y first.columns p.1.0)) ∙ part_is width (other % count) y
+    (picked_range _ _ _ _ y second.columns q.1.0))
 
 -- what is there, and what holds of it
 found : (o : Option (Write ℕ)) (P : Write ℕ → Type 0) → IsSomeAnd o P → (write : Write ℕ) × (o ≡ Some write) × P write
 found None P here = absurd here
 found (Some write) P here = (write, refl, here)
 
-none_intersect : (extent : Extent) (count : ℕ) (items : List ℕ) (writes : List (Write ℕ)) → CanCut extent count → AreMirrored (record { items = items; view = whole_view extent }) extent count writes → SomeIntersect (shape_of extent) writes → ⊥
+none_intersect : (extent : Extent) (count : ℕ) (items : List ℕ) (writes : List (Write ℕ)) → CanCut extent count → AreMirrored
+    (record { items = items; view = whole_view extent }) extent count writes → SomeIntersect (shape_of extent) writes → ⊥
 none_intersect extent count items writes can are (i, j, earlier, some) =
     let array : Owned ℕ = record { items = items; view = whole_view extent } in
     let shape = shape_of extent in
@@ -192,11 +252,14 @@ none_intersect extent count items writes can are (i, j, earlier, some) =
     let first = each array extent count writes i one.0 are one.1 in
     let second = each array extent count writes j other.0 are other.1 in
     let meet : Meet Strict shape (elements_of_part (part_of extent count i)) (elements_of_part (part_of extent count j)) =
-    subst (λ e. Meet Strict shape e (elements_of_part (part_of extent count j))) first.1.slice (subst (λ e. Meet Strict shape one.0.slice e) second.1.slice other.2) in
+    subst (λ e. Meet Strict shape e (elements_of_part (part_of extent count j))) first.1.slice
+    (subst (λ e. Meet Strict shape one.0.slice e) second.1.slice other.2) in
     let same = meet_in_one extent count i j (picks_of extent count i can first.0) (picks_of extent count j can second.0) meet in
     omega (arith, earlier, same)
 
-pub not_refused_at : (extent : Extent) (count : ℕ) (items : List ℕ) (writes : List (Write ℕ)) (kind : ErrorKind) → CanCut extent count → AreMirrored (record { items = items; view = whole_view extent }) extent count writes → IsFaultOfWrites (shape_of extent) writes (Some kind) → ⊥
+pub not_refused_at : (extent : Extent) (count : ℕ) (items : List ℕ) (writes : List (Write ℕ)) (kind : ErrorKind) → CanCut extent count →
+    AreMirrored (record { items = items; view = whole_view extent }) extent count writes
+    → IsFaultOfWrites (shape_of extent) writes (Some kind) → ⊥
 not_refused_at extent count items writes kind can are fault =
     let array : Owned ℕ = record { items = items; view = whole_view extent } in
     let shape = shape_of extent in
@@ -209,28 +272,36 @@ not_refused_at extent count items writes kind can are fault =
     let here = each array extent count writes k write are (slice_get-get_or writes k d below) in
     counted extent count k items write can here.0 here.1) in
     let of_counts : counts_fault shape writes ≡ None =
-    ap (λ o. option_or o (if list_all (has_count shape) writes then None else Some IncompatibleShape)) fit ∙ ap (λ b. if b then None else Some IncompatibleShape) counts in
+    ap (λ o. option_or o (if list_all (has_count shape) writes then None else Some IncompatibleShape)) fit
+    ∙ ap (λ b. if b then None else Some IncompatibleShape) counts in
     let of_intersection : IsIntersectionFault shape writes (Some kind) =
     subst (λ o. MatchOption o (IsIntersectionFault shape writes (Some kind)) (λ first. Some kind ≡ Some first)) of_counts fault in
     none_intersect extent count items writes can are of_intersection.1
 
 -- ---- the pixel that is written at a position
-part_pixel : (extent : Extent) (count k i j : ℕ) (items new : List ℕ) (write : Write ℕ) → IsView (whole_view extent) → PartPicks extent count k → IsMirrored (record { items = items; view = whole_view extent }) (part_of extent count k) write → IsWritten (whole_view extent) new write
+part_pixel : (extent : Extent) (count k i j : ℕ) (items new : List ℕ) (write : Write ℕ) → IsView (whole_view extent) → PartPicks extent
+    count k → IsMirrored (record { items = items; view = whole_view extent }) (part_of extent count k) write
+    → IsWritten (whole_view extent) new write
     → i < extent.rows / count → j < extent.columns / count
     → slice_get new ((extent.rows / count * (k / count) + i) * extent.columns + (extent.columns / count * (k % count) + j))
     ≡ slice_get items ((extent.rows / count * (k / count) + i) * extent.columns + (extent.columns / count * (k % count + 1) - 1 - j))
 part_pixel extent count k i j items new write is_view pick is written below right =
     let flat_index_there = i * (extent.columns / count) + j in
-    let same : map (item_at_place new) (view_places RowMajor (slice_of Strict (elements_of_part (part_of extent count k)) (whole_view extent))) ≡ picked_pixels (record { items = items; view = whole_view extent }) (mirrored_elements (part_of extent count k)) =
-    ap (λ elements. map (item_at_place new) (view_places RowMajor (slice_of Strict elements (whole_view extent)))) (sym is.slice) ∙ written ∙ is.pixels in
+    let same : map (item_at_place new)
+    (view_places RowMajor (slice_of Strict (elements_of_part (part_of extent count k)) (whole_view extent))) ≡ picked_pixels
+    (record { items = items; view = whole_view extent }) (mirrored_elements (part_of extent count k)) =
+    ap (λ elements. map (item_at_place new) (view_places RowMajor (slice_of Strict elements (whole_view extent)))) (sym is.slice)
+    ∙ written ∙ is.pixels in
     same_some _ _
     (sym (item_of new _ flat_index_there _ (picked_at extent _ _ _ _ i j _ _ is_view pick.rows pick.columns below right))
     ∙ ap (λ (xs : List (Option ℕ)). slice_get xs flat_index_there) same
     ∙ item_of items _ flat_index_there _ (picked_at extent _ _ _ _ i j _ _ is_view pick.rows pick.turned below right))
 
-pub mirrored_pixel : (extent : Extent) (count : ℕ) (items new : List ℕ) (writes : List (Write ℕ)) (at : Position) → IsView (whole_view extent) → CanCut extent count → AreMirrored (record { items = items; view = whole_view extent }) extent count writes
+pub mirrored_pixel : (extent : Extent) (count : ℕ) (items new : List ℕ) (writes : List (Write ℕ)) (at : Position) → IsView
+    (whole_view extent) → CanCut extent count → AreMirrored (record { items = items; view = whole_view extent }) extent count writes
     → All (IsWritten (whole_view extent) new) writes → IsWithin extent at
-    → slice_get new (at.row * extent.columns + at.column) ≡ slice_get items (at.row * extent.columns + mirrored (extent.columns / count) at.column)
+    → slice_get new (at.row * extent.columns + at.column) ≡ slice_get items
+    (at.row * extent.columns + mirrored (extent.columns / count) at.column)
 mirrored_pixel extent count items new writes at is_view can are written within =
     let height = extent.rows / count in
     let width = extent.columns / count in
@@ -240,57 +311,82 @@ mirrored_pixel extent count items new writes at is_view can are written within =
     let row_part : k / count ≡ at.row / height = div-mul-add (at.row / height) count (at.column / width) in_columns.part in
     let column_part : k % count ≡ at.column / width = mod-mul-add (at.row / height) count (at.column / width) in_columns.part in
     let below : k < count * count = mul-add-lt (at.row / height) count (at.column / width) count in_rows.part in_columns.part in
-    let there_is : k < length writes = omega (arith, below, length_writes (record { items = items; view = whole_view extent }) extent count writes are) in
+    let there_is : k < length writes =
+    omega (arith, below, length_writes (record { items = items; view = whole_view extent }) extent count writes are) in
     let write = get_or writes k (record { slice = []; items = [] }) in
-    let here = each (record { items = items; view = whole_view extent }) extent count writes k write are (slice_get-get_or writes k (record { slice = []; items = [] }) there_is) in
-    let pixel = part_pixel extent count k (at.row % height) (at.column % width) items new write is_view (picks_of extent count k can below) here.1 (written k (record { slice = []; items = [] }) there_is) in_rows.inner in_columns.inner in
+    let here =
+    each (record { items = items; view = whole_view extent }) extent count writes k write are
+    (slice_get-get_or writes k (record { slice = []; items = [] }) there_is) in
+    let pixel =
+    part_pixel extent count k (at.row % height) (at.column % width) items new write is_view (picks_of extent count k can below)
+    here.1 (written k (record { slice = []; items = [] }) there_is) in_rows.inner in_columns.inner in
     let rows_before : height * (k / count) ≡ height * (at.row / height) = ap (λ n. height * n) row_part in
     let columns_before : width * (k % count) ≡ width * (at.column / width) = ap (λ n. width * n) column_part in
     let row : height * (k / count) + at.row % height ≡ at.row = omega (arith, in_rows.whole, rows_before) in
     let column : width * (k % count) + at.column % width ≡ at.column = omega (arith, in_columns.whole, columns_before) in
-    let turned : width * (k % count + 1) - 1 - at.column % width ≡ mirrored width at.column = omega (arith, in_columns.inner, columns_before) in
-    ap (slice_get new) (sym (ap (λ n. n * extent.columns + at.column) row) ∙ sym (ap (λ n. (height * (k / count) + at.row % height) * extent.columns + n) column))
+    let turned : width * (k % count + 1) - 1 - at.column % width ≡ mirrored width at.column =
+    omega (arith, in_columns.inner, columns_before) in
+    ap (slice_get new) (sym (ap (λ n. n * extent.columns + at.column) row) ∙ sym
+    (ap (λ n. (height * (k / count) + at.row % height) * extent.columns + n) column))
     ∙ pixel
-    ∙ ap (slice_get items) (ap (λ n. (height * (k / count) + at.row % height) * extent.columns + n) turned ∙ ap (λ n. n * extent.columns + mirrored width at.column) row)
+    ∙ ap (slice_get items) (ap (λ n. (height * (k / count) + at.row % height) * extent.columns + n) turned ∙ ap
+    (λ n. n * extent.columns + mirrored width at.column) row)
 
 -- ---- one more part
-zip_push : {A B : Type 0} (R : A → B → Type 0) (xs : List A) (ys : List B) (x : A) (y : B) → AllZip R xs ys → R x y → AllZip R (xs ++ x ∷ []) (ys ++ y ∷ [])
+zip_push : {A B : Type 0} (R : A → B → Type 0) (xs : List A) (ys : List B) (x : A) (y : B) → AllZip R xs ys → R x y
+    → AllZip R (xs ++ x ∷ []) (ys ++ y ∷ [])
 zip_push R [] [] x y all this = (this, tt)
 zip_push R [] (b ∷ ys) x y all this = absurd all
 zip_push R (a ∷ xs) [] x y all this = absurd all
 zip_push R (a ∷ xs) (b ∷ ys) x y all this = (all.0, zip_push R xs ys x y all.1 this)
 
-pub one_more : (array : Owned ℕ) (extent : Extent) (count number : ℕ) (old new : List (Write ℕ)) (write : Write ℕ) → new ≡ old ++ write ∷ [] → AllZip (IsMirrored array) (map (part_of extent count) (range_with_len 0 number)) old → IsMirrored array (part_of extent count number) write
+pub one_more : (array : Owned ℕ) (extent : Extent) (count number : ℕ) (old new : List (Write ℕ)) (write : Write ℕ)
+    → new ≡ old ++ write ∷ [] → AllZip (IsMirrored array) (map (part_of extent count) (range_with_len 0 number)) old
+    → IsMirrored array (part_of extent count number) write
     → AllZip (IsMirrored array) (map (part_of extent count) (range_with_len 0 (number + 1))) new
 one_more array extent count number old new write pushed all this =
     let parts = map-range_with_len_more (part_of extent count) 0 number number (omega arith) in
-    rw (parts, pushed) (zip_push (IsMirrored array) (map (part_of extent count) (range_with_len 0 number)) old (part_of extent count number) write all this)
+    rw (parts, pushed) (zip_push (IsMirrored array) (map (part_of extent count) (range_with_len 0 number)) old
+    (part_of extent count number) write all this)
 
 -- ---- an array of the pixels of a picture
-array_is : (image : Image) (array : Owned ℕ) → IsArrayOf image array → array ≡ record { items = image.pixels; view = whole_view image.extent }
+array_is : (image : Image) (array : Owned ℕ) → IsArrayOf image array → array ≡ record
+    { items = image.pixels; view = whole_view image.extent }
 array_is image array is =
     let same : Owned ℕ → Owned ℕ = λ a. a in
-    ap (λ items. same (record { items = items; view = array.view })) is.items ∙ ap (λ view. same (record { items = image.pixels; view = view })) is.view
+    ap (λ items. same (record { items = items; view = array.view })) is.items ∙ ap
+    (λ view. same (record { items = image.pixels; view = view })) is.view
 
-not_refused : (image : Image) (array : Owned ℕ) (count : ℕ) (writes : List (Write ℕ)) (kind : ErrorKind) → CanCut image.extent count → IsArrayOf image array → AreMirrored array image.extent count writes → IsFaultOfWrites array.view.shape writes (Some kind) → ⊥
+not_refused : (image : Image) (array : Owned ℕ) (count : ℕ) (writes : List (Write ℕ)) (kind : ErrorKind) → CanCut image.extent count
+    → IsArrayOf image array → AreMirrored array image.extent count writes → IsFaultOfWrites array.view.shape writes (Some kind) → ⊥
 not_refused image array count writes kind can is are fault =
-    not_refused_at image.extent count image.pixels writes kind can (subst (λ a. AreMirrored a image.extent count writes) (array_is image array is) are)
+    not_refused_at image.extent count image.pixels writes kind can
+    (subst (λ a. AreMirrored a image.extent count writes) (array_is image array is) are)
     (subst (λ (v : View). IsFaultOfWrites v.shape writes (Some kind)) is.view fault)
 
-pub none_refused : (image : Image) (array : Owned ℕ) (count : ℕ) (writes : List (Write ℕ)) (fault : Option ErrorKind) → CanCut image.extent count → IsArrayOf image array → AreMirrored array image.extent count writes → IsFaultOfWrites array.view.shape writes fault → fault ≡ None
+pub none_refused : (image : Image) (array : Owned ℕ) (count : ℕ) (writes : List (Write ℕ)) (fault : Option ErrorKind)
+    → CanCut image.extent count → IsArrayOf image array → AreMirrored array image.extent count writes
+    → IsFaultOfWrites array.view.shape writes fault → fault ≡ None
 none_refused image array count writes None can is are fault = refl
 none_refused image array count writes (Some kind) can is are fault = absurd (not_refused image array count writes kind can is are fault)
 
-pub IsEdited-written : (image : Image) (array : Owned ℕ) (count : ℕ) (writes : List (Write ℕ)) (new : List ℕ) → CanCut image.extent count → IsView array.view → IsArrayOf image array → AreMirrored array image.extent count writes → All (IsWritten array.view new) writes
+pub IsEdited-written : (image : Image) (array : Owned ℕ) (count : ℕ) (writes : List (Write ℕ)) (new : List ℕ) → CanCut image.extent count
+    → IsView array.view → IsArrayOf image array → AreMirrored array image.extent count writes → All (IsWritten array.view new) writes
     → IsEdited (Mirror count ∷ []) image (record { extent = image.extent; greatest = image.greatest; pixels = new })
 IsEdited-written image array count writes new can is_view is are written = record {
   extent = refl;
   greatest = refl;
   pixels = λ at within. (
       let from : Position = record { row = at.row; column = mirrored (image.extent.columns / count) at.column } in
-      let from_within : IsWithin image.extent from = record { row_below = within.row_below; column_below = mirrored_below image.extent.columns count at.column can.columns within.column_below } in
+      let from_within : IsWithin image.extent from =
+      record {
+        row_below = within.row_below;
+        column_below = mirrored_below image.extent.columns count at.column can.columns
+            within.column_below;
+      } in
       pixel_within (record { extent = image.extent; greatest = image.greatest; pixels = new }) at within
-      ∙ mirrored_pixel image.extent count image.pixels new writes at (subst IsView is.view is_view) can (subst (λ a. AreMirrored a image.extent count writes) (array_is image array is) are)
+      ∙ mirrored_pixel image.extent count image.pixels new writes at (subst IsView is.view is_view) can
+      (subst (λ a. AreMirrored a image.extent count writes) (array_is image array is) are)
       (subst (λ v. All (IsWritten v new) writes) is.view written) within
       ∙ sym (pixel_within image from from_within));
 }

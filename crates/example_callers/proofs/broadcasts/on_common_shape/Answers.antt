@@ -6,7 +6,8 @@ use Rattle.ndarray_layout.specs.CommonShape.{common_shape_fault}
 use Rattle.ndarray_layout.specs.Lengths.{NeedsNoMemory}
 use Rattle.ndarray_layout.specs.View.{View}
 use Rattle.ndarray_layout.proofs.laws.CommonShape.{common_shape_count}
-use Rattle.example_callers.proofs.Common.{fault_if_none, fault_in_common, fault_of_both, fault_of_none, fault_with_none, handed_on, same_fault, unrefused}
+use Rattle.example_callers.proofs.Common.{fault_if_none, fault_in_common, fault_of_both, fault_of_none, fault_with_none, handed_on}
+use Rattle.example_callers.proofs.Common.{same_fault, unrefused}
 use Rattle.example_callers.proofs.broadcasts.on_common_shape.Goals as goal
 
 pub returns-in_err-shape-clause-fault : goal.returns-in_err-shape-clause-fault
@@ -15,13 +16,16 @@ returns-in_err-shape-clause-fault g c few =
     let other = c.args.other.now.shape in
     let is = rw (c.dim.ensures.list, c.dim-2.ensures.list) at c.in_err-shape.ensures.fault in
     let memory = rw (c.dim.ensures.list, c.dim-2.ensures.list) at c.in_err-shape.ensures.memory in
-    handed_on View c.from_residual.result c.in_err-shape.field-0.0 _ c.from_residual.ensures.1 (fault_of_none one other _ is (λ none. false≢true (memory none few)))
+    handed_on View c.from_residual.result c.in_err-shape.field-0.0 _ c.from_residual.ensures.1
+    (fault_of_none one other _ is (λ none. false≢true (memory none few)))
 
 pub returns-in_err-broadcast-clause-memory : goal.returns-in_err-broadcast-clause-memory
 returns-in_err-broadcast-clause-memory g c few none =
     let found = rw (c.dim.ensures.list, c.dim-2.ensures.list) at c.in_ok-shape.ensures.common in
     let count = common_shape_count c.args.one.now.shape c.args.other.now.shape _ found in
-    absurd (false≢true (c.in_err-broadcast.ensures.memory (unrefused View c.from_residual-in_err-broadcast.result c.in_err-broadcast.field-0.0 c.from_residual-in_err-broadcast.ensures.1 c.in_err-broadcast.ensures.fault none) (subst (NeedsNoMemory g.D.FixedCount.NDIM) (sym count) few)))
+    absurd (false≢true (c.in_err-broadcast.ensures.memory
+    (unrefused View c.from_residual-in_err-broadcast.result c.in_err-broadcast.field-0.0 c.from_residual-in_err-broadcast.ensures.1
+    c.in_err-broadcast.ensures.fault none) (subst (NeedsNoMemory g.D.FixedCount.NDIM) (sym count) few)))
 
 pub returns-in_err-broadcast-2-clause-fault : goal.returns-in_err-broadcast-2-clause-fault
 returns-in_err-broadcast-2-clause-fault g c few =
@@ -35,7 +39,10 @@ pub returns-in_err-broadcast-2-clause-memory : goal.returns-in_err-broadcast-2-c
 returns-in_err-broadcast-2-clause-memory g c few none =
     let found = rw (c.dim.ensures.list, c.dim-2.ensures.list) at c.in_ok-shape.ensures.common in
     let count = common_shape_count c.args.one.now.shape c.args.other.now.shape _ found in
-    absurd (false≢true (c.in_err-broadcast-2.ensures.memory (unrefused View c.from_residual-in_err-broadcast-2.result c.in_err-broadcast-2.field-0.0 c.from_residual-in_err-broadcast-2.ensures.1 c.in_err-broadcast-2.ensures.fault none) (subst (NeedsNoMemory g.D.FixedCount.NDIM) (sym count) few)))
+    absurd (false≢true (c.in_err-broadcast-2.ensures.memory
+    (unrefused View c.from_residual-in_err-broadcast-2.result c.in_err-broadcast-2.field-0.0
+    c.from_residual-in_err-broadcast-2.ensures.1 c.in_err-broadcast-2.ensures.fault none)
+    (subst (NeedsNoMemory g.D.FixedCount.NDIM) (sym count) few)))
 
 -- ---- at any count of axes
 pub returns-in_err-shape-clause-refused : goal.returns-in_err-shape-clause-refused
@@ -58,7 +65,9 @@ returns-in_err-broadcast-clause-refused g c kind fault =
     let other = c.args.other.now.shape in
     let found = rw (c.dim.ensures.list, c.dim-2.ensures.list) at c.in_ok-shape.ensures.common in
     let is = c.in_err-broadcast.ensures.fault ∙ fault_in_common one other _ found in
-    let same = handed_on View c.from_residual-in_err-broadcast.result c.in_err-broadcast.field-0.0 (fault_of_both one other) c.from_residual-in_err-broadcast.ensures.1 is in
+    let same =
+    handed_on View c.from_residual-in_err-broadcast.result c.in_err-broadcast.field-0.0 (fault_of_both one other)
+    c.from_residual-in_err-broadcast.ensures.1 is in
     sym same ∙ fault
 
 pub returns-in_err-broadcast-2-clause-refused : goal.returns-in_err-broadcast-2-clause-refused
@@ -67,5 +76,7 @@ returns-in_err-broadcast-2-clause-refused g c kind fault =
     let other = c.args.other.now.shape in
     let found = rw (c.dim.ensures.list, c.dim-2.ensures.list) at c.in_ok-shape.ensures.common in
     let is = c.in_err-broadcast-2.ensures.fault ∙ same_fault one other _ found ∙ fault_in_common one other _ found in
-    let same = handed_on View c.from_residual-in_err-broadcast-2.result c.in_err-broadcast-2.field-0.0 (fault_of_both one other) c.from_residual-in_err-broadcast-2.ensures.1 is in
+    let same =
+    handed_on View c.from_residual-in_err-broadcast-2.result c.in_err-broadcast-2.field-0.0 (fault_of_both one other)
+    c.from_residual-in_err-broadcast-2.ensures.1 is in
     sym same ∙ fault

@@ -29,15 +29,18 @@ abbrev AreIndices : View → List (List ℕ) → Type 0
 AreIndices view left = All (λ index. is_index view.shape index ≡ true) left
 
 -- at first all indices are to come
-begins : (pixels : List ℕ) (least : ℕ) (view : View) (left : List (List ℕ)) (shape : List ℕ) → left ≡ indices_in RowMajor shape → shape ≡ view.shape
+begins : (pixels : List ℕ) (least : ℕ) (view : View) (left : List (List ℕ)) (shape : List ℕ) → left ≡ indices_in RowMajor shape
+    → shape ≡ view.shape
     → (0 + count_at pixels least view left ≡ count_by (is_bright pixels least) (view_places RowMajor view)) × AreIndices view left
 begins pixels least view left shape are of_view =
     let all : left ≡ indices_in RowMajor view.shape = are ∙ ap (indices_in RowMajor) of_view in
     (omega (arith, ap (count_at pixels least view) all), subst (AreIndices view) (sym all) (All-indices_in RowMajor view.shape))
 
 -- then the first of them is counted or not
-first_counts : (pixels : List ℕ) (least : ℕ) (view : View) (left rest : List (List ℕ)) (index : List ℕ) (pixel : ℕ) (b : Bool) → left ≡ index ∷ rest
-    → pixel ≡ slice_index pixels (magnitude (place_at view index)) → nat_le least pixel ≡ b → count_at pixels least view left ≡ cond b 1 0 + count_at pixels least view rest
+first_counts : (pixels : List ℕ) (least : ℕ) (view : View) (left rest : List (List ℕ)) (index : List ℕ) (pixel : ℕ) (b : Bool)
+    → left ≡ index ∷ rest
+    → pixel ≡ slice_index pixels (magnitude (place_at view index)) → nat_le least pixel ≡ b
+    → count_at pixels least view left ≡ cond b 1 0 + count_at pixels least view rest
 first_counts pixels least view left rest index pixel b first at is =
     ap (count_at pixels least view) first
     ∙ sum_by-cons (λ place. cond (is_bright pixels least place) 1 0) (place_at view index) (map (place_at view) rest)
@@ -47,28 +50,36 @@ rest_are : (view : View) (left rest : List (List ℕ)) (index : List ℕ) → le
 rest_are view left rest index first all = All-tail (λ i. is_index view.shape i ≡ true) index rest (subst (AreIndices view) first all)
 
 -- it has as many entries as the shape
-same_count : (view : View) (left rest : List (List ℕ)) (index : List ℕ) → left ≡ index ∷ rest → AreIndices view left → length index ≡ length view.shape
+same_count : (view : View) (left rest : List (List ℕ)) (index : List ℕ) → left ≡ index ∷ rest → AreIndices view left
+    → length index ≡ length view.shape
 same_count view left rest index first all = length_of_index view.shape index (subst (AreIndices view) first all 0 [] (omega arith))
 
 -- no more are counted than there are indices
-count_fits : (pixels : List ℕ) (least : ℕ) (view : View) (count : ℕ) → count ≡ count_by (is_bright pixels least) (view_places RowMajor view) → size view.shape < 2 ^ 64 → count < 2 ^ 64
+count_fits : (pixels : List ℕ) (least : ℕ) (view : View) (count : ℕ)
+    → count ≡ count_by (is_bright pixels least) (view_places RowMajor view) → size view.shape < 2 ^ 64 → count < 2 ^ 64
 count_fits pixels least view count is fits =
     omega (arith, count_by-le-length (is_bright pixels least) (view_places RowMajor view), length-view_places RowMajor view)
 
 pub loop-item-init : goal.loop-item-init
 loop-item-init g c =
-    let all = begins c.args.pixels.now c.args.least c.args.view.now _ _ c.into_iter-item-iterator.ensures.into_iter_gives c.in_ok-item-items.ensures.indices in
+    let all =
+    begins c.args.pixels.now c.args.least c.args.view.now _ _ c.into_iter-item-iterator.ensures.into_iter_gives
+    c.in_ok-item-items.ensures.indices in
     record { counted = all.0; indices = all.1 }
 
 pub overflow_add-count : goal.overflow_add-count
 overflow_add-count g c =
-    let here = first_counts c.args.pixels.now c.args.least c.args.view.now _ _ _ _ true c.in-Some.ensures.steps c.in_ok-pixel_at.ensures.pixel (le-leb _ _ c.if-branch-least.true) in
+    let here =
+    first_counts c.args.pixels.now c.args.least c.args.view.now _ _ _ _ true c.in-Some.ensures.steps c.in_ok-pixel_at.ensures.pixel
+    (le-leb _ _ c.if-branch-least.true) in
     let all = count_fits c.args.pixels.now c.args.least c.args.view.now _ c.loop-item.invariant.counted c.in_ok-item-items.ensures.size in
     omega (arith, here, all)
 
 pub loop-item-preserved-then-branch-least : goal.loop-item-preserved-then-branch-least
 loop-item-preserved-then-branch-least g c =
-    let here = first_counts c.args.pixels.now c.args.least c.args.view.now _ _ _ _ true c.in-Some.ensures.steps c.in_ok-pixel_at.ensures.pixel (le-leb _ _ c.if-branch-least.true) in
+    let here =
+    first_counts c.args.pixels.now c.args.least c.args.view.now _ _ _ _ true c.in-Some.ensures.steps c.in_ok-pixel_at.ensures.pixel
+    (le-leb _ _ c.if-branch-least.true) in
     record {
       counted = omega (arith, here, c.loop-item.invariant.counted);
       indices = rest_are c.args.view.now _ _ _ c.in-Some.ensures.steps c.loop-item.invariant.indices;
@@ -76,7 +87,9 @@ loop-item-preserved-then-branch-least g c =
 
 pub loop-item-preserved : goal.loop-item-preserved
 loop-item-preserved g c =
-    let here = first_counts c.args.pixels.now c.args.least c.args.view.now _ _ _ _ false c.in-Some.ensures.steps c.in_ok-pixel_at.ensures.pixel (lt-leb _ _ c.if-branch-least.false) in
+    let here =
+    first_counts c.args.pixels.now c.args.least c.args.view.now _ _ _ _ false c.in-Some.ensures.steps c.in_ok-pixel_at.ensures.pixel
+    (lt-leb _ _ c.if-branch-least.false) in
     record {
       counted = omega (arith, here, c.loop-item.invariant.counted);
       indices = rest_are c.args.view.now _ _ _ c.in-Some.ensures.steps c.loop-item.invariant.indices;

@@ -9,14 +9,18 @@ use Rattle.ndarray_layout.proofs.laws.UnitStep.{ranges}
 use Rattle.example_callers.proofs.Cropping.{place_in_crop, shape_of_band}
 use Rattle.example_callers.proofs.crops.band.Goals as goal
 
-argument : (c : goal.After-slice) → (c.into.result ∷ c.into-2.result ∷ []) ≡ ranges (c.args.rows.start ∷ 0 ∷ []) (Some (pos c.args.rows.end) ∷ None ∷ [])
+argument : (c : goal.After-slice)
+    → (c.into.result ∷ c.into-2.result ∷ []) ≡ ranges (c.args.rows.start ∷ 0 ∷ []) (Some (pos c.args.rows.end) ∷ None ∷ [])
 argument c =
     let top = to_z_pos w64 c.args.rows.start (omega arith) in
     let bottom = to_z_pos w64 c.args.rows.end (omega arith) in
     rw (c.into.ensures, c.into-2.ensures, top, bottom) refl
 
-from_zero : (view : View) (top : ℕ) (made : Result View LayoutError) → IfOk made (λ band. (i j : ℕ) → IsTrue (is_index band.shape (i ∷ j ∷ [])) → place_at band (i ∷ j ∷ []) ≡ place_at view ((top + i) ∷ (0 + j) ∷ []))
-    → IfOk made (λ band. (i j : ℕ) → IsTrue (is_index band.shape (i ∷ j ∷ [])) → place_at band (i ∷ j ∷ []) ≡ place_at view ((top + i) ∷ j ∷ []))
+from_zero : (view : View) (top : ℕ) (made : Result View LayoutError)
+    → IfOk made (λ band. (i j : ℕ) → IsTrue (is_index band.shape (i ∷ j ∷ [])) → place_at band (i ∷ j ∷ []) ≡ place_at view
+    ((top + i) ∷ (0 + j) ∷ []))
+    → IfOk made (λ band. (i j : ℕ) → IsTrue (is_index band.shape (i ∷ j ∷ [])) → place_at band (i ∷ j ∷ []) ≡ place_at view
+    ((top + i) ∷ j ∷ []))
 from_zero view top (Ok band) by = λ i j here.
     let same : 0 + j ≡ j = omega arith in
     by i j here ∙ ap (λ column. place_at view ((top + i) ∷ column ∷ [])) same
@@ -25,7 +29,10 @@ from_zero view top (Err e) by = tt
 pub returns-clause-place : goal.returns-clause-place
 returns-clause-place c =
     from_zero c.args.picture.now c.args.rows.start c.slice.result
-    (place_in_crop c.args.picture.now _ c.args.rows.start 0 (Some (pos c.args.rows.end)) None c.slice.result (argument c) c.slice.ensures.sliced c.slice.ensures.kept)
+    (place_in_crop c.args.picture.now _ c.args.rows.start 0 (Some (pos c.args.rows.end)) None c.slice.result (argument c)
+    c.slice.ensures.sliced c.slice.ensures.kept)
 
 pub returns-clause-shape : goal.returns-clause-shape
-returns-clause-shape c = shape_of_band c.args.picture.now _ c.args.rows.start c.args.rows.end c.slice.result (argument c) c.slice.ensures.fault c.slice.ensures.sliced
+returns-clause-shape c =
+    shape_of_band c.args.picture.now _ c.args.rows.start c.args.rows.end c.slice.result (argument c) c.slice.ensures.fault
+    c.slice.ensures.sliced

@@ -6,7 +6,9 @@ use Rattle.example_callers.proofs.Cropping.{place_in_crop, shape_of_crop}
 use Rattle.example_callers.proofs.crops.crop.Goals as goal
 
 -- the argument of the slice: both ends of each range fit an `isize`
-argument : (c : goal.After-slice) → (c.into.result ∷ c.into-2.result ∷ []) ≡ ranges (c.args.rows.start ∷ c.args.columns.start ∷ []) (Some (pos c.args.rows.end) ∷ Some (pos c.args.columns.end) ∷ [])
+argument : (c : goal.After-slice)
+    → (c.into.result ∷ c.into-2.result ∷ []) ≡ ranges (c.args.rows.start ∷ c.args.columns.start ∷ [])
+    (Some (pos c.args.rows.end) ∷ Some (pos c.args.columns.end) ∷ [])
 argument c =
     let top = to_z_pos w64 c.args.rows.start (omega arith) in
     let bottom = to_z_pos w64 c.args.rows.end (omega arith) in
@@ -15,7 +17,11 @@ argument c =
     rw (c.into.ensures, c.into-2.ensures, top, bottom, left, right) refl
 
 pub returns-clause-place : goal.returns-clause-place
-returns-clause-place c = place_in_crop c.args.picture.now _ c.args.rows.start c.args.columns.start (Some (pos c.args.rows.end)) (Some (pos c.args.columns.end)) c.slice.result (argument c) c.slice.ensures.sliced c.slice.ensures.kept
+returns-clause-place c =
+    place_in_crop c.args.picture.now _ c.args.rows.start c.args.columns.start (Some (pos c.args.rows.end)) (Some (pos c.args.columns.end))
+    c.slice.result (argument c) c.slice.ensures.sliced c.slice.ensures.kept
 
 pub returns-clause-shape : goal.returns-clause-shape
-returns-clause-shape c = shape_of_crop c.args.picture.now _ c.args.rows.start c.args.rows.end c.args.columns.start c.args.columns.end c.slice.result (argument c) c.slice.ensures.fault c.slice.ensures.sliced
+returns-clause-shape c =
+    shape_of_crop c.args.picture.now _ c.args.rows.start c.args.rows.end c.args.columns.start c.args.columns.end c.slice.result
+    (argument c) c.slice.ensures.fault c.slice.ensures.sliced

@@ -9,7 +9,8 @@ use Rattle.ndarray_layout.specs.View.{View, IsView, place_at}
 use Rattle.ndarray_layout.proofs.laws.RowMajor.{standard_view, place_at_flat_index}
 use Rattle.example_callers.proofs.rows.in_shape.Goals as goal
 
-at_flat_indices : (shape : List ℕ) (made : Result View LayoutError) → IfOk made IsView → IfOk made (λ view. view ≡ standard_view RowMajor shape)
+at_flat_indices : (shape : List ℕ) (made : Result View LayoutError) → IfOk made IsView
+    → IfOk made (λ view. view ≡ standard_view RowMajor shape)
     → IfOk made (λ view. (index : List ℕ) → IsTrue (is_index shape index) → place_at view index ≡ pos (flat_index_in RowMajor shape index))
 at_flat_indices shape (Ok view) is_view is = λ index here. place_at_flat_index RowMajor shape index is_view is here
 at_flat_indices shape (Err e) is_view is = tt

@@ -1,5 +1,6 @@
 -- Row i is 2 * i before the last row, and column j is column j, by the laws of what a slice picks.
-use Rattle.std.proofs.Common.{◌≡◌, ◌-◌, ◌*◌, ◌<◌, pos, negsuc, None, Result, Ok, Err, List, [], ◌∷◌, ℕ, length, true, false, refl, ap, ◌∙◌, arith}
+use Rattle.std.proofs.Common.{◌≡◌, ◌-◌, ◌*◌, ◌<◌, pos, negsuc, None, Result, Ok, Err, List, [], ◌∷◌, ℕ, length, true, false, refl, ap, ◌∙◌}
+use Rattle.std.proofs.Common.{arith}
 use Rattle.std.specs.Prelude.{IfOk, IsTrue, nat_lt, slice_index}
 use Rattle.std.proofs.lemmas.Bool.{and_parts, false≢true, ltb-true}
 use Rattle.ndarray_layout.specs.declared.Fit.TheVariants.{Strict}
@@ -21,9 +22,11 @@ use Rattle.example_callers.proofs.slices.alternate_rows.Goals as goal
 abbrev part : List SliceInfoElem
 part = elem.Slice (pos 0) None (negsuc 1) ∷ elem.Slice (pos 0) None (pos 1) ∷ []
 
-source : (shape : List ℕ) (i j : ℕ) → IsTrue (is_index (sliced_shape Strict part shape) (i ∷ j ∷ [])) → selected Strict part shape (i ∷ j ∷ []) ≡ (slice_index shape 0 - 1 - 2 * i) ∷ j ∷ []
+source : (shape : List ℕ) (i j : ℕ) → IsTrue (is_index (sliced_shape Strict part shape) (i ∷ j ∷ []))
+    → selected Strict part shape (i ∷ j ∷ []) ≡ (slice_index shape 0 - 1 - 2 * i) ∷ j ∷ []
 source [] i j here = absurd (false≢true here)
-source (rows ∷ []) i j here = absurd (false≢true (and_parts (nat_lt i (length (picks Strict rows (slice_with (pos 0) None (negsuc 1))))) false here).1)
+source (rows ∷ []) i j here =
+    absurd (false≢true (and_parts (nat_lt i (length (picks Strict rows (slice_with (pos 0) None (negsuc 1))))) false here).1)
 source (rows ∷ columns ∷ more) i j here =
     let up = picks Strict rows (slice_with (pos 0) None (negsuc 1)) in
     let all = picks Strict columns (slice_with (pos 0) None (pos 1)) in
@@ -34,8 +37,10 @@ source (rows ∷ columns ∷ more) i j here =
     let column = pick_of_all Strict columns j inside in
     cc
 
-moved : (view : View) (elems : List SliceInfoElem) (made : Result View LayoutError) → elems ≡ part → IfOk made (λ rows. rows ≡ slice_of Strict elems view) → IfOk made (λ rows. Descends (selected Strict elems view.shape) view rows)
-    → IfOk made (λ rows. (i j : ℕ) → IsTrue (is_index rows.shape (i ∷ j ∷ [])) → place_at rows (i ∷ j ∷ []) ≡ place_at view ((slice_index view.shape 0 - 1 - 2 * i) ∷ j ∷ []))
+moved : (view : View) (elems : List SliceInfoElem) (made : Result View LayoutError) → elems ≡ part
+    → IfOk made (λ rows. rows ≡ slice_of Strict elems view) → IfOk made (λ rows. Descends (selected Strict elems view.shape) view rows)
+    → IfOk made (λ rows. (i j : ℕ) → IsTrue (is_index rows.shape (i ∷ j ∷ [])) → place_at rows (i ∷ j ∷ []) ≡ place_at view
+    ((slice_index view.shape 0 - 1 - 2 * i) ∷ j ∷ []))
 moved view elems (Ok rows) are is kept = λ i j here.
     let of_part = rw (is, are) at here in
     (kept.places (i ∷ j ∷ []) here).1

@@ -1,5 +1,6 @@
 -- One more place gives one more pixel, and in the end the places are those of the view.
-use Rattle.std.proofs.Common.{◌≡◌, ℕ, ◌+◌, ◌<◌, ◌≤◌, ℤ, pos, Some, List, [], ◌∷◌, ◌++◌, length, get_or, map, take, refl, sym, ap, ◌∙◌, arith}
+use Rattle.std.proofs.Common.{◌≡◌, ℕ, ◌+◌, ◌<◌, ◌≤◌, ℤ, pos, Some, List, [], ◌∷◌, ◌++◌, length, get_or, map, take, refl, sym, ap, ◌∙◌}
+use Rattle.std.proofs.Common.{arith}
 use Rattle.std.proofs.lemmas.List.{map-append, map_more, take_all}
 use Rattle.std.proofs.lemmas.Option.{slice_get-get_or}
 use Rattle.std.specs.Prelude.{slice_get}
@@ -22,7 +23,8 @@ by_numbers : (pixels places : List ℕ) → map (slice_get pixels) places ≡ ma
 by_numbers pixels [] = refl
 by_numbers pixels (place ∷ places) = ap (λ found. slice_get pixels place ∷ found) (by_numbers pixels places)
 
-all_places : (pixels places listed : List ℕ) (at : List ℤ) (i : ℕ) (copies : List ℕ) → length places ≤ i → places ≡ listed → map pos listed ≡ at
+all_places : (pixels places listed : List ℕ) (at : List ℤ) (i : ℕ) (copies : List ℕ) → length places ≤ i → places ≡ listed
+    → map pos listed ≡ at
     → map Some copies ≡ map (slice_get pixels) (take i places) → map Some copies ≡ map (λ place. slice_get pixels (magnitude place)) at
 all_places pixels places listed at i copies done is of_view same =
     same
@@ -44,5 +46,6 @@ loop-place-preserved g c =
 
 pub returns-clause-copies : goal.returns-clause-copies
 returns-clause-copies g c =
-    all_places c.args.pixels.now c.deref-place-items.result.now c.in_ok-places.places.items (view_places RowMajor c.args.view.now) c.loop-place.place-index c.loop-place.copies.items
+    all_places c.args.pixels.now c.deref-place-items.result.now c.in_ok-places.places.items (view_places RowMajor c.args.view.now)
+    c.loop-place.place-index c.loop-place.copies.items
     c.loop-place-test.false c.deref-place-items.ensures.value c.in_ok-places.ensures.items c.loop-place.invariant.items

@@ -25,7 +25,8 @@ loop-left-preserved c =
     record {
       picture = c.in_ok-made-2.ensures.picture;
       fit = fits_left c.loop-left.left.now left before made c.loop-left.invariant.fit c.in_ok-made-2.ensures.begun;
-      goes_on = λ after rest. c.loop-left.invariant.goes_on after (goes_on_left c.loop-left.left.now left before made after c.loop-left.invariant.fit c.in_ok-made-2.ensures.begun rest);
+      goes_on = λ after rest. c.loop-left.invariant.goes_on after
+          (goes_on_left c.loop-left.left.now left before made after c.loop-left.invariant.fit c.in_ok-made-2.ensures.begun rest);
     }
 
 pub returns-clause-edited : goal.returns-clause-edited

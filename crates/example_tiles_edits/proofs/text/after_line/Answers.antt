@@ -9,10 +9,14 @@ use Rattle.example_tiles_edits.proofs.text.after_line.Goals as goal
 
 pub returns-in-Some : goal.returns-in-Some
 returns-in-Some c =
-    let found : c.position.result ≡ position (λ b. eqb b line_feed) c.args.text.now = position_from_yields_List _ _ _ c.position.result c.position.ensures.ran (YieldsList-from_slice _ c.iter.ensures.rest) (λ x b q k. search (rules, tests)) in
+    let found : c.position.result ≡ position (λ b. eqb b line_feed) c.args.text.now =
+    position_from_yields_List _ _ _ c.position.result c.position.ensures.ran (YieldsList-from_slice _ c.iter.ensures.rest)
+    (λ x b q k. search (rules, tests)) in
     rw take_rest (inl (line_at c.args.text.now c.in-Some.at (sym found ∙ c.in-Some.is)))
 
 pub returns-in-None : goal.returns-in-None
 returns-in-None c =
-    let found : c.position.result ≡ position (λ b. eqb b line_feed) c.args.text.now = position_from_yields_List _ _ _ c.position.result c.position.ensures.ran (YieldsList-from_slice _ c.iter.ensures.rest) (λ x b q k. search (rules, tests)) in
+    let found : c.position.result ≡ position (λ b. eqb b line_feed) c.args.text.now =
+    position_from_yields_List _ _ _ c.position.result c.position.ensures.ran (YieldsList-from_slice _ c.iter.ensures.rest)
+    (λ x b q k. search (rules, tests)) in
     inr (none_passes (λ b. eqb b line_feed) c.args.text.now (sym found ∙ c.in-None.is), refl)

@@ -3,15 +3,21 @@ use Rattle.example_tiles_edits.proofs.Digits.{number_parsed, number_with_plus, n
 use Rattle.example_tiles_edits.proofs.text.number.Goals as goal
 
 pub returns-then-starts_with : goal.returns-then-starts_with
-returns-then-starts_with c = sym (number_with_plus c.args.word.now (plus c.args.word.now (sym c.starts_with.ensures.value ∙ c.if-starts_with.true)))
+returns-then-starts_with c =
+    sym (number_with_plus c.args.word.now (plus c.args.word.now (sym c.starts_with.ensures.value ∙ c.if-starts_with.true)))
 
 pub returns-in_err-ok : goal.returns-in_err-ok
 returns-in_err-ok c =
     let none = sym c.ok.ensures.value ∙ c.in_err-ok.was in
-    c.from_residual.ensures ∙ sym (number_not_utf8 c.args.word.now (not_a_text c.from_utf8.result _ _ c.args.word.now c.from_utf8.ensures.cases none))
+    c.from_residual.ensures
+    ∙ sym (number_not_utf8 c.args.word.now (not_a_text c.from_utf8.result _ _ c.args.word.now c.from_utf8.ensures.cases none))
 
 pub returns : goal.returns
 returns c =
-    let same = a_text c.from_utf8.result _ _ c.args.word.now c.in_ok-ok.field-0 c.from_utf8.ensures.cases (sym c.ok.ensures.value ∙ c.in_ok-ok.was) in
+    let same =
+    a_text c.from_utf8.result _ _ c.args.word.now c.in_ok-ok.field-0 c.from_utf8.ensures.cases
+    (sym c.ok.ensures.value ∙ c.in_ok-ok.was) in
     let parsed = rw same at c.parse.ensures.value.0 in
-    c.ok-2.ensures.value ∙ number_parsed c.args.word.now c.parse.result parsed (no_plus c.args.word.now (sym c.starts_with.ensures.value ∙ c.if-starts_with.false))
+    c.ok-2.ensures.value
+    ∙ number_parsed c.args.word.now c.parse.result parsed
+    (no_plus c.args.word.now (sym c.starts_with.ensures.value ∙ c.if-starts_with.false))

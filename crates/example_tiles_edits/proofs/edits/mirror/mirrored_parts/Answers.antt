@@ -9,7 +9,9 @@ use Rattle.example_tiles_edits.proofs.edits.mirror.mirrored_parts.Goals as goal
 
 pub mirrored_part-requires : goal.mirrored_part-requires
 mirrored_part-requires c =
-    rw (c.requires.view, c.part_of.ensures) (mirrored_fits c.args.extent c.args.count c.loop-number.number (can_cut_parts c.args.extent c.args.count c.requires.fits) c.loop-number-test.true)
+    rw (c.requires.view, c.part_of.ensures)
+    (mirrored_fits c.args.extent c.args.count c.loop-number.number (can_cut_parts c.args.extent c.args.count c.requires.fits)
+    c.loop-number-test.true)
 
 pub loop-number-preserved : goal.loop-number-preserved
 loop-number-preserved c =

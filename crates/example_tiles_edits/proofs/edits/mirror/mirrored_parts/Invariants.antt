@@ -6,4 +6,5 @@ use Rattle.example_tiles_edits.specs.Parts.{IsMirrored, part_of}
 use Rattle.example_tiles_edits.proofs.edits.mirror.mirrored_parts.Given as goal
 
 abbrev pub invariant-loop-number : goal.invariant-loop-number
-invariant-loop-number l = AllZip (IsMirrored l.array) (map (part_of l.extent l.count) (range_with_len 0 l.number)) (map write_of l.writes.items)
+invariant-loop-number l =
+    AllZip (IsMirrored l.array) (map (part_of l.extent l.count) (range_with_len 0 l.number)) (map write_of l.writes.items)

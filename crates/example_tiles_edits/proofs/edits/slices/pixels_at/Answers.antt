@@ -5,7 +5,8 @@ use Rattle.std.proofs.lemmas.Option.{slice_get-get_or}
 use Rattle.std.specs.Prelude.{slice_get}
 use Rattle.example_tiles_edits.proofs.edits.slices.pixels_at.Goals as goal
 
-one_more : (pixels places : List ℕ) (i : ℕ) (old new : List ℕ) → i < length places → get_or places i 0 < length pixels → new ≡ old ++ get_or pixels (get_or places i 0) 0 ∷ []
+one_more : (pixels places : List ℕ) (i : ℕ) (old new : List ℕ) → i < length places → get_or places i 0 < length pixels
+    → new ≡ old ++ get_or pixels (get_or places i 0) 0 ∷ []
     → map Some old ≡ map (slice_get pixels) (take i places) → map Some new ≡ map (slice_get pixels) (take (i + 1) places)
 one_more pixels places i old new at below pushed same =
     ap (map Some) pushed

@@ -16,9 +16,13 @@ returns-in-Some c text header =
     let parts : rest ≡ get_or rest 0 0 ∷ raster = by_first rest raster c.in-len1-up.len_at_least refl in
     let blank = sym c.is_ascii_whitespace.ensures.value ∙ c.if-not-is_ascii_whitespace.false in
     let is_min = rw (take_rest, c.pixel_count-count.ensures) at c.min.ensures in
-    let least : IsLeast (pixel_count c.args.extent) (length raster) c.min.result = record { of_count = omega (arith, is_min); of_len = omega (arith, is_min); all = λ fewer. omega (arith, is_min) } in
-    let found : c.position.result ≡ position (is_above c.args.white) (take c.min.result raster) = rw take_rest at (position_from_yields_List (is_above c.args.white) _ _ c.position.result c.position.ensures.ran (YieldsList-from_slice _ c.iter.ensures.rest) (λ x b q k. search (rules, tests))) in
-    too_white text rest raster c.args.extent c.args.white (get_or rest 0 0) c.min.result c.in-Some.at parts blank least (sym found ∙ c.in-Some.is) header
+    let least : IsLeast (pixel_count c.args.extent) (length raster) c.min.result =
+    record { of_count = omega (arith, is_min); of_len = omega (arith, is_min); all = λ fewer. omega (arith, is_min) } in
+    let found : c.position.result ≡ position (is_above c.args.white) (take c.min.result raster) =
+    rw take_rest at (position_from_yields_List (is_above c.args.white) _ _ c.position.result c.position.ensures.ran
+    (YieldsList-from_slice _ c.iter.ensures.rest) (λ x b q k. search (rules, tests))) in
+    too_white text rest raster c.args.extent c.args.white (get_or rest 0 0) c.min.result c.in-Some.at parts blank least
+    (sym found ∙ c.in-Some.is) header
 
 pub returns-then-bytes-count : goal.returns-then-bytes-count
 returns-then-bytes-count c text header =
@@ -27,10 +31,14 @@ returns-then-bytes-count c text header =
     let parts : rest ≡ get_or rest 0 0 ∷ raster = by_first rest raster c.in-len1-up.len_at_least refl in
     let blank = sym c.is_ascii_whitespace.ensures.value ∙ c.if-not-is_ascii_whitespace.false in
     let is_min = rw (take_rest, c.pixel_count-count.ensures) at c.min.ensures in
-    let least : IsLeast (pixel_count c.args.extent) (length raster) c.min.result = record { of_count = omega (arith, is_min); of_len = omega (arith, is_min); all = λ fewer. omega (arith, is_min) } in
-    let found : c.position.result ≡ position (is_above c.args.white) (take c.min.result raster) = rw take_rest at (position_from_yields_List (is_above c.args.white) _ _ c.position.result c.position.ensures.ran (YieldsList-from_slice _ c.iter.ensures.rest) (λ x b q k. search (rules, tests))) in
+    let least : IsLeast (pixel_count c.args.extent) (length raster) c.min.result =
+    record { of_count = omega (arith, is_min); of_len = omega (arith, is_min); all = λ fewer. omega (arith, is_min) } in
+    let found : c.position.result ≡ position (is_above c.args.white) (take c.min.result raster) =
+    rw take_rest at (position_from_yields_List (is_above c.args.white) _ _ c.position.result c.position.ensures.ran
+    (YieldsList-from_slice _ c.iter.ensures.rest) (λ x b q k. search (rules, tests))) in
     let fewer = rw (take_rest, c.pixel_count-count.ensures) at c.if-bytes-count.true in
-    cut_off text rest raster c.args.extent c.args.white (get_or rest 0 0) c.min.result parts blank least (sym found ∙ none_found c.position.result c.in_default-position.not-Some) fewer header
+    cut_off text rest raster c.args.extent c.args.white (get_or rest 0 0) c.min.result parts blank least
+    (sym found ∙ none_found c.position.result c.in_default-position.not-Some) fewer header
 
 pub returns : goal.returns
 returns c =
@@ -39,7 +47,11 @@ returns c =
     let parts : rest ≡ get_or rest 0 0 ∷ raster = by_first rest raster c.in-len1-up.len_at_least refl in
     let blank = sym c.is_ascii_whitespace.ensures.value ∙ c.if-not-is_ascii_whitespace.false in
     let is_min = rw (take_rest, c.pixel_count-count.ensures) at c.min.ensures in
-    let least : IsLeast (pixel_count c.args.extent) (length raster) c.min.result = record { of_count = omega (arith, is_min); of_len = omega (arith, is_min); all = λ fewer. omega (arith, is_min) } in
-    let found : c.position.result ≡ position (is_above c.args.white) (take c.min.result raster) = rw take_rest at (position_from_yields_List (is_above c.args.white) _ _ c.position.result c.position.ensures.ran (YieldsList-from_slice _ c.iter.ensures.rest) (λ x b q k. search (rules, tests))) in
+    let least : IsLeast (pixel_count c.args.extent) (length raster) c.min.result =
+    record { of_count = omega (arith, is_min); of_len = omega (arith, is_min); all = λ fewer. omega (arith, is_min) } in
+    let found : c.position.result ≡ position (is_above c.args.white) (take c.min.result raster) =
+    rw take_rest at (position_from_yields_List (is_above c.args.white) _ _ c.position.result c.position.ensures.ran
+    (YieldsList-from_slice _ c.iter.ensures.rest) (λ x b q k. search (rules, tests))) in
     let enough = rw (take_rest, c.pixel_count-count.ensures) at c.if-bytes-count.false in
-    rw take_rest (pixels_there rest raster c.args.extent c.args.white (get_or rest 0 0) c.min.result parts blank least (sym found ∙ none_found c.position.result c.in_default-position.not-Some) enough)
+    rw take_rest (pixels_there rest raster c.args.extent c.args.white (get_or rest 0 0) c.min.result parts blank least
+    (sym found ∙ none_found c.position.result c.in_default-position.not-Some) enough)

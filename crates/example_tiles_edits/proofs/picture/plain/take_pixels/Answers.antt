@@ -12,7 +12,9 @@ returns-in_err-pixel-clause-refused c text begun =
     let all = words_from 1 text in
     let expected = pixel_next c.args.extent.columns c.args.extent.rows c.args.white c.loop.pixels.items (omega arith) in
     let p = err_from_is_err_and c.from_residual.result c.from_residual.ensures.1 in
-    rw (p.1, p.2) (inl (c.in_err-pixel.ensures.taken Plain all (c.args.extent.columns ∷ c.args.extent.rows ∷ c.args.white ∷ c.loop.pixels.items) (c.loop.invariant.taken all begun) (rw c.from.ensures expected)))
+    rw (p.1, p.2) (inl (c.in_err-pixel.ensures.taken Plain all
+    (c.args.extent.columns ∷ c.args.extent.rows ∷ c.args.white ∷ c.loop.pixels.items) (c.loop.invariant.taken all begun)
+    (rw c.from.ensures expected)))
 
 pub returns-in_err-push-clause-refused : goal.returns-in_err-push-clause-refused
 returns-in_err-push-clause-refused c text begun =
@@ -27,6 +29,7 @@ returns-in_err-push-clause-refused c text begun =
     rw (p.1, p.2) (inl (record {
       numbers = columns ∷ rows ∷ white ∷ pixels ++ pixel ∷ [];
       left = words_left c.take_number.new.words;
-      begun = c.in_ok-pixel.ensures.taken Plain all (columns ∷ rows ∷ white ∷ pixels) (c.loop.invariant.taken all begun) (rw c.from.ensures expected);
+      begun = c.in_ok-pixel.ensures.taken Plain all (columns ∷ rows ∷ white ∷ pixels) (c.loop.invariant.taken all begun)
+          (rw c.from.ensures expected);
       some = omega (arith, length-append pixels (pixel ∷ []));
     }))

@@ -6,6 +6,7 @@ use Rattle.example_tiles_edits.proofs.picture.printing.push_rows.Given as goal
 
 abbrev pub invariant-loop : goal.invariant-loop
 invariant-loop l = record {
-  text : string_bytes l.text ++ flat_map row_text (rows_of (l.fn.extent.rows - l.counter) l.fn.extent.columns l.rest) ≡ string_bytes l.fn.text ++ flat_map row_text (rows_of l.fn.extent.rows l.fn.extent.columns l.fn.pixels);
+  text : string_bytes l.text ++ flat_map row_text (rows_of (l.fn.extent.rows - l.counter) l.fn.extent.columns l.rest) ≡ string_bytes
+      l.fn.text ++ flat_map row_text (rows_of l.fn.extent.rows l.fn.extent.columns l.fn.pixels);
   left : length l.rest ≡ (l.fn.extent.rows - l.counter) * l.fn.extent.columns;
 }

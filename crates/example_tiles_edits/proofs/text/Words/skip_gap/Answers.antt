@@ -1,7 +1,8 @@
 use Rattle.std.proofs.Common.{◌≡◌, ◌∷◌, ◌∙◌, get_or, drop, refl, ap, sym, arith, length}
 use Rattle.std.proofs.lemmas.List.{take_rest}
 use Rattle.example_tiles_edits.specs.FirstWords.{IsAfterLine}
-use Rattle.example_tiles_edits.proofs.Gaps.{by_first, gap_after_blank, gap_after_comment, no_gap, one_line, shorter, words_after_blank, words_after_comment}
+use Rattle.example_tiles_edits.proofs.Gaps.{by_first, gap_after_blank, gap_after_comment, no_gap, one_line, shorter, words_after_blank}
+use Rattle.example_tiles_edits.proofs.Gaps.{words_after_comment}
 use Rattle.example_tiles_edits.proofs.text.Words.skip_gap.Goals as goal
 
 pub loop-self-init : goal.loop-self-init
@@ -20,7 +21,8 @@ loop-self-preserved-then-first-eq35 c =
     record {
       fits = omega (arith, shorter (drop 1 text) rest after, ap length is, c.loop-self.invariant.fits);
       words = words_after_comment c.loop-self.self-inside.number text (drop 1 text) rest is after ∙ c.loop-self.invariant.words;
-      gap = gap_after_comment c.self.inside.rest.now text (drop 1 text) rest (c.loop-self.invariant.gap (omega (arith, c.in-len1-up.len_at_least))) is after;
+      gap = gap_after_comment c.self.inside.rest.now text (drop 1 text) rest
+          (c.loop-self.invariant.gap (omega (arith, c.in-len1-up.len_at_least))) is after;
     }
 
 pub loop-self-preserved : goal.loop-self-preserved
@@ -31,6 +33,8 @@ loop-self-preserved c =
     let white = sym c.is_ascii_whitespace.ensures.value ∙ c.if-is_ascii_whitespace.true in
     rw take_rest (record {
       fits = omega (arith, one_line c.from.result first c.from.ensures, ap length is, c.loop-self.invariant.fits);
-      words = words_after_blank c.loop-self.self-inside.number c.from.result first text (drop 1 text) is white c.from.ensures ∙ c.loop-self.invariant.words;
-      gap = λ some. gap_after_blank c.self.inside.rest.now text (drop 1 text) first (c.loop-self.invariant.gap (omega (arith, c.in-len1-up.len_at_least))) is white;
+      words = words_after_blank c.loop-self.self-inside.number c.from.result first text (drop 1 text) is white c.from.ensures
+          ∙ c.loop-self.invariant.words;
+      gap = λ some. gap_after_blank c.self.inside.rest.now text (drop 1 text) first
+          (c.loop-self.invariant.gap (omega (arith, c.in-len1-up.len_at_least))) is white;
     })
