@@ -37,11 +37,14 @@ pub fn on_common_shape<D: Lengths>(
         shape_fault result ≡ Some IncompatibleShape }
     ensures memory { NeedsNoMemory D.NDIM (max (length one.now.shape) (length other.now.shape)) →
         shape_fault result ≡ None → IsOk result }
-    ensures common { IfOk result (λ both. common_shape one.now.shape other.now.shape ≡ Some both.0.shape) }
+    ensures common { IfOk result (λ both. common_shape one.now.shape other.now.shape ≡
+        Some both.0.shape) }
     ensures one { IfOk result (λ both. both.0 ≡ broadcast_of both.0.shape one.now) }
     ensures other { IfOk result (λ both. both.1 ≡ broadcast_of both.0.shape other.now) }
-    ensures inside { IfOk result (λ both. (len : ℕ) → LiesWithin len one.now → LiesWithin len both.0) }
-    ensures inside_other { IfOk result (λ both. (len : ℕ) → LiesWithin len other.now → LiesWithin len both.1) }
+    ensures inside { IfOk result (λ both. (len : ℕ) → LiesWithin len one.now →
+        LiesWithin len both.0) }
+    ensures inside_other { IfOk result (λ both. (len : ℕ) → LiesWithin len other.now →
+        LiesWithin len both.1) }
 {
     let shape: D = co_broadcast(alloc, one.dim(), other.dim())?;
     Ok((

@@ -20,14 +20,17 @@ pub fn band(
     rows: Range<u32>,
 ) -> Result<Strided<Ix2>, LayoutError>
     ensures fault { shape_fault result ≡ argument_fault Strict picture.now.shape
-        (SliceInfoElem.Slice (pos rows.start) (Some (pos rows.end)) (pos 1) ∷ SliceInfoElem.Slice (pos 0) None (pos 1) ∷ []) }
+        (SliceInfoElem.Slice (pos rows.start) (Some (pos rows.end)) (pos 1)
+        ∷ SliceInfoElem.Slice (pos 0) None (pos 1) ∷ []) }
     ensures memory { shape_fault result ≡ None → IsOk result }
     ensures shape { IfOk result (λ band. band.shape ≡
         (rows.end - rows.start) ∷ slice_index picture.now.shape 1 ∷ []) }
     ensures place { IfOk result (λ band. (i j : ℕ) → IsTrue (is_index band.shape (i ∷ j ∷ [])) →
         place_at band (i ∷ j ∷ []) ≡ place_at picture.now ((rows.start + i) ∷ j ∷ [])) }
-    ensures inside { IfOk result (λ band. (len : ℕ) → LiesWithin len picture.now → LiesWithin len band) }
-    ensures distinct { IfOk result (λ band. HasDistinctPlaces picture.now → HasDistinctPlaces band) }
+    ensures inside { IfOk result (λ band. (len : ℕ) → LiesWithin len picture.now →
+        LiesWithin len band) }
+    ensures distinct { IfOk result (λ band. HasDistinctPlaces picture.now →
+        HasDistinctPlaces band) }
 {
     let rows = (rows.start as isize)..(rows.end as isize);
     let part: [SliceInfoElem; 2] = [rows.into(), (..).into()];
@@ -50,9 +53,12 @@ pub fn crop(
     ensures shape { IfOk result (λ crop. crop.shape ≡
         (rows.end - rows.start) ∷ (columns.end - columns.start) ∷ []) }
     ensures place { IfOk result (λ crop. (i j : ℕ) → IsTrue (is_index crop.shape (i ∷ j ∷ [])) →
-        place_at crop (i ∷ j ∷ []) ≡ place_at picture.now ((rows.start + i) ∷ (columns.start + j) ∷ [])) }
-    ensures inside { IfOk result (λ crop. (len : ℕ) → LiesWithin len picture.now → LiesWithin len crop) }
-    ensures distinct { IfOk result (λ crop. HasDistinctPlaces picture.now → HasDistinctPlaces crop) }
+        place_at crop (i ∷ j ∷ []) ≡
+        place_at picture.now ((rows.start + i) ∷ (columns.start + j) ∷ [])) }
+    ensures inside { IfOk result (λ crop. (len : ℕ) → LiesWithin len picture.now →
+        LiesWithin len crop) }
+    ensures distinct { IfOk result (λ crop. HasDistinctPlaces picture.now →
+        HasDistinctPlaces crop) }
 {
     let rows = (rows.start as isize)..(rows.end as isize);
     let columns = (columns.start as isize)..(columns.end as isize);
@@ -70,7 +76,8 @@ pub fn cut(
     rows: u32,
 ) -> Result<Vec<Strided<Ix2>>, LayoutError>
     ensures shapes { IfOk result (λ parts. map (λ part. part.shape) parts.items ≡
-        (row ∷ slice_index picture.now.shape 1 ∷ []) ∷ ((rows - row) ∷ slice_index picture.now.shape 1 ∷ []) ∷ []) }
+        (row ∷ slice_index picture.now.shape 1 ∷ []) ∷
+        ((rows - row) ∷ slice_index picture.now.shape 1 ∷ []) ∷ []) }
     ensures upper { IfOk result (λ parts. IfSome (slice_get parts.items 0) (λ upper.
         (i j : ℕ) → IsTrue (is_index upper.shape (i ∷ j ∷ [])) →
         place_at upper (i ∷ j ∷ []) ≡ place_at picture.now (i ∷ j ∷ []))) }

@@ -18,8 +18,10 @@ use ndarray_layout::{
 fn in_elements(byte_stride: usize, elem_size: usize) -> Option<usize>
     requires some { 0 < elem_size }
     requires fits { elem_size ≤ limit }
-    ensures some { IfSome result (λ stride. signed_reading stride *ℤ pos elem_size ≡ signed_reading byte_stride) }
-    ensures none { IfNone result ((stride : ℤ) → stride *ℤ pos elem_size ≡ signed_reading byte_stride → ⊥) }
+    ensures some { IfSome result (λ stride. signed_reading stride *ℤ pos elem_size ≡
+        signed_reading byte_stride) }
+    ensures none { IfNone result ((stride : ℤ) → stride *ℤ pos elem_size ≡
+        signed_reading byte_stride → ⊥) }
 {
     let (byte_stride, elem_size) = (signed(byte_stride), elem_size as isize);
     if byte_stride % elem_size != 0 {

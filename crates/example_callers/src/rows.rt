@@ -33,7 +33,8 @@ pub fn grid(
         acceptance_by_strides lengths 1 (length items.now) OwnedMutable (rows ∷ columns ∷ []) C }
     ensures memory { shape_fault result ≡ None → IsOk result }
     ensures shape { IfOk result (λ grid. grid.shape ≡ rows ∷ columns ∷ []) }
-    ensures place { IfOk result (λ grid. (i j : ℕ) → IsTrue (is_index (rows ∷ columns ∷ []) (i ∷ j ∷ [])) →
+    ensures place { IfOk result (λ grid. (i j : ℕ) →
+        IsTrue (is_index (rows ∷ columns ∷ []) (i ∷ j ∷ [])) →
         place_at grid (i ∷ j ∷ []) ≡ pos (i * columns + j)) }
     ensures inside { IfOk result (λ grid. LiesWithin (length items.now) grid) }
     ensures distinct { IfOk result (λ grid. HasDistinctPlaces grid) }
@@ -53,7 +54,8 @@ pub fn in_shape(alloc: Global, items: &[u8], dim: IxDyn) -> Result<Strided<IxDyn
     ensures shape { IfOk result (λ view. view.shape ≡ lengths dim) }
     ensures fault { shape_fault result ≡
         acceptance_by_strides lengths 1 (length items.now) OwnedMutable (lengths dim) C }
-    ensures memory { shape_fault result ≡ None → NeedsNoMemory None (length (lengths dim)) → IsOk result }
+    ensures memory { shape_fault result ≡ None → NeedsNoMemory None (length (lengths dim)) →
+        IsOk result }
     ensures place { IfOk result (λ view. (index : List ℕ) → IsTrue (is_index (lengths dim) index) →
         place_at view index ≡ pos (flat_index_in RowMajor (lengths dim) index)) }
     ensures inside { IfOk result (λ view. LiesWithin (length items.now) view) }
@@ -85,7 +87,8 @@ pub fn in_rows<D: Lengths>(
     ensures line { IfOk result (λ grid. (len i j : ℕ) → view.now.shape ≡ len ∷ [] →
         IsTrue (is_index (rows ∷ columns ∷ []) (i ∷ j ∷ [])) →
         place_at grid (i ∷ j ∷ []) ≡ place_at view.now ((i * columns + j) ∷ [])) }
-    ensures inside { IfOk result (λ grid. (len : ℕ) → LiesWithin len view.now → LiesWithin len grid) }
+    ensures inside { IfOk result (λ grid. (len : ℕ) → LiesWithin len view.now →
+        LiesWithin len grid) }
     ensures distinct { IfOk result (λ grid. HasDistinctPlaces view.now → HasDistinctPlaces grid) }
 {
     view.reshape(alloc, &new_ix2(rows, columns), Order::RowMajor)

@@ -19,16 +19,20 @@ use std::alloc::{AllocError, Global};
 /// Errors: those of `check_slice`, of which a shape of two axes has none. Two axes need no memory.
 pub fn alternate_rows(alloc: Global, picture: &Strided<Ix2>) -> Result<Strided<Ix2>, LayoutError>
     ensures fault { shape_fault result ≡ argument_fault Strict picture.now.shape
-        (SliceInfoElem.Slice (pos 0) None (negsuc 1) ∷ SliceInfoElem.Slice (pos 0) None (pos 1) ∷ []) }
+        (SliceInfoElem.Slice (pos 0) None (negsuc 1)
+        ∷ SliceInfoElem.Slice (pos 0) None (pos 1) ∷ []) }
     ensures memory { shape_fault result ≡ None → IsOk result }
     ensures sliced { IfOk result (λ rows. rows ≡ slice_of Strict
-        (SliceInfoElem.Slice (pos 0) None (negsuc 1) ∷ SliceInfoElem.Slice (pos 0) None (pos 1) ∷ [])
+        (SliceInfoElem.Slice (pos 0) None (negsuc 1)
+        ∷ SliceInfoElem.Slice (pos 0) None (pos 1) ∷ [])
         picture.now) }
     ensures place { IfOk result (λ rows. (i j : ℕ) → IsTrue (is_index rows.shape (i ∷ j ∷ [])) →
         place_at rows (i ∷ j ∷ []) ≡ place_at picture.now
         ((slice_index picture.now.shape 0 - 1 - 2 * i) ∷ j ∷ [])) }
-    ensures inside { IfOk result (λ rows. (len : ℕ) → LiesWithin len picture.now → LiesWithin len rows) }
-    ensures distinct { IfOk result (λ rows. HasDistinctPlaces picture.now → HasDistinctPlaces rows) }
+    ensures inside { IfOk result (λ rows. (len : ℕ) → LiesWithin len picture.now →
+        LiesWithin len rows) }
+    ensures distinct { IfOk result (λ rows. HasDistinctPlaces picture.now →
+        HasDistinctPlaces rows) }
 {
     let part: [SliceInfoElem; 2] = [Slice::new(0, None, -2).into(), (..).into()];
     picture.slice(alloc, &part, Fit::Strict)

@@ -37,7 +37,8 @@ pub fn flat_plane_by_steps(
     ensures left { IfOk result (Leave (CollapseTo 0 plane ∷ MergeInto 1 2 ∷ []) stack) }
     ensures stopped { IfErr result (λ stop. StopsAt (CollapseTo 0 plane ∷ MergeInto 1 2 ∷ []) stack
         stop.at stop.fault stop.view) }
-    ensures memory { (run_of (CollapseTo 0 plane ∷ MergeInto 1 2 ∷ []) stack).fault ≡ None → IsOk result }
+    ensures memory { (run_of (CollapseTo 0 plane ∷ MergeInto 1 2 ∷ []) stack).fault ≡ None →
+        IsOk result }
 {
     let steps = [
         Step::Collapse(Axis(0), plane),

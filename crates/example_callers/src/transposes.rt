@@ -31,9 +31,12 @@ pub fn transposed_part(
     ensures shape { IfOk result (λ part. part.shape ≡
         (columns.end - columns.start) ∷ (rows.end - rows.start) ∷ []) }
     ensures place { IfOk result (λ part. (i j : ℕ) → IsTrue (is_index part.shape (i ∷ j ∷ [])) →
-        place_at part (i ∷ j ∷ []) ≡ place_at picture.now ((rows.start + j) ∷ (columns.start + i) ∷ [])) }
-    ensures inside { IfOk result (λ part. (len : ℕ) → LiesWithin len picture.now → LiesWithin len part) }
-    ensures distinct { IfOk result (λ part. HasDistinctPlaces picture.now → HasDistinctPlaces part) }
+        place_at part (i ∷ j ∷ []) ≡
+        place_at picture.now ((rows.start + j) ∷ (columns.start + i) ∷ [])) }
+    ensures inside { IfOk result (λ part. (len : ℕ) → LiesWithin len picture.now →
+        LiesWithin len part) }
+    ensures distinct { IfOk result (λ part. HasDistinctPlaces picture.now →
+        HasDistinctPlaces part) }
 {
     let part = crop(alloc, picture, rows, columns)?;
     Ok(part.reversed_axes())

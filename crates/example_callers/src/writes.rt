@@ -21,7 +21,8 @@ pub fn write_parts<D: Lengths>(
     ensures fits { IfOk result (λ done. IsTrue done →
         IsFaultOfWrites picture.old.view.shape (map write_of parts.now) None) }
     ensures fault { IfOk result (λ done. done ≡ false →
-        (kind : ErrorKind) × IsFaultOfWrites picture.old.view.shape (map write_of parts.now) (Some kind)) }
+        (kind : ErrorKind) × IsFaultOfWrites picture.old.view.shape (map write_of parts.now)
+        (Some kind)) }
     ensures written { IfOk result (λ done. IsTrue done →
         All (IsWritten picture.old.view picture.new.items) (map write_of parts.now)) }
     ensures kept { IfOk result (λ done. IsTrue done →
@@ -29,7 +30,8 @@ pub fn write_parts<D: Lengths>(
     ensures refused { IfOk result (λ done. done ≡ false → picture.new ≡ picture.old) }
     ensures view { picture.new.view ≡ picture.old.view }
     ensures no_memory { OnErr result (picture.new ≡ picture.old) }
-    ensures asked { OnErr result (IsFaultOfWrites picture.old.view.shape (map write_of parts.now) None) }
+    ensures asked { OnErr result (IsFaultOfWrites picture.old.view.shape
+        (map write_of parts.now) None) }
     ensures memory { HaveNoItems (map write_of parts.now) → IsOk result }
 {
     match picture.multi_set(alloc, parts) {

@@ -66,7 +66,8 @@ fn begun<'a>(
     requires some { 0 < length edits.now }
     requires picture { IsPicture (image picture.now) }
     requires fit { first_misfit edits.now picture.now.extent ≡ None }
-    ensures begun { IfOk result (λ made. AreBegun edits.now (image picture.now) (image made.0) made.1.now) }
+    ensures begun { IfOk result (λ made.
+        AreBegun edits.now (image picture.now) (image made.0) made.1.now) }
     ensures picture { IfOk result (λ made. IsPicture (image made.0)) }
 {
     let (slices, others) = before_mirror(edits);

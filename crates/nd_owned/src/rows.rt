@@ -98,7 +98,8 @@ fn rows_of_slice<E: Lengths, D: Lengths, S: SliceElems>(
 /// The rows of a view: its last axis gives their places, and its other axes where they begin.
 fn rows_of_view<D: Lengths>(alloc: Global, mut view: Strided<D>) -> Result<Rows, AllocError>
     ensures places { IfOk result (λ rows. rows_places rows ≡ view_places RowMajor view) }
-    ensures inside { IfOk result (λ rows. (len : ℕ) → LiesWithin len view → AreRowsInside len rows) }
+    ensures inside { IfOk result (λ rows. (len : ℕ) → LiesWithin len view →
+        AreRowsInside len rows) }
     ensures size { IfOk result (λ rows. rows.size ≡ length (rows_places rows)) }
     ensures memory { size view.shape ≡ 0 → IsOk result }
 {

@@ -72,7 +72,8 @@ fn place_of(
     strides: &[usize],
     index: &[usize],
 ) -> Result<usize, LayoutError>
-    ensures fits { OnOk result (option_or (layout_fault_from start shape.now (all_signed strides.now))
+    ensures fits { OnOk result (option_or (layout_fault_from start shape.now
+        (all_signed strides.now))
         (index_fault shape.now index.now) ≡ None) }
     ensures fault { (kind : ErrorKind) → shape_fault result ≡ Some kind →
         option_or (layout_fault_from start shape.now (all_signed strides.now))

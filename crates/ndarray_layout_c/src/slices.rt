@@ -114,7 +114,8 @@ fn write_slice(
     ensures status { result ≢ out_of_memory → result ≡ status_until false
         (argument_fault fit view.now.shape (elems_named raws.now))
         (not (length new_shape.old == length (slice_of fit (elems_named raws.now) view.now).shape)
-        || not (length new_strides.old == length (slice_of fit (elems_named raws.now) view.now).shape)) }
+        || not (length new_strides.old == length (slice_of fit
+        (elems_named raws.now) view.now).shape)) }
     ensures memory { length raws.now ≤ 4 →
         NeedsNoMemory None (out_count (elems_named raws.now)) → result ≢ out_of_memory }
     ensures start { result ≡ ok →

@@ -105,7 +105,8 @@ fn mirrored_parts(
 ) -> Result<Vec<Write>, AllocError>
     requires view { array.now.view ≡ whole_view extent }
     requires fits { can_cut extent count ≡ true }
-    ensures { IfOk result (λ writes. AreMirrored array.now extent count (map write_of writes.items)) }
+    ensures { IfOk result (λ writes.
+        AreMirrored array.now extent count (map write_of writes.items)) }
 {
     let mut writes = Vec::new(alloc);
     for number in 0..count * count {
@@ -118,7 +119,8 @@ fn mirrored_parts(
 pub(crate) fn mirrored(alloc: Global, picture: &Picture, count: u32) -> Result<Picture, AllocError>
     requires picture { IsPicture (image picture.now) }
     requires fits { can_cut picture.now.extent count ≡ true }
-    ensures edited { IfOk result (λ made. IsEdited (Mirror count ∷ []) (image picture.now) (image made)) }
+    ensures edited { IfOk result (λ made.
+        IsEdited (Mirror count ∷ []) (image picture.now) (image made)) }
     ensures picture { IfOk result (λ made. IsPicture (image made)) }
 {
     let mut array = array_of(alloc, picture)?;

@@ -12,7 +12,8 @@ use std::alloc::{AllocError, Global};
 fn pixel_bytes(rest: &[u8], extent: Extent, white: u16) -> Result<&[u8], Fault>
     ensures { MatchResult result
         (λ bytes. HasPixels rest.now (record { extent = extent; greatest = white; pixels = bytes.now }))
-        (λ fault. (text : List ℕ) → HasHeader text extent white rest.now → IsFaultOfBytes text fault) }
+        (λ fault. (text : List ℕ) → HasHeader text extent white rest.now →
+        IsFaultOfBytes text fault) }
 {
     let [space, raster @ ..] = rest else {
         return Err(Fault::Ended);

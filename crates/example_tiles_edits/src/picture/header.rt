@@ -39,7 +39,8 @@ fn take_format(words: &mut Words<'_>) -> Result<Format, Fault>
     ensures begun { MatchResult result
         (λ format. BeginWith format (words_left words.old) [] (words_left words.new))
         (λ fault. IsFaultOfWords (words_left words.old) fault) }
-    ensures first { IfOk result (λ format. StandsFirst words.old.bytes (magic_of format) words.new.bytes) }
+    ensures first { IfOk result (λ format.
+        StandsFirst words.old.bytes (magic_of format) words.new.bytes) }
 {
     match words.take() {
         None => Err(Fault::Ended),
@@ -57,7 +58,8 @@ pub(crate) fn take_number(words: &mut Words<'_>, least: u32, greatest: u32) -> R
         → MatchResult result (λ n. BeginWith format all (numbers ++ n ∷ []) (words_left words.new))
         (λ fault. IsFaultOfWords all fault) }
     ensures first { IfOk result (λ n. StandsNumber words.old.bytes n words.new.bytes) }
-    ensures in_range { IfOk result (λ n. IsBetween (record { least = least; greatest = greatest }) n) }
+    ensures in_range { IfOk result (λ n.
+        IsBetween (record { least = least; greatest = greatest }) n) }
 {
     let Some(word) = words.take() else {
         return Err(Fault::Ended);

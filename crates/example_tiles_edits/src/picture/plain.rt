@@ -24,9 +24,11 @@ fn take_pixels(
     ensures taken { (all : List NumberedWord)
         → BeginWith Plain all (extent.columns ∷ extent.rows ∷ white ∷ []) (words_left words.old)
         → IfOk result (λ pixels.
-        BeginWith Plain all (extent.columns ∷ extent.rows ∷ white ∷ pixels.items) (words_left words.new)) }
+        BeginWith Plain all (extent.columns ∷ extent.rows ∷ white ∷ pixels.items)
+        (words_left words.new)) }
     ensures refused { (text : List ℕ)
-        → BeginWith Plain (words_from 1 text) (extent.columns ∷ extent.rows ∷ white ∷ []) (words_left words.old)
+        → BeginWith Plain (words_from 1 text) (extent.columns ∷ extent.rows ∷ white ∷ [])
+        (words_left words.old)
         → IfErr result (IsRefusedBy text) }
     ensures count { IfOk result (λ pixels. length pixels.items ≡ pixel_count extent) }
     ensures in_range { IfOk result (λ pixels. All (λ pixel. pixel ≤ white) pixels.items) }
@@ -41,7 +43,8 @@ fn take_pixels(
 
 /// Requires that no word is left.
 fn take_nothing(words: &mut Words<'_>) -> Result<(), Fault>
-    ensures { (all : List NumberedWord) (numbers : List ℕ) → BeginWith Plain all numbers (words_left words.old)
+    ensures { (all : List NumberedWord) (numbers : List ℕ) →
+        BeginWith Plain all numbers (words_left words.old)
         → next_number Plain numbers ≡ None
         → MatchResult result (λ _. words_left words.old ≡ []) (λ fault. IsFaultOfWords all fault) }
 {
@@ -59,7 +62,8 @@ pub(crate) fn plain_pixels(
     white: u16,
 ) -> Result<Vec<u16>, ReadError>
     ensures read { (text : List ℕ)
-        → BeginWith Plain (words_from 1 text) (extent.columns ∷ extent.rows ∷ white ∷ []) (words_left words.old)
+        → BeginWith Plain (words_from 1 text) (extent.columns ∷ extent.rows ∷ white ∷ [])
+        (words_left words.old)
         → MatchResult result (λ pixels. SpellPicture (words_from 1 text)
         (record { extent = extent; greatest = white; pixels = pixels.items })) (IsRefusedBy text) }
     ensures picture { IfOk result (λ pixels.

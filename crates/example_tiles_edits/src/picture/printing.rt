@@ -13,7 +13,8 @@ use std::fmt::Write;
 
 /// Appends pixels, with a space between each two.
 fn push_pixels(text: &mut String, pixels: &[u16]) -> Result<(), AllocError>
-    ensures { OnOk result (string_bytes text.new ≡ string_bytes text.old ++ join_by decimal (codes " ") pixels.now) }
+    ensures { OnOk result (string_bytes text.new ≡ string_bytes text.old ++
+        join_by decimal (codes " ") pixels.now) }
 {
     let Some((first, others)) = pixels.split_first() else {
         return Ok(());
@@ -38,7 +39,8 @@ fn push_row(text: &mut String, row: &[u16]) -> Result<(), AllocError>
 fn push_rows(text: &mut String, extent: Extent, pixels: &[u16]) -> Result<(), AllocError>
     requires { length pixels.now ≡ pixel_count extent }
     ensures { OnOk result (string_bytes text.new ≡
-        string_bytes text.old ++ flat_map row_text (rows_of extent.rows extent.columns pixels.now)) }
+        string_bytes text.old ++
+        flat_map row_text (rows_of extent.rows extent.columns pixels.now)) }
 {
     let mut rest = pixels;
     for _ in 0..extent.rows {
@@ -58,7 +60,8 @@ pub fn text_of_picture(alloc: Global, picture: &Picture) -> Result<String, Alloc
     ensures text { IfOk result (λ text. string_bytes text ≡ text_of (image picture.now)) }
     // It reads back, unless its white is black.
     ensures spelled { 0 < picture.now.greatest
-        → IfOk result (λ text. SpellPicture (words_from 1 (string_bytes text)) (image picture.now)) }
+        → IfOk result (λ text. SpellPicture (words_from 1 (string_bytes text))
+        (image picture.now)) }
 {
     let Extent { rows, columns } = picture.extent;
     let greatest = picture.greatest;

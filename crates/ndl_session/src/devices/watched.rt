@@ -83,7 +83,8 @@ impl<R: Read> Watched<R> {
             (R.remaining (device self.new)) result buf.new }
         ensures failed { has_failed self.new ≡ is_err result }
         ensures ended { has_ended self.new ≡ (has_ended self.old || is_end result buf.new) }
-        ensures late { has_ended self.old ≡ false → was_used_late self.new ≡ was_used_late self.old }
+        ensures late { has_ended self.old ≡ false → was_used_late self.new ≡
+            was_used_late self.old }
     {
         self.read(buf)
     }

@@ -73,7 +73,8 @@ fn order(name: &[u8]) -> Option<Order>
 /// Errors: out of memory.
 fn reshape(alloc: Global, name: &[u8], shape: &[u8]) -> Result<Option<Step>, AllocError>
     ensures { IfOk result (λ found. option_map step_value found
-        ≡ of_both (λ order shape. ReshapeTo shape order) (order_of_word name.now) (lengths_of shape.now)) }
+        ≡ of_both (λ order shape.
+        ReshapeTo shape order) (order_of_word name.now) (lengths_of shape.now)) }
 {
     let Some(order) = order(name) else {
         return Ok(None);
