@@ -48,8 +48,8 @@ fn divide(strides: &mut [usize], elem_size: usize) -> bool
     true
 }
 
-/// The view of a layout whose strides are counted in bytes, over `len` elements of `elem_size` bytes. The first index lies at the
-/// element `start`. The caller ensures that an element has a byte, and at most `isize::MAX`.
+/// The view of a layout whose strides are counted in bytes, over `len` elements of `elem_size` bytes. The first index
+/// lies at the element `start`. The caller ensures that an element has a byte, and at most `isize::MAX`.
 ///
 /// Errors: `IncompatibleLayout` where a stride is no multiple of `elem_size`; then those of `Strided::from_parts`.
 pub fn from_bytes<D: Lengths>(

@@ -15,7 +15,8 @@ use ndarray_layout::{Ix2, LayoutError, SliceInfoElem, Strided};
 use std::alloc::Global;
 use std::ops::Range;
 
-/// The part of a picture between some rows and some columns, transposed: its rows are the part's columns. No pixel is moved.
+/// The part of a picture between some rows and some columns, transposed: its rows are the part's columns. No pixel is
+/// moved.
 ///
 /// Errors: those of `crop`. Two axes need no memory.
 pub fn transposed_part(

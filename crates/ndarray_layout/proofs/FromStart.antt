@@ -60,7 +60,8 @@ module _ (start elem_size len : ℕ) (mode : CanIndexCheckMode) (shape : List �
   pub outside : None ≡ size_fault elem_size shape strides → leaves_data_from start len shape strides ≡ true
       → Some OutOfBounds ≡ acceptance_from start elem_size len mode shape strides
   outside sized leaves =
-      second (size_fault elem_size shape strides) (leaves_data_from start len shape strides) (may_share mode shape strides) (sym sized) leaves
+      second (size_fault elem_size shape strides) (leaves_data_from start len shape strides) (may_share mode shape strides)
+      (sym sized) leaves
 
   pub shared : None ≡ size_fault elem_size shape strides → leaves_data_from start len shape strides ≡ false
       → may_share mode shape strides ≡ true → Some Unsupported ≡ acceptance_from start elem_size len mode shape strides

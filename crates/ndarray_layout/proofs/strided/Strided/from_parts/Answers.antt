@@ -51,7 +51,8 @@ returns-then-dim_stride_overlap-clause-fault g c =
     c.reaches_past.ensures ∙ c.if-reaches_past.false in
     ap Some c.from_kind-then-dim_stride_overlap.ensures
     ∙ shared c.args.start c.args.elem_size c.args.len c.args.mode shape strides c.in_ok-span.ensures.fault stays
-    (shares_owned shape strides c.args.mode c.dim_stride_overlap.result owned c.dim_stride_overlap.ensures.rule ∙ c.if-dim_stride_overlap.true)
+    (shares_owned shape strides c.args.mode c.dim_stride_overlap.result owned c.dim_stride_overlap.ensures.rule
+    ∙ c.if-dim_stride_overlap.true)
 
 -- what passes the tests is accepted
 passes : (g : Over) (c : Joined-else-eq g)
