@@ -9,6 +9,8 @@ mod assertions;
 #[cfg(test)]
 mod callers;
 #[cfg(test)]
+mod foreign;
+#[cfg(test)]
 mod numbers;
 #[cfg(test)]
 mod parts;

@@ -25,8 +25,9 @@ enum Call {
     Array(OfArray),
 }
 
-static CALLS: [(&str, Call); 14] = [
+static CALLS: [(&str, Call); 15] = [
     ("new", View(OfView::New)),
+    ("from_parts", View(OfView::FromParts)),
     ("from_shape", View(OfView::FromShape)),
     ("slice_in_order", View(OfView::SliceInOrder)),
     ("swap_axes", Axes(OfAxes::Swapped)),

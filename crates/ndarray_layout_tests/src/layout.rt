@@ -32,6 +32,30 @@ impl Layout {
         let strides: D = made(alloc, self.strides.as_slice())?;
         Some(viewed(dim, strides, self.len, self.mode))
     }
+
+    /// Its view from a start, over elements of a size, or the fault; `None` as above.
+    pub fn view_from<D: Lengths>(
+        &self,
+        alloc: Global,
+        start: usize,
+        elem_size: usize,
+    ) -> Option<Result<Strided<D>, LayoutError>> {
+        let dim: D = made(alloc, self.shape.as_slice())?;
+        let strides: D = made(alloc, self.strides.as_slice())?;
+        Some(viewed_from(start, dim, strides, elem_size, self.len, self.mode))
+    }
+}
+
+/// The view of a shape and strides from a start, over so many elements of a size.
+fn viewed_from<D: Lengths>(
+    start: usize,
+    dim: D,
+    strides: D,
+    elem_size: usize,
+    len: usize,
+    mode: CanIndexCheckMode,
+) -> Result<Strided<D>, LayoutError> {
+    Ok(Strided::from_parts(start, dim, strides, elem_size, len, mode)?)
 }
 
 /// The view of a shape and strides over so many elements of one byte.

@@ -17,6 +17,8 @@ mod axes_rows;
 #[cfg(test)]
 mod calls;
 #[cfg(test)]
+mod from_parts_rows;
+#[cfg(test)]
 mod items;
 #[cfg(test)]
 mod layout;

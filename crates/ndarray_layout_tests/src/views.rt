@@ -16,6 +16,8 @@ use test_tables::{AtType, Reading, at_each_type, at_type, made};
 pub enum OfView {
     /// `LEN owned|read SHAPE STRIDES => VIEW`, or the fault.
     New,
+    /// `START ELEM_SIZE LEN owned|read SHAPE STRIDES => VIEW`, or the fault.
+    FromParts,
     /// `LEN SHAPE C|F|STRIDES => VIEW`, or the fault, in owned mode.
     FromShape,
     /// `LEN owned|read SHAPE STRIDES ARGUMENT => WAY SHAPE STRIDES`: in which ways the places of a slice lie in order.
@@ -30,6 +32,15 @@ pub fn shaped<D: Lengths>(
     len: usize,
 ) -> Result<Strided<D>, LayoutError> {
     Strided::from_shape(alloc, StrideShape { dim, strides }, 1, len, OwnedMutable)
+}
+
+/// Whether a row tells the view of a layout from a start.
+fn is_placed<D: Lengths>(alloc: Global, row: &mut Reading<'_>) -> Option<bool> {
+    let start = row.given.length()?;
+    let elem_size = row.given.length()?;
+    let layout = Layout::read(&mut row.given)?;
+    let view = layout.view_from::<D>(alloc, start, elem_size)?;
+    Some(is_told(alloc, row, view))
 }
 
 /// Whether a row tells the view of a shape.
@@ -78,6 +89,7 @@ impl AtType for OfRow<'_, '_> {
                 let layout = Layout::read(&mut row.given)?;
                 Some(is_told::<D>(alloc, row, layout.view(alloc)?))
             },
+            OfView::FromParts => is_placed::<D>(alloc, row),
             OfView::FromShape => is_shaped::<D>(alloc, row),
             OfView::SliceInOrder => is_in_order::<D>(alloc, row),
         }
