@@ -1,5 +1,5 @@
 -- The index after one, in an order.
-use Rattle.std.specs.Prelude.{◌≡◌, ℕ, ◌+◌, Bool, true, false, nat_lt, if◌then◌else◌, List, [], ◌∷◌, length, replicate, refl}
+use Rattle.std.specs.Prelude.{◌≡◌, ℕ, ◌+◌, Bool, false, nat_lt, if◌then◌else◌, List, [], ◌∷◌, length, replicate, refl}
 use Rattle.ndarray_layout.specs.declared.Order.{Order}
 use Rattle.ndarray_layout.specs.declared.Order.TheVariants.{RowMajor, ColumnMajor}
 use Rattle.ndarray_layout.specs.FlatIndex.{index_of_flat_in, flat_index_in}

@@ -1,5 +1,5 @@
 -- What a status means, as text.
-use Rattle.std.specs.Prelude.{◌≡◌, ℕ, ◌<◌, ℤ, pos, Bool, true, false, not, ◌==◌, if◌then◌else◌, List, [], ◌∷◌, length, codes, refl}
+use Rattle.std.specs.Prelude.{◌≡◌, ℕ, ℤ, pos, if◌then◌else◌, List, [], codes, refl}
 use Rattle.std.specs.Ordering.{int_eq}
 
 -- the text of a status: that of the layer for a fault; nothing for a number that is no status

@@ -1,5 +1,5 @@
 -- The axes so far have their meanings.
-use Rattle.std.proofs.Common.{◌≡◌, length, take, map}
+use Rattle.std.proofs.Common.{◌≡◌, length, take}
 use Rattle.ndarray_layout.specs.AxesInOrder.{axis_numbers}
 use Rattle.ndarray_layout_c.proofs.shapes.few_axes.Given as goal
 

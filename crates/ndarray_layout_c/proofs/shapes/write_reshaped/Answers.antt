@@ -2,7 +2,6 @@
 use Rattle.std.proofs.Common.{ap, ◌∙◌}
 use Rattle.ndarray_layout.specs.ReshapedView.{reshaped_strides}
 use Rattle.ndarray_layout.specs.Signed.{all_signed}
-use Rattle.ndarray_layout.specs.View.{View}
 use Rattle.ndarray_layout_c.proofs.Counts.{strides_of_view}
 use Rattle.ndarray_layout_c.proofs.shapes.write_reshaped.Goals as goal
 
