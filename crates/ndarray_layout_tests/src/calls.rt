@@ -1,10 +1,11 @@
 //! The calls of rows, by their names.
 use crate::arrays::{OfArray, array_holds};
 use crate::axes::{OfAxes, axes_hold};
+use crate::iterated::places_hold;
 use crate::reshapes::reshape_holds;
 use crate::runs::run_holds;
 use crate::views::{OfView, view_holds};
-use Call::{Array, Axes, Reshape, Run, View};
+use Call::{Array, Axes, IterPlaces, Reshape, Run, View};
 use Order::{ColumnMajor, RowMajor};
 use ndarray_layout::Order;
 use std::alloc::Global;
@@ -17,6 +18,8 @@ enum Call {
     View(OfView),
     /// `TYPE ..`: of the axes of a view.
     Axes(OfAxes),
+    /// `TYPE ..`: of the places of a view one after another.
+    IterPlaces,
     /// A run of steps.
     Run,
     /// `SHAPE STRIDES SHAPE => STRIDES`, or the fault.
@@ -33,6 +36,7 @@ static CALLS: [(&str, Call); 15] = [
     ("swap_axes", Axes(OfAxes::Swapped)),
     ("reversed_axes", Axes(OfAxes::Reversed)),
     ("permuted_axes", Axes(OfAxes::Permuted)),
+    ("iter_places", IterPlaces),
     ("run", Run),
     ("reshape_dim_C", Reshape(RowMajor)),
     ("reshape_dim_F", Reshape(ColumnMajor)),
@@ -52,6 +56,7 @@ impl Asked for Calls {
         match meaning(&CALLS, row.call)? {
             View(asked) => view_holds(alloc, reading, asked),
             Axes(asked) => axes_hold(alloc, reading, asked),
+            IterPlaces => places_hold(alloc, reading),
             Run => run_holds(alloc, reading),
             Reshape(order) => reshape_holds(alloc, row, order),
             Array(asked) => array_holds(alloc, reading, asked),

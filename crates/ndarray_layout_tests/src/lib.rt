@@ -21,6 +21,10 @@ mod from_parts_rows;
 #[cfg(test)]
 mod items;
 #[cfg(test)]
+mod iterated;
+#[cfg(test)]
+mod iterated_rows;
+#[cfg(test)]
 mod layout;
 #[cfg(test)]
 mod memory;

@@ -1,0 +1,70 @@
+//! The places of a view one after another, at the dimension type that a row names.
+use crate::layout::Layout;
+use crate::views::shaped;
+use Order::{ColumnMajor, RowMajor};
+use ndarray_layout::{Lengths, Order, Places, Strided, Strides};
+use std::alloc::Global;
+use test_tables::{AtType, Reading, at_type, made, meaning};
+
+static ORDERS: [(&str, Order); 2] = [("C", RowMajor), ("F", ColumnMajor)];
+
+/// Whether an iterator gives these places and no other, and says each time how many are left.
+pub fn gives(mut places: Places<'_>, expected: &[usize]) -> bool {
+    let mut left = expected.len();
+    for place in expected {
+        let said = (places.len(), places.size_hint());
+        if said != (left, (left, Some(left))) || places.next() != Some(*place) {
+            return false;
+        }
+        left = places.len();
+    }
+    (left, places.next(), places.next()) == (0, None, None)
+}
+
+/// A row about the places of a view: `TYPE LEN owned|read SHAPE STRIDES C|F => PLACES`.
+struct OfRow<'a, 'b> {
+    row: &'a mut Reading<'b>,
+}
+
+impl AtType for OfRow<'_, '_> {
+    fn at<D: Lengths>(self, alloc: Global) -> Option<bool> {
+        let OfRow { row } = self;
+        let layout = Layout::read(&mut row.given)?;
+        let order = meaning(&ORDERS, row.given.word()?)?;
+        let view: Strided<D> = layout.view(alloc)?.ok()?;
+        let listed = view.places(alloc, order).ok()?;
+        let is_same = gives(view.iter_places(order), listed.as_slice());
+        Some(is_same && row.answer.is_list(listed.as_slice()))
+    }
+}
+
+/// Whether a row about the places of a view holds, at the type that it names.
+pub fn places_hold(alloc: Global, row: &mut Reading<'_>) -> Option<bool> {
+    let ndim = row.given.ndim()?;
+    at_type(alloc, ndim, OfRow { row })
+}
+
+/// A shape with many places, in which no row is long.
+#[derive(Drop)]
+struct ManyPlaces<'a> {
+    lens: &'a [usize],
+}
+
+impl AtType for ManyPlaces<'_> {
+    fn at<D: Lengths>(self, alloc: Global) -> Option<bool> {
+        let view = shaped(alloc, made::<D>(alloc, self.lens)?, Strides::C, 10_000).ok()?;
+        let rows = view.places(alloc, RowMajor).ok()?;
+        let columns = view.places(alloc, ColumnMajor).ok()?;
+        let is_whole = rows.len() == 10_000 && columns.get(1) != rows.get(1);
+        Some(
+            is_whole
+                && gives(view.iter_places(RowMajor), rows.as_slice())
+                && gives(view.iter_places(ColumnMajor), columns.as_slice()),
+        )
+    }
+}
+
+/// Whether the 10,000 places of a shape come in both orders.
+pub fn many_come(alloc: Global, ndim: Option<usize>, lens: &[usize]) -> bool {
+    at_type(alloc, ndim, ManyPlaces { lens }) == Some(true)
+}

@@ -1,0 +1,53 @@
+//! Rows of places that come one after another.
+use crate::assertions::hold;
+use crate::calls::Calls;
+use crate::iterated::many_come;
+
+#[test]
+fn places_of_fixed_types(rt: HostRuntime) {
+    let table = "\
+iter_places Ix0 1 owned - - C => 0
+iter_places Ix0 1 owned - - F => 0
+iter_places Ix1 4 owned 4 1 C => 0,1,2,3
+iter_places Ix1 7 owned 3 -3 F => 6,3,0
+iter_places Ix1 0 owned 0 1 C => -
+iter_places Ix2 6 owned 2,3 -3,1 C => 3,4,5,0,1,2
+iter_places Ix2 6 owned 2,3 -3,1 F => 3,0,4,1,5,2
+iter_places Ix2 2 owned 1,2 -9223372036854775808,1 C => 0,1
+iter_places Ix2 2 owned 2,1 1,-9223372036854775808 F => 0,1
+iter_places Ix2 3 read 2,3 0,1 C => 0,1,2,0,1,2
+iter_places Ix2 3 read 2,3 0,1 F => 0,0,1,1,2,2
+iter_places Ix2 9 owned 0,3 3,1 C => -
+iter_places Ix2 9 owned 3,0 3,1 C => -
+iter_places Ix2 9 owned 0,3 3,1 F => -
+iter_places Ix2 9 owned 3,0 3,1 F => -
+iter_places Ix3 12 owned 2,3,2 6,-2,1 C => 4,5,2,3,0,1,10,11,8,9,6,7
+iter_places Ix3 12 owned 2,3,2 6,-2,1 F => 4,10,2,8,0,6,5,11,3,9,1,7
+iter_places Ix3 9 owned 2,0,2 6,2,1 C => -
+iter_places Ix4 16 owned 2,2,2,2 1,-2,4,-8 C => 10,2,14,6,8,0,12,4,11,3,15,7,9,1,13,5
+iter_places Ix4 16 owned 2,2,2,2 1,-2,4,-8 F => 10,11,8,9,14,15,12,13,2,3,0,1,6,7,4,5
+iter_places Ix5 6 owned 1,3,1,2,1 9,2,9,1,9 F => 0,2,4,1,3,5
+iter_places Ix6 8 owned 2,1,2,1,2,1 4,9,2,9,1,9 C => 0,1,2,3,4,5,6,7";
+    hold(&rt, rt.alloc(), table, &Calls);
+}
+
+#[test]
+fn places_of_any_count_of_axes(rt: HostRuntime) {
+    let table = "\
+iter_places IxDyn 1 owned - - C => 0
+iter_places IxDyn 6 owned 2,3 -3,-1 C => 5,4,3,2,1,0
+iter_places IxDyn 8 owned 2,1,2,2 4,9,-2,1 F => 2,6,0,4,3,7,1,5
+iter_places IxDyn 12 owned 2,1,3,1,2 -6,9,1,9,3 C => 6,9,7,10,8,11,0,3,1,4,2,5
+iter_places IxDyn 12 owned 2,1,3,1,2 -6,9,1,9,3 F => 6,0,7,1,8,2,9,3,10,4,11,5
+iter_places IxDyn 6 read 2,1,1,2,1,3 0,9,9,3,9,1 C => 0,1,2,3,4,5,0,1,2,3,4,5
+iter_places IxDyn 9 owned 1,1,1,1,1,1,1 9,9,9,9,9,9,9 C => 0
+iter_places IxDyn 12 owned 2,1,3,0,2 6,6,2,2,1 C => -";
+    hold(&rt, rt.alloc(), table, &Calls);
+}
+
+#[test]
+fn many_places(rt: HostRuntime) {
+    let alloc = rt.alloc();
+    assert!(rt; many_come(alloc, Some(2), &[100, 100]));
+    assert!(rt; many_come(alloc, None, &[10, 1, 10, 2, 5, 10]));
+}
