@@ -1,7 +1,7 @@
 //! What is asked of the caller that writes parts of an array.
 use crate::callers::Layout;
 use crate::numbers::{are_pixels, pixels};
-use example_callers::write_parts;
+use example_callers::{with_two_parts, write_parts};
 use nd_owned::OwnedArray;
 use ndarray_layout::{IxDyn, SliceInfoElem, StrideShape, Strides};
 use std::alloc::Global;
@@ -54,12 +54,26 @@ pub fn are_written(
 fn written_holds(
     alloc: Global,
     array: OwnedArray<u8, IxDyn>,
-    parts: &[Part],
+    parts: &[Part; 2],
     done: &str,
     left: &str,
 ) -> Option<bool> {
     let mut array = array;
     let is_written = write_parts(alloc, &mut array, parts).ok()?;
     let word = if is_written { "written" } else { "refused" };
-    Some(word == done && are_pixels(alloc, array.stored(), left)?)
+    let holds = word == done && are_pixels(alloc, array.stored(), left)?;
+    Some(holds && are_left(alloc, array, parts, left)?)
+}
+
+/// Whether the same writes leave these pixels once more, in the list that comes back or in the array.
+fn are_left(
+    alloc: Global,
+    array: OwnedArray<u8, IxDyn>,
+    parts: &[Part; 2],
+    left: &str,
+) -> Option<bool> {
+    match with_two_parts(alloc, array, parts) {
+        Ok(pixels) => are_pixels(alloc, pixels.as_slice(), left),
+        Err((_, array)) => are_pixels(alloc, array.stored(), left),
+    }
 }

@@ -12,7 +12,9 @@ multi_set Ix2 2,3 C 7 ..,0 10 9,.. 20,21,22 => OutOfBounds 0,1,2,3,4,5,6
 multi_set Ix2 2,3 C 7 0..0,.. - => Ok 0,1,2,3,4,5,6
 set Ix2 2,3 C 7 1,3 9 => false 0,1,2,3,4,5,6
 from_shape_vec Ix2 2,3 C 5 => OutOfBounds 0,1,2,3,4
-items Ix2 2,3 -3,1 6 ..,.. => 3,4,5,0,1,2";
+items Ix2 2,3 -3,1 6 ..,.. => 3,4,5,0,1,2
+view Ix2 2,3 -3,1 7 => 2,3 -3,1 3 6
+stored_mut Ix2 2,3 C 7 6 9 => 0,1,2,3,4,5,9";
 
 #[test]
 fn r15_rows(rt: HostRuntime) {
@@ -28,6 +30,9 @@ items Ix0 - C 3 NewAxis => 0
 get Ix2 2,3 -3,-1 8 1,2 => 0
 get IxDyn 4 C 4 0,0 => none
 set Ix0 - C 2 - 9 => true 9,1
+view Ix0 - C 2 => - - 0 1
+view IxDyn 2,0,2,1,2,1 C 3 => 2,0,2,1,2,1 0,0,0,0,0,0 0 0
+stored_mut IxDyn 2 -1 3 2 9 => 0,1,9
 from_shape_vec IxDyn 2,1,2,1,2,1 C 8 => Ok 0,1,2,3,4,5,6,7
 from_shape_vec IxDyn 2,1,2,1,2,1 F 7 => OutOfBounds 0,1,2,3,4,5,6
 items IxDyn 2,1,2,1,2,1 7,9,-3,9,1,9 13 ..,..,..,..,..,.. => 3,4,0,1,10,11,7,8

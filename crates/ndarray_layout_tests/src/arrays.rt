@@ -1,6 +1,6 @@
 //! Arrays that own their items, and what is asked of them, as rows tell it.
 use crate::items::{Item, are, counted, item, listed};
-use crate::layout::strides;
+use crate::layout::{is_left, strides};
 use nd_owned::OwnedArray;
 use ndarray_layout::{LayoutError, Lengths, SliceInfoElem, StrideShape};
 use std::alloc::Global;
@@ -19,6 +19,10 @@ pub enum OfArray {
     Set,
     /// `ARGUMENT ITEMS ARGUMENT ITEMS .. => Ok ITEMS`, or the fault.
     MultiSet,
+    /// `=> SHAPE STRIDES START COUNT`, of the view and of the indices.
+    View,
+    /// `PLACE ITEM => ITEMS`, those that come back.
+    StoredMut,
 }
 
 /// An array, or why there is none, and the items that are handed back.
@@ -114,19 +118,38 @@ fn is_written<D: Lengths>(
     Some(row.answer.is(name) && leaves(row, array.stored())?)
 }
 
+/// Whether an array has this view and so many indices.
+fn is_viewed<D: Lengths>(row: &mut Reading<'_>, array: &OwnedArray<Item, D>) -> bool {
+    is_left(row, array.view())
+        && row.answer.is_length(array.len())
+        && array.is_empty() == (array.len() == 0)
+        && array.dim().equal(array.view().dim())
+}
+
+/// Whether an item is written at a place of the list, and this list comes back.
+fn is_stored<D: Lengths>(row: &mut Reading<'_>, array: OwnedArray<Item, D>) -> Option<bool> {
+    let (place, number) = (row.given.length()?, row.given.length()?);
+    let mut array = array;
+    *array.stored_mut().get_mut(place)? = item(number);
+    leaves(row, array.into_stored().as_slice())
+}
+
 /// Whether an array answers so.
 fn answers<D: Lengths>(
     alloc: Global,
     row: &mut Reading<'_>,
-    array: &mut OwnedArray<Item, D>,
+    array: OwnedArray<Item, D>,
     asked: OfArray,
 ) -> Option<bool> {
+    let mut array = array;
     match asked {
         OfArray::FromShapeVec => Some(row.answer.is("Ok") && leaves(row, array.stored())?),
-        OfArray::Items => are_read(alloc, row, array),
-        OfArray::Get => is_got(alloc, row, array),
-        OfArray::Set => is_set(alloc, row, array),
-        OfArray::MultiSet => is_written(alloc, row, array),
+        OfArray::Items => are_read(alloc, row, &array),
+        OfArray::Get => is_got(alloc, row, &array),
+        OfArray::Set => is_set(alloc, row, &mut array),
+        OfArray::MultiSet => is_written(alloc, row, &mut array),
+        OfArray::View => Some(is_viewed(row, &array)),
+        OfArray::StoredMut => is_stored(row, array),
     }
 }
 
@@ -140,10 +163,7 @@ impl AtType for OfRow<'_, '_> {
     fn at<D: Lengths>(self, alloc: Global) -> Option<bool> {
         let OfRow { row, asked } = self;
         match array::<D>(alloc, &mut row.given)? {
-            Ok(made) => {
-                let mut array = made;
-                answers(alloc, row, &mut array, asked)
-            },
+            Ok(array) => answers(alloc, row, array, asked),
             Err((fault, items)) => {
                 let is_asked = matches!(asked, OfArray::FromShapeVec);
                 let is_named = row.answer.is(layout_fault_name(&fault));

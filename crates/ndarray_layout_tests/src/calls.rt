@@ -28,7 +28,7 @@ enum Call {
     Array(OfArray),
 }
 
-static CALLS: [(&str, Call); 15] = [
+static CALLS: [(&str, Call); 18] = [
     ("new", View(OfView::New)),
     ("from_parts", View(OfView::FromParts)),
     ("from_shape", View(OfView::FromShape)),
@@ -45,6 +45,8 @@ static CALLS: [(&str, Call); 15] = [
     ("get", Array(OfArray::Get)),
     ("set", Array(OfArray::Set)),
     ("multi_set", Array(OfArray::MultiSet)),
+    ("view", Array(OfArray::View)),
+    ("stored_mut", Array(OfArray::StoredMut)),
 ];
 
 /// Rows of calls.
