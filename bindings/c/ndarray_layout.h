@@ -13,7 +13,7 @@
  * ND_BAD_ARGUMENT is a number that has no meaning (an order, a mode, a fit, a kind of element), or a list to be written of
  * another count than is due. It comes before everything else, but for the counts of what nd_places, nd_slice and
  * nd_permute_axes write, which come after everything else. ND_OUT_OF_MEMORY may come before other statuses than
- * ND_BAD_ARGUMENT: of lists of more than four entries alone, and of nd_places, which takes memory for the places once.
+ * ND_BAD_ARGUMENT, of lists of more than four entries alone.
  *
  * What the caller ensures. Nothing else can make a call misbehave:
  *   - no pointer is null, and each is aligned as its type asks; for an empty list pass the address of anything of the type;
@@ -59,7 +59,7 @@ enum { ND_SLICE = 0, ND_INDEX = 1, ND_NEW_AXIS = 2 };
 
 /*
  * An element of a slice. ND_SLICE keeps an axis: from `start` to before `end`, or to the end of the axis where `has_end` is
- * 0, each `step`-th entry, from the last one back where `step` is negative. ND_INDEX takes the entry `start` and drops the
+ * 0, each `step`-th coordinate, from the last one back where `step` is negative. ND_INDEX takes the coordinate `start` and drops the
  * axis. ND_NEW_AXIS adds an axis of length 1. Numbers below 0 count from the end of the axis. Fields that a kind doesn't
  * name are not looked at.
  */
@@ -136,10 +136,10 @@ int32_t nd_is_layout_f(const size_t *shape, size_t shape_len, const ptrdiff_t *s
 /* ---- Indices --------------------------------------------------------------------------------------------------------- */
 
 /*
- * Writes the place of an index: the start plus, for each axis, the entry times the stride.
+ * Writes the place of an index: the start plus, for each axis, the coordinate times the stride.
  *
  * Those of nd_check_layout for a buffer of all places up to the limit; then ND_OUT_OF_BOUNDS where the list is no index of
- * the shape: not one entry for each axis, or one that is not less than its length.
+ * the shape: not one coordinate for each axis, or one that is not less than its length.
  *
  * From 3, (2,3), strides (-3,1): (1,2) lies at 2.
  */
@@ -232,7 +232,7 @@ int32_t nd_broadcast_strides(const size_t *shape, size_t shape_len, const ptrdif
 /*
  * Merges the axis `take` into the axis `into`, in place, where one stride has the entries of both, and writes 1; else writes
  * 0 and changes neither list. Then the axis `into` has all entries, that of `take` moving slowest among them, and `take`
- * keeps one entry, or none where there are none.
+ * keeps one coordinate, or none where there are none.
  *
  * ND_INCOMPATIBLE_LAYOUT and ND_OVERFLOW as of nd_has_overlap; then ND_OUT_OF_BOUNDS where there is no such axis; then
  * ND_UNSUPPORTED for one axis twice.
@@ -257,7 +257,7 @@ int32_t nd_reshape(const size_t *shape, size_t shape_len, const ptrdiff_t *strid
 
 /*
  * Writes the shape and the strides with the axes in another order: axis k is axis `axes[k]`. The start stays. `new_shape`,
- * `new_strides`: one for each entry of `shape`.
+ * `new_strides`: one for each coordinate of `shape`.
  *
  * ND_INCOMPATIBLE_LAYOUT and ND_OVERFLOW as of nd_has_overlap; then ND_INCOMPATIBLE_SHAPE where `axes` doesn't have each
  * axis once.

@@ -1,4 +1,4 @@
--- The status of a call: 0, the number of a fault's kind, or that of a bad argument or of memory that was refused.
+-- The status of a call: 0, the number of a fault's kind, or that of a bad argument or of an allocation that failed.
 use Rattle.std.specs.Prelude.{◌≡◌, ℤ, pos, Bool, true, false, Option, Some, None, if◌then◌else◌, refl}
 use Rattle.ndarray_layout.specs.declared.ErrorKind.{ErrorKind}
 use Rattle.ndarray_layout.specs.declared.ErrorKind.TheVariants.{IncompatibleShape, IncompatibleLayout, RangeLimited, OutOfBounds, Unsupported, Overflow}
@@ -11,7 +11,7 @@ ok = pos 0
 abbrev pub bad_argument : ℤ
 bad_argument = pos 7
 
--- the status of memory that was refused
+-- the status of an allocation that failed
 abbrev pub out_of_memory : ℤ
 out_of_memory = pos 8
 

@@ -122,24 +122,28 @@ pub extern "C" fn nd_place(
     }
 }
 
+/// Writes the places of all indices of a view, in an order. The caller ensures that there is room for just as many.
+fn fill_places(view: &Strided<IxDyn>, order: Order, places: &mut [usize])
+    requires { length places.old ≡ size view.now.shape }
+    ensures { map pos places.new ≡ view_places order view.now }
+{
+    for (at, place) in view.iter_places(order).enumerate() {
+        places[at] = place;
+    }
+}
+
 /// Writes the places of all indices of a view, in an order, and returns the status.
 #[tactic(auto, using(crate::proofs::Counts::size_le))]
-fn write_places(alloc: Global, view: &Strided<IxDyn>, order: Order, places: &mut [usize]) -> i32
-    ensures status { result ≢ out_of_memory →
-        result ≡ status_where (not (length places.old == size view.now.shape)) None }
+fn write_places(view: &Strided<IxDyn>, order: Order, places: &mut [usize]) -> i32
+    ensures status { result ≡ status_where (not (length places.old == size view.now.shape)) None }
     ensures places { result ≡ ok → map pos places.new ≡ view_places order view.now }
     ensures unchanged { result ≢ ok → places.new ≡ places.old }
 {
     if places.len() != product(view.dim().slice()) {
         return BAD_ARGUMENT;
     }
-    match view.places(alloc, order) {
-        Ok(found) => {
-            places.copy_from_slice(found.as_slice());
-            OK
-        },
-        Err(_) => OUT_OF_MEMORY,
-    }
+    fill_places(view, order, places);
+    OK
 }
 
 /// Writes the places of all indices of a layout, in an order.
@@ -155,6 +159,8 @@ pub extern "C" fn nd_places(
     ensures status { result ≢ out_of_memory → result ≡ status_until (not (is_choice order))
         (layout_fault_from start shape.now (all_signed strides.now))
         (not (length places.old == size shape.now)) }
+    ensures memory { NeedsNoMemory None (length shape.now) →
+        NeedsNoMemory None (length strides.now) → result ≢ out_of_memory }
     ensures places { result ≡ ok → map pos places.new ≡
         view_places (order_named order) (view_of start shape.now strides.now) }
     ensures unchanged { result ≢ ok → places.new ≡ places.old }
@@ -163,7 +169,7 @@ pub extern "C" fn nd_places(
         return BAD_ARGUMENT;
     }
     match view_from(alloc, start, shape, strides) {
-        Ok(view) => write_places(alloc, &view, order_named(order), places),
+        Ok(view) => write_places(&view, order_named(order), places),
         Err(LayoutError::Shape(error)) => status_of(error.kind()),
         Err(LayoutError::Memory(_)) => OUT_OF_MEMORY,
     }
