@@ -59,8 +59,8 @@ enum { ND_SLICE = 0, ND_INDEX = 1, ND_NEW_AXIS = 2 };
 
 /*
  * An element of a slice. ND_SLICE keeps an axis: from `start` to before `end`, or to the end of the axis where `has_end` is
- * 0, each `step`-th coordinate, from the last one back where `step` is negative. ND_INDEX takes the coordinate `start` and drops the
- * axis. ND_NEW_AXIS adds an axis of length 1. Numbers below 0 count from the end of the axis. Fields that a kind doesn't
+ * 0, each `step`-th coordinate, from the last one back where `step` is negative. ND_INDEX takes the coordinate `start` and
+ * drops the axis. ND_NEW_AXIS adds an axis of length 1. Numbers below 0 count from the end of the axis. Fields that a kind doesn't
  * name are not looked at.
  */
 typedef struct nd_slice_elem {
@@ -219,7 +219,7 @@ int32_t nd_common_shape(const size_t *first, size_t first_len, const size_t *sec
 
 /*
  * Writes the strides along which a layout is read as one of the shape `target`: 0 along new axes, which come first, and
- * along axes of length 1 that have another length now. The start stays. `new_strides`: one for each axis of `target`.
+ * along axes of length 1 that have another length now. The start is unchanged. `new_strides`: one for each axis of `target`.
  *
  * ND_INCOMPATIBLE_LAYOUT and ND_OVERFLOW as of nd_has_overlap; then ND_INCOMPATIBLE_SHAPE where `target` is not the shape
  * that both have in common; then ND_OVERFLOW where it is too large.
@@ -230,8 +230,8 @@ int32_t nd_broadcast_strides(const size_t *shape, size_t shape_len, const ptrdif
                              const size_t *target, size_t target_len, ptrdiff_t *new_strides, size_t new_strides_len);
 
 /*
- * Merges the axis `take` into the axis `into`, in place, where one stride has the entries of both, and writes 1; else writes
- * 0 and changes neither list. Then the axis `into` has all entries, that of `take` moving slowest among them, and `take`
+ * Merges the axis `take` into the axis `into`, in place, where one stride serves for both, and writes 1; else writes
+ * 0 and changes neither list. Then the axis `into` has the coordinates of both, that of `take` moving slowest, and `take`
  * keeps one coordinate, or none where there are none.
  *
  * ND_INCOMPATIBLE_LAYOUT and ND_OVERFLOW as of nd_has_overlap; then ND_OUT_OF_BOUNDS where there is no such axis; then
@@ -243,7 +243,7 @@ int32_t nd_merge_axes(size_t *shape, size_t shape_len, ptrdiff_t *strides, size_
                       int32_t *merged);
 
 /*
- * Writes the strides along which the shape `new_shape` has the places of a layout in an order. The start stays. Where there
+ * Writes the strides along which the shape `new_shape` has the places of a layout in an order. The start is unchanged. Where there
  * is no index they are 0. `new_strides`: one for each axis of `new_shape`. `order`: ND_ROW_MAJOR or ND_COLUMN_MAJOR.
  *
  * ND_INCOMPATIBLE_LAYOUT and ND_OVERFLOW as of nd_has_overlap; then ND_OVERFLOW where `new_shape` is too large; then
@@ -256,8 +256,8 @@ int32_t nd_reshape(const size_t *shape, size_t shape_len, const ptrdiff_t *strid
                    const size_t *new_shape, size_t new_shape_len, ptrdiff_t *new_strides, size_t new_strides_len);
 
 /*
- * Writes the shape and the strides with the axes in another order: axis k is axis `axes[k]`. The start stays. `new_shape`,
- * `new_strides`: one for each coordinate of `shape`.
+ * Writes the shape and the strides with the axes in another order: axis k is axis `axes[k]`. The start is unchanged. `new_shape`,
+ * `new_strides`: one for each axis of `shape`.
  *
  * ND_INCOMPATIBLE_LAYOUT and ND_OVERFLOW as of nd_has_overlap; then ND_INCOMPATIBLE_SHAPE where `axes` doesn't have each
  * axis once.
