@@ -15,9 +15,9 @@ use std::alloc::Global;
 /// Two views as views of the shape that NumPy's rule gives them in common. The caller ensures that the type allows the
 /// greater of their counts of axes: any type that fixes a count does, and `IxDyn`.
 ///
-/// Errors: `IncompatibleShape` where they have no shape in common, `Overflow` where the product of its lengths that are not 0
-/// passes the greatest `isize`; out of memory, for the shape before that product is looked at, but never where the type fixes
-/// the count or there are at most four axes.
+/// Errors: `IncompatibleShape` where they have no shape in common. Then out of memory for the common shape, never where the
+/// type fixes the count or there are at most four axes. Then `Overflow` where the product of its lengths that are not 0 is
+/// greater than `isize::MAX`. Then out of memory for the views, never at such types or counts.
 pub fn on_common_shape<D: Lengths>(
     alloc: Global,
     one: &Strided<D>,

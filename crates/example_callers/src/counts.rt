@@ -29,7 +29,7 @@ where
     all_indices(alloc, dim.into_pattern())
 }
 
-/// The pixel at an index of a view, as a loop over all of them gives the index.
+/// The pixel at an index of a view. The index is an item of a loop over all indices.
 ///
 /// Errors: out of memory; none where the type fixes the count of axes or there are at most 4.
 fn pixel_at<D: Dimension>(

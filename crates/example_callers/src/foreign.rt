@@ -14,7 +14,7 @@ use ndarray_layout::{
     CanIndexCheckMode, ErrorKind, Lengths, ShapeError, Strided, from_kind, signed, unsigned,
 };
 
-/// A stride in elements of so many bytes, for one in bytes; `None` where it is no multiple of them.
+/// The stride in elements of `elem_size` bytes for a stride in bytes; `None` where it is no multiple.
 fn in_elements(byte_stride: usize, elem_size: usize) -> Option<usize>
     requires some { 0 < elem_size }
     requires fits { elem_size ≤ limit }
@@ -30,7 +30,7 @@ fn in_elements(byte_stride: usize, elem_size: usize) -> Option<usize>
     Some(unsigned(byte_stride / elem_size))
 }
 
-/// Writes strides in elements of so many bytes over those in bytes, and returns whether each of them is a multiple.
+/// Replaces strides in bytes by strides in elements of `elem_size` bytes. Returns whether each is a multiple.
 fn divide(strides: &mut [usize], elem_size: usize) -> bool
     requires some { 0 < elem_size }
     requires fits { elem_size ≤ limit }

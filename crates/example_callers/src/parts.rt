@@ -29,7 +29,8 @@ fn places_of<D: Lengths, S: SliceElems>(
 
 /// The places of two parts of a view, each in row-major order, or `None` where the parts share an index.
 ///
-/// Errors: those of `check_slice` for the first part, then for the second; out of memory, never where they share an index.
+/// Errors: those of `check_slice` for the first part, then for the second. Then out of memory; never where the parts share
+/// an index, since no place is listed.
 pub fn separate_places<D: Lengths, A: SliceElems, B: SliceElems>(
     alloc: Global,
     view: &Strided<D>,

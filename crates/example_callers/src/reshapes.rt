@@ -11,8 +11,8 @@ use std::alloc::{AllocError, Global};
 /// The places of a view along another shape, in row-major order, or `None` where no strides keep that list: then the
 /// elements have to be copied.
 ///
-/// Errors: out of memory; none where the type fixes the count of axes or there are at most four, nor where the shape is refused
-/// before its strides are looked at.
+/// Errors: out of memory; never where the type fixes the count of axes or there are at most four. Nor does it come where the
+/// shape's size doesn't fit, or one of the two shapes alone has no index.
 pub fn along_shape<D: Lengths, E: Lengths>(
     alloc: Global,
     view: &Strided<D>,

@@ -47,7 +47,7 @@ pub fn grid(
     Strided::from_shape(alloc, shape, 1, items.len(), mode)
 }
 
-/// A list read along a shape of any number of axes: an index is the item at its flat index in row-major order.
+/// A list as a view of a shape of any number of axes: each index lies at its flat index in row-major order.
 ///
 /// Errors: those of `can_index_slice_with_strides`; out of memory, never for at most four axes.
 pub fn in_shape(alloc: Global, items: &[u8], dim: IxDyn) -> Result<Strided<IxDyn>, LayoutError>

@@ -15,7 +15,8 @@ use std::alloc::Global;
 /// Axis 0 has the planes, axis 1 the rows, axis 2 the columns. Returns whether the rows are merged; else the view is
 /// the plane with its rows.
 ///
-/// Errors: `OutOfBounds` where there is no such plane, and then the view is unchanged, or no axis 1 or 2.
+/// Errors: `OutOfBounds` where there is no such plane; the view is unchanged. Then `OutOfBounds` where there is no axis 1
+/// or 2; the view is the plane.
 pub fn flat_plane<D: Lengths>(stack: &mut Strided<D>, plane: usize) -> Result<bool, ShapeError>
     ensures fault { result_err result ≡ option_or (collapse_fault stack.old.shape 0 plane)
         (axes_fault (collapse_of 0 plane stack.old).shape 1 2) }

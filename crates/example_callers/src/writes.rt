@@ -9,10 +9,10 @@ use nd_owned::OwnedArray;
 use ndarray_layout::{LayoutError, Lengths, SliceInfoElem};
 use std::alloc::{AllocError, Global};
 
-/// Whether pixels were written at several parts of a picture. They are not where a part doesn't fit, has another count of pixels
-/// than are given for it, or shares an index with another part. Then the picture is unchanged.
+/// Writes pixels at several parts of a picture, and returns whether it did. It doesn't where a part doesn't fit, where its
+/// count of pixels isn't the given one, or where two parts share an index. Then the picture is unchanged.
 ///
-/// Errors: out of memory; none where no part has a pixel, or where the parts don't fit. The picture is unchanged.
+/// Errors: out of memory; never where no part has a pixel, or where nothing is written. The picture is unchanged.
 pub fn write_parts<D: Lengths>(
     alloc: Global,
     picture: &mut OwnedArray<u8, D>,
