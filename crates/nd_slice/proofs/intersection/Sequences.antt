@@ -1,9 +1,10 @@
 -- When two lists of numbers that lie a step apart share a number.
-use Rattle.std.proofs.Common.{◌≡◌, ℕ, ◌+◌, ◌*◌, ◌/◌, ◌<◌, ◌≤◌, true, arith, ap, sym, ◌∙◌, refl, subst, ℤ, pos, ◌+ℤ◌, ◌-ℤ◌}
+use Rattle.std.proofs.Common.{◌≡◌, ℕ, zero, suc, ◌+◌, ◌*◌, ◌/◌, ◌%◌, ◌<◌, ◌≤◌, true, arith, ap, sym, ◌∙◌, refl, subst, ℤ, pos, ◌+ℤ◌, ◌-ℤ◌}
 use Rattle.std.proofs.Common.{le-div_iff_mul-le, mul-le-mul_right, ◌≤ℤ◌, ◌<ℤ◌, ◌↔◌, nat_le}
 use Rattle.std.proofs.Math.Nat.{div-mul_cancel, dvd-mul_right}
 use Rattle.std.proofs.lemmas.Bool.{leb-true, le-leb}
 use Rattle.std.proofs.lemmas.Int.{ints, clamps}
+use Rattle.std.proofs.lemmas.Nat.Gcd.{le_of_dvd, mod-eq-zero_of_dvd}
 use Rattle.std.specs.Int.{◌∣◌, int_max, int_min}
 use Rattle.nd_slice.proofs.Definitions.{InSequence, IsLeastMultiplier, MeetsWithin, SequencesMeet, magnitude}
 use Rattle.nd_slice.proofs.intersection.Signs.{of_non_negative, of_non_positive}
@@ -31,6 +32,14 @@ pub meets_by_none : (ahead first_step second_step room : ℕ) → ((number : ℕ
 meets_by_none ahead first_step second_step room none meets =
     let whole : meets.0 / second_step * second_step ≡ meets.0 = div-mul_cancel second_step meets.2 in
     none (meets.0 / second_step) (subst (λ n. first_step ∣ n) (omega arith) meets.3)
+
+-- where 0 is the only multiple within the room, it decides
+pub meets_at_zero : (ahead first_step second_step room : ℕ) → room < second_step → MeetsWithin ahead first_step second_step room
+    → ahead % first_step ≡ 0
+meets_at_zero ahead first_step second_step room small (zero, within, multiple, divides) =
+    mod-eq-zero_of_dvd first_step (subst (λ n. first_step ∣ n) (omega arith) divides)
+meets_at_zero ahead first_step second_step room small (suc k, within, multiple, divides) =
+    absurd (omega (arith, within, le_of_dvd (omega arith) multiple))
 
 -- the greater of two numbers is so far after the other
 pub far_after : (low high : ℤ) → low ≤ℤ high → high ≡ low +ℤ pos (magnitude (high -ℤ low))
