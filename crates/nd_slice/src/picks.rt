@@ -135,7 +135,7 @@ fn pick_extent(start: usize, end: usize, step: isize) -> usize
 }
 
 /// The least and the greatest coordinate that a step picks between two bounds.
-fn pick_ends(start: usize, end: usize, step: isize) -> (usize, usize)
+pub(crate) fn pick_ends(start: usize, end: usize, step: isize) -> (usize, usize)
     requires order { start < end }
     requires moves { 0 < magnitude step }
     ensures least { Contains (between step start end) result.0 }

@@ -148,19 +148,11 @@ pub contained_below : (fit : Fit) (len : ℕ) (slice : Slice) (pick : ℕ) → S
     → pick < len
 contained_below fit len slice pick fits h = omega (arith, (placed h).at, pick_below fit len slice h.0 fits h.1)
 
--- where the range of one slice stops before that of another begins, they share no entry
-pub apart_by_ranges : (fit : Fit) (len : ℕ) (one other : Slice) → SliceFits fit len one → SliceFits fit len other
-    → magnitude (end_meaning fit len one) ≤ magnitude (start_meaning fit len other)
-    → PicksMeet (picks fit len one) (picks fit len other) → ⊥
-apart_by_ranges fit len one other one_fits other_fits order (entry, p, q) =
-    let first = placed p in
-    let second = placed q in
-    omega (
-      arith,
-      first.at,
-      second.at,
-      between_below one.step (magnitude (start_meaning fit len one)) (magnitude (end_meaning fit len one)) p.0 (step_moves fit len one one_fits)
-          p.1,
-      between_above other.step (magnitude (start_meaning fit len other)) (magnitude (end_meaning fit len other)) q.0
-          (step_moves fit len other other_fits) q.1,
+-- a pick is in the range
+pub inside_range : (step : ℤ) (start end pick : ℕ) → 0 < magnitude step → Contains (between step start end) pick
+    → (start ≤ pick) × (pick < end)
+inside_range step start end pick moves h =
+    let at = placed h in (
+      omega (arith, at.at, between_above step start end h.0 moves h.1),
+      omega (arith, at.at, between_below step start end h.0 moves h.1),
     )
