@@ -142,6 +142,7 @@ pub(crate) fn pick_ends(start: usize, end: usize, step: isize) -> (usize, usize)
     ensures greatest { Contains (between step start end) result.1 }
     ensures between { All (λ pick. (result.0 ≤ pick) × (pick ≤ result.1))
         (between step start end) }
+    ensures below { (result.0 < end) × (result.1 < end) }
 {
     let extent = pick_extent(start, end, step);
     if step < 0 {

@@ -6,12 +6,10 @@ use Rattle.std.proofs.lemmas.Grind.{get_or_default_zero}
 use Rattle.std.proofs.lemmas.Int.{ints}
 use Rattle.std.proofs.lemmas.List.Elements.{All-contains}
 use Rattle.std.specs.Int.{◌∣◌}
-use Rattle.nd_slice.proofs.Definitions.{Fit, InSequence, PicksMeet, SequencesMeet, Slice, SliceFits, between, end_meaning, magnitude, picks}
-use Rattle.nd_slice.proofs.Definitions.{start_meaning}
+use Rattle.nd_slice.proofs.Definitions.{Fit, InSequence, PicksMeet, SequencesMeet, Slice, SliceFits, between, magnitude, picks}
 use Rattle.nd_base.proofs.laws.Lists.{Contains-at}
 use Rattle.nd_slice.proofs.laws.Picks.{pick_below}
 use Rattle.nd_slice.proofs.laws.Between.{between_above, between_below, pick_up, pick_down}
-use Rattle.nd_slice.proofs.laws.SliceFault.{step_moves}
 
 -- both are among the picks, and every pick lies between them
 abbrev pub AreEnds : List ℕ → ℕ → ℕ → Type 0

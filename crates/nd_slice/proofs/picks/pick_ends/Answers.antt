@@ -18,10 +18,12 @@ far c =
 pub returns-then-step-lt0 : goal.returns-then-step-lt0
 returns-then-step-lt0 c =
     let ends = ends_back c.args.start c.args.end c.requires.order c.args.step (omega (arith, ints, c.if-step-lt0.true)) (far c.before) in
-    record { least = ends.0; greatest = ends.1; between = ends.2 }
+    let within = (far c.before).within in
+    record { least = ends.0; greatest = ends.1; between = ends.2; below = (omega (arith, within), omega (arith, within)) }
 
 pub returns-else-step-lt0 : goal.returns-else-step-lt0
 returns-else-step-lt0 c =
     let ends = ends_on c.args.start c.args.end c.requires.order c.args.step
     (omega (arith, ints, c.if-step-lt0.false)) c.requires.moves (far c.before) in
-    record { least = ends.0; greatest = ends.1; between = ends.2 }
+    let within = (far c.before).within in
+    record { least = ends.0; greatest = ends.1; between = ends.2; below = (omega (arith, within), omega (arith, within)) }

@@ -1,7 +1,7 @@
 -- A shared pick is in both ranges; where these overlap, the lists of picks are compared.
-use Rattle.std.proofs.Common.{rules, ◌≡◌, ◌<◌, ℕ, true, max, pos, arith, ap, sym, ◌∙◌, subst, ◌↔◌, to_z, of_z, w64}
+use Rattle.std.proofs.Common.{rules, ◌≡◌, true, pos, arith, ◌↔◌, to_z, of_z, w64}
 use Rattle.std.proofs.lemmas.Int.{to_z-of_z}
-use Rattle.nd_slice.proofs.Definitions.{Fit, SequencesMeet, Slice, SliceFits, end_meaning, magnitude, picks, start_meaning}
+use Rattle.nd_slice.proofs.Definitions.{SequencesMeet, end_meaning, magnitude, start_meaning}
 use Rattle.nd_slice.proofs.intersection.Signs.{of_non_negative}
 use Rattle.nd_slice.proofs.laws.SliceFault.{step_moves}
 use Rattle.nd_slice.proofs.laws.PickSequences.{ArePicks, inside_range, picks_meet}
@@ -47,6 +47,12 @@ returns c =
     let meet = picks_meet first second in
     let known : (c.arith_seq_intersect.result ≡ true)
     ↔ SequencesMeet (pos (magnitude x.0), pos (magnitude x.1), one.step) (pos (magnitude y.0), pos (magnitude y.1), other.step) =
-    rw (← of_non_negative x.0 p.signs.0, ← of_non_negative x.1 p.signs.1, ← of_non_negative y.0 q.signs.0, ← of_non_negative y.1 q.signs.1,
-      ← p.step, ← q.step) c.arith_seq_intersect.ensures in
+    rw (
+      ← of_non_negative x.0 p.signs.0,
+      ← of_non_negative x.1 p.signs.1,
+      ← of_non_negative y.0 q.signs.0,
+      ← of_non_negative y.1 q.signs.1,
+      ← p.step,
+      ← q.step,
+    ) c.arith_seq_intersect.ensures in
     (λ is. meet.0 (known.0 is), λ both. known.1 (meet.1 both))

@@ -1,4 +1,4 @@
-use Rattle.std.proofs.Common.{rules, ◌≡◌, arith, ap, ◌∙◌, true, to_z, of_z, ◌≤ℤ◌, ◌<ℤ◌, w64}
+use Rattle.std.proofs.Common.{rules, ◌≡◌, arith, ap, ◌∙◌, to_z, of_z, ◌≤ℤ◌, ◌<ℤ◌, w64}
 use Rattle.std.proofs.lemmas.Int.{ints, to_z-of_z}
 use Rattle.nd_slice.proofs.Definitions.{magnitude}
 use Rattle.nd_slice.proofs.intersection.Sequences.{IsShared, IsMeasured, meets_on, meets_back, meets_none}
