@@ -38,10 +38,12 @@ returns c =
     let y = c.sequence_of-2.result in
     let p = rw first_step at c.sequence_of.ensures in
     let q = rw second_step at c.sequence_of-2.ensures in
-    let first : ArePicks one.step (magnitude (start_meaning fit len one)) (magnitude (end_meaning fit len one)) (magnitude x.0) (magnitude x.1) =
+    let first : ArePicks one.step (magnitude (start_meaning fit len one)) (magnitude (end_meaning fit len one))
+    (magnitude x.0) (magnitude x.1) =
     rw (← c.range_of-first_start.ensures.start, ← first_end)
     (record { moves = step_moves fit len one c.requires.first_fits; ends = (p.least, p.greatest, p.between) }) in
-    let second : ArePicks other.step (magnitude (start_meaning fit len other)) (magnitude (end_meaning fit len other)) (magnitude y.0) (magnitude y.1) =
+    let second : ArePicks other.step (magnitude (start_meaning fit len other)) (magnitude (end_meaning fit len other))
+    (magnitude y.0) (magnitude y.1) =
     rw (← c.range_of-second_start.ensures.start, ← second_end)
     (record { moves = step_moves fit len other c.requires.second_fits; ends = (q.least, q.greatest, q.between) }) in
     let meet = picks_meet first second in
