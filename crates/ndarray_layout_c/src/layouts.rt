@@ -1,5 +1,5 @@
 //! Layouts: which are accepted, and what they are like.
-ghost use Rattle.std.specs.Prelude.{◌≡◌, ◌≢◌, ◌↔◌, ◌==◌, true, not, ◌&&◌, pos, None, Some, length, if◌then◌else◌, IfOk, IsOk, OnOk};
+ghost use Rattle.std.specs.Prelude.{◌≡◌, ◌≢◌, ◌↔◌, ◌==◌, IsTrue, true, not, ◌&&◌, pos, None, Some, length, if◌then◌else◌, IfOk, IsOk, OnOk};
 ghost use Rattle.ndarray_layout.specs.declared.Order.TheVariants.{ColumnMajor, RowMajor};
 ghost use Rattle.ndarray_layout.specs.declared.ErrorKind.{ErrorKind};
 ghost use Rattle.ndarray_layout.specs.Acceptance.{acceptance, size_fault};
@@ -13,6 +13,7 @@ ghost use Rattle.ndarray_layout.specs.ShapeFault.{shape_fault};
 ghost use Rattle.ndarray_layout.specs.Signed.{all_signed};
 ghost use Rattle.ndarray_layout.specs.Size.{is_empty};
 ghost use Rattle.ndarray_layout.specs.Span.{low_span};
+ghost use Rattle.ndarray_layout.specs.ValidLayout.{IsValidLayout};
 ghost use Rattle.ndarray_layout_c.specs.OwnStrides.{own_strides, own_strides_fault};
 ghost use Rattle.ndarray_layout_c.specs.Codes.{is_choice, mode_named};
 ghost use Rattle.ndarray_layout_c.specs.Status.{ok, out_of_memory, status_of, status_where};
@@ -210,6 +211,46 @@ pub extern "C" fn nd_is_contiguous(
     }
 }
 
+/// Whether the places of all indices of a layout, in an order, follow one another without a gap.
+fn is_layout_in(order: Order, dim: &IxDyn, strides: &IxDyn) -> bool
+    requires valid { IsValidLayout (lengths dim.now) (all_signed (lengths strides.now)) }
+    ensures { IsTrue result
+        ↔ LiesInOrder order (lengths dim.now) (all_signed (lengths strides.now)) }
+{
+    match order {
+        Order::RowMajor => is_layout_c(dim, strides),
+        Order::ColumnMajor => is_layout_f(dim, strides),
+    }
+}
+
+/// Writes whether the places of all indices of a layout, in an order, follow one another without a gap, and returns the
+/// status.
+fn write_is_layout(
+    alloc: Global,
+    order: Order,
+    shape: &[usize],
+    strides: &[usize],
+    answer: &mut i32,
+) -> i32
+    ensures status { result ≢ out_of_memory →
+        result ≡ status_of (size_fault 1 shape.now (all_signed strides.now)) }
+    ensures memory { NeedsNoMemory None (length shape.now) →
+        NeedsNoMemory None (length strides.now) → result ≢ out_of_memory }
+    ensures answer { result ≡ ok → is_choice answer.new ≡ true }
+    ensures places { result ≡ ok →
+        ((answer.new ≡ pos 1) ↔ LiesInOrder order shape.now (all_signed strides.now)) }
+    ensures unchanged { result ≢ ok → answer.new ≡ answer.old }
+{
+    match layout(alloc, shape, strides) {
+        Ok((dim, strides)) => {
+            *answer = answer_of(is_layout_in(order, &dim, &strides));
+            OK
+        },
+        Err(LayoutError::Shape(error)) => status_of(error.kind()),
+        Err(LayoutError::Memory(_)) => OUT_OF_MEMORY,
+    }
+}
+
 /// Writes whether the places of all indices of a layout, in row-major order, follow one another without a gap.
 #[unsafe(no_mangle)]
 pub extern "C" fn nd_is_layout_c(
@@ -227,14 +268,7 @@ pub extern "C" fn nd_is_layout_c(
         ((answer.new ≡ pos 1) ↔ LiesInOrder RowMajor shape.now (all_signed strides.now)) }
     ensures unchanged { result ≢ ok → answer.new ≡ answer.old }
 {
-    match layout(alloc, shape, strides) {
-        Ok((dim, strides)) => {
-            *answer = answer_of(is_layout_c(&dim, &strides));
-            OK
-        },
-        Err(LayoutError::Shape(error)) => status_of(error.kind()),
-        Err(LayoutError::Memory(_)) => OUT_OF_MEMORY,
-    }
+    write_is_layout(alloc, Order::RowMajor, shape, strides, answer)
 }
 
 /// Writes whether the places of all indices of a layout, in column-major order, follow one another without a gap.
@@ -254,12 +288,5 @@ pub extern "C" fn nd_is_layout_f(
         ((answer.new ≡ pos 1) ↔ LiesInOrder ColumnMajor shape.now (all_signed strides.now)) }
     ensures unchanged { result ≢ ok → answer.new ≡ answer.old }
 {
-    match layout(alloc, shape, strides) {
-        Ok((dim, strides)) => {
-            *answer = answer_of(is_layout_f(&dim, &strides));
-            OK
-        },
-        Err(LayoutError::Shape(error)) => status_of(error.kind()),
-        Err(LayoutError::Memory(_)) => OUT_OF_MEMORY,
-    }
+    write_is_layout(alloc, Order::ColumnMajor, shape, strides, answer)
 }
