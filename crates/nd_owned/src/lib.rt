@@ -3,8 +3,10 @@
 #![tactic(auto)]
 
 mod blocks;
+mod iterating;
 mod owned;
 mod rows;
 mod writes;
 
+pub use iterating::Items;
 pub use owned::OwnedArray;
