@@ -45,3 +45,29 @@ Unsupported 0,1,2,3,4,5,6,7,8,9,10,11,12";
 fn arrays_at_many_types(rt: HostRuntime) {
     hold(&rt, rt.alloc(), OTHER_COUNTS, &Calls);
 }
+
+/// Items one after another: none, of no axes, from the last to the first, with spare ones between and after them, stored
+/// by columns, and of more axes than a list has.
+const IN_TURN: &str = "\
+iter Ix1 0 C 0 => -
+iter Ix2 2,0 C 3 => -
+iter Ix0 - C 1 => 0
+iter Ix0 - C 3 => 0
+iter Ix1 4 -1 4 => 3,2,1,0
+iter Ix1 3 -2 7 => 4,2,0
+iter Ix2 2,3 C 7 => 0,1,2,3,4,5
+iter Ix2 2,3 F 6 => 0,2,4,1,3,5
+iter Ix2 2,3 -4,-1 9 => 6,5,4,2,1,0
+iter Ix3 2,3,2 6,-2,1 12 => 4,5,2,3,0,1,10,11,8,9,6,7
+iter Ix4 2,2,2,2 1,-2,4,-8 17 => 10,2,14,6,8,0,12,4,11,3,15,7,9,1,13,5
+iter Ix5 1,3,1,2,1 F 6 => 0,3,1,4,2,5
+iter Ix6 2,1,2,1,2,1 4,9,-2,9,1,9 8 => 2,3,0,1,6,7,4,5
+iter IxDyn 2,3 -3,1 6 => 3,4,5,0,1,2
+iter IxDyn 2,0,2,1,2,1 C 3 => -
+iter IxDyn 2,1,3,1,2 -6,9,1,9,3 12 => 6,9,7,10,8,11,0,3,1,4,2,5
+iter IxDyn 2,1,2,1,2,1 7,9,-3,9,1,9 13 => 3,4,0,1,10,11,7,8";
+
+#[test]
+fn items_in_turn(rt: HostRuntime) {
+    hold(&rt, rt.alloc(), IN_TURN, &Calls);
+}

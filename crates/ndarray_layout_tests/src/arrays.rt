@@ -1,5 +1,6 @@
 //! Arrays that own their items, and what is asked of them, as rows tell it.
 use crate::items::{Item, are, counted, item, listed};
+use crate::iterated::{come, looped};
 use crate::layout::{is_left, strides};
 use nd_owned::OwnedArray;
 use ndarray_layout::{LayoutError, Lengths, SliceInfoElem, StrideShape};
@@ -23,6 +24,8 @@ pub enum OfArray {
     View,
     /// `PLACE ITEM => ITEMS`, those that come back.
     StoredMut,
+    /// `=> ITEMS`, one after another.
+    Iter,
 }
 
 /// An array, or why there is none, and the items that are handed back.
@@ -134,6 +137,18 @@ fn is_stored<D: Lengths>(row: &mut Reading<'_>, array: OwnedArray<Item, D>) -> O
     leaves(row, array.into_stored().as_slice())
 }
 
+/// Whether the items of an array come so, one by one and in a loop.
+fn is_iterated<D: Lengths>(
+    alloc: Global,
+    row: &mut Reading<'_>,
+    array: &OwnedArray<Item, D>,
+) -> Option<bool> {
+    let numbers = row.answer.list()?;
+    let due = listed(alloc, numbers.as_slice())?;
+    let items = looped(alloc, array.iter())?;
+    Some(are(items.as_slice(), numbers.as_slice()) && come(array.iter(), due.as_slice()))
+}
+
 /// Whether an array answers so.
 fn answers<D: Lengths>(
     alloc: Global,
@@ -150,6 +165,7 @@ fn answers<D: Lengths>(
         OfArray::MultiSet => is_written(alloc, row, &mut array),
         OfArray::View => Some(is_viewed(row, &array)),
         OfArray::StoredMut => is_stored(row, array),
+        OfArray::Iter => is_iterated(alloc, row, &array),
     }
 }
 

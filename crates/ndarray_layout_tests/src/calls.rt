@@ -28,7 +28,7 @@ enum Call {
     Array(OfArray),
 }
 
-static CALLS: [(&str, Call); 18] = [
+static CALLS: [(&str, Call); 19] = [
     ("new", View(OfView::New)),
     ("from_parts", View(OfView::FromParts)),
     ("from_shape", View(OfView::FromShape)),
@@ -47,6 +47,7 @@ static CALLS: [(&str, Call); 18] = [
     ("multi_set", Array(OfArray::MultiSet)),
     ("view", Array(OfArray::View)),
     ("stored_mut", Array(OfArray::StoredMut)),
+    ("iter", Array(OfArray::Iter)),
 ];
 
 /// Rows of calls.

@@ -1,7 +1,9 @@
-//! The places of a view one after another, at the dimension type that a row names.
+//! The places of a view one after another, at the dimension type that a row names, and the items of an array.
+use crate::items::Item;
 use crate::layout::Layout;
 use crate::views::shaped;
 use Order::{ColumnMajor, RowMajor};
+use nd_owned::Items;
 use ndarray_layout::{Lengths, Order, Places, Strided, Strides};
 use std::alloc::Global;
 use test_tables::{AtType, Reading, at_type, made, meaning};
@@ -19,6 +21,28 @@ pub fn gives(mut places: Places<'_>, expected: &[usize]) -> bool {
         left = places.len();
     }
     (left, places.next(), places.next()) == (0, None, None)
+}
+
+/// Whether an iterator gives these items and no other, and says each time how many are left.
+pub fn come(mut items: Items<'_, Item>, expected: &[Item]) -> bool {
+    let mut left = expected.len();
+    for item in expected {
+        let said = (items.len(), items.size_hint());
+        if said != (left, (left, Some(left))) || items.next() != Some(*item) {
+            return false;
+        }
+        left = items.len();
+    }
+    (left, items.next(), items.next()) == (0, None, None)
+}
+
+/// The items that a loop is given.
+pub fn looped(alloc: Global, items: Items<'_, Item>) -> Option<Vec<Item>> {
+    let mut given = Vec::new(alloc);
+    for item in items {
+        given.push(item).ok()?;
+    }
+    Some(given)
 }
 
 /// A row about the places of a view: `TYPE LEN owned|read SHAPE STRIDES C|F => PLACES`.

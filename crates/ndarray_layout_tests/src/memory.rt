@@ -1,6 +1,7 @@
 //! Memory is not refused where it is there: calls over many axes and many items. What they answer their contracts say.
 use crate::arrays::Write;
 use crate::items::{Item, counted};
+use crate::iterated::come;
 use crate::views::{BACK, are_made, shaped};
 use SliceInfoElem::Index;
 use nd_owned::OwnedArray;
@@ -49,6 +50,11 @@ fn rows(alloc: Global, elems: &[SliceInfoElem]) -> Option<Vec<Write>> {
     Some(writes)
 }
 
+/// Whether the items of an array come one after another as they are stored.
+fn is_iterated<D: Lengths>(array: &OwnedArray<Item, D>) -> bool {
+    come(array.iter(), array.stored())
+}
+
 /// Whether all items of an array are read and written at once, and row by row.
 fn is_written<D: Lengths>(
     alloc: Global,
@@ -65,5 +71,6 @@ fn is_written<D: Lengths>(
 fn many_items(rt: HostRuntime) {
     let (lens, elems) = ([50, 1, 2, 10, 1, 10], [BACK; 6]);
     let mut array = array::<IxDyn>(rt.alloc(), &lens).expect(&rt, "memory");
+    assert!(rt; is_iterated(&array));
     assert!(rt; is_written(rt.alloc(), &mut array, &elems) == Some(true));
 }
