@@ -7,7 +7,7 @@ use test_tables::{Asked, Row};
 /// The text of the picture that edits make of the one that a text spells, or the message of why there is none.
 fn printed(alloc: Global, edits: &[Edit], text: &str) -> Result<String, AllocError> {
     match read_picture(alloc, text.as_bytes()) {
-        Ok(picture) => match edited(alloc, &picture, edits) {
+        Ok(picture) => match edited(alloc, picture, edits) {
             Ok(made) => text_of_picture(alloc, &made),
             Err(error) => error.to_string(alloc),
         },

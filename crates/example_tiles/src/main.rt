@@ -22,7 +22,7 @@ fn edits_of_arguments<R: Env + AllocGlobal>(rt: &R) -> Result<Vec<Edit>> {
 /// The text of the picture that edits make of the one that a text spells.
 fn text_of_edited(alloc: Global, text: &[u8], edits: &[Edit]) -> Result<String> {
     let picture = read_picture(alloc, text)?;
-    let picture = edited(alloc, &picture, edits)?;
+    let picture = edited(alloc, picture, edits)?;
     Ok(text_of_picture(alloc, &picture)?)
 }
 

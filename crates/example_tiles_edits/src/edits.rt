@@ -46,33 +46,22 @@ fn before_mirror(edits: &[Edit]) -> (&[Edit], &[Edit])
     edits.split_at(count)
 }
 
-/// The same picture once more.
-fn copied(alloc: Global, picture: &Picture) -> Result<Picture, AllocError>
-    ensures { IfOk result (λ made. image made ≡ image picture.now) }
-{
-    Ok(Picture {
-        extent: picture.extent,
-        greatest: picture.greatest,
-        pixels: Vec::from_slice(alloc, picture.pixels.as_slice())?,
-    })
-}
-
 /// The picture that the first edits make of another, the slices before a mirror or a mirror, and the edits after them.
 fn begun<'a>(
     alloc: Global,
-    picture: &Picture,
+    picture: Picture,
     edits: &'a [Edit],
 ) -> Result<(Picture, &'a [Edit]), AllocError>
     requires some { 0 < length edits.now }
-    requires picture { IsPicture (image picture.now) }
-    requires fit { first_misfit edits.now picture.now.extent ≡ None }
+    requires picture { IsPicture (image picture) }
+    requires fit { first_misfit edits.now picture.extent ≡ None }
     ensures begun { IfOk result (λ made.
-        AreBegun edits.now (image picture.now) (image made.0) made.1.now) }
+        AreBegun edits.now (image picture) (image made.0) made.1.now) }
     ensures picture { IfOk result (λ made. IsPicture (image made.0)) }
 {
     let (slices, others) = before_mirror(edits);
     if !slices.is_empty() {
-        return Ok((sliced(alloc, picture, slices)?, others));
+        return Ok((sliced(alloc, &picture, slices)?, others));
     }
     let Some((first, after)) = others.split_first() else {
         unreachable!();
@@ -85,29 +74,27 @@ fn begun<'a>(
 
 /// The picture that edits make of another that they fit: the slices before the first mirror by one run, then a mirror, then
 /// the slices after it, and so on.
-fn edited_in_turn(alloc: Global, picture: &Picture, edits: &[Edit]) -> Result<Picture, AllocError>
-    requires picture { IsPicture (image picture.now) }
-    requires fit { first_misfit edits.now picture.now.extent ≡ None }
-    ensures edited { IfOk result (λ made. IsEdited edits.now (image picture.now) (image made)) }
+fn edited_in_turn(alloc: Global, picture: Picture, edits: &[Edit]) -> Result<Picture, AllocError>
+    requires picture { IsPicture (image picture) }
+    requires fit { first_misfit edits.now picture.extent ≡ None }
+    ensures edited { IfOk result (λ made. IsEdited edits.now (image picture) (image made)) }
     ensures picture { IfOk result (λ made. IsPicture (image made)) }
 {
-    if edits.is_empty() {
-        return copied(alloc, picture);
-    }
-    let (mut made, mut left) = begun(alloc, picture, edits)?;
+    let (mut made, mut left) = (picture, edits);
     while !left.is_empty() {
-        (made, left) = begun(alloc, &made, left)?;
+        (made, left) = begun(alloc, made, left)?;
     }
     Ok(made)
 }
 
-/// The picture that edits make of another, one after another: each pixel is the one of the source that they name.
+/// The picture that edits make of another, one after another: each pixel is the one of the source that they name. Where
+/// there is no edit it is the picture itself, and a mirror writes into the list that it is handed.
 ///
 /// Errors: the first edit that doesn't fit; that memory is refused.
-pub fn edited(alloc: Global, picture: &Picture, edits: &[Edit]) -> Result<Picture, EditError>
-    requires { IsPicture (image picture.now) }
-    ensures misfit { misfit_of result ≡ first_misfit edits.now picture.now.extent }
-    ensures edited { IfOk result (λ made. IsEdited edits.now (image picture.now) (image made)) }
+pub fn edited(alloc: Global, picture: Picture, edits: &[Edit]) -> Result<Picture, EditError>
+    requires { IsPicture (image picture) }
+    ensures misfit { misfit_of result ≡ first_misfit edits.now picture.extent }
+    ensures edited { IfOk result (λ made. IsEdited edits.now (image picture) (image made)) }
     ensures picture { IfOk result (λ made. IsPicture (image made)) }
 {
     extent_of_edits(edits, picture.extent).map_err(EditError::Misfit)?;

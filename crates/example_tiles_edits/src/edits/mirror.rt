@@ -2,6 +2,7 @@
 ghost use Rattle.std.specs.Prelude.{◌≡◌, ◌<◌, ◌*◌, [], ◌∷◌, true, None, IfOk, map};
 ghost use Rattle.ndarray_layout.specs.declared.Fit.TheVariants.{Strict};
 ghost use Rattle.ndarray_layout.specs.ArgumentFault.{argument_fault};
+ghost use Rattle.ndarray_layout.specs.View.{IsView};
 ghost use Rattle.nd_owned.specs.Writes.{write_of};
 ghost use Rattle.example_tiles_edits.specs.picture.Picture.{IsPicture, image};
 ghost use Rattle.example_tiles_edits.specs.declared.edits.edit.Edit.TheVariants.{Mirror};
@@ -70,17 +71,17 @@ fn part_of(extent: Extent, count: u32, number: u32) -> Part
 }
 
 /// The pixels of a picture as an array.
-fn array_of(alloc: Global, picture: &Picture) -> Result<Pixels, AllocError>
-    requires { IsPicture (image picture.now) }
-    ensures { IfOk result (IsArrayOf (image picture.now)) }
+fn array_of(alloc: Global, picture: Picture) -> Result<Pixels, AllocError>
+    requires { IsPicture (image picture) }
+    ensures array { IfOk result (IsArrayOf (image picture)) }
+    ensures is_view { IfOk result (λ array. IsView array.view) }
 {
     let Extent { rows, columns } = picture.extent;
     let shape = StrideShape {
         dim: new_ix2(rows as usize, columns as usize),
         strides: Strides::C,
     };
-    let pixels = Vec::from_slice(alloc, picture.pixels.as_slice())?;
-    match Pixels::from_shape_vec(alloc, shape, pixels) {
+    match Pixels::from_shape_vec(alloc, shape, picture.pixels) {
         Ok(array) => Ok(array),
         Err((fault, _pixels)) => memory_alone(Err(fault)),
     }
@@ -116,19 +117,20 @@ fn mirrored_parts(
 }
 
 /// A picture of which the parts are mirrored, where it is cut into so many by so many.
-pub(crate) fn mirrored(alloc: Global, picture: &Picture, count: u32) -> Result<Picture, AllocError>
-    requires picture { IsPicture (image picture.now) }
-    requires fits { can_cut picture.now.extent count ≡ true }
+pub(crate) fn mirrored(alloc: Global, picture: Picture, count: u32) -> Result<Picture, AllocError>
+    requires picture { IsPicture (image picture) }
+    requires fits { can_cut picture.extent count ≡ true }
     ensures edited { IfOk result (λ made.
-        IsEdited (Mirror count ∷ []) (image picture.now) (image made)) }
+        IsEdited (Mirror count ∷ []) (image picture) (image made)) }
     ensures picture { IfOk result (λ made. IsPicture (image made)) }
 {
+    let (extent, greatest) = (picture.extent, picture.greatest);
     let mut array = array_of(alloc, picture)?;
-    let writes = mirrored_parts(alloc, &array, picture.extent, count)?;
+    let writes = mirrored_parts(alloc, &array, extent, count)?;
     memory_alone(array.multi_set(alloc, writes.as_slice()))?;
     Ok(Picture {
-        extent: picture.extent,
-        greatest: picture.greatest,
-        pixels: Vec::from_slice(alloc, array.stored())?,
+        extent,
+        greatest,
+        pixels: array.into_stored(),
     })
 }

@@ -6,27 +6,16 @@ use Rattle.example_tiles_edits.specs.Edits.{IsEdited}
 use Rattle.example_tiles_edits.proofs.sources.InTurn.{IsEdited-none, fits_left, goes_on_left, nothing_left}
 use Rattle.example_tiles_edits.proofs.edits.edited_in_turn.Goals as goal
 
-pub loop-left-init : goal.loop-left-init
-loop-left-init c =
-    let before = image c.args.picture.now in
-    let made = image c.in_ok-made.made in
-    let left = c.in_ok-made.left.now in
-    record {
-      picture = c.in_ok-made.ensures.picture;
-      fit = fits_left c.args.edits.now left before made c.requires.fit c.in_ok-made.ensures.begun;
-      goes_on = λ after rest. goes_on_left c.args.edits.now left before made after c.requires.fit c.in_ok-made.ensures.begun rest;
-    }
-
 pub loop-left-preserved : goal.loop-left-preserved
 loop-left-preserved c =
     let before = image c.loop-left.made in
-    let made = image c.in_ok-made-2.field-0-0 in
-    let left = c.in_ok-made-2.field-0-1.now in
+    let made = image c.in_ok-made.field-0-0 in
+    let left = c.in_ok-made.field-0-1.now in
     record {
-      picture = c.in_ok-made-2.ensures.picture;
-      fit = fits_left c.loop-left.left.now left before made c.loop-left.invariant.fit c.in_ok-made-2.ensures.begun;
+      picture = c.in_ok-made.ensures.picture;
+      fit = fits_left c.loop-left.left.now left before made c.loop-left.invariant.fit c.in_ok-made.ensures.begun;
       goes_on = λ after rest. c.loop-left.invariant.goes_on after
-          (goes_on_left c.loop-left.left.now left before made after c.loop-left.invariant.fit c.in_ok-made-2.ensures.begun rest);
+          (goes_on_left c.loop-left.left.now left before made after c.loop-left.invariant.fit c.in_ok-made.ensures.begun rest);
     }
 
 pub returns-clause-edited : goal.returns-clause-edited

@@ -8,7 +8,7 @@ abbrev pub invariant-loop-left : goal.invariant-loop-left
 invariant-loop-left l = record {
   picture : IsPicture (image l.made);
   fit : first_misfit l.left l.made.extent ≡ None;
-  goes_on : (after : Image) → IsEdited l.left (image l.made) after → IsEdited l.edits (image l.picture) after;
+  goes_on : (after : Image) → IsEdited l.left (image l.made) after → IsEdited l.edits (image l.fn.picture) after;
 }
 
 abbrev pub decreases-loop-left : goal.decreases-loop-left
