@@ -3,4 +3,5 @@ pub mod Faults
 pub mod LastAxis
 pub mod Placed
 pub mod RowPlaces
+pub mod SliceOrder
 pub mod Slices

@@ -5,6 +5,7 @@
 mod blocks;
 mod iterating;
 mod owned;
+mod ranges;
 mod rows;
 mod writes;
 

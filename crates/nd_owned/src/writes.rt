@@ -1,6 +1,6 @@
 //! Items that are to be written at slices of a view: the error of such a list, the places, and the writes.
 ghost use Rattle.std.specs.List.{All, AllPairs, flat_map, list_all};
-ghost use Rattle.std.specs.Prelude.{◌≡◌, ◌≢◌, ℕ, ◌<◌, ◌^◌, None, IfOk, IsOk, length, map};
+ghost use Rattle.std.specs.Prelude.{◌≡◌, ◌≢◌, ℕ, ◌<◌, ◌^◌, None, IfOk, IfSome, IsOk, IsSomeAnd, IsTrue, length, map};
 ghost use Rattle.std.specs.Result.{result_err};
 ghost use Rattle.ndarray_layout.specs.declared.Fit.TheVariants.{Strict};
 ghost use Rattle.ndarray_layout.specs.ArgumentFault.{argument_fault};
@@ -8,8 +8,10 @@ ghost use Rattle.ndarray_layout.specs.ShapeFault.{shape_fault};
 ghost use Rattle.ndarray_layout.specs.View.{LiesWithin};
 ghost use Rattle.nd_owned.specs.Writes.{HaveNoItems, IsIntersectionFault, counts_fault, has_count, slices_fault, write_of, write_places};
 ghost use Rattle.nd_owned.specs.private.Checks.{IsIntersectionFaultOf};
+ghost use Rattle.nd_owned.specs.private.Ranges.{AreInOrder, IsPast};
 ghost use Rattle.nd_owned.specs.private.Rows.{AreRowsInside, HasWritten, rows_places};
 
+use crate::ranges::{axis_in_order, is_past};
 use crate::rows::{Rows, rows_of};
 use ndarray_layout::{
     ErrorKind, Fit, LayoutError, Lengths, ShapeError, SliceInfoElem, Strided, elems_intersect,
@@ -18,7 +20,7 @@ use ndarray_layout::{
 use std::alloc::Global;
 
 /// A slice, and the items for its places.
-type SliceItems<T> = (Vec<SliceInfoElem>, Vec<T>);
+pub(crate) type SliceItems<T> = (Vec<SliceInfoElem>, Vec<T>);
 
 /// The rows of a slice, and the items for their places.
 #[derive(Drop)]
@@ -60,20 +62,46 @@ pub(crate) fn check_counts<T: Copy, D: Lengths>(
     }
 }
 
-/// Checks that a slice shares an index with none of those of a list, which all fit the shape.
+/// Whether the range of one slice ends before that of another begins on the axis on which slices begin in their order. False
+/// without such an axis.
+#[inline]
+fn is_past_in_order(
+    shape: &[usize],
+    in_order: Option<usize>,
+    slice: &[SliceInfoElem],
+    other: &[SliceInfoElem],
+) -> bool
+    ensures { IsTrue result →
+        IsSomeAnd in_order (λ axis. IsPast shape.now axis slice.now other.now) }
+{
+    match in_order {
+        Some(axis) => is_past(shape, axis, slice, other),
+        None => false,
+    }
+}
+
+/// Checks that a slice shares an index with none of those of a list, which all fit the shape. Where these begin in their
+/// order on an axis, the first that begins there past the slice ends the comparison: none after it begins earlier.
 fn check_apart_from<T: Copy>(
     shape: &[usize],
+    in_order: Option<usize>,
     slice: &[SliceInfoElem],
     others: &[SliceItems<T>],
 ) -> Result<(), ShapeError>
     requires lens_fit { All (λ len. len < 2 ^ 63) shape.now }
     requires fits { argument_fault Strict shape.now slice.now ≡ None }
     requires others_fit { slices_fault shape.now (map write_of others.now) ≡ None }
+    requires in_order { IfSome in_order (λ axis.
+        AreInOrder shape.now axis (map write_of others.now)) }
     ensures { IsIntersectionFaultOf shape.now slice.now (map write_of others.now)
         (result_err result) }
 {
     for (other, _) in others {
-        if elems_intersect(shape, slice, other.as_slice(), Fit::Strict) {
+        let other = other.as_slice();
+        if is_past_in_order(shape, in_order, slice, other) {
+            return Ok(());
+        }
+        if elems_intersect(shape, slice, other, Fit::Strict) {
             return Err(from_kind(ErrorKind::Unsupported));
         }
     }
@@ -89,8 +117,9 @@ pub(crate) fn check_apart<T: Copy, D: Lengths>(
     ensures { IsIntersectionFault view.now.shape (map write_of writes.now) (result_err result) }
 {
     let shape = view.dim().slice();
+    let in_order = axis_in_order(shape, writes);
     for (at, write) in writes.iter().enumerate() {
-        check_apart_from(shape, write.0.as_slice(), &writes[at + 1..])?;
+        check_apart_from(shape, in_order, write.0.as_slice(), &writes[at + 1..])?;
     }
     Ok(())
 }

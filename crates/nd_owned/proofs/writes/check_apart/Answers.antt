@@ -1,6 +1,7 @@
 -- The first slice that shares an index with one after it ends the check.
 use Rattle.std.proofs.Common.{rules, ◌≡◌, ◌+◌, ◌-◌, ◌<◌, ◌^◌, None, Some, length, map, take, drop, sym, ap, subst, ◌∙◌}
 use Rattle.std.specs.List.{All}
+use Rattle.std.specs.Prelude.{IfSome}
 use Rattle.std.specs.Result.{result_err}
 use Rattle.ndarray_layout.specs.declared.Fit.TheVariants.{Strict}
 use Rattle.ndarray_layout.specs.ArgumentFault.{argument_fault}
@@ -9,7 +10,17 @@ use Rattle.ndarray_layout.proofs.laws.View.{lens_fit}
 use Rattle.nd_owned.specs.private.Checks.{IsIntersectionFaultOf}
 use Rattle.nd_owned.specs.Writes.{AreApart, IsIntersectionFault, slices_fault, write_of}
 use Rattle.nd_owned.proofs.Faults.{ended, of_two, next, next_fits, pairs_ended, pairs_more, rest, this_got}
+use Rattle.nd_owned.specs.private.Ranges.{AreInOrder}
+use Rattle.nd_owned.proofs.SliceOrder.{order_from}
 use Rattle.nd_owned.proofs.writes.check_apart.Goals as goal
+
+pub check_apart_from-requires-clause-in_order : goal.check_apart_from-requires-clause-in_order
+check_apart_from-requires-clause-in_order g c =
+    let shape = c.slice-shape.result.now in
+    let i = c.loop-at.at in
+    let in_order = c.axis_in_order-in_order in
+    subst (λ writes. IfSome in_order.result (λ axis. AreInOrder shape axis writes)) (sym (rest write_of c.args.writes.now i))
+    (order_from shape (map write_of c.args.writes.now) (i + 1) in_order.result in_order.ensures)
 
 pub check_apart_from-requires-clause-lens_fit : goal.check_apart_from-requires-clause-lens_fit
 check_apart_from-requires-clause-lens_fit g c =

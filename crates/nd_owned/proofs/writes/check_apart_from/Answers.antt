@@ -5,12 +5,26 @@ use Rattle.ndarray_layout.specs.declared.Fit.TheVariants.{Strict}
 use Rattle.ndarray_layout.specs.ArgumentFault.{argument_fault}
 use Rattle.ndarray_layout.specs.Meet.{Meet}
 use Rattle.nd_owned.specs.Writes.{write_of}
+use Rattle.nd_owned.specs.private.Ranges.{IsPast}
 use Rattle.nd_owned.proofs.Faults.{all_ended, all_more, ended, next, next_fits, this_got}
+use Rattle.nd_owned.proofs.SliceOrder.{apart_in_order}
 use Rattle.nd_owned.proofs.writes.check_apart_from.Goals as goal
+
+pub returns-then-is_past_in_order : goal.returns-then-is_past_in_order
+returns-then-is_past_in_order g c =
+    let i = c.loop-other.other-index in
+    let shape = c.args.shape.now in
+    let slice = c.args.slice.now in
+    let given = c.args.others.now in
+    let past = subst (λ other. IsSomeAnd c.args.in_order (λ axis. IsPast shape axis slice other)) c.as_slice-other.ensures.value
+    (c.is_past_in_order.ensures c.if-is_past_in_order.true) in
+    c.loop-other.invariant.apart (apart_in_order shape (map write_of given) i c.args.in_order slice
+    (next write_of given i c.loop-other-test.true c.loop-other-item.is) c.requires.in_order past
+    (c.requires.fits, c.loop-other.invariant.fit))
 
 pub elems_intersect-requires-clause-second_fits : goal.elems_intersect-requires-clause-second_fits
 elems_intersect-requires-clause-second_fits g c =
-    ap (argument_fault Strict c.args.shape.now) c.as_slice.ensures.value
+    ap (argument_fault Strict c.args.shape.now) c.as_slice-other.ensures.value
     ∙ (next_fits write_of c.args.shape.now c.args.others.now c.loop-other.other-index c.loop-other-test.true c.loop-other-item.is
     c.loop-other.invariant.fit).0
 
@@ -22,7 +36,7 @@ returns-then-elems_intersect g c =
       i,
       subst (λ other. IsSomeAnd other (λ w. Meet Strict c.args.shape.now slice w.slice))
           (sym (this_got write_of c.args.others.now i c.loop-other-test.true c.loop-other-item.is))
-          (subst (Meet Strict c.args.shape.now slice) c.as_slice.ensures.value (c.elems_intersect.ensures.0 c.if-elems_intersect.true)),
+          (subst (Meet Strict c.args.shape.now slice) c.as_slice-other.ensures.value (c.elems_intersect.ensures.0 c.if-elems_intersect.true)),
     )
 
 pub loop-other-preserved : goal.loop-other-preserved
@@ -35,7 +49,7 @@ loop-other-preserved g c =
       apart = all_more (λ other. Meet Strict shape slice other.slice → ⊥) others
           (next write_of c.args.others.now i c.loop-other-test.true c.loop-other-item.is)
           (λ meet. false≢true (sym c.if-elems_intersect.false ∙ c.elems_intersect.ensures.1
-          (subst (Meet Strict shape slice) (sym c.as_slice.ensures.value) meet))) c.loop-other.invariant.apart;
+          (subst (Meet Strict shape slice) (sym c.as_slice-other.ensures.value) meet))) c.loop-other.invariant.apart;
       fit = (next_fits write_of shape c.args.others.now i c.loop-other-test.true c.loop-other-item.is c.loop-other.invariant.fit).1;
     }
 

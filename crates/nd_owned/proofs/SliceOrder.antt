@@ -1,0 +1,157 @@
+-- Slices along an axis: each index that a slice picks has its coordinate in the slice's range there, so slices whose ranges are apart
+-- share no index.
+use Rattle.std.proofs.Common.{◌≡◌, ℕ, zero, suc, ◌+◌, ◌-◌, ◌<◌, ◌≤◌, pos, max, None, Some, Option, List, [], ◌∷◌, ◌++◌, length, get_or, map}
+use Rattle.std.proofs.Common.{take, drop, sym, ap, subst, ◌∙◌, arith}
+use Rattle.std.specs.List.{All, AllZip, Contains}
+use Rattle.std.specs.Prelude.{IfSome, IsSomeAnd}
+use Rattle.std.proofs.lemmas.Grind.{get_or_default_zero}
+use Rattle.std.proofs.lemmas.List.{get_or-drop, length-drop, length-map, take_all, take_more}
+use Rattle.std.proofs.lemmas.List.Elements.{All-append, All-cons, All-contains, All-drop, All-weaker}
+use Rattle.std.proofs.lemmas.List.Sorted.{IsNonDecreasingBy-push}
+use Rattle.ndarray_layout.specs.declared.Fit.TheVariants.{Strict}
+use Rattle.ndarray_layout.specs.declared.Slice.{Slice}
+use Rattle.ndarray_layout.specs.declared.SliceInfoElem.{SliceInfoElem}
+use Rattle.ndarray_layout.specs.declared.SliceInfoElem.TheVariants as elem
+use Rattle.ndarray_layout.specs.ArgumentFault.{argument_fault, in_count}
+use Rattle.ndarray_layout.specs.Meet.{Meet, axis_picks, elem_picks}
+use Rattle.ndarray_layout.specs.Picks.{end_meaning, picks, start_meaning}
+use Rattle.ndarray_layout.specs.Signed.{magnitude}
+use Rattle.ndarray_layout.specs.SliceFault.{SliceFits}
+use Rattle.ndarray_layout.proofs.laws.ArgumentFault.{elements_of_no_fault}
+use Rattle.ndarray_layout.proofs.laws.Between.{between_above, between_below}
+use Rattle.ndarray_layout.proofs.laws.SliceFault.{step_moves}
+use Rattle.nd_owned.specs.private.Ranges.{AreInOrder, HasRange, IsBetween, IsPast, elem_on, end_on, start_on}
+use Rattle.nd_owned.specs.Writes.{Write, slices_fault}
+use Rattle.nd_owned.proofs.Faults.{this}
+use Rattle.nd_owned.proofs.Placed.{other_default}
+use Rattle.nd_owned.proofs.Slices.{each_fits}
+
+-- what a slice that fits picks lies in its range
+pub picks_between : (len : ℕ) (slice : Slice) {start end : ℕ} → SliceFits Strict len slice → pos start ≡ start_meaning Strict len slice
+    → end ≡ max start (magnitude (end_meaning Strict len slice)) → All (IsBetween start end) (picks Strict len slice)
+picks_between len slice {start} {end} fits begin stop = λ k d below.
+    let from = magnitude (start_meaning Strict len slice) in
+    let to = magnitude (end_meaning Strict len slice) in
+    let first : start ≡ from = ap magnitude begin in
+    let low = between_above slice.step from to k (step_moves Strict len slice fits) below in
+    let high = between_below slice.step from to k (step_moves Strict len slice fits) below in
+    let same = get_or_default_zero (picks Strict len slice) k d below in
+    (omega arith, omega arith)
+
+in_count_le : (elems : List SliceInfoElem) → in_count elems ≤ length elems
+in_count_le [] = omega arith
+in_count_le (elem.Slice start end step ∷ elems) = omega (arith, in_count_le elems)
+in_count_le (elem.Index index ∷ elems) = omega (arith, in_count_le elems)
+in_count_le (elem.NewAxis ∷ elems) = omega (arith, in_count_le elems)
+
+-- without new axes the element at an axis picks the coordinate there
+coordinate : (shape : List ℕ) (slice : List SliceInfoElem) (index : List ℕ) (axis : ℕ) → in_count slice ≡ length slice
+    → axis < length shape × (length slice ≡ length shape) → AllZip Contains (axis_picks Strict shape slice) index
+    → Contains (elem_picks Strict (get_or shape axis 0) (elem_on axis slice)) (get_or index axis 0)
+coordinate shape [] index axis count long all = absurd (omega (arith, long.0, long.1))
+coordinate shape (elem.NewAxis ∷ elems) index axis count long all = absurd (omega (arith, in_count_le elems))
+coordinate [] (elem.Slice start end step ∷ elems) index axis count long all = absurd (omega (arith, long.0))
+coordinate [] (elem.Index i ∷ elems) index axis count long all = absurd (omega (arith, long.0))
+coordinate (len ∷ shape) (elem.Slice start end step ∷ elems) [] axis count long all = absurd all
+coordinate (len ∷ shape) (elem.Index i ∷ elems) [] axis count long all = absurd all
+coordinate (len ∷ shape) (elem.Slice start end step ∷ elems) (entry ∷ index) zero count long all = all.0
+coordinate (len ∷ shape) (elem.Index i ∷ elems) (entry ∷ index) zero count long all = all.0
+coordinate (len ∷ shape) (elem.Slice start end step ∷ elems) (entry ∷ index) (suc axis) count long all =
+    coordinate shape elems index axis (omega (arith, count)) (omega (arith, long.0), omega (arith, long.1)) all.1
+coordinate (len ∷ shape) (elem.Index i ∷ elems) (entry ∷ index) (suc axis) count long all =
+    coordinate shape elems index axis (omega (arith, count)) (omega (arith, long.0), omega (arith, long.1)) all.1
+
+module _ (shape : List ℕ) (axis : ℕ) where
+  picked_between : (slice : List SliceInfoElem) (index : List ℕ) → HasRange shape axis slice → argument_fault Strict shape slice ≡ None
+      → AllZip Contains (axis_picks Strict shape slice) index
+      → IsBetween (start_on shape axis slice) (end_on shape axis slice) (get_or index axis 0)
+  picked_between slice index range fits all =
+      let count = (elements_of_no_fault Strict shape slice fits).0 in
+      All-contains (IsBetween (start_on shape axis slice) (end_on shape axis slice)) (elem_picks Strict (get_or shape axis 0) (elem_on axis slice))
+      (get_or index axis 0) range.within
+      (coordinate shape slice index axis (count ∙ sym range.long) (range.there, range.long) all)
+
+  -- slices whose ranges are apart share no index
+  apart_on : (one other : List SliceInfoElem) → HasRange shape axis one → HasRange shape axis other
+      → end_on shape axis one ≤ start_on shape axis other
+      → (argument_fault Strict shape one ≡ None) × (argument_fault Strict shape other ≡ None) → Meet Strict shape one other → ⊥
+  apart_on one other first second past fit meet =
+      let low = picked_between one meet.0 first fit.0 meet.2 in
+      let high = picked_between other meet.0 second fit.1 meet.3 in
+      omega (arith, low.1, high.0)
+
+-- slices in order, with none that begins after a number
+pub record SoFar {T : Type 0} (shape : List ℕ) (axis last : ℕ) (writes : List (Write T)) : Type 0 where
+  pub order : AreInOrder shape axis writes
+  pub before : All (λ write. start_on shape axis write.slice ≤ last) writes
+
+module _ {T X : Type 0} (f : X → Write T) (xs : List X) (i : ℕ) where
+  taken : {x : X} → i < length xs → x ≡ get_or xs i x → take (i + 1) (map f xs) ≡ take i (map f xs) ++ f x ∷ []
+  taken {x} below is =
+      take_more (map f xs) i (f x) (omega (arith, length-map xs f))
+      ∙ ap (λ y. take i (map f xs) ++ y ∷ []) (sym (this f xs i below is))
+
+  -- one more that begins there or later
+  pub order_more : {shape : List ℕ} {axis last : ℕ} {x : X} → i < length xs → x ≡ get_or xs i x → HasRange shape axis (f x).slice
+      → last ≤ start_on shape axis (f x).slice → SoFar shape axis last (take i (map f xs))
+      → SoFar shape axis (start_on shape axis (f x).slice) (take (i + 1) (map f xs))
+  order_more {shape} {axis} {last} {x} below is range later so_far =
+      let start = λ (write : Write T). start_on shape axis write.slice in
+      let old = take i (map f xs) in
+      let one = λ (P : Write T → Type 0) (this : P (f x)). All-cons P (f x) [] this (λ k d under. absurd (omega arith)) in
+      let before : All (λ write. start write ≤ start (f x)) old = λ k d under. (let here = so_far.before k d under in omega (arith, here)) in
+      subst (SoFar shape axis (start (f x))) (sym (taken below is))
+      (record {
+        order = record {
+          ranges = All-append (λ write. HasRange shape axis write.slice) old (f x ∷ []) so_far.order.ranges
+              (All-cons (λ write. HasRange shape axis write.slice) (f x) [] range (λ k d under. absurd (omega arith)));
+          in_order = IsNonDecreasingBy-push start old (f x) so_far.order.in_order (λ d some. before (length old - 1) d (omega arith));
+        };
+        before = All-append (λ write. start write ≤ start (f x)) old (f x ∷ []) before
+            (All-cons (λ write. start write ≤ start (f x)) (f x) [] (omega arith) (λ k d under. absurd (omega arith)));
+      })
+
+-- those that come after some of them
+pub order_left : {T : Type 0} {shape : List ℕ} {axis : ℕ} (n : ℕ) (writes : List (Write T)) → AreInOrder shape axis writes
+    → AreInOrder shape axis (drop n writes)
+order_left {T = T} {shape = shape} {axis = axis} n writes order =
+    let start = λ (write : Write T). start_on shape axis write.slice in
+    record {
+      ranges = All-drop (λ write. HasRange shape axis write.slice) n writes order.ranges;
+      in_order = λ i j d before below.
+          let late : n + j < length writes = omega (arith, length-drop n writes) in
+          let whole = order.in_order (n + i) (n + j) d (omega arith) late in
+          subst (λ one. start one ≤ start (get_or (drop n writes) j d)) (sym (get_or-drop n writes i d))
+          (subst (λ other. start (get_or writes (n + i) d) ≤ start other) (sym (get_or-drop n writes j d)) whole);
+    }
+
+-- where one of them begins past a slice, each after it does too
+pub apart_from_here : {T : Type 0} {shape : List ℕ} {axis : ℕ} (slice : List SliceInfoElem) (writes : List (Write T)) {first : Write T}
+    {after : List (Write T)} → writes ≡ first ∷ after → AreInOrder shape axis writes → IsPast shape axis slice first.slice
+    → argument_fault Strict shape slice ≡ None → slices_fault shape writes ≡ None
+    → All (λ other. Meet Strict shape slice other.slice → ⊥) writes
+apart_from_here {shape = shape} {axis = axis} slice writes {first} {after} cut order past fits others_fit = λ k d below.
+    let other = get_or writes k d in
+    let head : get_or writes 0 d ≡ first = ap (λ ws. get_or ws 0 d) cut in
+    let begins = order.in_order 0 k d (omega arith) below in
+    let from : start_on shape axis first.slice ≤ start_on shape axis other.slice =
+    subst (λ write. start_on shape axis write.slice ≤ start_on shape axis other.slice) head begins in
+    apart_on shape axis slice other.slice past.first (order.ranges k d below) (omega (arith, past.past, from))
+    (fits, each_fits shape writes others_fit k d below)
+
+-- the same where it isn't known whether there is such an axis
+module _ {T : Type 0} (shape : List ℕ) (writes : List (Write T)) (i : ℕ) where
+  pub apart_in_order : (axis : Option ℕ) (slice : List SliceInfoElem) {first : Write T} {after : List (Write T)}
+      → drop i writes ≡ first ∷ after → IfSome axis (λ number. AreInOrder shape number writes)
+      → IsSomeAnd axis (λ number. IsPast shape number slice first.slice)
+      → (argument_fault Strict shape slice ≡ None) × (slices_fault shape (drop i writes) ≡ None)
+      → All (λ other. Meet Strict shape slice other.slice → ⊥) (drop i writes)
+  apart_in_order None slice cut order past fit = absurd past
+  apart_in_order (Some axis) slice cut order past fit =
+      apart_from_here slice (drop i writes) cut (order_left i writes order) past fit.0 fit.1
+
+  -- those from one of them on, where all are in order
+  pub order_from : (axis : Option ℕ) → IfSome axis (λ number. AreInOrder shape number writes)
+      → IfSome axis (λ number. AreInOrder shape number (drop i writes))
+  order_from None order = tt
+  order_from (Some axis) order = order_left i writes order

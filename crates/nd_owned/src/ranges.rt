@@ -1,0 +1,99 @@
+//! Where slices lie along an axis, and whether they begin there in their order.
+ghost use Rattle.std.specs.Prelude.{◌≡◌, IfSome, IsTrue, map, slice_index};
+ghost use Rattle.std.specs.List.{All};
+ghost use Rattle.ndarray_layout.specs.declared.Fit.TheVariants.{Strict};
+ghost use Rattle.ndarray_layout.specs.Meet.{elem_picks};
+ghost use Rattle.nd_owned.specs.Writes.{write_of};
+ghost use Rattle.nd_owned.specs.private.Ranges.{AreInOrder, HasRange, IsBetween, IsPast, elem_end, elem_start, end_on, start_on};
+
+use crate::writes::SliceItems;
+use ndarray_layout::{Fit, Slice, SliceInfoElem, entry_of, to_abs_slice};
+
+/// Where the range of an element begins on an axis, and what it stops before. `None` for a new axis, and for an element that
+/// doesn't fit.
+#[inline]
+fn range_of(len: usize, elem: SliceInfoElem) -> Option<(usize, usize)>
+    ensures start { IfSome result (λ (start, end). start ≡ elem_start len elem) }
+    ensures end { IfSome result (λ (start, end). end ≡ elem_end len elem) }
+    ensures within { IfSome result (λ (start, end).
+        All (IsBetween start end) (elem_picks Strict len elem)) }
+{
+    match elem {
+        SliceInfoElem::Slice { start, end, step } => {
+            match to_abs_slice(len, Slice { start, end, step }, Fit::Strict) {
+                Ok((first, stop, _)) => Some((first, stop)),
+                Err(_) => None,
+            }
+        }
+        SliceInfoElem::Index(index) => match entry_of(len, index) {
+            Ok(entry) => Some((entry, entry + 1)),
+            Err(_) => None,
+        },
+        SliceInfoElem::NewAxis => None,
+    }
+}
+
+/// Where the range of a slice begins on an axis, and what it stops before. `None` for a slice with new axes, for one that
+/// doesn't fit, and where there is no such axis.
+#[inline]
+fn range_on(shape: &[usize], axis: usize, slice: &[SliceInfoElem]) -> Option<(usize, usize)>
+    ensures range { IfSome result (λ (start, end). HasRange shape.now axis slice.now) }
+    ensures start { IfSome result (λ (start, end). start ≡ start_on shape.now axis slice.now) }
+    ensures end { IfSome result (λ (start, end). end ≡ end_on shape.now axis slice.now) }
+{
+    if axis >= shape.len() || slice.len() != shape.len() {
+        return None;
+    }
+    range_of(shape[axis], slice[axis])
+}
+
+/// Whether the range of one slice ends on an axis before that of another begins, or there.
+#[inline]
+pub(crate) fn is_past(
+    shape: &[usize],
+    axis: usize,
+    slice: &[SliceInfoElem],
+    other: &[SliceInfoElem],
+) -> bool
+    ensures { IsTrue result → IsPast shape.now axis slice.now other.now }
+{
+    match (range_on(shape, axis, slice), range_on(shape, axis, other)) {
+        (Some((_, end)), Some((start, _))) => end <= start,
+        _ => false,
+    }
+}
+
+/// Whether no slice begins on an axis before an earlier one.
+fn are_in_order<T: Copy>(shape: &[usize], axis: usize, writes: &[SliceItems<T>]) -> bool
+    ensures { IsTrue result → AreInOrder shape.now axis (map write_of writes.now) }
+{
+    let mut last = 0;
+    for (slice, _) in writes {
+        let Some((start, _)) = range_on(shape, axis, slice.as_slice()) else {
+            return false;
+        };
+        if start < last {
+            return false;
+        }
+        last = start;
+    }
+    true
+}
+
+/// The first axis on which no slice begins before an earlier one, and the last begins where the first has ended or later.
+/// None for one or two slices, since they are compared as fast.
+pub(crate) fn axis_in_order<T: Copy>(shape: &[usize], writes: &[SliceItems<T>]) -> Option<usize>
+    ensures { IfSome result (λ axis. AreInOrder shape.now axis (map write_of writes.now)) }
+{
+    if writes.len() < 3 {
+        return None;
+    }
+    let first = writes[0].0.as_slice();
+    let last = writes[writes.len() - 1].0.as_slice();
+    for axis in 0..shape.len() {
+        if is_past(shape, axis, first, last) && are_in_order(shape, axis, writes) {
+            return Some(axis);
+        }
+    }
+    None
+}
