@@ -165,3 +165,18 @@ pub refusal_of_count : (count : ℕ) (shape : List ℕ) (elems : List SliceInfoE
     → slice_refusal Strict (Some count) shape elems ≡ argument_fault Strict shape elems
 refusal_of_count count shape elems same =
     ap (λ test. cond test (argument_fault Strict shape elems) (Some IncompatibleShape)) (eq-eqb (out_count elems) count same)
+
+-- the fault of one write, by those of its slice and of its count
+pub fault_of_one : {T : Type 0} (shape : List ℕ) (write : Write T) {fault : Option ErrorKind} {have : Bool}
+    → argument_fault Strict shape write.slice ≡ fault → has_count shape write ≡ have
+    → counts_fault shape (write ∷ []) ≡ option_or fault (cond have None (Some IncompatibleShape))
+fault_of_one shape write {fault} {have} fits count =
+    ap (λ first. option_or (option_or first None) (cond (has_count shape write && true) None (Some IncompatibleShape))) fits
+    ∙ ap (λ b. option_or (option_or fault None) (cond (b && true) None (Some IncompatibleShape))) count
+    ∙ by fault have
+  where
+    by : (fault : Option ErrorKind) (have : Bool) → option_or (option_or fault None) (cond (have && true) None (Some IncompatibleShape))
+        ≡ option_or fault (cond have None (Some IncompatibleShape))
+    by None true = refl
+    by None false = refl
+    by (Some kind) have = refl

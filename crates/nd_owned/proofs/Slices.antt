@@ -3,10 +3,12 @@
 use Rattle.std.proofs.Common.{◌≡◌, ◌≢◌, ℕ, suc, ◌<◌, ℤ, pos, true, false, Bool, Some, None, inl, inr, List, [], ◌∷◌, ◌++◌, length, get_or}
 use Rattle.std.proofs.Common.{map, take, refl, sym, ap, subst, ◌∙◌, arith, ◌&&◌}
 use Rattle.std.specs.List.{All, AllPairs, Contains, flat_map, list_all}
+use Rattle.std.specs.Prelude.{MatchOption, OnOk, Option, Result, Ok, Err}
 use Rattle.std.proofs.lemmas.Bool.{eqb-true}
 use Rattle.std.proofs.lemmas.List.{append_cancel_left, get_or-map, length-map, map-append, take_at}
 use Rattle.std.proofs.lemmas.List.Elements.{All-append, All-cons, All-head, All-tail, Contains-append_cases, Contains-get_or}
 use Rattle.std.proofs.lemmas.List.Kept.{AllPairs-cons}
+use Rattle.ndarray_layout.specs.declared.ErrorKind.{ErrorKind}
 use Rattle.ndarray_layout.specs.declared.Fit.TheVariants.{Strict}
 use Rattle.ndarray_layout.specs.declared.Order.{Order}
 use Rattle.ndarray_layout.specs.declared.Order.TheVariants.{RowMajor}
@@ -23,7 +25,8 @@ use Rattle.ndarray_layout.proofs.laws.SlicedView.{Descends-slice_of}
 use Rattle.ndarray_layout.proofs.laws.View.{length-view_places}
 use Rattle.nd_owned.specs.Owned.{item_at_place}
 use Rattle.nd_owned.specs.private.Rows.{HasWritten}
-use Rattle.nd_owned.specs.Writes.{Write, AreApart, IsWritten, KeepsOthers, has_count, slices_fault, write_places}
+use Rattle.nd_owned.specs.Writes.{Write, AreApart, IsFaultOfWrites, IsIntersectionFault, IsWritten, KeepsOthers, Spares, counts_fault}
+use Rattle.nd_owned.specs.Writes.{has_count, slices_fault, write_places}
 use Rattle.nd_owned.proofs.Faults.{both_none}
 use Rattle.nd_owned.proofs.Placed.{other_default}
 
@@ -118,6 +121,12 @@ no_shared_place {view} one other place v distinct fits also apart here there =
     apart (meet_of_shared_place Strict one.slice other.slice v fits also distinct
     (first.0, first.1, (second.0, second.1, first.2 ∙ sym second.2)))
 
+-- a place is listed once by one slice
+pub one_distinct : {T : Type 0} (view : View) (write : Write T) → IsView view → HasDistinctPlaces view
+    → argument_fault Strict view.shape write.slice ≡ None → AllPairs (λ one other. one ≢ other) (write_places view write)
+one_distinct view write v distinct fits =
+    distinct_places RowMajor (slice_of Strict write.slice view) ((Descends-slice_of Strict write.slice view v fits).distinct distinct)
+
 pub all_distinct : {T : Type 0} (view : View) (writes : List (Write T)) → IsView view → HasDistinctPlaces view
     → slices_fault view.shape writes ≡ None → AllPairs (AreApart view.shape) writes
     → AllPairs (λ one other. one ≢ other) (flat_map (write_places view) writes)
@@ -132,7 +141,7 @@ all_distinct {T = T} view writes v distinct none apart = by writes (each_fits vi
         let others = All-tail (λ one. argument_fault Strict view.shape one.slice ≡ None) write writes fit in
         let alone = pairs_head (AreApart view.shape) write writes apart in
         pairs_append (write_places view write) (flat_map (write_places view) writes)
-        (distinct_places RowMajor (slice_of Strict write.slice view) ((Descends-slice_of Strict write.slice view v fits).distinct distinct))
+        (one_distinct view write v distinct fits)
         (by writes others (pairs_tail (AreApart view.shape) write writes apart))
         (λ k d below. none_of_all (write_places view) writes (get_or (write_places view write) k d) (λ j other there here.
         no_shared_place write (get_or writes j other) (get_or (write_places view write) k d) v distinct fits (others j other there)
@@ -175,3 +184,31 @@ all_written {T = T} view writes old new counts left = by writes (each_count view
 pub others_kept : {T : Type 0} (view : View) (writes : List (Write T)) {items old new : List T}
     → HasWritten (flat_map (write_places view) writes) items old new → KeepsOthers view writes old new
 others_kept view writes left = λ place spared. left.kept place (none_of_all (write_places view) writes (pos place) spared)
+
+-- ---- what one write leaves, beside itself alone
+pub one_fault : {T : Type 0} (shape : List ℕ) (write : Write T) {fault : Option ErrorKind} → fault ≡ counts_fault shape (write ∷ [])
+    → IsFaultOfWrites shape (write ∷ []) fault
+one_fault shape write {fault} same = by (counts_fault shape (write ∷ [])) same
+  where
+    by : (counts : Option ErrorKind) → fault ≡ counts
+        → MatchOption counts (IsIntersectionFault shape (write ∷ []) fault) (λ kind. fault ≡ Some kind)
+    by None none = subst (IsIntersectionFault shape (write ∷ [])) (sym none) (λ i j d earlier below. absurd (omega arith))
+    by (Some kind) some = some
+
+module _ {T : Type 0} (view : View) (write : Write T) {old new : List T} where
+  pub one_written : HasWritten (write_places view write) write.items old new → All (IsWritten view new) (write ∷ [])
+  one_written left = All-cons (IsWritten view new) write [] left.written (λ k d below. absurd (omega arith))
+
+  pub one_kept : HasWritten (write_places view write) write.items old new → KeepsOthers view (write ∷ []) old new
+  one_kept left = λ place spared. left.kept place (All-head (Spares view place) write [] spared)
+
+-- the item of a list of one
+pub only : {X : Type 0} (xs : List X) {x : X} → length xs ≡ 1 → x ≡ get_or xs 0 x → xs ≡ x ∷ []
+only [] one is = absurd (omega arith)
+only (y ∷ []) one is = ap (λ z. z ∷ []) (sym is)
+only (y ∷ z ∷ xs) one is = absurd (omega arith)
+
+-- what a success brings
+pub on_ok : {X E : Type 0} (result : Result X E) {P Q : Type 0} → (P → Q) → OnOk result P → OnOk result Q
+on_ok (Ok x) brings known = brings known
+on_ok (Err e) brings known = tt

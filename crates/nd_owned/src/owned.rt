@@ -2,7 +2,7 @@
 ghost use Rattle.std.specs.Borrow.{Array, Lends, sem};
 ghost use Rattle.std.specs.List.{All};
 ghost use Rattle.std.specs.Option.{IsSome};
-ghost use Rattle.std.specs.Prelude.{◌≡◌, ◌↔◌, IsTrue, Some, None, IfErr, IfOk, IsOk, OnErr, OnOk, length, map, slice_get, vec_len};
+ghost use Rattle.std.specs.Prelude.{◌≡◌, ◌↔◌, ◌∷◌, [], IsTrue, Some, None, IfErr, IfOk, IsOk, OnErr, OnOk, length, map, slice_get, vec_len};
 ghost use Rattle.ndarray_layout.specs.declared.CanIndexCheckMode.TheVariants.{OwnedMutable};
 ghost use Rattle.ndarray_layout.specs.declared.Fit.TheVariants.{Strict};
 ghost use Rattle.ndarray_layout.specs.declared.Order.TheVariants.{RowMajor};
@@ -18,10 +18,11 @@ ghost use Rattle.ndarray_layout.specs.SlicedView.{slice_of};
 ghost use Rattle.ndarray_layout.specs.Span.{low_span};
 ghost use Rattle.ndarray_layout.specs.View.{view_of, view_places};
 ghost use Rattle.nd_owned.specs.Owned.{IsOfNone, IsOwned, item_at, item_at_place, shape_fault_of, with_item, with_items};
-ghost use Rattle.nd_owned.specs.Writes.{HaveNoItems, IsFaultOfWrites, IsWritten, KeepsOthers, write_of};
+ghost use Rattle.nd_owned.specs.Writes.{HaveNoItems, IsFaultOfWrites, IsWritten, KeepsOthers, counts_fault, write_of, write_places};
+ghost use Rattle.nd_owned.specs.private.Rows.{HasWritten};
 
 use crate::rows::rows_of;
-use crate::writes::{check_apart, check_counts, rows_of_each, write_all};
+use crate::writes::{check_apart, check_counts, rows_of_each, rows_of_write, write_all};
 use ndarray_layout::{
     CanIndexCheckMode, LayoutError, Lengths, NdIndex, SliceElems, SliceInfoElem, StrideShape,
     Strided, product,
@@ -249,10 +250,33 @@ impl<T: Copy, D: Lengths> OwnedArray<T, D> {
         ensures kept { OnOk result (KeepsOthers self.old.view
             (map write_of writes.now) self.old.items self.new.items) }
     {
+        if let [write] = writes
+            && !write.1.is_empty()
+        {
+            return self.set_one(alloc, write);
+        }
         check_counts(&self.view, writes)?;
         check_apart(&self.view, writes)?;
         let rows = rows_of_each(alloc, &self.view, writes)?;
         write_all(self.items.as_mut_slice(), rows.as_slice());
+        Ok(())
+    }
+    /// Writes items at one slice, as `multi_set` does with a list of this write. Its rows are not listed.
+    fn set_one(
+        &mut self,
+        alloc: Global,
+        write: &(Vec<SliceInfoElem>, Vec<T>),
+    ) -> Result<(), LayoutError>
+        ensures fault { shape_fault result ≡
+            counts_fault self.old.view.shape (write_of write.now ∷ []) }
+        ensures unchanged { OnErr result (self.new ≡ self.old) }
+        ensures view { self.new.view ≡ self.old.view }
+        ensures count { length self.new.items ≡ length self.old.items }
+        ensures written { OnOk result (HasWritten (write_places self.old.view (write_of write.now))
+            write.now.1.items self.old.items self.new.items) }
+    {
+        let rows = rows_of_write(alloc, &self.view, write)?;
+        rows.write(self.items.as_mut_slice(), write.1.as_slice());
         Ok(())
     }
 }

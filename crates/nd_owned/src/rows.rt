@@ -46,7 +46,7 @@ impl Starts {
 pub(crate) struct Rows {
     starts: Starts,
     block: Block,
-    size: usize,
+    pub(crate) size: usize,
 }
 
 /// The rows of a slice of a view, in the order of its places. One or two axes that are left are axes of a type that fixes

@@ -1,6 +1,6 @@
 //! Items that are to be written at slices of a view: the error of such a list, the places, and the writes.
 ghost use Rattle.std.specs.List.{All, AllPairs, flat_map, list_all};
-ghost use Rattle.std.specs.Prelude.{◌≡◌, ◌≢◌, ℕ, ◌<◌, ◌^◌, None, IfOk, IfSome, IsOk, IsSomeAnd, IsTrue, length, map};
+ghost use Rattle.std.specs.Prelude.{◌≡◌, ◌≢◌, ◌∷◌, [], ℕ, ◌<◌, ◌^◌, None, IfOk, IfSome, IsOk, IsSomeAnd, IsTrue, length, map};
 ghost use Rattle.std.specs.Result.{result_err};
 ghost use Rattle.ndarray_layout.specs.declared.Fit.TheVariants.{Strict};
 ghost use Rattle.ndarray_layout.specs.ArgumentFault.{argument_fault};
@@ -122,6 +122,39 @@ pub(crate) fn check_apart<T: Copy, D: Lengths>(
         check_apart_from(shape, in_order, write.0.as_slice(), &writes[at + 1..])?;
     }
     Ok(())
+}
+
+/// The rows of the slice of one write, where it has as many items as the slice picks. Errors: that of the slice, then
+/// `IncompatibleShape` for another count, then out of memory.
+pub(crate) fn rows_of_write<T: Copy, D: Lengths>(
+    alloc: Global,
+    view: &Strided<D>,
+    write: &SliceItems<T>,
+) -> Result<Rows, LayoutError>
+    ensures fault { shape_fault result ≡ counts_fault view.now.shape (write_of write.now ∷ []) }
+    ensures places { IfOk result (λ rows.
+        rows_places rows ≡ write_places view.now (write_of write.now)) }
+    ensures counts { IfOk result (λ rows.
+        length (rows_places rows) ≡ length write.now.1.items) }
+    ensures inside { IfOk result (λ rows.
+        (len : ℕ) → LiesWithin len view.now → AreRowsInside len rows) }
+{
+    let (slice, items) = write;
+    let fault = match rows_of(alloc, view, slice) {
+        Ok(rows) => {
+            if rows.size == items.len() {
+                return Ok(rows);
+            }
+            return Err(LayoutError::Shape(from_kind(ErrorKind::IncompatibleShape)));
+        }
+        Err(fault) => fault,
+    };
+    // The error of the slice, or out of memory, before which comes that of the count.
+    if view.picked(slice, Fit::Strict)? == items.len() {
+        Err(fault)
+    } else {
+        Err(LayoutError::Shape(from_kind(ErrorKind::IncompatibleShape)))
+    }
 }
 
 /// The rows of each slice that picks something, with the items for them.

@@ -1,12 +1,15 @@
 -- The rows of the slices are such that their items can be written; what that leaves is what was asked for.
-use Rattle.std.proofs.Common.{◌≡◌, ◌++◌, None, length, map, take, drop, sym, subst, ◌∙◌}
+use Rattle.std.proofs.Common.{◌≡◌, ◌++◌, None, [], length, map, take, drop, sym, subst, ◌∙◌, arith}
+use Rattle.std.proofs.lemmas.Bool.{eq-eqb, false≢true}
 use Rattle.std.proofs.lemmas.List.{take_at}
+use Rattle.std.proofs.lemmas.List.Elements.{All-head}
 use Rattle.std.specs.List.{All, flat_map}
+use Rattle.ndarray_layout.specs.ShapeFault.{shape_fault}
 use Rattle.nd_owned.specs.declared.rows.Rows.{Rows}
 use Rattle.nd_owned.specs.private.Rows.{rows_places}
-use Rattle.nd_owned.specs.Writes.{IsFaultOfWrites, IsWritten, KeepsOthers, write_of}
+use Rattle.nd_owned.specs.Writes.{HaveNoItems, IsFaultOfWrites, IsWritten, KeepsOthers, write_of}
 use Rattle.nd_owned.proofs.Faults.{handed_on, have_counts, no_fault}
-use Rattle.nd_owned.proofs.Slices.{all_distinct, all_written, at_places, others_kept}
+use Rattle.nd_owned.proofs.Slices.{all_distinct, all_written, at_places, on_ok, one_fault, one_kept, one_written, only, others_kept}
 use Rattle.nd_owned.proofs.owned.OwnedArray.multi_set.Goals as goal
 
 pub returns-in_err-rows-clause-fault : goal.returns-in_err-rows-clause-fault
@@ -23,14 +26,14 @@ write_all-requires-clause-inside g c =
     rw (c.as_slice.ensures.value, c.as_mut_slice.ensures.value) (c.in_ok-rows.ensures.inside (length c.self.inside.items.items)
     c.self.invariant.within)
 
-pub returns-clause-fault : goal.returns-clause-fault
-returns-clause-fault g c =
+pub returns-2-clause-fault : goal.returns-2-clause-fault
+returns-2-clause-fault g c =
     let writes = map write_of c.args.writes.now in
     subst (λ array. IsFaultOfWrites array.view.shape writes None) c.self.view_is (no_fault c.self.inside.view.shape writes
     (sym c.in_ok-check_counts.ensures) c.in_ok-check_apart.ensures)
 
-pub returns-clause-written : goal.returns-clause-written
-returns-clause-written g c =
+pub returns-2-clause-written : goal.returns-2-clause-written
+returns-2-clause-written g c =
     let view = c.self.inside.view in
     let writes = map write_of c.args.writes.now in
     let items = c.self.inside.items in
@@ -46,8 +49,8 @@ returns-clause-written g c =
     subst (λ those. All (IsWritten c.args.self.now.view those) writes) (sym now) (subst (λ array. All (IsWritten array.view stored) writes)
     c.self.view_is written)
 
-pub returns-clause-kept : goal.returns-clause-kept
-returns-clause-kept g c =
+pub returns-2-clause-kept : goal.returns-2-clause-kept
+returns-2-clause-kept g c =
     let view = c.self.inside.view in
     let writes = map write_of c.args.writes.now in
     let items = c.self.inside.items in
@@ -63,3 +66,35 @@ returns-clause-kept g c =
     subst (λ those. KeepsOthers c.args.self.now.view writes c.args.self.now.items those) (sym now)
     (subst (λ array. KeepsOthers array.view writes array.items stored) c.self.view_is (subst (λ those. KeepsOthers view writes those stored)
     c.as_mut_slice.ensures.value kept))
+
+-- ---- one write alone
+pub returns-clause-fault : goal.returns-clause-fault
+returns-clause-fault g c =
+    let shape = c.args.self.now.view.shape in
+    let alone = only c.args.writes.now (omega (arith, c.in-len1.len_at_least, c.in-len1.len_below)) c.write-item.is in
+    subst (λ writes. IsFaultOfWrites shape (map write_of writes) (shape_fault c.set_one.result)) (sym alone)
+    (one_fault shape (write_of c.write-item.result) c.set_one.ensures.fault)
+
+pub returns-clause-memory : goal.returns-clause-memory
+returns-clause-memory g c = λ none no_items.
+    let write = c.write-item.result in
+    let alone = only c.args.writes.now (omega (arith, c.in-len1.len_at_least, c.in-len1.len_below)) c.write-item.is in
+    let empty : length write.1.items ≡ 0 =
+    All-head (λ one. length one.items ≡ 0) (write_of write) [] (subst (λ writes. HaveNoItems (map write_of writes)) alone no_items) in
+    absurd (false≢true (sym c.if-not-is_empty.true ∙ c.is_empty.ensures ∙ eq-eqb write.1.len 0 (write.1.ok.0 ∙ empty)))
+
+pub returns-clause-written : goal.returns-clause-written
+returns-clause-written g c =
+    let view = c.args.self.now.view in
+    let alone = only c.args.writes.now (omega (arith, c.in-len1.len_at_least, c.in-len1.len_below)) c.write-item.is in
+    on_ok c.set_one.result
+    (λ left. subst (λ writes. All (IsWritten view c.set_one.new.self.items) (map write_of writes)) (sym alone)
+    (one_written view (write_of c.write-item.result) left)) c.set_one.ensures.written
+
+pub returns-clause-kept : goal.returns-clause-kept
+returns-clause-kept g c =
+    let array = c.args.self.now in
+    let alone = only c.args.writes.now (omega (arith, c.in-len1.len_at_least, c.in-len1.len_below)) c.write-item.is in
+    on_ok c.set_one.result
+    (λ left. subst (λ writes. KeepsOthers array.view (map write_of writes) array.items c.set_one.new.self.items) (sym alone)
+    (one_kept array.view (write_of c.write-item.result) left)) c.set_one.ensures.written
