@@ -1,6 +1,7 @@
 -- The places of blocks of rows: how many there are, where a row of one begins, and what the last two axes of a view make of it.
 use Rattle.std.proofs.Common.{◌≡◌, ℕ, zero, suc, ◌+◌, ◌*◌, ◌<◌, ◌^◌, ℤ, pos, negsuc, ◌+ℤ◌, ◌*ℤ◌, List, [], ◌∷◌, ◌++◌, length, get_or, map, take}
-use Rattle.std.proofs.Common.{append_assoc, replicate, refl, sym, ap, subst, ◌∙◌, arith}
+use Rattle.std.proofs.Common.{append_assoc, replicate, inl, inr, ◌⊎◌, refl, sym, ap, subst, ◌∙◌, arith}
+use Rattle.std.proofs.Math.IntN.{zero-*ℤ, +ℤ_idr}
 use Rattle.std.proofs.lemmas.Int.{ints}
 use Rattle.std.proofs.lemmas.Grind.{flat_map-append}
 use Rattle.std.proofs.lemmas.List.{append-nil, length-append, map-append}
@@ -10,9 +11,10 @@ use Rattle.std.proofs.Math.Nat.{dvd-mul_right, eq-one_of_dvd-one}
 use Rattle.std.specs.Int.{◌∣◌}
 use Rattle.std.specs.List.{All, flat_map}
 use Rattle.ndarray_layout.specs.declared.Order.TheVariants.{RowMajor}
-use Rattle.ndarray_layout.specs.Indices.{indices}
+use Rattle.ndarray_layout.specs.Indices.{below, indices}
 use Rattle.ndarray_layout.specs.Inside.{IsInside}
-use Rattle.ndarray_layout.specs.Signed.{magnitude, signed}
+use Rattle.ndarray_layout.specs.Place.{place}
+use Rattle.ndarray_layout.specs.Signed.{all_signed, magnitude, signed}
 use Rattle.ndarray_layout.specs.Size.{size}
 use Rattle.ndarray_layout.specs.View.{View, place_at, view_places}
 use Rattle.ndarray_layout.proofs.laws.Offset.{offset_of-zeros}
@@ -143,3 +145,50 @@ one_place view is =
     ap (map (place_at view)) (one_index view.shape is)
     ∙ ap (λ z. (pos view.start +ℤ z) ∷ []) (offset_of-zeros view.strides (length view.shape))
     ∙ ap (λ n. pos n ∷ []) there
+
+-- ---- a view whose first axis is the only one, but for one of length 1
+nothing_more : (z stride : ℤ) → z +ℤ ((pos 0 *ℤ stride) +ℤ pos 0) ≡ z
+nothing_more z stride = ap (λ none. z +ℤ (none +ℤ pos 0)) (zero-*ℤ stride) ∙ +ℤ_idr z
+
+along_one : (start : ℕ) (stride : ℤ) (entries : List ℕ)
+    → map (place start (stride ∷ [])) (flat_map (λ i. map (λ index. i ∷ index) ([] ∷ [])) entries)
+    ≡ map (λ entry. pos start +ℤ (pos entry *ℤ stride)) entries
+along_one start stride [] = refl
+along_one start stride (i ∷ entries) =
+    ap (λ places. (pos start +ℤ ((pos i *ℤ stride) +ℤ pos 0)) ∷ places) (along_one start stride entries)
+    ∙ ap (λ z. (pos start +ℤ z) ∷ map (λ entry. pos start +ℤ (pos entry *ℤ stride)) entries) (+ℤ_idr (pos i *ℤ stride))
+
+along_first : (start : ℕ) (stride other : ℤ) (entries : List ℕ)
+    → map (place start (stride ∷ other ∷ [])) (flat_map (λ i. map (λ index. i ∷ index) ((0 ∷ []) ∷ [])) entries)
+    ≡ map (λ entry. pos start +ℤ (pos entry *ℤ stride)) entries
+along_first start stride other [] = refl
+along_first start stride other (i ∷ entries) =
+    ap (λ places. (pos start +ℤ ((pos i *ℤ stride) +ℤ ((pos 0 *ℤ other) +ℤ pos 0))) ∷ places) (along_first start stride other entries)
+    ∙ ap (λ z. (pos start +ℤ z) ∷ map (λ entry. pos start +ℤ (pos entry *ℤ stride)) entries) (nothing_more (pos i *ℤ stride) other)
+
+-- has the places along it
+pub first_alone : (view : View) → length view.shape ≡ length view.strides
+    → (length view.shape ≡ 1) ⊎ ((length view.shape ≡ 2) × (get_or view.shape 1 0 ≡ 1))
+    → row_places view.start (get_or view.strides 0 (pos 0)) (get_or view.shape 0 0) ≡ view_places RowMajor view
+first_alone view same alone = by view.start view.shape view.strides same alone
+  where
+    by : (start : ℕ) (shape : List ℕ) (strides : List ℤ) → length shape ≡ length strides
+        → (length shape ≡ 1) ⊎ ((length shape ≡ 2) × (get_or shape 1 0 ≡ 1))
+        → row_places start (get_or strides 0 (pos 0)) (get_or shape 0 0) ≡ map (place start strides) (indices shape)
+    by start (len ∷ []) (stride ∷ []) same alone = sym (along_one start stride (below len))
+    by start (len ∷ other ∷ []) (stride ∷ more ∷ []) same (inr (two, one)) =
+        sym (ap (λ n. map (place start (stride ∷ more ∷ [])) (indices (len ∷ n ∷ []))) one ∙ along_first start stride more (below len))
+    by start (len ∷ other ∷ []) (stride ∷ more ∷ []) same (inl one) = absurd (omega arith)
+    by start [] strides same (inl one) = absurd (omega arith)
+    by start [] strides same (inr two) = absurd (omega (arith, two.0))
+    by start (len ∷ []) [] same alone = absurd (omega arith)
+    by start (len ∷ []) (stride ∷ more ∷ strides) same alone = absurd (omega arith)
+    by start (len ∷ other ∷ []) [] same alone = absurd (omega arith)
+    by start (len ∷ other ∷ []) (stride ∷ []) same alone = absurd (omega arith)
+    by start (len ∷ other ∷ []) (stride ∷ more ∷ most ∷ strides) same alone = absurd (omega arith)
+    by start (len ∷ other ∷ third ∷ shape) strides same (inl one) = absurd (omega arith)
+    by start (len ∷ other ∷ third ∷ shape) strides same (inr two) = absurd (omega (arith, two.0))
+
+pub first_signed : (strides : List ℕ) → signed (get_or strides 0 0) ≡ get_or (all_signed strides) 0 (pos 0)
+first_signed [] = refl
+first_signed (stride ∷ strides) = refl

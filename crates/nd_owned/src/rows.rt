@@ -119,6 +119,23 @@ fn rows_of_view<D: Lengths>(alloc: Global, mut view: Strided<D>) -> Result<Rows,
     })
 }
 
+/// The stride and the length of the first axis, where the places of a view are those along it: it has no other axis, or one
+/// other of length 1.
+#[inline]
+fn first_axis_alone<D: Lengths>(view: &Strided<D>) -> Option<(usize, usize)>
+    ensures is_view { IsView view.now }
+    ensures few { IfSome result (λ (stride, len). len < 2 ^ 63) }
+    ensures places { IfSome result (λ (stride, len).
+        row_places view.now.start (signed stride) len ≡ view_places RowMajor view.now) }
+{
+    let (lens, strides) = (view.dim().slice(), view.strides().slice());
+    if lens.len() == 1 || (lens.len() == 2 && lens[1] == 1) {
+        Some((strides[0], lens[0]))
+    } else {
+        None
+    }
+}
+
 /// The places of a view as blocks of places that lie evenly: where each begins, the stride and the length. One block where
 /// all its axes step as one does, as where at most one is longer than 1; else each place is a block.
 fn blocks_of<D: Lengths>(
@@ -132,6 +149,9 @@ fn blocks_of<D: Lengths>(
     ensures few { IfOk result (λ (starts, stride, len). len < 2 ^ 63) }
     ensures memory { size view.shape ≡ 0 → IsOk result }
 {
+    if let Some((stride, len)) = first_axis_alone(&view) {
+        return Ok((Starts::One(view.start()), stride, len));
+    }
     let Some(even) = in_one_axis(alloc, &view) else {
         return Ok((Starts::Listed(view.places(alloc, Order::RowMajor)?), 1, 1));
     };
