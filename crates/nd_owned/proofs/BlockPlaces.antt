@@ -1,11 +1,11 @@
 -- The places of blocks of rows: how many there are, where a row of one begins, and what the last two axes of a view make of it.
 use Rattle.std.proofs.Common.{◌≡◌, ℕ, zero, suc, ◌+◌, ◌*◌, ◌<◌, ◌^◌, ℤ, pos, negsuc, ◌+ℤ◌, ◌*ℤ◌, List, [], ◌∷◌, ◌++◌, length, get_or, map, take}
-use Rattle.std.proofs.Common.{append_assoc, replicate, inl, inr, ◌⊎◌, refl, sym, ap, subst, ◌∙◌, arith}
+use Rattle.std.proofs.Common.{append_assoc, replicate, w64, inl, inr, ◌⊎◌, refl, sym, ap, subst, ◌∙◌, arith}
 use Rattle.std.proofs.Math.IntN.{zero-*ℤ, +ℤ_idr}
-use Rattle.std.proofs.lemmas.Int.{ints}
+use Rattle.std.proofs.lemmas.Int.{ints, to_z_pos}
 use Rattle.std.proofs.lemmas.Grind.{flat_map-append}
 use Rattle.std.proofs.lemmas.List.{append-nil, length-append, map-append}
-use Rattle.std.proofs.lemmas.List.Elements.{All-head, All-tail}
+use Rattle.std.proofs.lemmas.List.Elements.{All-append, All-cons, All-head, All-tail}
 use Rattle.std.proofs.lemmas.List.Folds.{flat_map-map}
 use Rattle.std.proofs.Math.Nat.{dvd-mul_right, eq-one_of_dvd-one}
 use Rattle.std.specs.Int.{◌∣◌}
@@ -21,8 +21,8 @@ use Rattle.ndarray_layout.proofs.laws.Offset.{offset_of-zeros}
 use Rattle.nd_owned.specs.declared.blocks.Block.{Block}
 use Rattle.nd_owned.specs.declared.rows.Rows.{Rows}
 use Rattle.nd_owned.specs.private.Rows.{IsBlockInside, AreInside, AreRowsInside, block_places, row_places, start_list}
-use Rattle.nd_owned.proofs.Placed.{all_of_part, inside_of_part, parts_more}
-use Rattle.nd_owned.proofs.RowPlaces.{begins, entry_inside, get_or-row_places, length-row_places}
+use Rattle.nd_owned.proofs.Placed.{all_first, all_of_part, all_second, inside_of_part, parts_more}
+use Rattle.nd_owned.proofs.RowPlaces.{begins, entry_inside, get_or-row_places, length-row_places, row_more}
 
 -- ---- how many there are
 each_long : {A X : Type 0} (f : A → List X) (n : ℕ) (xs : List A) → ((a : A) → length (f a) ≡ n) → length (flat_map f xs) ≡ length xs * n
@@ -192,3 +192,76 @@ first_alone view same alone = by view.start view.shape view.strides same alone
 pub first_signed : (strides : List ℕ) → signed (get_or strides 0 0) ≡ get_or (all_signed strides) 0 (pos 0)
 first_signed [] = refl
 first_signed (stride ∷ strides) = refl
+
+-- ---- rows that are neighbours
+row_split : (start a b : ℕ) → row_places start (pos 1) (a + b) ≡ row_places start (pos 1) a ++ row_places (start + a) (pos 1) b
+row_split start a zero =
+    let none : a + 0 ≡ a = omega arith in
+    ap (row_places start (pos 1)) none ∙ sym (append-nil (row_places start (pos 1) a))
+row_split start a (suc b) =
+    let more : a + suc b ≡ a + b + 1 = omega arith in
+    let one : suc b ≡ b + 1 = omega arith in
+    let last : start + (a + b) * 1 ≡ start + a + b * 1 = omega arith in
+    ap (row_places start (pos 1)) more
+    ∙ row_more start (pos 1) (a + b)
+    ∙ ap (λ places. places ++ pos (start + (a + b) * 1) ∷ []) (row_split start a b)
+    ∙ ap (λ place. (row_places start (pos 1) a ++ row_places (start + a) (pos 1) b) ++ pos place ∷ []) last
+    ∙ append_assoc (row_places start (pos 1) a) (row_places (start + a) (pos 1) b) (pos (start + a + b * 1) ∷ [])
+    ∙ ap (λ places. row_places start (pos 1) a ++ places) (sym (row_more (start + a) (pos 1) b) ∙ ap (row_places (start + a) (pos 1)) (sym one))
+
+-- are one row
+rows_joined : (start len rows : ℕ) → flat_map (λ first. row_places (magnitude first) (pos 1) len) (row_places start (pos len) rows)
+    ≡ row_places start (pos 1) (rows * len)
+rows_joined start len zero =
+    let none : 0 * len ≡ 0 = omega arith in
+    ap (row_places start (pos 1)) (sym none)
+rows_joined start len (suc rows) =
+    let row = λ (first : ℤ). row_places (magnitude first) (pos 1) len in
+    let before = row_places start (pos len) rows in
+    let one : suc rows ≡ rows + 1 = omega arith in
+    let more : rows * len + len ≡ suc rows * len = omega arith in
+    ap (λ n. flat_map row (row_places start (pos len) n)) one
+    ∙ ap (flat_map row) (row_more start (pos len) rows)
+    ∙ flat_map-append row before (pos (start + rows * len) ∷ [])
+    ∙ ap (λ places. flat_map row before ++ places) (append-nil (row_places (start + rows * len) (pos 1) len))
+    ∙ ap (λ places. places ++ row_places (start + rows * len) (pos 1) len) (rows_joined start len rows)
+    ∙ sym (row_split start (rows * len) len)
+    ∙ ap (row_places start (pos 1)) more
+
+signed_small : (n : ℕ) → n < 2 ^ 63 → signed n ≡ pos n
+signed_small n small = to_z_pos w64 n (omega arith)
+
+pub block_joined : (block : Block) (start len : ℕ) → block.stride ≡ 1 → block.rows_stride ≡ block.len → block.len < 2 ^ 63
+    → len ≡ block.rows * block.len
+    → block_places (record { rows_stride = 0; rows = 1; stride = 1; len = len }) start ≡ block_places block start
+block_joined block start len side apart few long =
+    let from : start + 0 ≡ start = omega arith in
+    append-nil (row_places (start + 0) (pos 1) len)
+    ∙ ap (λ first. row_places first (pos 1) len) from
+    ∙ ap (row_places start (pos 1)) long
+    ∙ sym (rows_joined start block.len block.rows)
+    ∙ ap (λ stride. flat_map (λ first. row_places (magnitude first) (pos 1) block.len) (row_places start stride block.rows))
+    (sym (ap signed apart ∙ signed_small block.len few))
+    ∙ ap (λ stride. flat_map (λ first. row_places (magnitude first) (signed stride) block.len)
+    (row_places start (signed block.rows_stride) block.rows)) (sym side)
+
+-- it begins where their first one does
+pub joined_begin : (start rows : ℕ) (stride : ℤ) → 0 < rows → All (IsInside (2 ^ 63)) (row_places start stride rows)
+    → All (IsInside (2 ^ 63)) (row_places start (pos 0) 1)
+joined_begin start rows stride some inside =
+    let first : start < 2 ^ 63 = begins (2 ^ 63) start stride rows inside some in
+    let here : start + 0 < 2 ^ 63 = omega arith in
+    All-cons (IsInside (2 ^ 63)) (pos (start + 0)) [] here (λ k d below. absurd (omega arith))
+
+-- lists that are the same each make the same list
+pub same_parts_of : {A X : Type 0} (f g : A → List X) (xs : List A) → ((x : A) → f x ≡ g x) → flat_map f xs ≡ flat_map g xs
+same_parts_of f g [] same = refl
+same_parts_of f g (x ∷ xs) same =
+    ap (λ ys. ys ++ flat_map f xs) (same x) ∙ ap (λ ys. g x ++ ys) (same_parts_of f g xs same)
+
+pub all_parts : {A X : Type 0} (P : X → Type 0) (f g : A → List X) (xs : List A) → ((x : A) → All P (f x) → All P (g x))
+    → All P (flat_map f xs) → All P (flat_map g xs)
+all_parts P f g [] each all = λ k d below. absurd (omega arith)
+all_parts P f g (x ∷ xs) each all =
+    All-append P (g x) (flat_map g xs) (each x (all_first P (f x) (flat_map f xs) all))
+    (all_parts P f g xs each (all_second P (f x) (flat_map f xs) all))

@@ -25,7 +25,7 @@ get_or-row_places start stride len entry d below = get_or-map-range_with_len (λ
     (omega arith)
 
 -- the row with one place more
-row_more : (start : ℕ) (stride : ℤ) (len : ℕ)
+pub row_more : (start : ℕ) (stride : ℤ) (len : ℕ)
     → row_places start stride (len + 1) ≡ row_places start stride len ++ (pos start +ℤ (pos len *ℤ stride)) ∷ []
 row_more start stride len = map-range_with_len_more (λ n. pos start +ℤ (pos n *ℤ stride)) 0 len len (omega arith)
 

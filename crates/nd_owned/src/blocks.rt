@@ -1,10 +1,10 @@
 //! Blocks of rows whose beginnings lie evenly, read and written row by row: what the last two axes of a slice pick.
 ghost use Rattle.std.specs.List.{All, AllPairs};
-ghost use Rattle.std.specs.Prelude.{◌≡◌, ◌≢◌, ◌+◌, ◌<◌, ◌≤◌, ◌^◌, pos, ◌+ℤ◌, ◌*ℤ◌, Some, ◌++◌, drop, length, map, take, vec_capacity, vec_len};
+ghost use Rattle.std.specs.Prelude.{◌≡◌, ◌≢◌, ℕ, ◌+◌, ◌<◌, ◌≤◌, ◌^◌, pos, ◌+ℤ◌, ◌*ℤ◌, Some, ◌++◌, drop, length, map, take, vec_capacity, vec_len};
 ghost use Rattle.ndarray_layout.specs.Inside.{IsInside};
 ghost use Rattle.ndarray_layout.specs.Signed.{signed};
 ghost use Rattle.nd_owned.specs.Owned.{item_at_place};
-ghost use Rattle.nd_owned.specs.private.Rows.{HasWritten, IsBlockInside, block_places};
+ghost use Rattle.nd_owned.specs.private.Rows.{HasWritten, IsBlockInside, block_places, row_places};
 
 use crate::rows::{read_row, write_row};
 use ndarray_layout::stride_offset;
@@ -17,6 +17,30 @@ pub(crate) struct Block {
     pub(crate) rows: usize,
     pub(crate) stride: usize,
     pub(crate) len: usize,
+}
+
+/// The same places as one row, where the rows are neighbours: places that lie side by side, each row from where the one before
+/// it ends.
+pub(crate) fn joined(block: Block) -> Block
+    requires { block.len < 2 ^ 63 }
+    ensures places { (start : ℕ) → block_places result start ≡ block_places block start }
+    ensures begin { (start : ℕ) →
+        All (IsInside (2 ^ 63)) (row_places start (signed block.rows_stride) block.rows) →
+        All (IsInside (2 ^ 63)) (row_places start (signed result.rows_stride) result.rows) }
+    ensures few { block.rows < 2 ^ 63 → result.rows < 2 ^ 63 }
+{
+    if block.stride != 1 || block.rows_stride != block.len || block.rows < 2 {
+        return block;
+    }
+    match block.rows.checked_mul(block.len) {
+        Some(len) => Block {
+            rows_stride: 0,
+            rows: 1,
+            stride: 1,
+            len,
+        },
+        None => block,
+    }
 }
 
 /// The place where a row begins, by its number.

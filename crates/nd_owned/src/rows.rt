@@ -15,7 +15,7 @@ ghost use Rattle.ndarray_layout.specs.View.{IsView, LiesWithin, view_places};
 ghost use Rattle.nd_owned.specs.Owned.{IsOfNone, item_at_place};
 ghost use Rattle.nd_owned.specs.private.Rows.{AreInside, AreRowsInside, HasWritten, IsLastAxis, row_places, rows_places, start_list};
 
-use crate::blocks::{Block, read_block, write_block};
+use crate::blocks::{Block, joined, read_block, write_block};
 use ndarray_layout::{
     Axis, Fit, Ix1, Ix2, IxDyn, LayoutError, Lengths, Order, SliceElems, Strided, new_ix1,
     out_ndim_of, product, signed,
@@ -106,12 +106,12 @@ fn rows_of_view<D: Lengths>(alloc: Global, mut view: Strided<D>) -> Result<Rows,
     let size = product(view.dim().slice());
     let (stride, len) = take_last_axis(&mut view);
     let (starts, rows_stride, rows) = blocks_of(alloc, view)?;
-    let block = Block {
+    let block = joined(Block {
         rows_stride,
         rows,
         stride,
         len,
-    };
+    });
     Ok(Rows {
         starts,
         block,

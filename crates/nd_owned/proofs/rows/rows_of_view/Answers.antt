@@ -9,7 +9,7 @@ use Rattle.ndarray_layout.specs.View.{view_places}
 use Rattle.ndarray_layout.proofs.laws.View.{length-view_places, size_fits}
 use Rattle.nd_owned.specs.declared.blocks.Block.{Block}
 use Rattle.nd_owned.specs.private.Rows.{AreInside, block_places, start_list}
-use Rattle.nd_owned.proofs.BlockPlaces.{blocks_of_rows}
+use Rattle.nd_owned.proofs.BlockPlaces.{all_parts, blocks_of_rows, row_starts, same_parts_of}
 use Rattle.nd_owned.proofs.LastAxis.{places_fit, places_inside}
 use Rattle.nd_owned.proofs.rows.rows_of_view.Goals as goal
 
@@ -23,7 +23,8 @@ returns-clause-places g c =
     let blocks = c.in_ok-starts in
     let starts = start_list c.in_ok-starts.starts in
     let block : Block = record { rows_stride = blocks.rows_stride; rows = blocks.rows; stride = one.result.0; len = one.result.1 } in
-    blocks_of_rows block starts (view_places RowMajor one.new.view) (view_places RowMajor c.args.view)
+    same_parts_of (block_places c.joined-block.result) (block_places block) starts c.joined-block.ensures.places
+    ∙ blocks_of_rows block starts (view_places RowMajor one.new.view) (view_places RowMajor c.args.view)
     blocks.ensures.places (places_fit blocks.ensures.is_view) one.ensures.places
 
 pub returns-clause-inside : goal.returns-clause-inside
@@ -33,12 +34,14 @@ returns-clause-inside g c = λ len within.
     let starts = start_list c.in_ok-starts.starts in
     let block : Block = record { rows_stride = blocks.rows_stride; rows = blocks.rows; stride = one.result.0; len = one.result.1 } in
     let middle = blocks.ensures.places in
-    let places = blocks_of_rows block starts (view_places RowMajor one.new.view) (view_places RowMajor c.args.view) middle
+    let places = same_parts_of (block_places c.joined-block.result) (block_places block) starts c.joined-block.ensures.places
+    ∙ blocks_of_rows block starts (view_places RowMajor one.new.view) (view_places RowMajor c.args.view) middle
     (places_fit blocks.ensures.is_view) one.ensures.places in
     record {
       places = subst (AreInside len) (sym places) (places_inside one.ensures.is_view within);
-      begin = subst (All (IsInside (2 ^ 63))) (sym middle) (places_fit blocks.ensures.is_view);
-      few = blocks.ensures.few;
+      begin = all_parts (IsInside (2 ^ 63)) (row_starts block) (row_starts c.joined-block.result) starts c.joined-block.ensures.begin
+          (subst (All (IsInside (2 ^ 63))) (sym middle) (places_fit blocks.ensures.is_view));
+      few = c.joined-block.ensures.few blocks.ensures.few;
     }
 
 pub returns-clause-size : goal.returns-clause-size
@@ -47,7 +50,8 @@ returns-clause-size g c =
     let blocks = c.in_ok-starts in
     let starts = start_list c.in_ok-starts.starts in
     let block : Block = record { rows_stride = blocks.rows_stride; rows = blocks.rows; stride = one.result.0; len = one.result.1 } in
-    let places = blocks_of_rows block starts (view_places RowMajor one.new.view) (view_places RowMajor c.args.view)
+    let places = same_parts_of (block_places c.joined-block.result) (block_places block) starts c.joined-block.ensures.places
+    ∙ blocks_of_rows block starts (view_places RowMajor one.new.view) (view_places RowMajor c.args.view)
     blocks.ensures.places (places_fit blocks.ensures.is_view) one.ensures.places in
     c.product-size.ensures
     ∙ ap size (c.slice.ensures.list ∙ c.dim.ensures.list)
