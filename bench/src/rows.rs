@@ -126,12 +126,12 @@ fn of_reshapes_and_intersections() -> Vec<Row> {
     rows
 }
 
-fn array_row(call: (&str, bool), name: &str, t: &'static Parts, many: usize) -> Row {
-    let (shape, writes) = ([1000, 1000], call.1);
-    // (a row or a column is timed by its items, a tile as a whole)
+fn array_row(call: (&str, bool), name: &str, shape: [usize; 2], t: &'static Parts, many: usize) -> Row {
+    let writes = call.1;
+    // (a large part is timed by its items, a small one as a whole)
     let items = if many == SETS { many } else { many * t.count };
     row(
-        format!("{}, {name}", call.0),
+        format!("OwnedArray::{}, {name}", call.0),
         items,
         move |n| theirs::owned(writes, shape, t, n),
         move |n| ours::owned(writes, shape, t, n),
@@ -143,15 +143,21 @@ fn of_runs_and_arrays() -> Vec<Row> {
     let runs = kept(tables::runs(&tables::lists(14, 4, 8)));
     let name = "run of 3 steps IxDyn, 4 axes, of a copy *";
     let mut rows = vec![row(name, SETS, |n| theirs::run_steps(runs, n), |n| ours::run(&runs.rows, &runs.elems, n))];
-    for (name, part, many) in [
-        ("a row of 1000x1000 *, an item", [1, 1000], 16),
-        ("a column of 1000x1000 *, an item", [1000, 1], 16),
-        ("a tile of 3x3 *", [3, 3], SETS),
+    let large = [1000, 1000];
+    for (name, shape, part, many) in [
+        ("a row of 1000x1000 *, an item", large, [1, 1000], 16),
+        ("a column of 1000x1000 *, an item", large, [1000, 1], 16),
+        ("two columns of 1000x1000 *, an item", large, [1000, 2], 16),
+        ("all of 1000x2 *, an item", [1000, 2], [1000, 2], 16),
+        ("a tile of 3x3 of 1000x1000 *", large, [3, 3], SETS),
+        ("a row of 10x10 *", [10, 10], [1, 10], SETS),
     ] {
-        let t = kept(tables::parts(many, [1000, 1000], part));
-        rows.push(array_row(("items", false), name, t, many));
-        rows.push(array_row(("multi_set", true), name, t, many));
+        let t = kept(tables::parts(many, shape, part));
+        rows.push(array_row(("items", false), name, shape, t, many));
+        rows.push(array_row(("multi_set", true), name, shape, t, many));
     }
+    let name = "OwnedArray::multi_set, all rows of 1000x1000 in one call *, a row";
+    rows.push(row(name, 1000, |n| theirs::rows(1000, 1000, n), |n| ours::rows(1000, 1000, n)));
     rows
 }
 

@@ -57,3 +57,20 @@ pub fn owned(writes: bool, shape: [usize; 2], t: &Parts, passes: usize) -> usize
     }
     sum
 }
+
+/// Each row of a row-major array, written one after another.
+pub fn rows(rows: usize, columns: usize, passes: usize) -> usize {
+    let mut array = Array { items: (0..(rows * columns) as u32).collect(), strides: [columns, 1] };
+    let items: Vec<u32> = (7..7 + columns as u32).collect();
+    let cases: Vec<PartCase> = (0..rows)
+        .map(|row| PartCase { ranges: [row..row + 1, 0..columns], items: items.clone(), place: 0 })
+        .collect();
+    let mut sum = 0usize;
+    for _ in 0..passes {
+        for case in &cases {
+            write(&mut array, case);
+        }
+        sum = sum.wrapping_add(array.items.first().copied().unwrap_or(0) as usize);
+    }
+    sum
+}

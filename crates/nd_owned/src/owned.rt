@@ -197,7 +197,8 @@ impl<T: Copy, D: Lengths> OwnedArray<T, D> {
 
     /// Copies of the items that a slice picks, in row-major order.
     ///
-    /// Each row of neighbours is copied as a whole. Where rows begin is listed first only if more than two axes are left.
+    /// Each row of neighbours is copied as a whole, and rows that are neighbours as one. Where rows begin is listed first only
+    /// if more than two axes are left and the rows don't lie evenly.
     ///
     /// # Errors
     ///
@@ -221,9 +222,10 @@ impl<T: Copy, D: Lengths> OwnedArray<T, D> {
     /// Each slice comes with the items for its indices, in row-major order. All other items are unchanged, spare ones too.
     /// A slice that picks nothing intersects no other, and an empty list of writes is no error.
     ///
-    /// Each slice is checked once, and compared once with each one after it: of `k` slices `k * (k - 1) / 2` pairs, each up
-    /// to the first axis on which their ranges are apart. The slices, and where the rows of one begin that leaves more than
-    /// two axes, are listed before the first write.
+    /// Each slice is compared with those after it: of `k` slices `k * (k - 1) / 2` pairs, each up to the first axis on which
+    /// their ranges are apart. Where the slices begin in their order along an axis, as the rows of an array or its tiles row
+    /// by row, a slice is compared only with those that begin before it ends; of rows that is none. Before the first write
+    /// the slices are listed if there are several, and where the rows of one begin if these don't lie evenly.
     ///
     /// # Errors
     ///
