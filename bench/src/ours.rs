@@ -120,6 +120,14 @@ unsafe extern "C" {
     fn bench_ffi_slice_axes(dims: N, n: usize, strides: N, m: usize, len: usize, passes: usize) -> usize;
     fn bench_ffi_steps(count: usize, passes: usize) -> usize;
     fn bench_ffi_rows(rows: usize, columns: usize, size: usize, passes: usize) -> usize;
+    fn bench_ffi_tiles(
+        count: usize,
+        side: isize,
+        items: usize,
+        lines: usize,
+        size: usize,
+        passes: usize,
+    ) -> usize;
 }
 
 // SAFETY (all): each pointer and length are those of one slice, borrowed for the call, and the declarations above
@@ -234,6 +242,10 @@ pub fn slice_axes(dim: &[usize], strides: &[usize], len: usize, passes: usize) -
 }
 pub fn steps(count: usize, passes: usize) -> usize {
     unsafe { bench_ffi_steps(count, passes) }
+}
+pub fn tiles(count: usize, side: usize, passes: usize) -> usize {
+    let lines = count * side;
+    unsafe { bench_ffi_tiles(count, side as isize, side * side, lines, lines * lines, passes) }
 }
 pub fn rows(rows: usize, columns: usize, passes: usize) -> usize {
     unsafe { bench_ffi_rows(rows, columns, rows * columns, passes) }

@@ -12,7 +12,7 @@ mod reshapes;
 mod shapes;
 mod views;
 
-pub use arrays::{owned, rows};
+pub use arrays::{owned, rows, tiles};
 pub use edits::edits;
 pub use index_iterators::{indices_three, indices_two};
 pub use intersections::intersect;

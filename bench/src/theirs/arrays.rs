@@ -58,13 +58,15 @@ pub fn owned(writes: bool, shape: [usize; 2], t: &Parts, passes: usize) -> usize
     sum
 }
 
-/// Each row of a row-major array, written one after another.
-pub fn rows(rows: usize, columns: usize, passes: usize) -> usize {
-    let mut array = Array { items: (0..(rows * columns) as u32).collect(), strides: [columns, 1] };
-    let items: Vec<u32> = (7..7 + columns as u32).collect();
-    let cases: Vec<PartCase> = (0..rows)
-        .map(|row| PartCase { ranges: [row..row + 1, 0..columns], items: items.clone(), place: 0 })
-        .collect();
+/// Parts of a row-major array, written one after another.
+fn writes(shape: [usize; 2], parts: &[[std::ops::Range<usize>; 2]], passes: usize) -> usize {
+    let mut array = Array { items: (0..(shape[0] * shape[1]) as u32).collect(), strides: [shape[1], 1] };
+    let case_of = |ranges: &[std::ops::Range<usize>; 2]| PartCase {
+        ranges: ranges.clone(),
+        items: (7..7 + (ranges[0].len() * ranges[1].len()) as u32).collect(),
+        place: 0,
+    };
+    let cases: Vec<PartCase> = parts.iter().map(case_of).collect();
     let mut sum = 0usize;
     for _ in 0..passes {
         for case in &cases {
@@ -73,4 +75,17 @@ pub fn rows(rows: usize, columns: usize, passes: usize) -> usize {
         sum = sum.wrapping_add(array.items.first().copied().unwrap_or(0) as usize);
     }
     sum
+}
+
+/// Each row of an array.
+pub fn rows(rows: usize, columns: usize, passes: usize) -> usize {
+    let parts: Vec<_> = (0..rows).map(|row| [row..row + 1, 0..columns]).collect();
+    writes([rows, columns], &parts, passes)
+}
+
+/// Each of `count` by `count` tiles of an array.
+pub fn tiles(count: usize, side: usize, passes: usize) -> usize {
+    let span = |at: usize| at * side..(at + 1) * side;
+    let parts: Vec<_> = (0..count * count).map(|number| [span(number / count), span(number % count)]).collect();
+    writes([count * side, count * side], &parts, passes)
 }

@@ -150,21 +150,24 @@ one_place view is =
 nothing_more : (z stride : ℤ) → z +ℤ ((pos 0 *ℤ stride) +ℤ pos 0) ≡ z
 nothing_more z stride = ap (λ none. z +ℤ (none +ℤ pos 0)) (zero-*ℤ stride) ∙ +ℤ_idr z
 
+abbrev along : ℕ → ℤ → List ℕ → List ℤ
+along start stride entries = map (λ entry. pos start +ℤ (pos entry *ℤ stride)) entries
+
 along_one : (start : ℕ) (stride : ℤ) (entries : List ℕ)
-    → map (place start (stride ∷ [])) (flat_map (λ i. map (λ index. i ∷ index) ([] ∷ [])) entries)
-    ≡ map (λ entry. pos start +ℤ (pos entry *ℤ stride)) entries
+    → map (place start (stride ∷ [])) (flat_map (λ i. map (λ index. i ∷ index) ([] ∷ [])) entries) ≡ along start stride entries
 along_one start stride [] = refl
 along_one start stride (i ∷ entries) =
     ap (λ places. (pos start +ℤ ((pos i *ℤ stride) +ℤ pos 0)) ∷ places) (along_one start stride entries)
-    ∙ ap (λ z. (pos start +ℤ z) ∷ map (λ entry. pos start +ℤ (pos entry *ℤ stride)) entries) (+ℤ_idr (pos i *ℤ stride))
+    ∙ ap (λ z. (pos start +ℤ z) ∷ along start stride entries) (+ℤ_idr (pos i *ℤ stride))
 
 along_first : (start : ℕ) (stride other : ℤ) (entries : List ℕ)
     → map (place start (stride ∷ other ∷ [])) (flat_map (λ i. map (λ index. i ∷ index) ((0 ∷ []) ∷ [])) entries)
-    ≡ map (λ entry. pos start +ℤ (pos entry *ℤ stride)) entries
+    ≡ along start stride entries
 along_first start stride other [] = refl
 along_first start stride other (i ∷ entries) =
-    ap (λ places. (pos start +ℤ ((pos i *ℤ stride) +ℤ ((pos 0 *ℤ other) +ℤ pos 0))) ∷ places) (along_first start stride other entries)
-    ∙ ap (λ z. (pos start +ℤ z) ∷ map (λ entry. pos start +ℤ (pos entry *ℤ stride)) entries) (nothing_more (pos i *ℤ stride) other)
+    let first = pos start +ℤ ((pos i *ℤ stride) +ℤ ((pos 0 *ℤ other) +ℤ pos 0)) in
+    ap (λ places. first ∷ places) (along_first start stride other entries)
+    ∙ ap (λ z. (pos start +ℤ z) ∷ along start stride entries) (nothing_more (pos i *ℤ stride) other)
 
 -- has the places along it
 pub first_alone : (view : View) → length view.shape ≡ length view.strides
@@ -207,7 +210,8 @@ row_split start a (suc b) =
     ∙ ap (λ places. places ++ pos (start + (a + b) * 1) ∷ []) (row_split start a b)
     ∙ ap (λ place. (row_places start (pos 1) a ++ row_places (start + a) (pos 1) b) ++ pos place ∷ []) last
     ∙ append_assoc (row_places start (pos 1) a) (row_places (start + a) (pos 1) b) (pos (start + a + b * 1) ∷ [])
-    ∙ ap (λ places. row_places start (pos 1) a ++ places) (sym (row_more (start + a) (pos 1) b) ∙ ap (row_places (start + a) (pos 1)) (sym one))
+    ∙ ap (λ places. row_places start (pos 1) a ++ places)
+    (sym (row_more (start + a) (pos 1) b) ∙ ap (row_places (start + a) (pos 1)) (sym one))
 
 -- are one row
 rows_joined : (start len rows : ℕ) → flat_map (λ first. row_places (magnitude first) (pos 1) len) (row_places start (pos len) rows)

@@ -44,22 +44,38 @@ in_count_le (elem.Slice start end step ∷ elems) = omega (arith, in_count_le el
 in_count_le (elem.Index index ∷ elems) = omega (arith, in_count_le elems)
 in_count_le (elem.NewAxis ∷ elems) = omega (arith, in_count_le elems)
 
--- without new axes the element at an axis picks the coordinate there
-coordinate : (shape : List ℕ) (slice : List SliceInfoElem) (index : List ℕ) (axis : ℕ) → in_count slice ≡ length slice
-    → axis < length shape × (length slice ≡ length shape) → AllZip Contains (axis_picks Strict shape slice) index
+-- a slice has as many elements as a shape has axes, none of them new, and the shape has this axis
+record Covers (shape : List ℕ) (slice : List SliceInfoElem) (axis : ℕ) : Type 0 where
+  count : in_count slice ≡ length slice
+  there : axis < length shape
+  long : length slice ≡ length shape
+
+-- the same of those after the first
+after_first : {len : ℕ} {elem : SliceInfoElem} (shape : List ℕ) (elems : List SliceInfoElem) (axis : ℕ) → 1 + in_count elems ≡ 1 + length elems
+    → Covers (len ∷ shape) (elem ∷ elems) (suc axis) → Covers shape elems axis
+after_first shape elems axis count covers = record {
+  count = omega arith;
+  there = omega (arith, covers.there);
+  long = omega (arith, covers.long);
+}
+
+-- then the element for an axis picks the coordinate there
+coordinate : (shape : List ℕ) (slice : List SliceInfoElem) (index : List ℕ) (axis : ℕ) → Covers shape slice axis
+    → AllZip Contains (axis_picks Strict shape slice) index
     → Contains (elem_picks Strict (get_or shape axis 0) (elem_on axis slice)) (get_or index axis 0)
-coordinate shape [] index axis count long all = absurd (omega (arith, long.0, long.1))
-coordinate shape (elem.NewAxis ∷ elems) index axis count long all = absurd (omega (arith, in_count_le elems))
-coordinate [] (elem.Slice start end step ∷ elems) index axis count long all = absurd (omega (arith, long.0))
-coordinate [] (elem.Index i ∷ elems) index axis count long all = absurd (omega (arith, long.0))
-coordinate (len ∷ shape) (elem.Slice start end step ∷ elems) [] axis count long all = absurd all
-coordinate (len ∷ shape) (elem.Index i ∷ elems) [] axis count long all = absurd all
-coordinate (len ∷ shape) (elem.Slice start end step ∷ elems) (entry ∷ index) zero count long all = all.0
-coordinate (len ∷ shape) (elem.Index i ∷ elems) (entry ∷ index) zero count long all = all.0
-coordinate (len ∷ shape) (elem.Slice start end step ∷ elems) (entry ∷ index) (suc axis) count long all =
-    coordinate shape elems index axis (omega (arith, count)) (omega (arith, long.0), omega (arith, long.1)) all.1
-coordinate (len ∷ shape) (elem.Index i ∷ elems) (entry ∷ index) (suc axis) count long all =
-    coordinate shape elems index axis (omega (arith, count)) (omega (arith, long.0), omega (arith, long.1)) all.1
+coordinate shape [] index axis is all = absurd (omega (arith, is.there, is.long))
+coordinate shape (elem.NewAxis ∷ elems) index axis is all = absurd (omega (arith, in_count_le elems, is.count))
+coordinate [] (elem.Slice start end step ∷ elems) index axis is all = absurd (omega (arith, is.there))
+coordinate [] (elem.Index i ∷ elems) index axis is all = absurd (omega (arith, is.there))
+coordinate (len ∷ shape) (elem.Slice start end step ∷ elems) [] axis is all = absurd all
+coordinate (len ∷ shape) (elem.Index i ∷ elems) [] axis is all = absurd all
+coordinate (len ∷ shape) (elem.Slice start end step ∷ elems) (entry ∷ index) zero is all = all.0
+coordinate (len ∷ shape) (elem.Index i ∷ elems) (entry ∷ index) zero is all = all.0
+coordinate (len ∷ shape) (elem.Slice start end step ∷ elems) (entry ∷ index) (suc axis) is all =
+    coordinate shape elems index axis (after_first shape elems axis (omega (arith, is.count)) is) all.1
+coordinate (len ∷ shape) (elem.Index i ∷ elems) (entry ∷ index) (suc axis) is all =
+    let others = after_first shape elems axis (omega (arith, is.count)) is in
+    coordinate shape elems index axis others all.1
 
 module _ (shape : List ℕ) (axis : ℕ) where
   picked_between : (slice : List SliceInfoElem) (index : List ℕ) → HasRange shape axis slice → argument_fault Strict shape slice ≡ None
@@ -67,9 +83,10 @@ module _ (shape : List ℕ) (axis : ℕ) where
       → IsBetween (start_on shape axis slice) (end_on shape axis slice) (get_or index axis 0)
   picked_between slice index range fits all =
       let count = (elements_of_no_fault Strict shape slice fits).0 in
-      All-contains (IsBetween (start_on shape axis slice) (end_on shape axis slice)) (elem_picks Strict (get_or shape axis 0) (elem_on axis slice))
-      (get_or index axis 0) range.within
-      (coordinate shape slice index axis (count ∙ sym range.long) (range.there, range.long) all)
+      All-contains (IsBetween (start_on shape axis slice) (end_on shape axis slice))
+      (elem_picks Strict (get_or shape axis 0) (elem_on axis slice)) (get_or index axis 0) range.within
+      (coordinate shape slice index axis
+      (record { count = count ∙ sym range.long; there = range.there; long = range.long }) all)
 
   -- slices whose ranges are apart share no index
   apart_on : (one other : List SliceInfoElem) → HasRange shape axis one → HasRange shape axis other
@@ -98,8 +115,8 @@ module _ {T X : Type 0} (f : X → Write T) (xs : List X) (i : ℕ) where
   order_more {shape} {axis} {last} {x} below is range later so_far =
       let start = λ (write : Write T). start_on shape axis write.slice in
       let old = take i (map f xs) in
-      let one = λ (P : Write T → Type 0) (this : P (f x)). All-cons P (f x) [] this (λ k d under. absurd (omega arith)) in
-      let before : All (λ write. start write ≤ start (f x)) old = λ k d under. (let here = so_far.before k d under in omega (arith, here)) in
+      let before : All (λ write. start write ≤ start (f x)) old =
+      λ k d under. (let here = so_far.before k d under in omega (arith, here)) in
       subst (SoFar shape axis (start (f x))) (sym (taken below is))
       (record {
         order = record {

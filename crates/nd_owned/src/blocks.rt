@@ -19,8 +19,8 @@ pub(crate) struct Block {
     pub(crate) len: usize,
 }
 
-/// The same places as one row, where the rows are neighbours: places that lie side by side, each row from where the one before
-/// it ends.
+/// The same places as one row, where the rows are neighbours: their places lie side by side, and each row begins where
+/// the one before it ends.
 pub(crate) fn joined(block: Block) -> Block
     requires { block.len < 2 ^ 63 }
     ensures places { (start : ℕ) → block_places result start ≡ block_places block start }

@@ -9,8 +9,8 @@ ghost use Rattle.nd_owned.specs.private.Ranges.{AreInOrder, HasRange, IsBetween,
 use crate::writes::SliceItems;
 use ndarray_layout::{Fit, Slice, SliceInfoElem, entry_of, to_abs_slice};
 
-/// Where the range of an element begins on an axis, and what it stops before. `None` for a new axis, and for an element that
-/// doesn't fit.
+/// Where the range of an element begins on an axis, and what it stops before. `None` for a new axis, and for an element
+/// that doesn't fit.
 #[inline]
 fn range_of(len: usize, elem: SliceInfoElem) -> Option<(usize, usize)>
     ensures start { IfSome result (λ (start, end). start ≡ elem_start len elem) }
@@ -33,8 +33,8 @@ fn range_of(len: usize, elem: SliceInfoElem) -> Option<(usize, usize)>
     }
 }
 
-/// Where the range of a slice begins on an axis, and what it stops before. `None` for a slice with new axes, for one that
-/// doesn't fit, and where there is no such axis.
+/// Where the range of a slice begins on an axis, and what it stops before. `None` for a slice with new axes, for one
+/// that doesn't fit, and where there is no such axis.
 #[inline]
 fn range_on(shape: &[usize], axis: usize, slice: &[SliceInfoElem]) -> Option<(usize, usize)>
     ensures range { IfSome result (λ (start, end). HasRange shape.now axis slice.now) }
@@ -80,8 +80,8 @@ fn are_in_order<T: Copy>(shape: &[usize], axis: usize, writes: &[SliceItems<T>])
     true
 }
 
-/// The first axis on which no slice begins before an earlier one, and the last begins where the first has ended or later.
-/// None for one or two slices, since they are compared as fast.
+/// The first axis on which no slice begins before an earlier one, and the last begins where the first has ended or
+/// later. `None` without such an axis, and for one or two slices, which are compared as fast.
 pub(crate) fn axis_in_order<T: Copy>(shape: &[usize], writes: &[SliceItems<T>]) -> Option<usize>
     ensures { IfSome result (λ axis. AreInOrder shape.now axis (map write_of writes.now)) }
 {

@@ -119,8 +119,8 @@ fn rows_of_view<D: Lengths>(alloc: Global, mut view: Strided<D>) -> Result<Rows,
     })
 }
 
-/// The stride and the length of the first axis, where the places of a view are those along it: it has no other axis, or one
-/// other of length 1.
+/// The stride and the length of the first axis, where the places of a view are those along it: where there is no other
+/// axis, or one of length 1.
 #[inline]
 fn first_axis_alone<D: Lengths>(view: &Strided<D>) -> Option<(usize, usize)>
     ensures is_view { IsView view.now }

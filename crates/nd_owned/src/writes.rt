@@ -62,8 +62,8 @@ pub(crate) fn check_counts<T: Copy, D: Lengths>(
     }
 }
 
-/// Whether the range of one slice ends before that of another begins on the axis on which slices begin in their order. False
-/// without such an axis.
+/// Whether the range of one slice ends before that of another begins, on the axis on which slices begin in their order.
+/// False without such an axis.
 #[inline]
 fn is_past_in_order(
     shape: &[usize],

@@ -1,7 +1,6 @@
 -- Where slices lie along an axis, and slices of which none begins before an earlier one: what the contracts of private functions speak of.
-use Rattle.std.specs.Prelude.{◌≡◌, ℕ, ◌+◌, ◌<◌, ◌≤◌, max, pos, negsuc, None, Some, List, [], ◌∷◌, length, nat_le, slice_index, slice_index_or, true, false, refl}
+use Rattle.std.specs.Prelude.{◌≡◌, ℕ, ◌+◌, ◌<◌, ◌≤◌, max, pos, negsuc, Some, List, [], ◌∷◌, length, slice_index, slice_index_or, refl}
 use Rattle.std.proofs.Math.Arith.{le→nltb}
-use Rattle.std.proofs.lemmas.Bool.{ltb-true}
 use Rattle.std.specs.List.{All}
 use Rattle.std.specs.List.Sorted.{IsNonDecreasingBy}
 use Rattle.ndarray_layout.specs.declared.Fit.TheVariants.{Strict}
@@ -44,7 +43,8 @@ end_on shape axis slice = elem_end (slice_index shape axis) (elem_on axis slice)
 pub record HasRange (shape : List ℕ) (axis : ℕ) (slice : List SliceInfoElem) : Type 0 where
   pub there : axis < length shape
   pub long : length slice ≡ length shape
-  pub within : All (IsBetween (start_on shape axis slice) (end_on shape axis slice)) (elem_picks Strict (slice_index shape axis) (elem_on axis slice))
+  pub within : All (IsBetween (start_on shape axis slice) (end_on shape axis slice))
+      (elem_picks Strict (slice_index shape axis) (elem_on axis slice))
 
 -- the range of the one ends before that of the other begins, or there
 pub record IsPast (shape : List ℕ) (axis : ℕ) (one other : List SliceInfoElem) : Type 0 where

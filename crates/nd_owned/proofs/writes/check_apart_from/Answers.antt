@@ -36,7 +36,8 @@ returns-then-elems_intersect g c =
       i,
       subst (λ other. IsSomeAnd other (λ w. Meet Strict c.args.shape.now slice w.slice))
           (sym (this_got write_of c.args.others.now i c.loop-other-test.true c.loop-other-item.is))
-          (subst (Meet Strict c.args.shape.now slice) c.as_slice-other.ensures.value (c.elems_intersect.ensures.0 c.if-elems_intersect.true)),
+          (subst (Meet Strict c.args.shape.now slice) c.as_slice-other.ensures.value
+          (c.elems_intersect.ensures.0 c.if-elems_intersect.true)),
     )
 
 pub loop-other-preserved : goal.loop-other-preserved

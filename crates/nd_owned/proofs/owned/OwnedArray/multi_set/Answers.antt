@@ -1,5 +1,5 @@
 -- The rows of the slices are such that their items can be written; what that leaves is what was asked for.
-use Rattle.std.proofs.Common.{◌≡◌, ◌++◌, None, [], length, map, take, drop, sym, subst, ◌∙◌, arith}
+use Rattle.std.proofs.Common.{◌≡◌, ◌++◌, None, [], ◌∷◌, length, map, take, drop, sym, subst, ◌∙◌, arith}
 use Rattle.std.proofs.lemmas.Bool.{eq-eqb, false≢true}
 use Rattle.std.proofs.lemmas.List.{take_at}
 use Rattle.std.proofs.lemmas.List.Elements.{All-head}
@@ -10,7 +10,9 @@ use Rattle.nd_owned.specs.private.Rows.{rows_places}
 use Rattle.nd_owned.specs.Writes.{HaveNoItems, IsFaultOfWrites, IsWritten, KeepsOthers, write_of}
 use Rattle.nd_owned.proofs.Faults.{handed_on, have_counts, no_fault}
 use Rattle.nd_owned.proofs.Slices.{all_distinct, all_written, at_places, on_ok, one_fault, one_kept, one_written, only, others_kept}
+use Rattle.nd_owned.proofs.owned.OwnedArray.multi_set.Given.{Over}
 use Rattle.nd_owned.proofs.owned.OwnedArray.multi_set.Goals as goal
+use Rattle.nd_owned.proofs.owned.OwnedArray.multi_set.Goals.{After-set_one}
 
 pub returns-in_err-rows-clause-fault : goal.returns-in_err-rows-clause-fault
 returns-in_err-rows-clause-fault g c =
@@ -68,33 +70,32 @@ returns-2-clause-kept g c =
     c.as_mut_slice.ensures.value kept))
 
 -- ---- one write alone
+alone : (g : Over) (c : After-set_one g) → c.args.writes.now ≡ c.write-item.result ∷ []
+alone g c = only c.args.writes.now (omega (arith, c.in-len1.len_at_least, c.in-len1.len_below)) c.write-item.is
+
 pub returns-clause-fault : goal.returns-clause-fault
 returns-clause-fault g c =
     let shape = c.args.self.now.view.shape in
-    let alone = only c.args.writes.now (omega (arith, c.in-len1.len_at_least, c.in-len1.len_below)) c.write-item.is in
-    subst (λ writes. IsFaultOfWrites shape (map write_of writes) (shape_fault c.set_one.result)) (sym alone)
+    subst (λ writes. IsFaultOfWrites shape (map write_of writes) (shape_fault c.set_one.result)) (sym (alone g c))
     (one_fault shape (write_of c.write-item.result) c.set_one.ensures.fault)
 
 pub returns-clause-memory : goal.returns-clause-memory
 returns-clause-memory g c = λ none no_items.
     let write = c.write-item.result in
-    let alone = only c.args.writes.now (omega (arith, c.in-len1.len_at_least, c.in-len1.len_below)) c.write-item.is in
     let empty : length write.1.items ≡ 0 =
-    All-head (λ one. length one.items ≡ 0) (write_of write) [] (subst (λ writes. HaveNoItems (map write_of writes)) alone no_items) in
+    All-head (λ one. length one.items ≡ 0) (write_of write) [] (subst (λ writes. HaveNoItems (map write_of writes)) (alone g c) no_items) in
     absurd (false≢true (sym c.if-not-is_empty.true ∙ c.is_empty.ensures ∙ eq-eqb write.1.len 0 (write.1.ok.0 ∙ empty)))
 
 pub returns-clause-written : goal.returns-clause-written
 returns-clause-written g c =
     let view = c.args.self.now.view in
-    let alone = only c.args.writes.now (omega (arith, c.in-len1.len_at_least, c.in-len1.len_below)) c.write-item.is in
     on_ok c.set_one.result
-    (λ left. subst (λ writes. All (IsWritten view c.set_one.new.self.items) (map write_of writes)) (sym alone)
+    (λ left. subst (λ writes. All (IsWritten view c.set_one.new.self.items) (map write_of writes)) (sym (alone g c))
     (one_written view (write_of c.write-item.result) left)) c.set_one.ensures.written
 
 pub returns-clause-kept : goal.returns-clause-kept
 returns-clause-kept g c =
     let array = c.args.self.now in
-    let alone = only c.args.writes.now (omega (arith, c.in-len1.len_at_least, c.in-len1.len_below)) c.write-item.is in
     on_ok c.set_one.result
-    (λ left. subst (λ writes. KeepsOthers array.view (map write_of writes) array.items c.set_one.new.self.items) (sym alone)
+    (λ left. subst (λ writes. KeepsOthers array.view (map write_of writes) array.items c.set_one.new.self.items) (sym (alone g c))
     (one_kept array.view (write_of c.write-item.result) left)) c.set_one.ensures.written
