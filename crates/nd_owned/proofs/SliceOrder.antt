@@ -1,7 +1,7 @@
 -- Slices along an axis: each index that a slice picks has its coordinate in the slice's range there, so slices whose ranges are apart
 -- share no index.
 use Rattle.std.proofs.Common.{◌≡◌, ℕ, zero, suc, ◌+◌, ◌-◌, ◌<◌, ◌≤◌, pos, max, None, Some, Option, List, [], ◌∷◌, ◌++◌, length, get_or, map}
-use Rattle.std.proofs.Common.{take, drop, sym, ap, subst, ◌∙◌, arith}
+use Rattle.std.proofs.Common.{inl, inr, ◌⊎◌, take, drop, sym, ap, subst, ◌∙◌, arith}
 use Rattle.std.specs.List.{All, AllZip, Contains}
 use Rattle.std.specs.Prelude.{IfSome, IsSomeAnd}
 use Rattle.std.proofs.lemmas.Grind.{get_or_default_zero}
@@ -19,6 +19,7 @@ use Rattle.ndarray_layout.specs.Signed.{magnitude}
 use Rattle.ndarray_layout.specs.SliceFault.{SliceFits}
 use Rattle.ndarray_layout.proofs.laws.ArgumentFault.{elements_of_no_fault}
 use Rattle.ndarray_layout.proofs.laws.Between.{between_above, between_below}
+use Rattle.ndarray_layout.proofs.laws.Meet.{meet_symmetric}
 use Rattle.ndarray_layout.proofs.laws.SliceFault.{step_moves}
 use Rattle.nd_owned.specs.private.Ranges.{AreInOrder, HasRange, IsBetween, IsPast, elem_on, end_on, start_on}
 use Rattle.nd_owned.specs.Writes.{Write, slices_fault}
@@ -96,6 +97,13 @@ module _ (shape : List ℕ) (axis : ℕ) where
       let low = picked_between one meet.0 first fit.0 meet.2 in
       let high = picked_between other meet.0 second fit.1 meet.3 in
       omega (arith, low.1, high.0)
+
+  -- whichever of them is past the other
+  pub apart_either : (one other : List SliceInfoElem) → IsPast shape axis one other ⊎ IsPast shape axis other one
+      → (argument_fault Strict shape one ≡ None) × (argument_fault Strict shape other ≡ None) → Meet Strict shape one other → ⊥
+  apart_either one other (inl past) fit meet = apart_on one other past.first past.second past.past fit meet
+  apart_either one other (inr past) fit meet =
+      apart_on other one past.first past.second past.past (fit.1, fit.0) (meet_symmetric Strict shape one other meet)
 
 -- slices in order, with none that begins after a number
 pub record SoFar {T : Type 0} (shape : List ℕ) (axis last : ℕ) (writes : List (Write T)) : Type 0 where

@@ -1,13 +1,14 @@
-//! Where slices lie along an axis, and whether they begin there in their order.
-ghost use Rattle.std.specs.Prelude.{◌≡◌, IfSome, IsTrue, map, slice_index};
+//! Where slices lie along an axis, whether they begin there in their order, and whether two share an index.
+ghost use Rattle.std.specs.Prelude.{◌≡◌, ◌↔◌, ◌⊎◌, ◌<◌, ◌^◌, None, IfSome, IsTrue, map};
 ghost use Rattle.std.specs.List.{All};
 ghost use Rattle.ndarray_layout.specs.declared.Fit.TheVariants.{Strict};
-ghost use Rattle.ndarray_layout.specs.Meet.{elem_picks};
+ghost use Rattle.ndarray_layout.specs.ArgumentFault.{argument_fault};
+ghost use Rattle.ndarray_layout.specs.Meet.{Meet, elem_picks};
 ghost use Rattle.nd_owned.specs.Writes.{write_of};
 ghost use Rattle.nd_owned.specs.private.Ranges.{AreInOrder, HasRange, IsBetween, IsPast, elem_end, elem_start, end_on, start_on};
 
 use crate::writes::SliceItems;
-use ndarray_layout::{Fit, Slice, SliceInfoElem, entry_of, to_abs_slice};
+use ndarray_layout::{Fit, Slice, SliceInfoElem, elems_intersect, entry_of, to_abs_slice};
 
 /// Where the range of an element begins on an axis, and what it stops before. `None` for a new axis, and for an element
 /// that doesn't fit.
@@ -61,6 +62,53 @@ pub(crate) fn is_past(
         (Some((_, end)), Some((start, _))) => end <= start,
         _ => false,
     }
+}
+
+/// Whether the ranges of two slices are apart on an axis.
+#[inline]
+fn ranges_are_apart(
+    shape: &[usize],
+    axis: usize,
+    slice: &[SliceInfoElem],
+    other: &[SliceInfoElem],
+) -> bool
+    ensures { IsTrue result → IsPast shape.now axis slice.now other.now
+        ⊎ IsPast shape.now axis other.now slice.now }
+{
+    match (range_on(shape, axis, slice), range_on(shape, axis, other)) {
+        (Some((start, end)), Some((other_start, other_end))) => {
+            end <= other_start || other_end <= start
+        }
+        _ => false,
+    }
+}
+
+/// Whether the ranges of two slices that fit a shape are apart on some axis. Then they share no index.
+fn have_ranges_apart(shape: &[usize], slice: &[SliceInfoElem], other: &[SliceInfoElem]) -> bool
+    requires fits { argument_fault Strict shape.now slice.now ≡ None }
+    requires other_fits { argument_fault Strict shape.now other.now ≡ None }
+    ensures { IsTrue result → ¬ Meet Strict shape.now slice.now other.now }
+{
+    for axis in 0..shape.len() {
+        if ranges_are_apart(shape, axis, slice, other) {
+            return true;
+        }
+    }
+    false
+}
+
+/// Whether two slices that fit a shape share an index. The ranges of all axes are compared before any equation of steps.
+pub(crate) fn share_an_index(
+    shape: &[usize],
+    slice: &[SliceInfoElem],
+    other: &[SliceInfoElem],
+) -> bool
+    requires lens_fit { All (λ len. len < 2 ^ 63) shape.now }
+    requires fits { argument_fault Strict shape.now slice.now ≡ None }
+    requires other_fits { argument_fault Strict shape.now other.now ≡ None }
+    ensures { IsTrue result ↔ Meet Strict shape.now slice.now other.now }
+{
+    !have_ranges_apart(shape, slice, other) && elems_intersect(shape, slice, other, Fit::Strict)
 }
 
 /// Whether no slice begins on an axis before an earlier one.

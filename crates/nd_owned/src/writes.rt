@@ -11,11 +11,10 @@ ghost use Rattle.nd_owned.specs.private.Checks.{IsIntersectionFaultOf};
 ghost use Rattle.nd_owned.specs.private.Ranges.{AreInOrder, IsPast};
 ghost use Rattle.nd_owned.specs.private.Rows.{AreRowsInside, HasWritten, rows_places};
 
-use crate::ranges::{axis_in_order, is_past};
+use crate::ranges::{axis_in_order, is_past, share_an_index};
 use crate::rows::{Rows, rows_of};
 use ndarray_layout::{
-    ErrorKind, Fit, LayoutError, Lengths, ShapeError, SliceInfoElem, Strided, elems_intersect,
-    from_kind,
+    ErrorKind, Fit, LayoutError, Lengths, ShapeError, SliceInfoElem, Strided, from_kind,
 };
 use std::alloc::Global;
 
@@ -101,7 +100,7 @@ fn check_apart_from<T: Copy>(
         if is_past_in_order(shape, in_order, slice, other) {
             return Ok(());
         }
-        if elems_intersect(shape, slice, other, Fit::Strict) {
+        if share_an_index(shape, slice, other) {
             return Err(from_kind(ErrorKind::Unsupported));
         }
     }

@@ -22,14 +22,14 @@ returns-then-is_past_in_order g c =
     (next write_of given i c.loop-other-test.true c.loop-other-item.is) c.requires.in_order past
     (c.requires.fits, c.loop-other.invariant.fit))
 
-pub elems_intersect-requires-clause-second_fits : goal.elems_intersect-requires-clause-second_fits
-elems_intersect-requires-clause-second_fits g c =
+pub share_an_index-requires-clause-other_fits : goal.share_an_index-requires-clause-other_fits
+share_an_index-requires-clause-other_fits g c =
     ap (argument_fault Strict c.args.shape.now) c.as_slice-other.ensures.value
     ∙ (next_fits write_of c.args.shape.now c.args.others.now c.loop-other.other-index c.loop-other-test.true c.loop-other-item.is
     c.loop-other.invariant.fit).0
 
-pub returns-then-elems_intersect : goal.returns-then-elems_intersect
-returns-then-elems_intersect g c =
+pub returns-then-share_an_index : goal.returns-then-share_an_index
+returns-then-share_an_index g c =
     let i = c.loop-other.other-index in
     let slice = c.args.slice.now in (
       c.from_kind.ensures,
@@ -37,7 +37,7 @@ returns-then-elems_intersect g c =
       subst (λ other. IsSomeAnd other (λ w. Meet Strict c.args.shape.now slice w.slice))
           (sym (this_got write_of c.args.others.now i c.loop-other-test.true c.loop-other-item.is))
           (subst (Meet Strict c.args.shape.now slice) c.as_slice-other.ensures.value
-          (c.elems_intersect.ensures.0 c.if-elems_intersect.true)),
+          (c.share_an_index.ensures.0 c.if-share_an_index.true)),
     )
 
 pub loop-other-preserved : goal.loop-other-preserved
@@ -49,7 +49,7 @@ loop-other-preserved g c =
     record {
       apart = all_more (λ other. Meet Strict shape slice other.slice → ⊥) others
           (next write_of c.args.others.now i c.loop-other-test.true c.loop-other-item.is)
-          (λ meet. false≢true (sym c.if-elems_intersect.false ∙ c.elems_intersect.ensures.1
+          (λ meet. false≢true (sym c.if-share_an_index.false ∙ c.share_an_index.ensures.1
           (subst (Meet Strict shape slice) (sym c.as_slice-other.ensures.value) meet))) c.loop-other.invariant.apart;
       fit = (next_fits write_of shape c.args.others.now i c.loop-other-test.true c.loop-other-item.is c.loop-other.invariant.fit).1;
     }
