@@ -81,6 +81,17 @@ unsafe extern "C" {
         len: usize,
         passes: usize,
     ) -> usize;
+    fn bench_ffi_iter_places(
+        kind: usize,
+        reads: usize,
+        dim: N,
+        n: usize,
+        strides: N,
+        m: usize,
+        data: *const u8,
+        l: usize,
+        passes: usize,
+    ) -> usize;
     fn bench_ffi_reshape(
         kind: usize,
         by_columns: usize,
@@ -180,6 +191,12 @@ pub fn slice(t: &Lists, elems: &[RawElem], passes: usize) -> usize {
 }
 pub fn places(rows: usize, columns: usize, strides: [usize; 2], len: usize, passes: usize) -> usize {
     unsafe { bench_ffi_places(rows, columns, strides[0], strides[1], len, passes) }
+}
+pub fn iter_places(kind: usize, reads: bool, [d, s]: [&[usize]; 2], data: &[u8], passes: usize) -> usize {
+    let reads = reads as usize;
+    unsafe {
+        bench_ffi_iter_places(kind, reads, d.as_ptr(), d.len(), s.as_ptr(), s.len(), data.as_ptr(), data.len(), passes)
+    }
 }
 pub fn indices_two(by_columns: bool, shape: [usize; 2], passes: usize) -> usize {
     unsafe { bench_ffi_indices_two(by_columns as usize, shape[0], shape[1], passes) }

@@ -163,6 +163,27 @@ fn of_runs_and_arrays() -> Vec<Row> {
     rows
 }
 
+/// Loops over the places of a view, each beside two others: nested loops by hand, and ndarray's steps from index to index.
+fn of_place_iterators() -> Vec<Row> {
+    const LISTS: [&[usize]; 2] = [&[1000, 1000], &[1000, 1]];
+    let data = kept((0..PLACES).map(|at| at as u8).collect::<Vec<u8>>());
+    let mut rows = vec![];
+    for (name, kind) in [("Ix2", 2), ("IxDyn", 0)] {
+        for (how, reads) in [("mixed", false), ("read", true)] {
+            for (beside, hand) in [("by hand", true), ("next_for", false)] {
+                let way = theirs::PlacesWay { hand, reads, kind };
+                rows.push(row(
+                    format!("iter_places {name} 1000x1000 beside {beside} *, {how}, a place"),
+                    PLACES,
+                    move |n| theirs::iter_places(way, LISTS, data, n),
+                    move |n| ours::iter_places(kind, reads, LISTS, data, n),
+                ));
+            }
+        }
+    }
+    rows
+}
+
 /// Iterators over all indices of a shape, and all places of a view.
 fn of_iterators() -> Vec<Row> {
     let mut rows = vec![];
@@ -192,8 +213,14 @@ fn of_iterators() -> Vec<Row> {
 }
 
 pub fn all() -> Vec<Row> {
-    [of_layouts(), of_shapes(), of_slices(), of_reshapes_and_intersections(), of_runs_and_arrays(), of_iterators()]
-        .into_iter()
-        .flatten()
-        .collect()
+    let groups = [
+        of_layouts(),
+        of_shapes(),
+        of_slices(),
+        of_reshapes_and_intersections(),
+        of_runs_and_arrays(),
+        of_iterators(),
+        of_place_iterators(),
+    ];
+    groups.into_iter().flatten().collect()
 }
