@@ -40,10 +40,10 @@ begun_by_magic format words rest line word first magic = record {
 }
 
 -- ---- the words after it
-number_more : (format : Format) (all rest : List NumberedWord) (numbers : List ℕ) (line n : ℕ) (word : List ℕ)
+number_more : {format : Format} {all rest : List NumberedWord} {numbers : List ℕ} {line n : ℕ} {word : List ℕ}
     → BeginWith format all numbers ((line, word) ∷ rest) → number_of word ≡ Some n → MayFollow format numbers n
     → BeginWith format all (numbers ++ n ∷ []) rest
-number_more format all rest numbers line n word begun spells follows = record {
+number_more {format} {all} {rest} {numbers} {line} {n} {word} begun spells follows = record {
   line = begun.line;
   spelled = begun.spelled ++ (line, word) ∷ [];
   parts = begun.parts
@@ -54,45 +54,36 @@ number_more format all rest numbers line n word begun spells follows = record {
   allowed = allowed_more format numbers n begun.allowed follows;
 }
 
-pub one_more : (format : Format) (all words rest : List NumberedWord) (numbers : List ℕ) (line n : ℕ) (word : List ℕ) (bounds : Bounds)
-    → BeginWith format all numbers words → next_number format numbers ≡ Some bounds
-    → words ≡ (line, word) ∷ rest → number_of word ≡ Some n → IsBetween bounds n → BeginWith format all (numbers ++ n ∷ []) rest
-one_more format all words rest numbers line n word bounds begun expected first spells between =
-    number_more format all rest numbers line n word (subst (λ (left : List NumberedWord). BeginWith format all numbers left) first begun)
-    spells (rw expected between)
+module _ {format : Format} {all words : List NumberedWord} {numbers : List ℕ} (begun : BeginWith format all numbers words) where
+  -- the words left are these
+  left_are : {left : List NumberedWord} → words ≡ left → BeginWith format all numbers left
+  left_are is = subst (λ (left : List NumberedWord). BeginWith format all numbers left) is begun
 
-pub no_number : (format : Format) (all words rest : List NumberedWord) (numbers : List ℕ) (line : ℕ) (word : List ℕ) (bounds : Bounds)
-    → BeginWith format all numbers words → next_number format numbers ≡ Some bounds
-    → words ≡ (line, word) ∷ rest → ((n : ℕ) → number_of word ≡ Some n → ¬ (IsBetween bounds n)) → HasNoNumber all line bounds
-no_number format all words rest numbers line word bounds begun expected first other = record {
-  format = format;
-  numbers = numbers;
-  word = word;
-  rest = rest;
-  begun = subst (λ (left : List NumberedWord). BeginWith format all numbers left) first begun;
-  expected = expected;
-  other = other;
-}
+  module _ {bounds : Bounds} (expected : next_number format numbers ≡ Some bounds) where
+    pub one_more : {rest : List NumberedWord} {line n : ℕ} {word : List ℕ} → words ≡ (line, word) ∷ rest → number_of word ≡ Some n
+        → IsBetween bounds n → BeginWith format all (numbers ++ n ∷ []) rest
+    one_more first spells between = number_more (left_are first) spells (rw expected between)
 
-pub unfinished : (format : Format) (all words : List NumberedWord) (numbers : List ℕ) (bounds : Bounds)
-    → BeginWith format all numbers words → next_number format numbers ≡ Some bounds → words ≡ [] → IsFaultOfWords all Ended
-unfinished format all words numbers bounds begun expected none = inr (record {
-  format = format;
-  numbers = numbers;
-  bounds = bounds;
-  begun = subst (λ (left : List NumberedWord). BeginWith format all numbers left) none begun;
-  expected = expected;
-})
+    pub no_number : {rest : List NumberedWord} {line : ℕ} {word : List ℕ} → words ≡ (line, word) ∷ rest
+        → ((n : ℕ) → number_of word ≡ Some n → ¬ (IsBetween bounds n)) → HasNoNumber all line bounds
+    no_number {rest} {line} {word} first other = record {
+      format = format;
+      numbers = numbers;
+      word = word;
+      rest = rest;
+      begun = left_are first;
+      expected = expected;
+      other = other;
+    }
 
-pub goes_on : (all words rest : List NumberedWord) (numbers : List ℕ) (line : ℕ) (word : List ℕ) → BeginWith Plain all numbers words
+    pub unfinished : words ≡ [] → IsFaultOfWords all Ended
+    unfinished none =
+        inr (record { format = format; numbers = numbers; bounds = bounds; begun = left_are none; expected = expected })
+
+pub goes_on : {all words rest : List NumberedWord} {numbers : List ℕ} {line : ℕ} {word : List ℕ} → BeginWith Plain all numbers words
     → next_number Plain numbers ≡ None → words ≡ (line, word) ∷ rest → GoesOn all line
-goes_on all words rest numbers line word begun complete first = record {
-  numbers = numbers;
-  word = word;
-  rest = rest;
-  begun = subst (λ (left : List NumberedWord). BeginWith Plain all numbers left) first begun;
-  complete = complete;
-}
+goes_on {rest} {numbers} {word} begun complete first =
+    record { numbers = numbers; word = word; rest = rest; begun = left_are begun first; complete = complete }
 
 -- ---- the pixels
 pub pixel_next : (columns rows white : ℕ) (pixels : List ℕ) → length pixels < rows * columns → next_number Plain
@@ -104,12 +95,12 @@ pub none_next : (columns rows white : ℕ) (pixels : List ℕ) → rows * column
 none_next columns rows white pixels all = rw (le-ltb (length pixels) (rows * columns) all) refl
 
 -- ---- the header of a binary picture
-pub header_of_numbers : (text after_magic after_columns after_rows rest : List ℕ) (columns rows white : ℕ)
+pub header_of_numbers : {text after_magic after_columns after_rows rest : List ℕ} {columns rows white : ℕ}
     → StandsFirst text (magic_of Binary) after_magic → StandsNumber after_magic columns after_columns
-    → StandsNumber after_columns rows after_rows → StandsNumber after_rows white rest → IsBetween
-    (record { least = 1; greatest = greatest_white Binary }) white
+    → StandsNumber after_columns rows after_rows → StandsNumber after_rows white rest
+    → IsBetween (record { least = 1; greatest = greatest_white Binary }) white
     → HasHeader text (record { rows = rows; columns = columns }) white rest
-header_of_numbers text after_magic after_columns after_rows rest columns rows white magic first second third allowed = record {
+header_of_numbers {after_magic} {after_columns} {after_rows} {rest} magic first second third allowed = record {
   words = first.word ∷ second.word ∷ third.word ∷ [];
   first = (after_magic, magic, (after_columns, first.first, (after_rows, second.first, (rest, third.first, refl))));
   spell = rw (first.spells, second.spells, third.spells) refl;

@@ -23,8 +23,8 @@ pub by_first : (text rest : List ℕ) → 1 ≤ length text → rest ≡ drop 1 
 by_first [] rest some is = absurd (omega arith)
 by_first (b ∷ text) rest some is = ap (λ (others : List ℕ). b ∷ others) (sym is)
 
-gap_and : (initial text rest piece : List ℕ) → HasGap initial text → text ≡ piece ++ rest → IsGap piece → HasGap initial rest
-gap_and initial text rest piece has is is_gap = record {
+gap_and : {initial text rest piece : List ℕ} → HasGap initial text → text ≡ piece ++ rest → IsGap piece → HasGap initial rest
+gap_and {rest} {piece} has is is_gap = record {
   gap = has.gap ++ piece;
   parts = has.parts ∙ ap (λ (others : List ℕ). has.gap ++ others) is ∙ sym (append_assoc has.gap piece rest);
   is_gap = IsGap-append has.is_gap is_gap;
@@ -42,18 +42,17 @@ words_after_comment number text tail rest is (inl has) =
 words_after_comment number text tail rest is (inr (plain, empty)) =
     ap (words_from (number + 1)) empty ∙ sym (ap (words_from number) is ∙ words_from-last_comment number tail plain)
 
-pub gap_after_comment : (initial text tail rest : List ℕ) → HasGap initial text → text ≡ 35 ∷ tail → IsAfterLine tail rest
+pub gap_after_comment : {initial text tail rest : List ℕ} → HasGap initial text → text ≡ 35 ∷ tail → IsAfterLine tail rest
     → 0 < length rest → HasGap initial rest
-gap_after_comment initial text tail rest has is (inl line) some =
-    gap_and initial text rest (35 ∷ line.line ++ line_feed ∷ []) has
-    (is ∙ ap (λ (others : List ℕ). 35 ∷ others) (line.parts ∙ sym (append_assoc line.line (line_feed ∷ []) rest)))
+gap_after_comment {rest} has is (inl line) some =
+    gap_and has (is ∙ ap (λ (others : List ℕ). 35 ∷ others) (line.parts ∙ sym (append_assoc line.line (line_feed ∷ []) rest)))
     (comment line.line [] line.plain none)
-gap_after_comment initial text tail rest has is (inr (plain, empty)) some = absurd (omega (arith, ap length empty))
+gap_after_comment has is (inr (plain, empty)) some = absurd (omega (arith, ap length empty))
 
 -- ---- white space
-pub words_after_blank : (number more b : ℕ) (text rest : List ℕ) → text ≡ b ∷ rest → is_ascii_whitespace b ≡ true
+pub words_after_blank : {b : ℕ} {text rest : List ℕ} (number more : ℕ) → text ≡ b ∷ rest → is_ascii_whitespace b ≡ true
     → more ≡ bool_byte (eqb b 10) → words_from (number + more) rest ≡ words_from number text
-words_after_blank number more b text rest is white lines = elim (cases_Bool (eqb b 10)) [
+words_after_blank {b} {rest} number more is white lines = elim (cases_Bool (eqb b 10)) [
   | inl same ↦
       let one : more ≡ 1 = lines ∙ rw same refl in
       let first : b ≡ 10 = eqb-true b 10 same in
@@ -70,18 +69,18 @@ byte_small false = lit≤ tt
 pub one_line : (more b : ℕ) → more ≡ bool_byte (eqb b 10) → more ≤ 1
 one_line more b lines = omega (arith, lines, byte_small (eqb b 10))
 
-pub gap_after_blank : (initial text rest : List ℕ) (b : ℕ) → HasGap initial text → text ≡ b ∷ rest → is_ascii_whitespace b ≡ true
+pub gap_after_blank : {initial text rest : List ℕ} {b : ℕ} → HasGap initial text → text ≡ b ∷ rest → is_ascii_whitespace b ≡ true
     → HasGap initial rest
-gap_after_blank initial text rest b has is white = gap_and initial text rest (b ∷ []) has is (blank white none)
+gap_after_blank has is white = gap_and has is (blank white none)
 
 pub no_gap : (text : List ℕ) → HasGap text text
 no_gap text = record { gap = []; parts = refl; is_gap = none }
 
 -- ---- a word
-pub word_taken : (text skipped : TextLeft) (word rest : List ℕ) → IsSkipped text skipped → skipped.bytes ≡ word ++ rest
+pub word_taken : {text skipped : TextLeft} {word rest : List ℕ} → IsSkipped text skipped → skipped.bytes ≡ word ++ rest
     → All (λ b. ends_word b ≡ false) word → IsApart rest → 0 < length word
     → IsTaken text (skipped.number, word) (record { number = skipped.number; bytes = rest })
-word_taken text skipped word rest is parts plain apart some =
+word_taken {skipped} {word} {rest} is parts plain apart some =
     let is_word : IsWord word = record { some = some; plain = plain } in
     let has = is.gap (omega (arith, ap length parts, length-append word rest)) in
     record {
@@ -99,8 +98,8 @@ none_taken : (number : ℕ) (bytes : List ℕ) → IsAtWord bytes → IsApart by
 none_taken number [] at apart = refl
 none_taken number (b ∷ bytes) at apart = absurd (let both : true ≡ false = sym apart ∙ at in cc)
 
-pub no_word : (text skipped : TextLeft) (word rest : List ℕ) → IsSkipped text skipped → skipped.bytes ≡ word ++ rest → IsApart rest
+pub no_word : {text skipped : TextLeft} (word rest : List ℕ) → IsSkipped text skipped → skipped.bytes ≡ word ++ rest → IsApart rest
     → length word ≡ 0 → words_left text ≡ []
-no_word text skipped [] rest is parts apart empty = sym is.words
-    ∙ none_taken skipped.number skipped.bytes is.at_word (subst IsApart (sym parts) apart)
-no_word text skipped (b ∷ word) rest is parts apart empty = absurd (omega arith)
+no_word {skipped} [] rest is parts apart empty =
+    sym is.words ∙ none_taken skipped.number skipped.bytes is.at_word (subst IsApart (sym parts) apart)
+no_word (b ∷ word) rest is parts apart empty = absurd (omega arith)

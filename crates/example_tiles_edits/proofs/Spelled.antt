@@ -20,7 +20,7 @@ spell_more words left [] edit taken spell first = (taken, ap edit_first spell �
 spell_more words left (e ∷ edits) edit taken spell first =
     (spell.0, spell.1, spell_more (drop spell.0 words) left edits edit taken spell.2 first)
 
-pub one_more : (words : List (List ℕ)) (edits : List Edit) (at taken : ℕ) (edit : Edit) → Spell words edits (drop at words)
+one_more : (words : List (List ℕ)) (edits : List Edit) (at taken : ℕ) (edit : Edit) → Spell words edits (drop at words)
     → edit_first (drop at words) ≡ Some (edit, taken) → Spell words (edits ++ edit ∷ []) (drop (at + taken) words)
 one_more words edits at taken edit spell first =
     subst (Spell words (edits ++ edit ∷ [])) (drop-drop taken at words) (spell_more words (drop at words) edits edit taken spell first)
@@ -31,34 +31,32 @@ begins : (words left : List (List ℕ)) (edits : List Edit) (found : Edit × ℕ
 begins words left [] found spell first = ap is_some (ap edit_first spell ∙ first)
 begins words left (e ∷ edits) found spell first = ap is_some spell.1
 
-pub begins_with : (words : List (Bor (List ℕ))) (edits : List Edit) (at : ℕ) (first : Edit × ℕ) (found : Option (Edit × ℕ))
-    → Spell (map (λ word. word.now) words) edits (drop at (map (λ word. word.now) words))
-    → found ≡ edit_first (map (λ word. word.now) (drop at words)) → found ≡ Some first → IsSome (edit_first (map (λ word. word.now) words))
-begins_with words edits at first found spell read is =
-    begins (map (λ word. word.now) words) (drop at (map (λ word. word.now) words)) edits first spell
-    (ap edit_first (drop-map (λ (word : Bor (List ℕ)). word.now) at words) ∙ sym read ∙ is)
+-- ---- the words from one on
+abbrev bytes_of : List (Bor (List ℕ)) → List (List ℕ)
+bytes_of words = map (λ word. word.now) words
 
--- ---- the word that can't be read
-pub stopped_at : (words : List (Bor (List ℕ))) (edits : List Edit) (at : ℕ) (found : Option (Edit × ℕ))
-    → Spell (map (λ word. word.now) words) edits (drop at (map (λ word. word.now) words)) → at < length words
-    → found ≡ edit_first (map (λ word. word.now) (drop at words)) → found ≡ None → IsUnreadable (map (λ word. word.now) words) (at + 1)
-stopped_at words edits at found spell below read none =
-    record {
-      before = at;
-      next = refl;
-      edits = edits;
-      spelled = spell;
-      within = rw (length-map words (λ (word : Bor (List ℕ)). word.now)) below;
-      none = ap edit_first (drop-map (λ (word : Bor (List ℕ)). word.now) at words) ∙ sym read ∙ none;
-    }
+module _ (words : List (Bor (List ℕ))) (edits : List Edit) (at : ℕ) {found : Option (Edit × ℕ)}
+    (spell : Spell (bytes_of words) edits (drop at (bytes_of words))) (read : found ≡ edit_first (bytes_of (drop at words))) where
+  first_is : edit_first (drop at (bytes_of words)) ≡ found
+  first_is = ap edit_first (drop-map (λ (word : Bor (List ℕ)). word.now) at words) ∙ sym read
 
-pub read_more : (words : List (Bor (List ℕ))) (edits : List Edit) (at taken : ℕ) (edit : Edit) (found : Option (Edit × ℕ))
-    → Spell (map (λ word. word.now) words) edits (drop at (map (λ word. word.now) words))
-    → found ≡ edit_first (map (λ word. word.now) (drop at words)) → found ≡ Some (edit, taken)
-    → Spell (map (λ word. word.now) words) (edits ++ edit ∷ []) (drop (at + taken) (map (λ word. word.now) words))
-read_more words edits at taken edit found spell read is =
-    one_more (map (λ word. word.now) words) edits at taken edit spell
-    (ap edit_first (drop-map (λ (word : Bor (List ℕ)). word.now) at words) ∙ sym read ∙ is)
+  pub begins_with : {first : Edit × ℕ} → found ≡ Some first → IsSome (edit_first (bytes_of words))
+  begins_with {first} is = begins (bytes_of words) (drop at (bytes_of words)) edits first spell (first_is ∙ is)
+
+  -- the word that can't be read
+  pub stopped_at : at < length words → found ≡ None → IsUnreadable (bytes_of words) (at + 1)
+  stopped_at below none = record {
+    before = at;
+    next = refl;
+    edits = edits;
+    spelled = spell;
+    within = rw (length-map words (λ (word : Bor (List ℕ)). word.now)) below;
+    none = first_is ∙ none;
+  }
+
+  pub read_more : {edit : Edit} {taken : ℕ} → found ≡ Some (edit, taken)
+      → Spell (bytes_of words) (edits ++ edit ∷ []) (drop (at + taken) (bytes_of words))
+  read_more {edit} {taken} is = one_more (bytes_of words) edits at taken edit spell (first_is ∙ is)
 
 -- ---- the parts of a word at its first dot
 pub span_without : (word : List ℕ) → position is_dot word ≡ None → span_of word ≡ None
@@ -96,8 +94,8 @@ second_dot : (start : Option ℕ) (rest : List ℕ) → is_dot (get_or rest 0 0)
 second_dot start [] h = absurd (cc)
 second_dot start (b ∷ rest) h = rw h refl
 
-pub two_dots : (word : List ℕ) (at : ℕ) (start end : Option ℕ) → position is_dot word ≡ Some at → get_or (drop (at + 1) word) 0 0 ≡ 46
+pub two_dots : {at : ℕ} {start end : Option ℕ} (word : List ℕ) → position is_dot word ≡ Some at → get_or (drop (at + 1) word) 0 0 ≡ 46
     → start ≡ number_of (take at word) → end ≡ number_of (drop 1 (drop (at + 1) word))
     → span_of word ≡ both (λ first last. record { start = first; end = last }) start end
-two_dots word at start end e h s n =
+two_dots {at} word e h s n =
     rw (s, n) (span_at word at e ∙ second_dot (number_of (take at word)) (drop (at + 1) word) (ap is_dot h))

@@ -172,10 +172,16 @@ swapped zero (suc (suc column)) below left = absurd (not-suc-le-zero (le_of_suc-
 swapped (suc row) column below left = absurd (not-suc-le-zero (le_of_suc-le-suc below))
 
 pair_mirrored : IsEdited (Mirror 1 ∷ []) (pair 7 4) (pair 4 7)
-pair_mirrored = record { extent = refl; greatest = refl; pixels = λ at within. swapped at.row at.column within.row_below within.column_below }
+pair_mirrored = record {
+  extent = refl;
+  greatest = refl;
+  pixels = λ at within. swapped at.row at.column within.row_below within.column_below;
+}
 
 pair_as_it_was : IsEdited (Mirror 1 ∷ []) (pair 7 4) (pair 7 4) → ⊥
-pair_as_it_was is = both_ways (nat_eq 7 4) refl (eq-eqb 7 4 (ap (λ pixel. unwrap_or pixel 0) (is.pixels (record { row = 0; column = 0 }) (record { row_below = lit< tt; column_below = lit< tt }))))
+pair_as_it_was is =
+    let first = is.pixels (record { row = 0; column = 0 }) (record { row_below = lit< tt; column_below = lit< tt }) in
+    both_ways (nat_eq 7 4) refl (eq-eqb 7 4 (ap (λ pixel. unwrap_or pixel 0) first))
 
 pair_cut_off : IsEdited [] (pair 7 4) (record { extent = record { rows = 1; columns = 1 }; greatest = 9; pixels = 7 ∷ [] }) → ⊥
 pair_cut_off is = both_ways (nat_eq 1 2) refl (eq-eqb 1 2 (ap (λ (extent : Extent). extent.columns) is.extent))

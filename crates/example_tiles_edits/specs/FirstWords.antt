@@ -88,7 +88,9 @@ pub record IsTaken (text : TextLeft) (word : NumberedWord) (left : TextLeft) : T
 
 -- examples
 gap_of_three : IsGap (codes " # a\n\t")
-gap_of_three = blank refl (comment (codes " a") (codes "\t") (All-from_recursion (λ b. (b == line_feed) ≡ false) (codes " a") (refl, (refl, tt))) (blank refl none))
+gap_of_three =
+    let one_line = All-from_recursion (λ b. (b == line_feed) ≡ false) (codes " a") (refl, (refl, tt)) in
+    blank refl (comment (codes " a") (codes "\t") one_line (blank refl none))
 
 word_of_two : IsWord (codes "P2")
 word_of_two = record { some = lit< tt; plain = All-from_recursion (λ b. ends_word b ≡ false) (codes "P2") (refl, (refl, tt)) }

@@ -1,5 +1,6 @@
 -- The parts of a picture that is cut into so many by so many, and the mirrored pixels that are to be written at each.
-use Rattle.std.specs.Prelude.{◌≡◌, ℕ, ◌+◌, ◌*◌, ◌/◌, ◌%◌, pos, negsuc, nat_eq, Option, Some, List, [], ◌∷◌, length, map, slice_index_or, unwrap_or, refl}
+use Rattle.std.specs.Prelude.{◌≡◌, ℕ, ◌+◌, ◌*◌, ◌/◌, ◌%◌, pos, negsuc, nat_eq, Option, Some, List, [], ◌∷◌, length, map}
+use Rattle.std.specs.Prelude.{slice_index_or, unwrap_or, refl}
 use Rattle.std.specs.List.{AllZip, range_with_len}
 use Rattle.std.proofs.Common.{ap, eq-eqb}
 use Rattle.std.proofs.lemmas.Bool.{both_ways}
@@ -22,7 +23,10 @@ part_span len count number = record { start = len / count * number; end = len / 
 
 -- the part of a number, counted from 0 along the rows of parts
 abbrev pub part_of : Extent → ℕ → ℕ → Part
-part_of extent count number = record { rows = part_span extent.rows count (number / count); columns = part_span extent.columns count (number % count) }
+part_of extent count number = record {
+  rows = part_span extent.rows count (number / count);
+  columns = part_span extent.columns count (number % count);
+}
 
 -- what a part picks of the rows and of the columns
 abbrev pub elements_of_part : Part → List SliceInfoElem

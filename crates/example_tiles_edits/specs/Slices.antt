@@ -111,5 +111,5 @@ place_left_out are = both_ways (nat_eq 1 2) refl (eq-eqb 1 2 are.complete)
 
 flip_left_out : ArePlaces (FlipColumns ∷ []) pair (0 ∷ 1 ∷ []) → ⊥
 flip_left_out are =
-    both_ways (nat_eq 0 1) refl
-    (eq-eqb 0 1 (ap (λ place. unwrap_or place 0) (are.from_source (record { row = 0; column = 0 }) (record { row_below = lit< tt; column_below = lit< tt }))))
+    let first = are.from_source (record { row = 0; column = 0 }) (record { row_below = lit< tt; column_below = lit< tt }) in
+    both_ways (nat_eq 0 1) refl (eq-eqb 0 1 (ap (λ place. unwrap_or place 0) first))

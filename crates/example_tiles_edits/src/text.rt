@@ -1,10 +1,17 @@
 //! The words of a text, one after another, each with the number of its line, and the numbers that they spell.
-ghost use Rattle.std.specs.Prelude.{◌≡◌, [], ◌++◌, false, MatchOption};
-ghost use Rattle.std.specs.List.{All};
+ghost use Rattle.std.specs.Prelude.{◌≡◌, ◌==◌, [], ◌++◌, false, MatchOption};
+ghost use Rattle.std.specs.List.{All, position};
 ghost use Rattle.example_tiles_edits.specs.FirstWords.{IsAfterLine, IsApart, IsSkipped, IsTaken, ends_word, words_left};
 ghost use Rattle.example_tiles_edits.specs.Numbers.{number_of};
 
 use std::marker::Model;
+
+/// The index of the first byte that is this one; `None` where none is.
+pub(crate) fn position_of(bytes: &[u8], byte: u8) -> Option<usize>
+    ensures { result ≡ position (λ b. b == byte) bytes.now }
+{
+    bytes.iter().position(|b| *b == byte)
+}
 
 /// The number of one digit or more, and nothing else; `None` where the word spells no such number, or one that no `u32` is.
 pub(crate) fn number(word: &[u8]) -> Option<u32>
@@ -67,7 +74,7 @@ fn split_word(text: &[u8]) -> (&[u8], &[u8])
 fn after_line(text: &[u8]) -> &[u8]
     ensures { IsAfterLine text.now result.now }
 {
-    match text.iter().position(|byte| *byte == b'\n') {
+    match position_of(text, b'\n') {
         Some(at) => &text[at + 1..],
         None => &[],
     }

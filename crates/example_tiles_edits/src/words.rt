@@ -3,7 +3,7 @@ ghost use Rattle.std.specs.Prelude.{◌≡◌, ◌<◌, ◌≤◌, [], length, m
 ghost use Rattle.example_tiles_edits.specs.EditWords.{IsRefusedBy, Spell, edit_first, flip_of, span_of};
 
 use crate::edits::edit::{Edit, Span};
-use crate::text::number;
+use crate::text::{number, position_of};
 use std::alloc::{AllocFailed, Global};
 use thiserror::Error;
 
@@ -32,7 +32,7 @@ impl<T: Drop> From<AllocFailed<T>> for WordsError {
 fn span(word: &[u8]) -> Option<Span>
     ensures { result ≡ span_of word.now }
 {
-    let at = word.iter().position(|b| *b == b'.')?;
+    let at = position_of(word, b'.')?;
     let [second, end @ ..] = &word[at + 1..] else {
         return None;
     };

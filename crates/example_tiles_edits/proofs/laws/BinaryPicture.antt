@@ -14,7 +14,7 @@ use Rattle.example_tiles_edits.specs.picture.BinaryPicture.{HasHeader, IsFaultOf
 use Rattle.example_tiles_edits.specs.Numbers.{number_of}
 use Rattle.example_tiles_edits.specs.picture.Picture.{Image, pixel_count}
 use Rattle.example_tiles_edits.specs.picture.PictureWords.{magic_of}
-use Rattle.example_tiles_edits.proofs.Raster.{IsLeast, cut_off, is_above, pixels_there, too_white}
+use Rattle.example_tiles_edits.proofs.Raster.{IsLeast, IsRaster, cut_off, is_above, pixels_there, too_white}
 use Rattle.example_tiles_edits.proofs.laws.FirstWords.{same_words_first}
 
 -- ---- one header
@@ -31,13 +31,13 @@ same_extent : (extent other : Extent) → extent.rows ≡ other.rows → extent.
 unfolding extent_by
 same_extent extent other rows columns = ap (λ (n : ℕ). extent_by n extent.columns) rows ∙ ap (extent_by other.rows) columns
 
-pub same_header : (text : List ℕ) (extent other : Extent) (white another : ℕ) (rest others : List ℕ) → HasHeader text extent white rest
+pub same_header : {text : List ℕ} {extent other : Extent} {white another : ℕ} {rest others : List ℕ} → HasHeader text extent white rest
     → HasHeader text other another others → SameHeader extent other white another rest others
-same_header text extent other white another rest others one two =
+same_header {text} {extent} {other} {rest} {others} one two =
     let count : length one.words ≡ length two.words =
     omega (arith, length-map one.words number_of, length-map two.words number_of, ap length one.spell, ap length two.spell) in
     let words =
-    same_words_first text (magic_of Binary ∷ one.words) (magic_of Binary ∷ two.words) rest others (omega arith) one.first two.first in
+    same_words_first text (magic_of Binary ∷ one.words) (magic_of Binary ∷ two.words) (omega arith) one.first two.first in
     let spelled : one.words ≡ two.words = (let all = words.0 in cc) in
     let numbers = sym one.spell ∙ ap (map number_of) spelled ∙ two.spell in
     record { extents = same_extent extent other (cc) (cc); whites = cc; rests = words.1 }
@@ -62,18 +62,18 @@ fault_of_short (suc count) white number (b ∷ bytes) dark fewer =
     rw (le-ltb white b (All-head (λ pixel. pixel ≤ white) b bytes dark))
     (fault_of_short count white (number + 1) bytes (All-tail (λ pixel. pixel ≤ white) b bytes dark) (omega arith))
 
-fault_of_too_white : (count white number pixel : ℕ) (before rest : List ℕ) → All (λ pixel. pixel ≤ white) before → length before < count
-    → white < pixel
-    → raster_fault count white number (before ++ pixel ∷ rest) ≡ Some (TooWhite (number + length before) white)
-fault_of_too_white zero white number pixel before rest dark within above = absurd (omega arith)
-fault_of_too_white (suc count) white number pixel [] rest dark within above =
-    let same : number + 0 ≡ number = omega arith in
-    rw (lt-ltb white pixel above) (ap (λ (n : ℕ). Some (TooWhite n white)) (sym same))
-fault_of_too_white (suc count) white number pixel (b ∷ before) rest dark within above =
-    let same : number + 1 + length before ≡ number + suc (length before) = omega arith in
-    rw (le-ltb white b (All-head (λ pixel. pixel ≤ white) b before dark))
-    (fault_of_too_white count white (number + 1) pixel before rest (All-tail (λ pixel. pixel ≤ white) b before dark) (omega arith) above ∙
-    ap (λ (n : ℕ). Some (TooWhite n white)) same)
+module _ (white pixel : ℕ) (rest : List ℕ) (above : white < pixel) where
+  fault_of_too_white : (count number : ℕ) (before : List ℕ) → All (λ pixel. pixel ≤ white) before → length before < count
+      → raster_fault count white number (before ++ pixel ∷ rest) ≡ Some (TooWhite (number + length before) white)
+  fault_of_too_white zero number before dark within = absurd (omega arith)
+  fault_of_too_white (suc count) number [] dark within =
+      let same : number + 0 ≡ number = omega arith in
+      rw (lt-ltb white pixel above) (ap (λ (n : ℕ). Some (TooWhite n white)) (sym same))
+  fault_of_too_white (suc count) number (b ∷ before) dark within =
+      let same : number + 1 + length before ≡ number + suc (length before) = omega arith in
+      rw (le-ltb white b (All-head (λ pixel. pixel ≤ white) b before dark))
+      (fault_of_too_white count (number + 1) before (All-tail (λ pixel. pixel ≤ white) b before dark) (omega arith) ∙
+      ap (λ (n : ℕ). Some (TooWhite n white)) same)
 
 no_fault_of_pixels : (count white number : ℕ) (pixels others : List ℕ) → All (λ pixel. pixel ≤ white) pixels → length pixels ≡ count
     → raster_fault count white number (pixels ++ others) ≡ None
@@ -114,7 +114,7 @@ after_header text (TooWhite number white) f =
       white = white;
       rest = f.space ∷ f.before ++ f.pixel ∷ f.rest;
       header = f.header;
-      is = rw f.blank (sym (fault_of_too_white (pixel_count f.extent) white 1 f.pixel f.before f.rest f.in_range f.within f.above ∙ ap
+      is = rw f.blank (sym (fault_of_too_white white f.pixel f.rest f.above (pixel_count f.extent) 1 f.before f.in_range f.within ∙ ap
           (λ (n : ℕ). Some (TooWhite n white)) same));
     }
 
@@ -131,7 +131,7 @@ after_header_none text image spelled = record {
 
 pub same_fault_after : (text : List ℕ) (fault other : Option Fault) → IsFaultAfter text fault → IsFaultAfter text other → fault ≡ other
 same_fault_after text fault other one two =
-    let same = same_header text one.extent two.extent one.white two.white one.rest two.rest one.header two.header in
+    let same = same_header one.header two.header in
     one.is
     ∙ ap (λ (extent : Extent). rest_fault (pixel_count extent) one.white one.rest) same.extents
     ∙ ap (λ (white : ℕ). rest_fault (pixel_count two.extent) white one.rest) same.whites
@@ -161,7 +161,7 @@ same_image image other extents whites pixels =
 
 pub same_binary_picture : (text : List ℕ) (image other : Image) → SpellBinary text image → SpellBinary text other → image ≡ other
 same_binary_picture text image other one two =
-    let same = same_header text image.extent other.extent image.greatest other.greatest one.rest two.rest one.header two.header in
+    let same = same_header one.header two.header in
     let rests = sym one.pixels.parts ∙ same.rests ∙ two.pixels.parts in
     let count = one.pixels.picture.complete ∙ ap pixel_count same.extents ∙ sym two.pixels.picture.complete in
     let pixels = same_pixels image.pixels other.pixels one.pixels.others two.pixels.others count (let all = rests in cc) in
@@ -185,21 +185,14 @@ raster_outcome : (text raster : List ℕ) (extent : Extent) (white space : ℕ) 
     → HasHeader text extent white (space ∷ raster) → OutcomeOfBytes text
 raster_outcome text raster extent white space blank header =
     let least = least_of (pixel_count extent) (length raster) in
+    let is : IsRaster (space ∷ raster) raster extent space least.0 = record { parts = refl; blank = blank; least = least.1 } in
     elim (cases_found (position (is_above white) (take least.0 raster))) [
-      | inl found ↦ inr (
-        TooWhite (found.0 + 1) white,
-        too_white text (space ∷ raster) raster extent white space least.0 found.0 refl blank
-            least.1 found.1 header,
-      )
+      | inl found ↦ inr (TooWhite (found.0 + 1) white, too_white white is text found.0 found.1 header)
       | inr none ↦ elim (cases_lt (length (take least.0 raster)) (pixel_count extent)) [
-        | inl fewer ↦ inr (Ended, cut_off text (space ∷ raster) raster extent white space least.0 refl blank least.1 none fewer header)
+        | inl fewer ↦ inr (Ended, cut_off white is text none fewer header)
         | inr enough ↦ inl (
           record { extent = extent; greatest = white; pixels = take least.0 raster },
-          record {
-            rest = space ∷ raster;
-            header = header;
-            pixels = pixels_there (space ∷ raster) raster extent white space least.0 refl blank least.1 none enough;
-          },
+          record { rest = space ∷ raster; header = header; pixels = pixels_there white is none enough },
         )
       ]
     ]

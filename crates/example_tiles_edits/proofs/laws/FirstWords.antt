@@ -1,6 +1,5 @@
--- Laws of the first words of a text: they are those of its words that stand first, and the rest of the text has the others; no
--- two readings of
--- a text differ.
+-- Laws of the first words of a text: they are those of its words that stand first, and the rest of the text has the others;
+-- no two readings of a text differ.
 use Rattle.std.proofs.Common.{◌≡◌, ℕ, suc, ◌+◌, ◌<◌, eqb, eqb-true, Bool, true, false, List, [], ◌∷◌, ◌++◌, length, map, inl, inr, refl}
 use Rattle.std.proofs.Common.{sym, ap, subst, ◌∙◌, append_assoc, arith}
 use Rattle.std.specs.Char.{is_ascii_whitespace}
@@ -163,20 +162,19 @@ passes_now : (p : ℕ → Bool) (text rest : List ℕ) (b : ℕ) → PassesFirst
 passes_now p text rest b passes is = subst (PassesFirst p) is passes
 
 -- a list falls into what fails a test and the rest, which begins with what passes it, in one way
-same_front : (p : ℕ → Bool) (front other rest others : List ℕ) → All (λ b. p b ≡ false) front → All (λ b. p b ≡ false) other
-    → PassesFirst p rest → PassesFirst p others → front ++ rest ≡ other ++ others
-    → (front ≡ other) × (rest ≡ others)
-same_front p [] [] rest others f g h k e = (refl, e)
-same_front p [] (c ∷ other) rest others f g h k e =
-    fails_and_passes (p c) (All-head (λ b. p b ≡ false) c other g) (passes_now p rest (other ++ others) c h e)
-same_front p (b ∷ front) [] rest others f g h k e =
-    fails_and_passes (p b) (All-head (λ b. p b ≡ false) b front f) (passes_now p others (front ++ rest) b k (sym e))
-same_front p (b ∷ front) (c ∷ other) rest others f g h k e =
-    let heads : b ≡ c = cc in
-    let tails : front ++ rest ≡ other ++ others = cc in
-    let same =
-    same_front p front other rest others (All-tail (λ b. p b ≡ false) b front f) (All-tail (λ b. p b ≡ false) c other g) h k tails in
-    (let fronts = same.0 in cc, same.1)
+module _ (p : ℕ → Bool) (rest others : List ℕ) (rest_passes : PassesFirst p rest) (others_pass : PassesFirst p others) where
+  same_front : (front other : List ℕ) → All (λ b. p b ≡ false) front → All (λ b. p b ≡ false) other → front ++ rest ≡ other ++ others
+      → (front ≡ other) × (rest ≡ others)
+  same_front [] [] f g e = (refl, e)
+  same_front [] (c ∷ other) f g e =
+      fails_and_passes (p c) (All-head (λ b. p b ≡ false) c other g) (passes_now p rest (other ++ others) c rest_passes e)
+  same_front (b ∷ front) [] f g e =
+      fails_and_passes (p b) (All-head (λ b. p b ≡ false) b front f) (passes_now p others (front ++ rest) b others_pass (sym e))
+  same_front (b ∷ front) (c ∷ other) f g e =
+      let heads : b ≡ c = cc in
+      let tails : front ++ rest ≡ other ++ others = cc in
+      let same = same_front front other (All-tail (λ b. p b ≡ false) b front f) (All-tail (λ b. p b ≡ false) c other g) tails in
+      (let fronts = same.0 in cc, same.1)
 
 apart_passes : (rest : List ℕ) → IsApart rest → PassesFirst ends_word rest
 apart_passes [] apart = tt
@@ -185,59 +183,58 @@ apart_passes (b ∷ rest) apart = apart
 white_ends : (b : ℕ) → is_ascii_whitespace b ≡ true → ends_word b ≡ true
 white_ends b white = rw white refl
 
--- a word is first in one text only, after one gap
-same_gap : {gap other : List ℕ} (b c : ℕ) (rest others : List ℕ) → IsGap gap → IsGap other → ends_word b ≡ false → ends_word c ≡ false
-    → gap ++ b ∷ rest ≡ other ++ c ∷ others → b ∷ rest ≡ c ∷ others
-same_gap b c rest others none none f g e = e
-same_gap b c rest others none (blank {b = d} white gap) f g e =
-    let same : b ≡ d = cc in
-    fails_and_passes (ends_word b) f (white_ends b (rw same white))
-same_gap b c rest others none (comment line gap plain is) f g e = let same : b ≡ 35 = cc in fails_and_passes (ends_word b) f (rw same refl)
-same_gap b c rest others (blank {b = d} white gap) none f g e =
-    let same : c ≡ d = cc in fails_and_passes (ends_word c) g (white_ends c (rw same white))
-same_gap b c rest others (comment line gap plain is) none f g e = let same : c ≡ 35 = cc in fails_and_passes (ends_word c) g (rw same refl)
-same_gap b c rest others (blank {b = d} {gap = gap} white is) (blank {b = k} {gap = other} other_white other_is) f g e =
-    let tails : gap ++ b ∷ rest ≡ other ++ c ∷ others = cc in same_gap b c rest others is other_is f g tails
-same_gap b c rest others (blank {b = d} white is) (comment line other plain other_is) f g e =
-    let same : d ≡ 35 = cc in fails_and_passes (is_ascii_whitespace d) (rw same refl) white
-same_gap b c rest others (comment line gap plain is) (blank {b = d} white other_is) f g e =
-    let same : d ≡ 35 = cc in fails_and_passes (is_ascii_whitespace d) (rw same refl) white
-same_gap b c rest others (comment line gap plain is) (comment other_line other other_plain other_is) f g e =
-    let tails : (line ++ line_feed ∷ gap) ++ b ∷ rest ≡ (other_line ++ line_feed ∷ other) ++ c ∷ others = cc in
-    let texts = sym (append_assoc line (line_feed ∷ gap) (b ∷ rest)) ∙ tails ∙ append_assoc other_line (line_feed ∷ other) (c ∷ others) in
-    let after =
-    (same_front (λ b. eqb b line_feed) line other_line (line_feed ∷ gap ++ b ∷ rest) (line_feed ∷ other ++ c ∷ others) plain
-    other_plain refl refl texts).1 in
-    let rests : gap ++ b ∷ rest ≡ other ++ c ∷ others = cc in
-    same_gap b c rest others is other_is f g rests
+no_blank_comment : {A : Type 0} (d : ℕ) → d ≡ 35 → is_ascii_whitespace d ≡ true → A
+no_blank_comment d same white = fails_and_passes (is_ascii_whitespace d) (rw same refl) white
 
-same_word : (gap other word another rest others : List ℕ) → IsGap gap → IsGap other → IsWord word → IsWord another → IsApart rest
-    → IsApart others → gap ++ word ++ rest ≡ other ++ another ++ others
-    → (word ≡ another) × (rest ≡ others)
-same_word gap other [] another rest others f g is another_is h k e = absurd (omega (arith, is.some))
-same_word gap other (b ∷ word) [] rest others f g is another_is h k e = absurd (omega (arith, another_is.some))
-same_word gap other (b ∷ word) (c ∷ another) rest others f g is another_is h k e =
+-- a word is first in one text only, after one gap
+module _ (b c : ℕ) (rest others : List ℕ) (plain : ends_word b ≡ false) (other_plain : ends_word c ≡ false) where
+  same_gap : {gap other : List ℕ} → IsGap gap → IsGap other → gap ++ b ∷ rest ≡ other ++ c ∷ others → b ∷ rest ≡ c ∷ others
+  same_gap none none e = e
+  same_gap none (blank {b = d} white gap) e =
+      let same : b ≡ d = cc in fails_and_passes (ends_word b) plain (white_ends b (rw same white))
+  same_gap none (comment line gap in_line is) e = let same : b ≡ 35 = cc in fails_and_passes (ends_word b) plain (rw same refl)
+  same_gap (blank {b = d} white gap) none e =
+      let same : c ≡ d = cc in fails_and_passes (ends_word c) other_plain (white_ends c (rw same white))
+  same_gap (comment line gap in_line is) none e = let same : c ≡ 35 = cc in fails_and_passes (ends_word c) other_plain (rw same refl)
+  same_gap (blank {b = d} {gap = gap} white is) (blank {b = k} {gap = other} other_white other_is) e =
+      let tails : gap ++ b ∷ rest ≡ other ++ c ∷ others = cc in same_gap is other_is tails
+  same_gap (blank {b = d} white is) (comment line other in_line other_is) e = let same : d ≡ 35 = cc in no_blank_comment d same white
+  same_gap (comment line gap in_line is) (blank {b = d} white other_is) e = let same : d ≡ 35 = cc in no_blank_comment d same white
+  same_gap (comment line gap in_line is) (comment other_line other other_in_line other_is) e =
+      let tails : (line ++ line_feed ∷ gap) ++ b ∷ rest ≡ (other_line ++ line_feed ∷ other) ++ c ∷ others = cc in
+      let texts = sym (append_assoc line (line_feed ∷ gap) (b ∷ rest)) ∙ tails ∙ append_assoc other_line (line_feed ∷ other) (c ∷ others) in
+      let after =
+      (same_front (λ b. eqb b line_feed) (line_feed ∷ gap ++ b ∷ rest) (line_feed ∷ other ++ c ∷ others) refl refl line other_line in_line
+      other_in_line texts).1 in
+      let rests : gap ++ b ∷ rest ≡ other ++ c ∷ others = cc in
+      same_gap is other_is rests
+
+same_word : {gap other word another : List ℕ} (rest others : List ℕ) → IsGap gap → IsGap other → IsWord word → IsWord another
+    → gap ++ word ++ rest ≡ other ++ another ++ others → word ++ rest ≡ another ++ others
+same_word {word = []} rest others f g is another_is e = absurd (omega (arith, is.some))
+same_word {word = b ∷ word} {another = []} rest others f g is another_is e = absurd (omega (arith, another_is.some))
+same_word {gap} {other} {word = b ∷ word} {another = c ∷ another} rest others f g is another_is e =
     let texts = sym (append_assoc gap (b ∷ word) rest) ∙ e ∙ append_assoc other (c ∷ another) others in
     let plain = All-head (λ b. ends_word b ≡ false) b word is.plain in
     let another_plain = All-head (λ b. ends_word b ≡ false) c another another_is.plain in
-    let after = same_gap b c (word ++ rest) (another ++ others) f g plain another_plain texts in
-    same_front ends_word (b ∷ word) (c ∷ another) rest others is.plain another_is.plain (apart_passes rest h) (apart_passes others k) after
+    same_gap b c (word ++ rest) (another ++ others) plain another_plain f g texts
 
-pub same_first : (text word another rest others : List ℕ) → StandsFirst text word rest → StandsFirst text another others
+pub same_first : {word another rest others : List ℕ} (text : List ℕ) → StandsFirst text word rest → StandsFirst text another others
     → (word ≡ another) × (rest ≡ others)
-same_first text word another rest others first other =
-    same_word first.gap other.gap word another rest others first.is_gap other.is_gap first.is_word other.is_word first.apart other.apart
-    (sym first.parts ∙ other.parts)
+same_first {word} {another} {rest} {others} text first other =
+    let texts = sym first.parts ∙ other.parts in
+    same_front ends_word rest others (apart_passes rest first.apart) (apart_passes others other.apart) word another first.is_word.plain
+    other.is_word.plain (same_word rest others first.is_gap other.is_gap first.is_word other.is_word texts)
 
-pub same_words_first : (text : List ℕ) (words others : List (List ℕ)) (rest left : List ℕ) → length words ≡ length others
+pub same_words_first : {rest left : List ℕ} (text : List ℕ) (words others : List (List ℕ)) → length words ≡ length others
     → StandFirst text words rest → StandFirst text others left → (words ≡ others) × (rest ≡ left)
-same_words_first text [] [] rest left count first other = (refl, sym first ∙ other)
-same_words_first text [] (word ∷ others) rest left count first other = absurd (omega arith)
-same_words_first text (word ∷ words) [] rest left count first other = absurd (omega arith)
-same_words_first text (word ∷ words) (another ∷ others) rest left count first other =
-    let one = same_first text word another first.0 other.0 first.1 other.1 in
+same_words_first text [] [] count first other = (refl, sym first ∙ other)
+same_words_first text [] (word ∷ others) count first other = absurd (omega arith)
+same_words_first text (word ∷ words) [] count first other = absurd (omega arith)
+same_words_first {left} text (word ∷ words) (another ∷ others) count first other =
+    let one = same_first text first.1 other.1 in
     let there = subst (λ (after : List ℕ). StandFirst after others left) (sym one.1) other.2 in
-    let same = same_words_first first.0 words others rest left (omega arith) first.2 there in
+    let same = same_words_first first.0 words others (omega arith) first.2 there in
     (let word_same = one.0 in let words_same = same.0 in cc, same.1)
 
 -- ---- the words of a text

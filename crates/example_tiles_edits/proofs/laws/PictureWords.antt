@@ -1,6 +1,5 @@
 -- Laws of the words of texts: they spell one picture in the plain format, have one fault, or begin with the header of a binary
--- picture, and only one
--- of these; what they spell is a picture.
+-- picture, and only one of these; what they spell is a picture.
 use Rattle.std.proofs.Common.{Bool, true, false, ◌≡◌, ◌≢◌, ℕ, suc, ◌*◌, ◌<◌, ◌≤◌, ◌⊎◌, cond, length-append, eq-eqb, Option, Some, None}
 use Rattle.std.proofs.Common.{List, [], ◌∷◌, ◌++◌, length, take, get_or, codes, inl, inr, refl, sym, ap, subst, ◌∙◌, arith}
 use Rattle.std.specs.Prelude.{nat_eq}
@@ -39,9 +38,9 @@ abbrev Compared : List NumberedWord → List NumberedWord → List ℕ → List 
 Compared left right numbers others =
     ((numbers ≡ others) × (left ≡ right)) ⊎ GoesFurther left numbers others ⊎ GoesFurther right others numbers
 
-further_after : (n : ℕ) (left : List NumberedWord) (numbers longer : List ℕ) → GoesFurther left numbers longer
+further_after : {left : List NumberedWord} {numbers longer : List ℕ} (n : ℕ) → GoesFurther left numbers longer
     → GoesFurther left (n ∷ numbers) (n ∷ longer)
-further_after n left numbers longer goes = record {
+further_after n goes = record {
   word = goes.word;
   rest = goes.rest;
   n = goes.n;
@@ -51,33 +50,32 @@ further_after n left numbers longer goes = record {
   further = ap (λ (all : List ℕ). n ∷ all) goes.further;
 }
 
-compared_after : (m n : ℕ) (left right : List NumberedWord) (numbers others : List ℕ) → m ≡ n → Compared left right numbers others
-    → Compared left right (m ∷ numbers) (n ∷ others)
-compared_after m n left right numbers others same compared = elim compared [
-  | inl equal ↦ inl (let tails = equal.0 in cc, equal.1)
-  | inr (inl goes) ↦ inr (inl (subst (λ (k : ℕ). GoesFurther left (m ∷ numbers) (k ∷ others)) same
-      (further_after m left numbers others goes)))
-  | inr (inr goes) ↦ inr (inr (subst (λ (k : ℕ). GoesFurther right (k ∷ others) (m ∷ numbers)) same
-      (further_after m right others numbers goes)))
-]
+module _ (left right : List NumberedWord) where
+  compared_after : (m n : ℕ) (numbers others : List ℕ) → m ≡ n → Compared left right numbers others
+      → Compared left right (m ∷ numbers) (n ∷ others)
+  compared_after m n numbers others same compared = elim compared [
+    | inl equal ↦ inl (let tails = equal.0 in cc, equal.1)
+    | inr (inl goes) ↦ inr (inl (subst (λ (k : ℕ). GoesFurther left (m ∷ numbers) (k ∷ others)) same (further_after m goes)))
+    | inr (inr goes) ↦ inr (inr (subst (λ (k : ℕ). GoesFurther right (k ∷ others) (m ∷ numbers)) same (further_after m goes)))
+  ]
 
-compare : (first second left right : List NumberedWord) (numbers others : List ℕ) → first ++ left ≡ second ++ right
-    → SpellNumbers first numbers → SpellNumbers second others → Compared left right numbers others
-compare [] [] left right [] [] e f g = inl (refl, e)
-compare [] [] left right [] (n ∷ others) e f g = absurd (cc)
-compare [] [] left right (m ∷ numbers) others e f g = absurd (cc)
-compare [] (word ∷ second) left right [] [] e f g = absurd (cc)
-compare [] (word ∷ second) left right [] (n ∷ others) e f g =
-    inr (inl (record { word = word; rest = second ++ right; n = n; others = others; first = e; spells = cc; further = refl }))
-compare [] (word ∷ second) left right (m ∷ numbers) others e f g = absurd (cc)
-compare (word ∷ first) [] left right [] others e f g = absurd (cc)
-compare (word ∷ first) [] left right (m ∷ numbers) [] e f g =
-    inr (inr (record { word = word; rest = first ++ left; n = m; others = numbers; first = sym e; spells = cc; further = refl }))
-compare (word ∷ first) [] left right (m ∷ numbers) (n ∷ others) e f g = absurd (cc)
-compare (word ∷ first) (other ∷ second) left right [] others e f g = absurd (cc)
-compare (word ∷ first) (other ∷ second) left right (m ∷ numbers) [] e f g = absurd (cc)
-compare (word ∷ first) (other ∷ second) left right (m ∷ numbers) (n ∷ others) e f g =
-    compared_after m n left right numbers others (cc) (compare first second left right numbers others (cc) (cc) (cc))
+  compare : (first second : List NumberedWord) (numbers others : List ℕ) → first ++ left ≡ second ++ right
+      → SpellNumbers first numbers → SpellNumbers second others → Compared left right numbers others
+  compare [] [] [] [] e f g = inl (refl, e)
+  compare [] [] [] (n ∷ others) e f g = absurd (cc)
+  compare [] [] (m ∷ numbers) others e f g = absurd (cc)
+  compare [] (word ∷ second) [] [] e f g = absurd (cc)
+  compare [] (word ∷ second) [] (n ∷ others) e f g =
+      inr (inl (record { word = word; rest = second ++ right; n = n; others = others; first = e; spells = cc; further = refl }))
+  compare [] (word ∷ second) (m ∷ numbers) others e f g = absurd (cc)
+  compare (word ∷ first) [] [] others e f g = absurd (cc)
+  compare (word ∷ first) [] (m ∷ numbers) [] e f g =
+      inr (inr (record { word = word; rest = first ++ left; n = m; others = numbers; first = sym e; spells = cc; further = refl }))
+  compare (word ∷ first) [] (m ∷ numbers) (n ∷ others) e f g = absurd (cc)
+  compare (word ∷ first) (other ∷ second) [] others e f g = absurd (cc)
+  compare (word ∷ first) (other ∷ second) (m ∷ numbers) [] e f g = absurd (cc)
+  compare (word ∷ first) (other ∷ second) (m ∷ numbers) (n ∷ others) e f g =
+      compared_after m n numbers others (cc) (compare first second numbers others (cc) (cc) (cc))
 
 -- ---- where a reading stops
 
@@ -93,27 +91,24 @@ allowed_at format numbers others all n e allowed =
     let here = subst (AreAllowed format) e allowed (length numbers) below in
     rw (take-append_seam numbers (n ∷ others), get_or-append_seam numbers n others 0) at here
 
-stops_for_good : (format : Format) (all left right : List NumberedWord) (numbers longer : List ℕ) → Stops format left numbers
+stops_for_good : {format : Format} {all left right : List NumberedWord} {numbers longer : List ℕ} → Stops format left numbers
     → BeginWith format all longer right → ¬ (GoesFurther left numbers longer)
-stops_for_good format all left right numbers longer stops begun goes =
+stops_for_good {format} {numbers} {longer} stops begun goes =
     stops goes.word goes.rest goes.n goes.first goes.spells (allowed_at format numbers goes.others longer goes.n goes.further begun.allowed)
 
-same_words : (format other_format : Format) (all left right : List NumberedWord) (numbers others : List ℕ)
-    (one : BeginWith format all numbers left) (other : BeginWith other_format all others right)
-    → one.spelled ++ left ≡ other.spelled ++ right
-same_words format other_format all left right numbers others one other = let parts = sym one.parts ∙ other.parts in cc
+module _ {format : Format} {all left right : List NumberedWord} {numbers others : List ℕ} (one : BeginWith format all numbers left) where
+  same_words : {other_format : Format} (other : BeginWith other_format all others right) → one.spelled ++ left ≡ other.spelled ++ right
+  same_words other = let parts = sym one.parts ∙ other.parts in cc
 
--- words of one format are read up to one place
-one_stop_in : (format : Format) (all left right : List NumberedWord) (numbers others : List ℕ) → BeginWith format all numbers left
-    → Stops format left numbers → BeginWith format all others right
-    → Stops format right others → (numbers ≡ others) × (left ≡ right)
-one_stop_in format all left right numbers others one stops other stops_there =
-    elim (compare one.spelled other.spelled left right numbers others (same_words format format all left right numbers others one other)
-    one.spell other.spell) [
-      | inl same ↦ same
-      | inr (inl goes) ↦ absurd (stops_for_good format all left right numbers others stops other goes)
-      | inr (inr goes) ↦ absurd (stops_for_good format all right left others numbers stops_there one goes)
-    ]
+  -- words of one format are read up to one place
+  one_stop_in : Stops format left numbers → BeginWith format all others right → Stops format right others
+      → (numbers ≡ others) × (left ≡ right)
+  one_stop_in stops other stops_there =
+      elim (compare left right one.spelled other.spelled numbers others (same_words other) one.spell other.spell) [
+        | inl same ↦ same
+        | inr (inl goes) ↦ absurd (stops_for_good stops other goes)
+        | inr (inr goes) ↦ absurd (stops_for_good stops_there one goes)
+      ]
 
 -- ---- the first word
 abbrev first_text : List NumberedWord → List ℕ
@@ -129,24 +124,19 @@ format_of_magic Plain Binary same = absurd (two_words same)
 format_of_magic Binary Plain same = absurd (two_words (sym same))
 format_of_magic Binary Binary same = refl
 
--- words are of one format
-pub same_format : (format other : Format) (words left right : List NumberedWord) (numbers others : List ℕ)
-    → BeginWith format words numbers left → BeginWith other words others right → format ≡ other
-same_format format other words left right numbers others one another =
-    format_of_magic format other (ap first_text (sym one.parts ∙ another.parts))
+module _ {format other : Format} {all left right : List NumberedWord} {numbers others : List ℕ} (one : BeginWith format all numbers left)
+    (another : BeginWith other all others right) where
+  -- words are of one format
+  pub same_format : format ≡ other
+  same_format = format_of_magic format other (ap first_text (sym one.parts ∙ another.parts))
 
--- words are read up to one place
-pub one_stop : (format other_format : Format) (all left right : List NumberedWord) (numbers others : List ℕ)
-    → BeginWith format all numbers left → Stops format left numbers
-    → BeginWith other_format all others right → Stops other_format right others
-    → (format ≡ other_format) × (numbers ≡ others) × (left ≡ right)
-one_stop format other_format all left right numbers others one stops other stops_there =
-    let same = same_format format other_format all left right numbers others one other in
-    let there =
-    one_stop_in format all left right numbers others one stops
-    (subst (λ (f : Format). BeginWith f all others right) (sym same) other)
-    (subst (λ (f : Format). Stops f right others) (sym same) stops_there) in
-    (same, there.0, there.1)
+  -- words are read up to one place
+  pub one_stop : Stops format left numbers → Stops other right others → (format ≡ other) × (numbers ≡ others) × (left ≡ right)
+  one_stop stops stops_there =
+      let there =
+      one_stop_in one stops (subst (λ (f : Format). BeginWith f all others right) (sym same_format) another)
+      (subst (λ (f : Format). Stops f right others) (sym same_format) stops_there) in
+      (same_format, there.0, there.1)
 
 -- ---- the fault where a reading stops
 
@@ -173,14 +163,14 @@ record IsLater (words : List NumberedWord) (fault : Fault) : Type 0 where
   in_words : format ≡ Binary → next_number format numbers ≢ None
   is : fault ≡ fault_at left (next_number format numbers)
 
-other_first : (format : Format) (words rest others : List NumberedWord) (line number : ℕ) (word : List ℕ) → words ≡ (line, word) ∷ rest
-    → word ≢ magic_of format → words ≢ (number, magic_of format) ∷ others
-other_first format words rest others line number word first other e = other (ap first_text (sym first ∙ e))
+other_first : {words rest : List NumberedWord} {line : ℕ} {word : List ℕ} (format : Format) (number : ℕ) (others : List NumberedWord)
+    → words ≡ (line, word) ∷ rest → word ≢ magic_of format → words ≢ (number, magic_of format) ∷ others
+other_first format number others first other e = other (ap first_text (sym first ∙ e))
 
-no_number_stops : (format : Format) (rest : List NumberedWord) (numbers : List ℕ) (line : ℕ) (word : List ℕ) (bounds : Bounds)
+no_number_stops : {bounds : Bounds} (format : Format) (rest : List NumberedWord) (numbers : List ℕ) (line : ℕ) (word : List ℕ)
     → next_number format numbers ≡ Some bounds
     → ((n : ℕ) → number_of word ≡ Some n → ¬ (IsBetween bounds n)) → Stops format ((line, word) ∷ rest) numbers
-no_number_stops format rest numbers line word bounds expected other next others n first spells follows =
+no_number_stops format rest numbers line word expected other next others n first spells follows =
     let same : word ≡ next.1 = cc in
     other n (ap number_of same ∙ spells) (rw expected at follows)
 
@@ -191,12 +181,12 @@ full_stops format left numbers complete next others n first spells follows = rw 
 nothing_stops : (format : Format) (numbers : List ℕ) → Stops format [] numbers
 nothing_stops format numbers next others n first spells follows = absurd (cc)
 
-some_expected : (expected : Option Bounds) (bounds : Bounds) → expected ≡ Some bounds → expected ≢ None
-some_expected expected bounds is none = cc
+some_expected : {expected : Option Bounds} {bounds : Bounds} → expected ≡ Some bounds → expected ≢ None
+some_expected is none = cc
 
 placed : (words : List NumberedWord) (fault : Fault) → IsFaultOfWords words fault → IsFirst words fault ⊎ IsLater words fault
 placed words (NotPgm line) f = inl (record {
-  no_magic = λ format number rest. other_first format words f.rest rest line number f.word f.first (f.other format);
+  no_magic = λ format number rest. other_first format number rest f.first (f.other format);
   is = rw f.first refl;
 })
 placed words (NotNumber line least greatest) f = inr (record {
@@ -204,9 +194,9 @@ placed words (NotNumber line least greatest) f = inr (record {
   numbers = f.numbers;
   left = (line, f.word) ∷ f.rest;
   begun = f.begun;
-  stops = no_number_stops f.format f.rest f.numbers line f.word (record { least = least; greatest = greatest }) f.expected f.other;
+  stops = no_number_stops f.format f.rest f.numbers line f.word f.expected f.other;
   wanting = λ none. absurd (cc);
-  in_words = λ binary. some_expected (next_number f.format f.numbers) (record { least = least; greatest = greatest }) f.expected;
+  in_words = λ binary. some_expected f.expected;
   is = rw f.expected refl;
 })
 placed words Ended (inl none) = inl (record { no_magic = λ format line rest e. absurd (cc); is = rw none refl })
@@ -216,8 +206,8 @@ placed words Ended (inr f) = inr (record {
   left = [];
   begun = f.begun;
   stops = nothing_stops f.format f.numbers;
-  wanting = λ none. some_expected (next_number f.format f.numbers) f.bounds f.expected;
-  in_words = λ binary. some_expected (next_number f.format f.numbers) f.bounds f.expected;
+  wanting = λ none. some_expected f.expected;
+  in_words = λ binary. some_expected f.expected;
   is = refl;
 })
 placed words (NotEnded line) f = inr (record {
@@ -233,17 +223,17 @@ placed words (NotEnded line) f = inr (record {
 placed words NotApart f = absurd f
 placed words (TooWhite number greatest) f = absurd f
 
-not_both : (words : List NumberedWord) (fault : Fault) (format : Format) (numbers : List ℕ) (left : List NumberedWord)
-    → IsFirst words fault → ¬ (BeginWith format words numbers left)
-not_both words fault format numbers left first begun = first.no_magic format begun.line (begun.spelled ++ left) begun.parts
+not_both : {words left : List NumberedWord} {fault : Fault} {format : Format} {numbers : List ℕ} → IsFirst words fault
+    → ¬ (BeginWith format words numbers left)
+not_both {left} {format} first begun = first.no_magic format begun.line (begun.spelled ++ left) begun.parts
 
-one_fault : (words : List NumberedWord) (fault other : Fault) → IsFirst words fault ⊎ IsLater words fault
+one_fault : {words : List NumberedWord} (fault other : Fault) → IsFirst words fault ⊎ IsLater words fault
     → IsFirst words other ⊎ IsLater words other → fault ≡ other
-one_fault words fault other (inl f) (inl g) = f.is ∙ sym g.is
-one_fault words fault other (inl f) (inr g) = absurd (not_both words fault g.format g.numbers g.left f g.begun)
-one_fault words fault other (inr f) (inl g) = absurd (not_both words other f.format f.numbers f.left g f.begun)
-one_fault words fault other (inr f) (inr g) =
-    let same = one_stop f.format g.format words f.left g.left f.numbers g.numbers f.begun f.stops g.begun g.stops in
+one_fault fault other (inl f) (inl g) = f.is ∙ sym g.is
+one_fault fault other (inl f) (inr g) = absurd (not_both f g.begun)
+one_fault fault other (inr f) (inl g) = absurd (not_both g f.begun)
+one_fault fault other (inr f) (inr g) =
+    let same = one_stop f.begun g.begun f.stops g.stops in
     f.is
     ∙ ap (λ (left : List NumberedWord). fault_at left (next_number f.format f.numbers)) same.2
     ∙ ap (λ (numbers : List ℕ). fault_at g.left (next_number f.format numbers)) same.1
@@ -255,7 +245,7 @@ one_fault words fault other (inr f) (inr g) =
 -- the words of a text have one fault at most
 pub same_fault_of_words : (words : List NumberedWord) (fault other : Fault) → IsFaultOfWords words fault → IsFaultOfWords words other
     → fault ≡ other
-same_fault_of_words words fault other f g = one_fault words fault other (placed words fault f) (placed words other g)
+same_fault_of_words words fault other f g = one_fault fault other (placed words fault f) (placed words other g)
 
 abbrev image_of : List ℕ → Option Image
 image_of (columns ∷ rows ∷ white ∷ pixels) =
@@ -266,9 +256,9 @@ image_of _ = None
 pub same_picture_of_words : (words : List NumberedWord) (image other : Image) → SpellPicture words image → SpellPicture words other
     → image ≡ other
 same_picture_of_words words image other one another =
+    let stops = nothing_stops Plain (numbers_of image) in
     let numbers : numbers_of image ≡ numbers_of other =
-    (one_stop Plain Plain words [] [] (numbers_of image) (numbers_of other) one.begun (nothing_stops Plain (numbers_of image))
-    another.begun (nothing_stops Plain (numbers_of other))).1 in
+    (one_stop one.begun another.begun stops (nothing_stops Plain (numbers_of other))).1 in
     let images : Some image ≡ Some other = ap image_of numbers in
     cc
 
@@ -276,24 +266,20 @@ same_picture_of_words words image other one another =
 pub no_fault_of_words : (words : List NumberedWord) (image : Image) (fault : Fault) → SpellPicture words image
     → ¬ (IsFaultOfWords words fault)
 no_fault_of_words words image fault spelled f = elim (placed words fault f) [
-  | inl first ↦ not_both words fault Plain (numbers_of image) [] first spelled.begun
+  | inl first ↦ not_both first spelled.begun
   | inr later ↦
-      let same =
-      one_stop later.format Plain words later.left [] later.numbers (numbers_of image) later.begun later.stops spelled.begun
-      (nothing_stops Plain (numbers_of image)) in
+      let same = one_stop later.begun spelled.begun later.stops (nothing_stops Plain (numbers_of image)) in
       later.wanting same.2 (ap (λ (format : Format). next_number format later.numbers) same.0 ∙ ap (next_number Plain) same.1 ∙
       spelled.complete)
 ]
 
 -- words that begin with the header of a binary picture have none either
-pub no_fault_of_header : (words left : List NumberedWord) (numbers : List ℕ) (fault : Fault) → BeginWith Binary words numbers left
+pub no_fault_of_header : {words left : List NumberedWord} {numbers : List ℕ} (fault : Fault) → BeginWith Binary words numbers left
     → next_number Binary numbers ≡ None → ¬ (IsFaultOfWords words fault)
-no_fault_of_header words left numbers fault begun complete f = elim (placed words fault f) [
-  | inl first ↦ not_both words fault Binary numbers left first begun
+no_fault_of_header {words} {left} {numbers} fault begun complete f = elim (placed words fault f) [
+  | inl first ↦ not_both first begun
   | inr later ↦
-      let same =
-      one_stop later.format Binary words later.left left later.numbers numbers later.begun later.stops begun
-      (full_stops Binary left numbers complete) in
+      let same = one_stop later.begun begun later.stops (full_stops Binary left numbers complete) in
       later.in_words same.0 (ap (λ (format : Format). next_number format later.numbers) same.0 ∙ ap (next_number Binary) same.1 ∙ complete)
 ]
 
@@ -370,33 +356,29 @@ in_full : (format : Format) (words left : List NumberedWord) (numbers : List ℕ
     → next_number format numbers ≡ None → OutcomeOfWords words
 in_full Plain words [] numbers begun complete = spelled_in_full words numbers begun complete
 in_full Plain words (word ∷ left) numbers begun complete =
-    inr (inl (NotEnded word.0, goes_on words (word ∷ left) left numbers word.0 word.1 begun complete refl))
+    inr (inl (NotEnded word.0, goes_on begun complete refl))
 in_full Binary words left numbers begun complete = inr (inr (record { numbers = numbers; left = left; begun = begun; complete = complete }))
 
 outcome_from : (format : Format) (words left : List NumberedWord) (numbers : List ℕ) → BeginWith format words numbers left
     → OutcomeOfWords words
 outcome_from format words [] numbers begun = elim (cases_option (next_number format numbers)) [
-  | inl some ↦ inr (inl (Ended, unfinished format words [] numbers some.0 begun some.1 refl))
+  | inl some ↦ inr (inl (Ended, unfinished begun some.1 refl))
   | inr complete ↦ in_full format words [] numbers begun complete
 ]
 outcome_from format words (word ∷ left) numbers begun = elim (cases_option (next_number format numbers)) [
-  | inl some ↦ elim (cases_option (number_of word.1)) [
-    | inl spells ↦ elim (cases_between some.0 spells.0) [
-      | inl between ↦ outcome_from format words left (numbers ++ spells.0 ∷ [])
-          (one_more format words (word ∷ left) left numbers word.0 spells.0 word.1 some.0 begun some.1 refl spells.1 between)
-      | inr other ↦ inr (inl (
-        NotNumber word.0 some.0.least some.0.greatest,
-        no_number format words (word ∷ left) left numbers word.0
-            word.1 some.0 begun some.1 refl
-            (λ n spelled between. other (subst (λ (m : ℕ). IsBetween some.0 m) (let one = spells.1 in cc) between)),
-      ))
-    ]
-    | inr none ↦ inr (inl (
-      NotNumber word.0 some.0.least some.0.greatest,
-      no_number format words (word ∷ left) left numbers word.0 word.1
-          some.0 begun some.1 refl (λ n spelled between. absurd (cc)),
-    ))
-  ]
+  | inl some ↦
+      let no_number_here = no_number begun some.1 {rest = left} {line = word.0} {word = word.1} refl in
+      let fault = NotNumber word.0 some.0.least some.0.greatest in
+      elim (cases_option (number_of word.1)) [
+        | inl spells ↦ elim (cases_between some.0 spells.0) [
+          | inl between ↦ outcome_from format words left (numbers ++ spells.0 ∷ []) (one_more begun some.1 refl spells.1 between)
+          | inr other ↦ inr (inl (
+            fault,
+            no_number_here (λ n spelled between. other (subst (λ (m : ℕ). IsBetween some.0 m) (let one = spells.1 in cc) between)),
+          ))
+        ]
+        | inr none ↦ inr (inl (fault, no_number_here (λ n spelled between. absurd (cc))))
+      ]
   | inr complete ↦ in_full format words (word ∷ left) numbers begun complete
 ]
 

@@ -19,7 +19,7 @@ use Rattle.example_tiles_edits.proofs.laws.Numbers.{digits_of-decimal, number_of
 use Rattle.example_tiles_edits.proofs.laws.Words.{words_from-line, words_of-first, words_of-last, words_of_line-plain}
 use Rattle.example_tiles_edits.specs.declared.picture.header.Format.TheVariants.{Plain}
 use Rattle.example_tiles_edits.specs.picture.Picture.{Image, IsPicture}
-use Rattle.example_tiles_edits.specs.picture.PictureWords.{SpellNumbers, SpellPicture}
+use Rattle.example_tiles_edits.specs.picture.PictureWords.{SpellNumbers, SpellPicture, numbers_of}
 use Rattle.example_tiles_edits.specs.picture.PrintedPicture.{binary_text_of, row_text, rows_of, text_of}
 use Rattle.example_tiles_edits.proofs.Begun.{AreAllowed, none_next, pixel_next}
 
@@ -127,17 +127,21 @@ rows_small (suc rows) columns pixels small =
     (rows_small rows columns (drop columns pixels) (All-drop IsSmall columns pixels small))
 
 -- ---- the numbers of a picture
-allowed_numbers : (columns rows white : ℕ) (pixels : List ℕ) → IsSmall columns → IsSmall rows → 0 < white → white < 2 ^ 16
-    → length pixels ≡ rows * columns → All (λ pixel. pixel ≤ white) pixels
-    → AreAllowed Plain (columns ∷ rows ∷ white ∷ pixels)
-allowed_numbers columns rows white pixels c r w v all dark zero below = record { not_below = omega arith; not_above = omega arith }
-allowed_numbers columns rows white pixels c r w v all dark (suc zero) below = record { not_below = omega arith; not_above = omega arith }
-allowed_numbers columns rows white pixels c r w v all dark (suc (suc zero)) below =
-    record { not_below = omega arith; not_above = omega arith }
-allowed_numbers columns rows white pixels c r w v all dark (suc (suc (suc k))) below =
-    let inside : k < length pixels = omega arith in
-    rw (pixel_next columns rows white (take k pixels) (omega (arith, length-take-le k pixels (omega arith))))
-    (record { not_below = omega arith; not_above = dark k 0 inside })
+record AreSmall (image : Image) : Type 0 where
+  columns : IsSmall image.extent.columns
+  rows : IsSmall image.extent.rows
+  some : 0 < image.greatest
+  greatest : image.greatest < 2 ^ 16
+
+allowed_numbers : (image : Image) → AreSmall image → IsPicture image → AreAllowed Plain (numbers_of image)
+allowed_numbers image small picture zero below = record { not_below = omega arith; not_above = omega arith }
+allowed_numbers image small picture (suc zero) below = record { not_below = omega arith; not_above = omega arith }
+allowed_numbers image small picture (suc (suc zero)) below = record { not_below = omega arith; not_above = omega arith }
+allowed_numbers image small picture (suc (suc (suc k))) below =
+    let inside : k < length image.pixels = omega arith in
+    rw (pixel_next image.extent.columns image.extent.rows image.greatest (take k image.pixels)
+    (omega (arith, picture.complete, length-take-le k image.pixels (omega arith))))
+    (record { not_below = omega arith; not_above = picture.in_range k 0 inside })
 
 -- ---- the law
 abbrev lines_of_text : Image → List (List ℕ)
@@ -172,8 +176,7 @@ printed_picture image picture columns rows some greatest =
             ∙ ap (λ (others : List NumberedWord). (1, codes "P2") ∷ others) (sym (append-nil words));
         spell = lines_spell 2 (lines_of_text image) (lines_small image columns rows (omega arith) small)
             ∙ ap (λ (pixels : List ℕ). map Some (image.extent.columns ∷ image.extent.rows ∷ image.greatest ∷ pixels)) pixels;
-        allowed = allowed_numbers image.extent.columns image.extent.rows image.greatest image.pixels columns rows some greatest
-            picture.complete picture.in_range;
+        allowed = allowed_numbers image (record { columns = columns; rows = rows; some = some; greatest = greatest }) picture;
       };
       complete = none_next image.extent.columns image.extent.rows image.greatest image.pixels (omega (arith, picture.complete));
     }

@@ -22,7 +22,7 @@ use Rattle.example_tiles_edits.specs.FirstWords.IsGap.{none}
 use Rattle.example_tiles_edits.specs.Numbers.{is_decimal, number_of}
 use Rattle.example_tiles_edits.specs.picture.Picture.{Image, IsPicture}
 use Rattle.example_tiles_edits.specs.picture.PictureWords.{BeginWith, IsBetween, IsFaultOfWords, SpellPicture, greatest_white, magic_of}
-use Rattle.example_tiles_edits.specs.picture.PictureWords.{next_number, numbers_of}
+use Rattle.example_tiles_edits.specs.picture.PictureWords.{next_number}
 use Rattle.example_tiles_edits.specs.picture.SpelledPicture.{IsFaultOf, IsRefusedBy, IsTextOf}
 use Rattle.example_tiles_edits.specs.Words.{NumberedWord, is_comment, line_feed, words_from}
 use Rattle.example_tiles_edits.proofs.Begun.{AreAllowed}
@@ -41,13 +41,17 @@ below_limit word n spells =
     let small = ltb-true (digits_value 10 word) (2 ^ 32) (and_parts (is_decimal word) _ found.0).1 in
     omega (arith, found.1)
 
+-- a value that white may have
+abbrev IsWhite : ℕ → Type 0
+IsWhite white = IsBetween (record { least = 1; greatest = greatest_white Binary }) white
+
 -- the words of a text begin with those of its header
 record HeaderWords (text : List ℕ) (extent : Extent) (white : ℕ) : Type 0 where
   left : List NumberedWord
   begun : BeginWith Binary (words_from 1 text) (extent.columns ∷ extent.rows ∷ white ∷ []) left
 
-allowed_numbers : (columns rows white : ℕ) → columns ≤ 2 ^ 32 - 1 → rows ≤ 2 ^ 32 - 1 → IsBetween
-    (record { least = 1; greatest = greatest_white Binary }) white → AreAllowed Binary (columns ∷ rows ∷ white ∷ [])
+allowed_numbers : (columns rows white : ℕ) → columns ≤ 2 ^ 32 - 1 → rows ≤ 2 ^ 32 - 1 → IsWhite white
+    → AreAllowed Binary (columns ∷ rows ∷ white ∷ [])
 allowed_numbers columns rows white c r between zero below = record { not_below = omega arith; not_above = c }
 allowed_numbers columns rows white c r between (suc zero) below = record { not_below = omega arith; not_above = r }
 allowed_numbers columns rows white c r between (suc (suc zero)) below = between
@@ -57,14 +61,19 @@ map_texts : (words : List NumberedWord) → map (λ word. number_of word.1) word
 map_texts [] = refl
 map_texts (word ∷ words) = ap (λ (numbers : List (Option ℕ)). number_of word.1 ∷ numbers) (map_texts words)
 
-from_texts : (text : List ℕ) (words : List (List ℕ)) (numbered left : List NumberedWord) (extent : Extent) (white : ℕ)
+-- words spell the numbers of a header
+record SpellHeader (words : List (List ℕ)) (extent : Extent) (white : ℕ) : Type 0 where
+  numbers : map number_of words ≡ map Some (extent.columns ∷ extent.rows ∷ white ∷ [])
+  allowed : IsWhite white
+
+from_texts : {text : List ℕ} {extent : Extent} {white : ℕ} (words : List (List ℕ)) (numbered left : List NumberedWord)
     → words_from 1 text ≡ numbered ++ left → map (λ word. word.1) numbered ≡ magic_of Binary ∷ words
-    → map number_of words ≡ map Some (extent.columns ∷ extent.rows ∷ white ∷ []) → IsBetween
-    (record { least = 1; greatest = greatest_white Binary }) white → HeaderWords text extent white
-from_texts text words [] left extent white parts texts spell allowed = absurd (cc)
-from_texts text [] ((line, magic) ∷ numbered) left extent white parts texts spell allowed = absurd (cc)
-from_texts text (first ∷ []) ((line, magic) ∷ numbered) left extent white parts texts spell allowed = absurd (cc)
-from_texts text (first ∷ second ∷ words) ((line, magic) ∷ numbered) left extent white parts texts spell allowed =
+    → SpellHeader words extent white → HeaderWords text extent white
+from_texts words [] left parts texts spell = absurd (cc)
+from_texts [] ((line, magic) ∷ numbered) left parts texts spell = absurd (let numbers = spell.numbers in cc)
+from_texts (first ∷ []) ((line, magic) ∷ numbered) left parts texts spell = absurd (let numbers = spell.numbers in cc)
+from_texts {extent} {white} (first ∷ second ∷ words) ((line, magic) ∷ numbered) left parts texts spell =
+    let numbers = spell.numbers in
     let magic_is : magic ≡ magic_of Binary = cc in
     let others : map (λ (word : NumberedWord). word.1) numbered ≡ first ∷ second ∷ words = cc in
     let columns : number_of first ≡ Some extent.columns = cc in
@@ -75,59 +84,50 @@ from_texts text (first ∷ second ∷ words) ((line, magic) ∷ numbered) left e
         line = line;
         spelled = numbered;
         parts = parts ∙ ap (λ (word : List ℕ). (line, word) ∷ numbered ++ left) magic_is;
-        spell = map_texts numbered ∙ ap (map number_of) others ∙ spell;
+        spell = map_texts numbered ∙ ap (map number_of) others ∙ numbers;
         allowed = allowed_numbers extent.columns extent.rows white (below_limit first extent.columns columns)
-            (below_limit second extent.rows rows) allowed;
+            (below_limit second extent.rows rows) spell.allowed;
       };
     }
 
-header_words : (text rest : List ℕ) (extent : Extent) (white : ℕ) → HasHeader text extent white rest → HeaderWords text extent white
-header_words text rest extent white header =
+header_words : {text rest : List ℕ} {extent : Extent} {white : ℕ} → HasHeader text extent white rest → HeaderWords text extent white
+header_words {text} {rest} header =
     let words = words_of_first_words 1 text (magic_of Binary ∷ header.words) rest header.first in
-    from_texts text header.words words.numbered (words_from words.after rest) extent white words.parts words.texts header.spell
-    header.allowed
+    from_texts header.words words.numbered (words_from words.after rest) words.parts words.texts
+    (record { numbers = header.spell; allowed = header.allowed })
 
 -- ---- one picture, or one fault
-other_format : (words left right : List NumberedWord) (numbers others : List ℕ) → BeginWith Plain words numbers left
+other_format : {words left right : List NumberedWord} {numbers others : List ℕ} → BeginWith Plain words numbers left
     → BeginWith Binary words others right → ⊥
-other_format words left right numbers others plain binary =
-    let same : Plain ≡ Binary = same_format Plain Binary words left right numbers others plain binary in cc
+other_format plain binary = let same : Plain ≡ Binary = same_format plain binary in cc
 
-not_plain : (text rest : List ℕ) (extent : Extent) (white : ℕ) (image : Image) → HasHeader text extent white rest
-    → ¬ (SpellPicture (words_from 1 text) image)
-not_plain text rest extent white image header spelled =
-    let words = header_words text rest extent white header in
-    other_format (words_from 1 text) [] words.left (numbers_of image) (extent.columns ∷ extent.rows ∷ white ∷ []) spelled.begun words.begun
+module _ {text rest : List ℕ} {extent : Extent} {white : ℕ} (header : HasHeader text extent white rest) where
+  not_plain : (image : Image) → ¬ (SpellPicture (words_from 1 text) image)
+  not_plain image spelled = let words = header_words header in other_format spelled.begun words.begun
 
-no_word_fault : (text rest : List ℕ) (extent : Extent) (white : ℕ) (fault : Fault) → HasHeader text extent white rest
-    → ¬ (IsFaultOfWords (words_from 1 text) fault)
-no_word_fault text rest extent white fault header =
-    let words = header_words text rest extent white header in
-    no_fault_of_header (words_from 1 text) words.left (extent.columns ∷ extent.rows ∷ white ∷ []) fault words.begun refl
+  no_word_fault : (fault : Fault) → ¬ (IsFaultOfWords (words_from 1 text) fault)
+  no_word_fault fault = let words = header_words header in no_fault_of_header fault words.begun refl
 
 -- a text spells one picture at most
 pub same_picture : (text : List ℕ) (image other : Image) → IsTextOf text image → IsTextOf text other → image ≡ other
 same_picture text image other (inl one) (inl two) = same_picture_of_words (words_from 1 text) image other one two
-same_picture text image other (inl one) (inr two) = absurd (not_plain text two.rest other.extent other.greatest image two.header one)
-same_picture text image other (inr one) (inl two) = absurd (not_plain text one.rest image.extent image.greatest other one.header two)
+same_picture text image other (inl one) (inr two) = absurd (not_plain two.header image one)
+same_picture text image other (inr one) (inl two) = absurd (not_plain one.header other two)
 same_picture text image other (inr one) (inr two) = same_binary_picture text image other one two
 
 -- a text has one fault at most
 pub same_fault : (text : List ℕ) (fault other : Fault) → IsFaultOf text fault → IsFaultOf text other → fault ≡ other
 same_fault text fault other (inl one) (inl two) = same_fault_of_words (words_from 1 text) fault other one two
-same_fault text fault other (inl one) (inr two) =
-    let after = after_header text other two in absurd (no_word_fault text after.rest after.extent after.white fault after.header one)
-same_fault text fault other (inr one) (inl two) =
-    let after = after_header text fault one in absurd (no_word_fault text after.rest after.extent after.white other after.header two)
+same_fault text fault other (inl one) (inr two) = absurd (no_word_fault (after_header text other two).header fault one)
+same_fault text fault other (inr one) (inl two) = absurd (no_word_fault (after_header text fault one).header other two)
 same_fault text fault other (inr one) (inr two) =
     let same = same_fault_after text (Some fault) (Some other) (after_header text fault one) (after_header text other two) in cc
 
 -- a text that spells a picture has no fault
 pub no_fault : (text : List ℕ) (image : Image) (fault : Fault) → IsTextOf text image → ¬ (IsFaultOf text fault)
 no_fault text image fault (inl spelled) (inl f) = no_fault_of_words (words_from 1 text) image fault spelled f
-no_fault text image fault (inl spelled) (inr f) =
-    let after = after_header text fault f in not_plain text after.rest after.extent after.white image after.header spelled
-no_fault text image fault (inr spelled) (inl f) = no_word_fault text spelled.rest image.extent image.greatest fault spelled.header f
+no_fault text image fault (inl spelled) (inr f) = not_plain (after_header text fault f).header image spelled
+no_fault text image fault (inr spelled) (inl f) = no_word_fault spelled.header fault f
 no_fault text image fault (inr spelled) (inr f) =
     let same = same_fault_after text None (Some fault) (after_header_none text image spelled) (after_header text fault f) in cc
 
@@ -275,15 +275,14 @@ first_in zero number (b ∷ text) enough = absurd (omega arith)
 first_in (suc fuel) number (b ∷ text) enough = elim (cases_Bool (is_ascii_whitespace b)) [
   | inl white ↦
       let later = number + bool_byte (eqb b 10) in
-      skip number later (b ∷ text) text (words_after_blank number (bool_byte (eqb b 10)) b (b ∷ text) text refl white refl)
-      (λ some. gap_after_blank (b ∷ text) (b ∷ text) text b (no_gap (b ∷ text)) refl white)
-      (first_in fuel later text (omega arith))
+      skip number later (b ∷ text) text (words_after_blank {rest = text} number (bool_byte (eqb b 10)) refl white refl)
+      (λ some. gap_after_blank (no_gap (b ∷ text)) refl white) (first_in fuel later text (omega arith))
   | inr not_white ↦ elim (cases_Bool (is_comment b)) [
     | inl mark ↦
         let after = after_line text in
         let is : b ∷ text ≡ 35 ∷ text = ap (λ (c : ℕ). c ∷ text) (eqb-true b 35 mark) in
         skip number (number + 1) (b ∷ text) after.0 (words_after_comment number (b ∷ text) text after.0 is after.1)
-        (gap_after_comment (b ∷ text) (b ∷ text) text after.0 (no_gap (b ∷ text)) is after.1)
+        (gap_after_comment (no_gap (b ∷ text)) is after.1)
         (first_in fuel (number + 1) after.0 (omega (arith, shorter text after.0 after.1)))
     | inr no_mark ↦ inr (begins (b ∷ text) b text (or_from _ _ not_white no_mark) refl)
   ]
@@ -314,7 +313,7 @@ record HeaderNumbers (numbers : List ℕ) : Type 0 where
   extent : Extent
   white : ℕ
   is : numbers ≡ extent.columns ∷ extent.rows ∷ white ∷ []
-  allowed : IsBetween (record { least = 1; greatest = greatest_white Binary }) white
+  allowed : IsWhite white
 
 header_numbers : (numbers : List ℕ) → AreAllowed Binary numbers → next_number Binary numbers ≡ None → HeaderNumbers numbers
 header_numbers [] allowed complete = absurd (cc)

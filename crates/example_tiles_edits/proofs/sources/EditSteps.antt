@@ -1,5 +1,5 @@
 -- Edits as steps of a run: they fit a view, and leave of it what the edits do.
-use Rattle.std.proofs.Common.{◌≡◌, ℕ, ◌+◌, ◌-◌, ◌*◌, ◌<◌, pos, negsuc, true, Option, Some, None, List, [], ◌∷◌, map, refl, sym, ap, ◌∙◌}
+use Rattle.std.proofs.Common.{◌≡◌, ℕ, ◌<◌, true, Option, Some, None, List, [], ◌∷◌, map, refl, sym, ap, ◌∙◌}
 use Rattle.std.proofs.Common.{subst}
 use Rattle.std.proofs.lemmas.Bool.{and_parts}
 use Rattle.std.specs.Option.{option_map}
@@ -8,7 +8,6 @@ use Rattle.ndarray_layout.specs.declared.Slice.{Slice}
 use Rattle.ndarray_layout.specs.declared.SliceInfoElem.{SliceInfoElem}
 use Rattle.ndarray_layout.specs.declared.SliceInfoElem.TheVariants as elem
 use Rattle.ndarray_layout.specs.ArgumentFault.{argument_fault}
-use Rattle.ndarray_layout.specs.Picks.{slice_with}
 use Rattle.ndarray_layout.specs.Run.{Outcome, run_of}
 use Rattle.ndarray_layout.specs.Selected.{selected}
 use Rattle.ndarray_layout.specs.Sliced.{sliced_shape}
@@ -32,22 +31,20 @@ abbrev pub element_of : Slice → SliceInfoElem
 element_of s = elem.Slice s.start s.end s.step
 
 -- ---- what two slices leave of two axes
-pub no_fault : (rows columns : ℕ) (one other : Slice) (r c : ℕ) (f g : ℕ → ℕ) → IsPick rows one r f → IsPick columns other c g
-    → argument_fault Strict (rows ∷ columns ∷ []) (element_of one ∷ element_of other ∷ []) ≡ None
-no_fault rows columns one other r c f g first second =
-    rw (no_fault_of_fits Strict rows one first.fits, no_fault_of_fits Strict columns other second.fits) refl
+module _ {rows columns : ℕ} {one other : Slice} {r c : ℕ} {f g : ℕ → ℕ} (first : IsPick rows one r f)
+    (second : IsPick columns other c g) where
+  pub no_fault : argument_fault Strict (rows ∷ columns ∷ []) (element_of one ∷ element_of other ∷ []) ≡ None
+  no_fault = rw (no_fault_of_fits Strict rows one first.fits, no_fault_of_fits Strict columns other second.fits) refl
 
-pub left : (rows columns : ℕ) (one other : Slice) (r c : ℕ) (f g : ℕ → ℕ) → IsPick rows one r f → IsPick columns other c g
-    → sliced_shape Strict (element_of one ∷ element_of other ∷ []) (rows ∷ columns ∷ []) ≡ r ∷ c ∷ []
-left rows columns one other r c f g first second = rw (first.count, second.count) refl
+  pub left : sliced_shape Strict (element_of one ∷ element_of other ∷ []) (rows ∷ columns ∷ []) ≡ r ∷ c ∷ []
+  left = rw (first.count, second.count) refl
 
-pub stands_for : (rows columns : ℕ) (one other : Slice) (r c i j : ℕ) (f g : ℕ → ℕ) → IsPick rows one r f → IsPick columns other c g
-    → i < r → j < c
-    → selected Strict (element_of one ∷ element_of other ∷ []) (rows ∷ columns ∷ []) (i ∷ j ∷ []) ≡ f i ∷ g j ∷ []
-stands_for rows columns one other r c i j f g first second below right = rw (first.entry i below, second.entry j right) refl
+  pub stands_for : (i j : ℕ) → i < r → j < c
+      → selected Strict (element_of one ∷ element_of other ∷ []) (rows ∷ columns ∷ []) (i ∷ j ∷ []) ≡ f i ∷ g j ∷ []
+  stands_for i j below right = rw (first.entry i below, second.entry j right) refl
 
-pub pick_within : (len : ℕ) (slice : Slice) (count : ℕ) (f : ℕ → ℕ) (j : ℕ) → IsPick len slice count f → j < count → f j < len
-pick_within len slice count f j pick below =
+pub pick_within : {len : ℕ} {slice : Slice} {count : ℕ} {f : ℕ → ℕ} (j : ℕ) → IsPick len slice count f → j < count → f j < len
+pick_within {len} {slice} j pick below =
     subst (λ n. n < len) (pick.entry j below) (pick_below Strict len slice j pick.fits (subst (λ n. j < n) (sym pick.count) below))
 
 -- ---- what an edit leaves that is one slice
@@ -58,24 +55,24 @@ pub record Leaves (extent : Extent) (edit : Edit) (elements : List SliceInfoElem
       → selected Strict elements (shape_of extent) (index_of at) ≡ index_of (source extent edit at)
   pub within : (at : Position) → IsWithin (extent_after extent edit) at → IsWithin extent (source extent edit at)
 
-leaves_of : (extent : Extent) (edit : Edit) (one other : Slice) (f g : ℕ → ℕ)
+leaves_of : {one other : Slice} {f g : ℕ → ℕ} (extent : Extent) (edit : Edit)
     → IsPick extent.rows one (extent_after extent edit).rows f → IsPick extent.columns other (extent_after extent edit).columns g
     → ((at : Position) → (f at.row ≡ (source extent edit at).row) × (g at.column ≡ (source extent edit at).column))
     → Leaves extent edit (element_of one ∷ element_of other ∷ [])
-leaves_of extent edit one other f g first second from = record {
-  none = no_fault _ _ one other _ _ f g first second;
-  shape = left _ _ one other _ _ f g first second;
-  sources = λ at within. stands_for _ _ one other _ _ at.row at.column f g first second within.row_below within.column_below
+leaves_of extent edit first second from = record {
+  none = no_fault first second;
+  shape = left first second;
+  sources = λ at within. stands_for first second at.row at.column within.row_below within.column_below
       ∙ rw ((from at).0, (from at).1) refl;
   within = λ at within. record {
-    row_below = subst (λ n. n < extent.rows) (from at).0 (pick_within _ one _ f at.row first within.row_below);
-    column_below = subst (λ n. n < extent.columns) (from at).1 (pick_within _ other _ g at.column second within.column_below);
+    row_below = subst (λ n. n < extent.rows) (from at).0 (pick_within at.row first within.row_below);
+    column_below = subst (λ n. n < extent.columns) (from at).1 (pick_within at.column second within.column_below);
   };
 }
 
-same_elements : (extent : Extent) (edit : Edit) (one other : List SliceInfoElem) → Some one ≡ Some other → Leaves extent edit one
+same_elements : {extent : Extent} {edit : Edit} {one other : List SliceInfoElem} → Some one ≡ Some other → Leaves extent edit one
     → Leaves extent edit other
-same_elements extent edit one other is here = let same : one ≡ other = cc in subst (Leaves extent edit) same here
+same_elements {extent} {edit} {one} {other} is here = let same : one ≡ other = cc in subst (Leaves extent edit) same here
 
 leaves : (extent : Extent) (edit : Edit) (elements : List SliceInfoElem) → elements_of edit ≡ Some elements → fits extent edit ≡ true
     → Leaves extent edit elements
@@ -83,23 +80,16 @@ leaves extent (Crop rows columns) elements is fit =
     let both = and_parts _ _ fit in
     let first = and_parts _ _ both.0 in
     let second = and_parts _ _ both.1 in
-    same_elements extent (Crop rows columns) _ elements is
-    (leaves_of extent (Crop rows columns) (slice_with (pos rows.start) (Some (pos rows.end)) (pos 1))
-    (slice_with (pos columns.start) (Some (pos columns.end)) (pos 1)) (λ j. rows.start + j) (λ j. columns.start + j)
-    (of_span extent.rows rows.start rows.end first.0 first.1) (of_span extent.columns columns.start columns.end second.0 second.1)
-    (λ at. (refl, refl)))
+    same_elements is
+    (leaves_of extent (Crop rows columns) (of_span extent.rows rows.start rows.end first.0 first.1)
+    (of_span extent.columns columns.start columns.end second.0 second.1) (λ at. (refl, refl)))
 leaves extent FlipRows elements is fit =
-    same_elements extent FlipRows _ elements is
-    (leaves_of extent FlipRows (slice_with (pos 0) None (negsuc 0)) (slice_with (pos 0) None (pos 1)) (λ j. extent.rows - 1 - j)
-    (λ j. j) (turned extent.rows) (all extent.columns) (λ at. (refl, refl)))
+    same_elements is (leaves_of extent FlipRows (turned extent.rows) (all extent.columns) (λ at. (refl, refl)))
 leaves extent FlipColumns elements is fit =
-    same_elements extent FlipColumns _ elements is
-    (leaves_of extent FlipColumns (slice_with (pos 0) None (pos 1)) (slice_with (pos 0) None (negsuc 0)) (λ j. j)
-    (λ j. extent.columns - 1 - j) (all extent.rows) (turned extent.columns) (λ at. (refl, refl)))
+    same_elements is (leaves_of extent FlipColumns (all extent.rows) (turned extent.columns) (λ at. (refl, refl)))
 leaves extent (Every count) elements is fit =
-    same_elements extent (Every count) _ elements is
-    (leaves_of extent (Every count) (slice_with (pos 0) None (pos count)) (slice_with (pos 0) None (pos count)) (λ j. j * count)
-    (λ j. j * count) (by_step extent.rows count fit) (by_step extent.columns count fit) (λ at. (refl, refl)))
+    same_elements is
+    (leaves_of extent (Every count) (by_step extent.rows count fit) (by_step extent.columns count fit) (λ at. (refl, refl)))
 leaves extent (Mirror count) elements is fit = absurd (cc)
 
 -- ---- the source of a position lies within the picture

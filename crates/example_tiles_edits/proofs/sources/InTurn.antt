@@ -24,9 +24,9 @@ source_of-append : (edits others : List Edit) (extent : Extent) (at : Position)
 source_of-append [] others extent at = refl
 source_of-append (edit ∷ edits) others extent at = ap (source extent edit) (source_of-append edits others (extent_after extent edit) at)
 
-pub IsEdited-append : (edits others : List Edit) (before between after : Image) → first_misfit others between.extent ≡ None
+IsEdited-append : {edits others : List Edit} {before between after : Image} → first_misfit others between.extent ≡ None
     → IsEdited edits before between → IsEdited others between after → IsEdited (edits ++ others) before after
-IsEdited-append edits others before between after fit first second =
+IsEdited-append {edits} {others} {before} {between} fit first second =
     let left = extent_of-append edits others before.extent in
     record {
       extent = second.extent ∙ ap (extent_of others) first.extent ∙ sym left;
@@ -89,37 +89,32 @@ pub fits_before : (edits some others : List Edit) (extent : Extent) → edits �
 fits_before edits some others extent whole fit =
     (no_misfit-append some others extent (ap (λ es. first_misfit es extent) (sym whole) ∙ fit)).0
 
-pub fits_after : (edits some others : List Edit) (before between : Image) → edits ≡ some ++ others
+fits_after : {edits some : List Edit} {before between : Image} (others : List Edit) → edits ≡ some ++ others
     → first_misfit edits before.extent ≡ None → IsEdited some before between → first_misfit others between.extent ≡ None
-fits_after edits some others before between whole fit edited =
+fits_after {some} {before} others whole fit edited =
     ap (first_misfit others) edited.extent
     ∙ (no_misfit-append some others before.extent (ap (λ es. first_misfit es before.extent) (sym whole) ∙ fit)).1
 
-pub goes_on : (edits some others : List Edit) (before between after : Image) → edits ≡ some ++ others
-    → first_misfit edits before.extent ≡ None → IsEdited some before between → IsEdited others between after → IsEdited edits before after
-goes_on edits some others before between after whole fit edited rest =
-    subst (λ es. IsEdited es before after) (sym whole)
-    (IsEdited-append some others before between after (fits_after edits some others before between whole fit edited) edited rest)
-
 -- the first edits are made, and the others are left
-pub fits_left : (edits left : List Edit) (before after : Image) → first_misfit edits before.extent ≡ None
-    → AreBegun edits before after left → first_misfit left after.extent ≡ None
-fits_left edits left before after fit begun = fits_after edits begun.made left before after begun.whole fit begun.edited
+module _ {edits left : List Edit} {before after : Image} (fit : first_misfit edits before.extent ≡ None)
+    (begun : AreBegun edits before after left) where
+  pub fits_left : first_misfit left after.extent ≡ None
+  fits_left = fits_after left begun.whole fit begun.edited
 
-pub goes_on_left : (edits left : List Edit) (before after last : Image) → first_misfit edits before.extent ≡ None
-    → AreBegun edits before after left → IsEdited left after last → IsEdited edits before last
-goes_on_left edits left before after last fit begun rest = goes_on edits begun.made left before after last begun.whole fit begun.edited rest
+  pub goes_on_left : {last : Image} → IsEdited left after last → IsEdited edits before last
+  goes_on_left {last} rest =
+      subst (λ es. IsEdited es before last) (sym begun.whole) (IsEdited-append fits_left begun.edited rest)
 
 pub nothing_left : (edits : List Edit) → length edits ≡ 0 → edits ≡ []
 nothing_left [] none = refl
 nothing_left (edit ∷ edits) none = absurd (omega arith)
 
 -- ---- pixels at places that edits name
-pub IsEdited-gathered : (edits : List Edit) (before : Image) (extent : Extent) (pixels places : List ℕ)
+pub IsEdited-gathered : {edits : List Edit} {before : Image} {extent : Extent} {pixels places : List ℕ}
     → first_misfit edits before.extent ≡ None → extent ≡ extent_of edits before.extent
     → map Some pixels ≡ map (slice_get before.pixels) places → ArePlaces edits before.extent places
     → IsEdited edits before (record { extent = extent; greatest = before.greatest; pixels = pixels })
-IsEdited-gathered edits before extent pixels places fit left gathered found = record {
+IsEdited-gathered {edits} {before} {extent} {pixels} {places} fit left gathered found = record {
   extent = left;
   greatest = refl;
   pixels = λ at within. (

@@ -63,52 +63,83 @@ some_number : (o : Option ℕ) (n : ℕ) → option_map pos o ≡ Some (pos n) �
 some_number None n e = absurd (cc)
 some_number (Some m) n e = cc
 
--- ---- the place at a flat index
-found : (left extent : Extent) (view : View) (source : List ℕ → List ℕ) (places : List ℕ) (at from : Position)
-    → view.shape ≡ shape_of left → KeepsPlaces source (whole_view extent) view
-    → ((r : ℕ) → r < size view.shape → option_map pos (slice_get places r) ≡ Some (place_at view (index_of_flat view.shape r)))
-    → IsWithin left at → IsWithin extent from → source (index_of at) ≡ index_of from
-    → slice_get places (place_in left at) ≡ Some (place_in extent from)
-found left extent view source places at from shape keeps at_flat_index within inside same =
-    let is = is_index_of left at within in
-    let small : place_in left at < size view.shape =
-    rw shape (subst (λ r. r < size (shape_of left)) (flat_index_of left at) (flat_index-lt-size (shape_of left) (index_of at) is)) in
-    let index : index_of_flat view.shape (place_in left at) ≡ index_of at =
-    rw shape (ap (index_of_flat (shape_of left)) (sym (flat_index_of left at)) ∙ index_of_flat-flat_index (shape_of left)
-    (index_of at) is) in
-    let kept = keeps (index_of at) (ap (λ s. is_index s (index_of at)) shape ∙ is) in
-    some_number (slice_get places (place_in left at)) (place_in extent from)
-    (at_flat_index (place_in left at) small ∙ ap (λ (z : ℤ). Some z)
-    (ap (place_at view) index ∙ kept.1 ∙ ap (place_at (whole_view extent)) same ∙ place_of_whole extent from inside))
-
 pub size_of : (extent : Extent) → size (shape_of extent) ≡ pixel_count extent
 size_of extent = omega arith
 
-pub places_found : (edits : List Edit) (extent : Extent) (steps : List StepValue) (start view : View) (places : List ℕ)
-    → first_misfit edits extent ≡ None → map Some steps ≡ map step_of edits → start ≡ whole_view extent
-    → view ≡ (run_of steps start).view → KeepsPlaces (run_of steps start).source start view
-    → ((r : ℕ) → r < size view.shape → option_map pos (slice_get places r) ≡ Some (place_at view (index_of_flat view.shape r)))
-    → length places ≡ size view.shape → All (λ place. place < pixel_count extent) places
-    → ArePlaces edits extent places
-places_found edits extent steps start view places fit same whole left keeps at_flat_index complete inside =
-    let ran : IsRun edits extent (run_of steps start) = run_of_edits edits steps extent start same fit (ap (λ (v : View). v.shape) whole) in
-    let shape : view.shape ≡ shape_of (extent_of edits extent) = ap (λ (v : View). v.shape) left ∙ ran.shape in
+-- ---- the place at a flat index
+record IsFlat (view : View) (at : Position) (place : ℕ) : Type 0 where
+  below : place < size view.shape
+  index : index_of_flat view.shape place ≡ index_of at
+
+flat_of : (left : Extent) (view : View) (at : Position) → view.shape ≡ shape_of left → IsWithin left at
+    → IsFlat view at (place_in left at)
+flat_of left view at shape within =
+    let flat = flat_index_of left at in
+    let is = is_index_of left at within in
     record {
-      complete = complete ∙ ap size shape ∙ size_of (extent_of edits extent);
-      inside = inside;
-      from_source = λ at within. found (extent_of edits extent) extent view (run_of steps start).source places at
-          (source_of edits extent at) shape
-          (subst (λ (v : View). KeepsPlaces (run_of steps start).source v view) whole keeps) at_flat_index within
-          (source_of_within edits extent at fit within) (ran.sources at within);
+      below = rw shape (subst (λ r. r < size (shape_of left)) flat (flat_index-lt-size (shape_of left) (index_of at) is));
+      index = rw shape
+          (ap (index_of_flat (shape_of left)) (sym flat) ∙ index_of_flat-flat_index (shape_of left) (index_of at) is);
     }
 
--- a run of edits that fit ends for no fault of its own
-pub not_refused : (edits : List Edit) (extent : Extent) (steps : List StepValue) (start : View) (kind : ErrorKind)
-    → first_misfit edits extent ≡ None → map Some steps ≡ map step_of edits → start ≡ whole_view extent
-    → (run_of steps start).fault ≡ Some kind → ⊥
-not_refused edits extent steps start kind fit same whole ended =
-    let ran : IsRun edits extent (run_of steps start) = run_of_edits edits steps extent start same fit (ap (λ (v : View). v.shape) whole) in
-    none_is_not_some kind (sym ran.fault ∙ ended)
+-- ---- a run of edits that fit, from the view of all pixels of an extent
+pub record AreSteps (edits : List Edit) (extent : Extent) (steps : List StepValue) (start : View) : Type 0 where
+  pub fit : first_misfit edits extent ≡ None
+  pub same : map Some steps ≡ map step_of edits
+  pub whole : start ≡ whole_view extent
+
+-- the view that it leaves, which keeps its places
+pub record AreLeft (extent : Extent) (steps : List StepValue) (start view : View) : Type 0 where
+  pub left : view ≡ (run_of steps start).view
+  pub keeps : KeepsPlaces (run_of steps start).source start view
+  pub within : LiesWithin (pixel_count extent) view
+
+-- places are those of a view, one at each flat index
+abbrev AreAtFlatIndex : View → List ℕ → Type 0
+AreAtFlatIndex view places = (r : ℕ) → r < size view.shape
+    → option_map pos (slice_get places r) ≡ Some (place_at view (index_of_flat view.shape r))
+
+module _ {edits : List Edit} {extent : Extent} {steps : List StepValue} {start : View} (are : AreSteps edits extent steps start) where
+  ran : IsRun edits extent (run_of steps start)
+  ran = run_of_edits edits steps extent start are.same are.fit (ap (λ (v : View). v.shape) are.whole)
+
+  -- it ends for no fault of its own
+  pub not_refused : (kind : ErrorKind) → (run_of steps start).fault ≡ Some kind → ⊥
+  not_refused kind ended = none_is_not_some kind (sym ran.fault ∙ ended)
+
+  module _ {view : View} (leaves : AreLeft extent steps start view) where
+    shape_left : view.shape ≡ shape_of (extent_of edits extent)
+    shape_left = ap (λ (v : View). v.shape) leaves.left ∙ ran.shape
+
+    place_left : (at : Position) → IsWithin (extent_of edits extent) at
+        → place_at view (index_of at) ≡ pos (place_in extent (source_of edits extent at))
+    place_left at within =
+        let from = source_of edits extent at in
+        let keeps = subst (λ (v : View). KeepsPlaces (run_of steps start).source v view) are.whole leaves.keeps in
+        let is = ap (λ s. is_index s (index_of at)) shape_left ∙ is_index_of (extent_of edits extent) at within in
+        (keeps (index_of at) is).1 ∙ ap (place_at (whole_view extent)) (ran.sources at within)
+        ∙ place_of_whole extent from (source_of_within edits extent at are.fit within)
+
+    places_left : (places : List ℕ) → AreAtFlatIndex view places → length places ≡ size view.shape
+        → All (λ place. place < pixel_count extent) places → ArePlaces edits extent places
+    places_left places at_flat_index complete inside = record {
+      complete = complete ∙ ap size shape_left ∙ size_of (extent_of edits extent);
+      inside = inside;
+      from_source = λ at within. (
+          let flat = flat_of (extent_of edits extent) view at shape_left within in
+          some_number (slice_get places (place_in (extent_of edits extent) at)) (place_in extent (source_of edits extent at))
+          (at_flat_index _ flat.below ∙ ap (λ (z : ℤ). Some z) (ap (place_at view) flat.index ∙ place_left at within)));
+    }
+
+    -- the places that a call answers
+    pub of_places : {V E : Type 0} (items : V → List ℕ) (r : Result V E) → IfOk r (λ v. map pos (items v) ≡ view_places RowMajor view)
+        → IfOk r (λ v. AreAtFlatIndex view (items v))
+        → IfOk r (λ v. (len : ℕ) → LiesWithin len view → All (λ place. place < len) (items v))
+        → IfOk r (λ v. ArePlaces edits extent (items v))
+    of_places items (Ok v) listed at_flat_index inside =
+        places_left (items v) at_flat_index
+        (sym (length-map (items v) pos) ∙ ap length listed ∙ length-view_places RowMajor view) (inside (pixel_count extent) leaves.within)
+    of_places items (Err e) listed at_flat_index inside = tt
 
 pub no_shape_fault : (X : Type 0) (fault : LayoutError) → ((kind : ErrorKind) → fault ≡ Shape kind → ⊥) → shape_fault {X = X}
     (Err fault) ≡ None
@@ -129,16 +160,3 @@ read_at pixels stored places r q gathered at =
 
 pub length_gathered : (pixels stored places : List ℕ) → map Some pixels ≡ map (slice_get stored) places → length pixels ≡ length places
 length_gathered pixels stored places gathered = sym (length-map pixels Some) ∙ ap length gathered ∙ length-map places (slice_get stored)
-
--- ---- the places that a call answers
-pub of_places : {V E : Type 0} (items : V → List ℕ) (r : Result V E) (edits : List Edit) (extent : Extent) (steps : List StepValue)
-    (start view : View) → first_misfit edits extent ≡ None → map Some steps ≡ map step_of edits → start ≡ whole_view extent
-    → view ≡ (run_of steps start).view → KeepsPlaces (run_of steps start).source start view → LiesWithin (pixel_count extent) view
-    → IfOk r (λ v. map pos (items v) ≡ view_places RowMajor view)
-    → IfOk r (λ v. (r : ℕ) → r < size view.shape → option_map pos (slice_get (items v) r) ≡ Some
-    (place_at view (index_of_flat view.shape r)))
-    → IfOk r (λ v. (len : ℕ) → LiesWithin len view → All (λ place. place < len) (items v)) → IfOk r (λ v. ArePlaces edits extent (items v))
-of_places items (Ok v) edits extent steps start view fit same whole left keeps within listed at_flat_index inside =
-    places_found edits extent steps start view (items v) fit same whole left keeps at_flat_index
-    (sym (length-map (items v) pos) ∙ ap length listed ∙ length-view_places RowMajor view) (inside (pixel_count extent) within)
-of_places items (Err e) edits extent steps start view fit same whole left keeps within listed at_flat_index inside = tt

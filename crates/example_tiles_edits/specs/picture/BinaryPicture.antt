@@ -1,4 +1,5 @@
--- The picture that the bytes of a text in the binary format PGM (P5) spell: a header in words, a byte of white space, and a byte for each pixel.
+-- The picture that the bytes of a text in the binary format PGM (P5) spell: a header in words, a byte of white space, and a byte
+-- for each pixel.
 use Rattle.std.specs.Prelude.{◌≡◌, ℕ, ◌+◌, ◌<◌, ◌≤◌, ◌⊎◌, true, false, Some, List, [], ◌∷◌, ◌++◌, length, map, codes, refl}
 use Rattle.std.specs.Char.{is_ascii_whitespace}
 use Rattle.std.specs.List.{All}
@@ -88,24 +89,27 @@ IsFaultOfBytes text _ = ⊥
 abbrev pair : Image
 pair = record { extent = record { rows = 1; columns = 2 }; greatest = 9; pixels = 7 ∷ 10 ∷ [] }
 
-word_by_test : (word : List ℕ) → 0 < length word → All (λ b. ends_word b ≡ false) word → IsWord word
-word_by_test word some plain = record { some = some; plain = plain }
+word_of_one : (b : ℕ) → ends_word b ≡ false → IsWord (b ∷ [])
+word_of_one b plain = record { some = lit< tt; plain = All-from_recursion (λ b. ends_word b ≡ false) (b ∷ []) (plain, tt) }
+
+magic_word : IsWord (codes "P5")
+magic_word = record { some = lit< tt; plain = All-from_recursion (λ b. ends_word b ≡ false) (codes "P5") (refl, (refl, tt)) }
 
 header_of_pair : (rest : List ℕ) → HasHeader (codes "P5 2 1\n9" ++ 10 ∷ rest) pair.extent 9 (10 ∷ rest)
 header_of_pair rest = record {
   words = codes "2" ∷ codes "1" ∷ codes "9" ∷ [];
   first = (
     codes " 2 1\n9" ++ 10 ∷ rest,
-    record { gap = []; parts = refl; is_gap = none; is_word = word_by_test (codes "P5") (lit< tt) (All-from_recursion (λ b. ends_word b ≡ false) (codes "P5") (refl, (refl, tt))); apart = refl },
+    record { gap = []; parts = refl; is_gap = none; is_word = magic_word; apart = refl },
     (
       codes " 1\n9" ++ 10 ∷ rest,
-      record { gap = codes " "; parts = refl; is_gap = blank refl none; is_word = word_by_test (codes "2") (lit< tt) (All-from_recursion (λ b. ends_word b ≡ false) (codes "2") (refl, tt)); apart = refl },
+      record { gap = codes " "; parts = refl; is_gap = blank refl none; is_word = word_of_one 50 refl; apart = refl },
       (
         codes "\n9" ++ 10 ∷ rest,
-        record { gap = codes " "; parts = refl; is_gap = blank refl none; is_word = word_by_test (codes "1") (lit< tt) (All-from_recursion (λ b. ends_word b ≡ false) (codes "1") (refl, tt)); apart = refl },
+        record { gap = codes " "; parts = refl; is_gap = blank refl none; is_word = word_of_one 49 refl; apart = refl },
         (
           10 ∷ rest,
-          record { gap = codes "\n"; parts = refl; is_gap = blank refl none; is_word = word_by_test (codes "9") (lit< tt) (All-from_recursion (λ b. ends_word b ≡ false) (codes "9") (refl, tt)); apart = refl },
+          record { gap = codes "\n"; parts = refl; is_gap = blank refl none; is_word = word_of_one 57 refl; apart = refl },
           refl,
         ),
       ),
@@ -135,7 +139,14 @@ one_pixel = record {
   white = 9;
   rest = 10 ∷ 7 ∷ [];
   header = header_of_pair (7 ∷ []);
-  short = inr (record { space = 10; pixels = 7 ∷ []; parts = refl; blank = refl; in_range = All-from_recursion (λ pixel. pixel ≤ 9) (7 ∷ []) (lit≤ tt, tt); fewer = lit< tt });
+  short = inr (record {
+    space = 10;
+    pixels = 7 ∷ [];
+    parts = refl;
+    blank = refl;
+    in_range = All-from_recursion (λ pixel. pixel ≤ 9) (7 ∷ []) (lit≤ tt, tt);
+    fewer = lit< tt;
+  });
 }
 
 second_too_white : IsFaultOfBytes (codes "P5 2 1\n9\n" ++ 7 ∷ 10 ∷ []) (TooWhite 2 9)

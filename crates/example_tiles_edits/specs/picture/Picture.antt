@@ -1,5 +1,6 @@
 -- What a picture is: its extent, and a pixel at each position of it.
-use Rattle.std.specs.Prelude.{◌≡◌, ℕ, ◌+◌, ◌*◌, ◌<◌, ◌≤◌, Bool, true, false, ◌&&◌, nat_lt, if◌then◌else◌, Option, Some, None, List, [], ◌∷◌, length, slice_get, refl}
+use Rattle.std.specs.Prelude.{◌≡◌, ℕ, ◌+◌, ◌*◌, ◌<◌, ◌≤◌, Bool, true, false, ◌&&◌, nat_lt, if◌then◌else◌, Option, Some, None}
+use Rattle.std.specs.Prelude.{List, [], ◌∷◌, length, slice_get, refl}
 use Rattle.std.specs.List.{All}
 use Rattle.std.proofs.Common.{lit<, lit≤, arith}
 use Rattle.std.proofs.lemmas.List.Elements.{All-from_recursion}
@@ -74,7 +75,8 @@ past_both = refl
 a_picture : IsPicture two_by_three
 a_picture = record {
   complete = refl;
-  in_range = All-from_recursion (λ pixel. pixel ≤ 9) two_by_three.pixels (lit≤ tt, (lit≤ tt, (lit≤ tt, (lit≤ tt, (lit≤ tt, (lit≤ tt, tt))))));
+  in_range = All-from_recursion (λ pixel. pixel ≤ 9) two_by_three.pixels
+      (lit≤ tt, (lit≤ tt, (lit≤ tt, (lit≤ tt, (lit≤ tt, (lit≤ tt, tt))))));
 }
 
 pixel_too_few : IsPicture (record two_by_three { pixels = 1 ∷ 2 ∷ 3 ∷ 4 ∷ 5 ∷ [] }) → ⊥

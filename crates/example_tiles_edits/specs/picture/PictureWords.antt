@@ -1,5 +1,5 @@
--- The picture that a text in the plain format PGM (P2) spells, the header of a text in either format (P2, P5), and what is wrong with the words
--- of a text that spells none.
+-- The picture that a text in the plain format PGM (P2) spells, the header of a text in either format (P2, P5), and what is wrong
+-- with the words of a text that spells none.
 use Rattle.std.specs.Prelude.{◌≡◌, ◌≢◌, ℕ, ◌*◌, ◌-◌, ◌^◌, ◌<◌, ◌≤◌, ◌⊎◌, nat_eq, nat_lt, if◌then◌else◌}
 use Rattle.std.specs.Prelude.{Option, Some, None, List, [], ◌∷◌, ◌++◌, length, map, take, slice_index, slice_index_or, codes, refl}
 use Rattle.std.specs.List.{EachIndex}
@@ -152,7 +152,7 @@ dot_without_pixel (suc zero) below = record { not_below = lit≤ tt; not_above =
 dot_without_pixel (suc (suc zero)) below = record { not_below = lit≤ tt; not_above = lit≤ tt }
 dot_without_pixel (suc (suc (suc k))) below = absurd (omega arith)
 
-numbers_of_dot : EachIndex {X = ℕ} (1 ∷ 1 ∷ 9 ∷ 5 ∷ []) (λ k. MayFollow Plain (take k (1 ∷ 1 ∷ 9 ∷ 5 ∷ [])) (slice_index (1 ∷ 1 ∷ 9 ∷ 5 ∷ []) k))
+numbers_of_dot : EachIndex (numbers_of dot) (λ k. MayFollow Plain (take k (numbers_of dot)) (slice_index (numbers_of dot) k))
 numbers_of_dot zero below = record { not_below = lit≤ tt; not_above = lit≤ tt }
 numbers_of_dot (suc zero) below = record { not_below = lit≤ tt; not_above = lit≤ tt }
 numbers_of_dot (suc (suc zero)) below = record { not_below = lit≤ tt; not_above = lit≤ tt }
@@ -161,7 +161,13 @@ numbers_of_dot (suc (suc (suc (suc k)))) below = absurd (omega arith)
 
 spelled_dot : SpellPicture (words_from 1 (codes "P2 # a dot\n1 1\n9 5\n")) dot
 spelled_dot = record {
-  begun = record { line = 1; spelled = (2, codes "1") ∷ (2, codes "1") ∷ (3, codes "9") ∷ (3, codes "5") ∷ []; parts = refl; spell = refl; allowed = numbers_of_dot };
+  begun = record {
+    line = 1;
+    spelled = (2, codes "1") ∷ (2, codes "1") ∷ (3, codes "9") ∷ (3, codes "5") ∷ [];
+    parts = refl;
+    spell = refl;
+    allowed = numbers_of_dot;
+  };
   complete = refl;
 }
 
@@ -190,8 +196,10 @@ line_before : IsFaultOfWords (words_from 1 (codes "\nP3 1 1")) (NotPgm 1) → �
 line_before fault = let lines = ap (map (λ (word : NumberedWord). word.0)) fault.first in cc
 
 -- words that begin otherwise have no other fault
-begun_otherwise : (format : Format) (numbers : List ℕ) (left : List NumberedWord) → BeginWith format (words_from 1 (codes "P3 1")) numbers left → ⊥
-begun_otherwise format numbers left begun = no_magic format (ap (λ (words : List NumberedWord). (slice_index_or words 0 (0, [])).1) begun.parts)
+begun_otherwise : (format : Format) (numbers : List ℕ) (left : List NumberedWord)
+    → BeginWith format (words_from 1 (codes "P3 1")) numbers left → ⊥
+begun_otherwise format numbers left begun =
+    no_magic format (ap (λ (words : List NumberedWord). (slice_index_or words 0 (0, [])).1) begun.parts)
 
 no_number_after_p3 : IsFaultOfWords (words_from 1 (codes "P3 1")) (NotNumber 1 0 9) → ⊥
 no_number_after_p3 fault = begun_otherwise fault.format fault.numbers ((1, fault.word) ∷ fault.rest) fault.begun
@@ -209,7 +217,13 @@ too_white = record {
   numbers = 1 ∷ 1 ∷ 9 ∷ [];
   word = codes "10";
   rest = [];
-  begun = record { line = 1; spelled = (1, codes "1") ∷ (1, codes "1") ∷ (2, codes "9") ∷ []; parts = refl; spell = refl; allowed = dot_without_pixel };
+  begun = record {
+    line = 1;
+    spelled = (1, codes "1") ∷ (1, codes "1") ∷ (2, codes "9") ∷ [];
+    parts = refl;
+    spell = refl;
+    allowed = dot_without_pixel;
+  };
   expected = refl;
   other = λ n spells between. let ten : 10 ≡ n = cc in absurd (omega (arith, between.not_above));
 }
@@ -222,7 +236,13 @@ too_few = inr (record {
   format = Plain;
   numbers = 1 ∷ 1 ∷ 9 ∷ [];
   bounds = record { least = 0; greatest = 9 };
-  begun = record { line = 1; spelled = (1, codes "1") ∷ (1, codes "1") ∷ (1, codes "9") ∷ []; parts = refl; spell = refl; allowed = dot_without_pixel };
+  begun = record {
+    line = 1;
+    spelled = (1, codes "1") ∷ (1, codes "1") ∷ (1, codes "9") ∷ [];
+    parts = refl;
+    spell = refl;
+    allowed = dot_without_pixel;
+  };
   expected = refl;
 })
 
@@ -231,7 +251,13 @@ too_many = record {
   numbers = 1 ∷ 1 ∷ 9 ∷ 5 ∷ [];
   word = codes "6";
   rest = [];
-  begun = record { line = 1; spelled = (1, codes "1") ∷ (1, codes "1") ∷ (1, codes "9") ∷ (1, codes "5") ∷ []; parts = refl; spell = refl; allowed = numbers_of_dot };
+  begun = record {
+    line = 1;
+    spelled = (1, codes "1") ∷ (1, codes "1") ∷ (1, codes "9") ∷ (1, codes "5") ∷ [];
+    parts = refl;
+    spell = refl;
+    allowed = numbers_of_dot;
+  };
   complete = refl;
 }
 
@@ -250,7 +276,13 @@ for_a_pixel : HavePixel (words_from 1 (codes "P2 1 1 9 5"))
 for_a_pixel = record {
   numbers = 1 ∷ 1 ∷ 9 ∷ 5 ∷ [];
   left = [];
-  begun = record { line = 1; spelled = (1, codes "1") ∷ (1, codes "1") ∷ (1, codes "9") ∷ (1, codes "5") ∷ []; parts = refl; spell = refl; allowed = numbers_of_dot };
+  begun = record {
+    line = 1;
+    spelled = (1, codes "1") ∷ (1, codes "1") ∷ (1, codes "9") ∷ (1, codes "5") ∷ [];
+    parts = refl;
+    spell = refl;
+    allowed = numbers_of_dot;
+  };
   some = lit< tt;
 }
 

@@ -16,13 +16,15 @@ rows_of (suc rows) columns pixels = take columns pixels ∷ rows_of rows columns
 -- the text of a picture: a line each for `P2`, its columns and rows, the value of white, and each row
 abbrev pub text_of : Image → List ℕ
 text_of image =
-    codes "P2\n" ++ decimal image.extent.columns ++ codes " " ++ decimal image.extent.rows ++ codes "\n" ++ decimal image.greatest ++ codes "\n"
+    codes "P2\n" ++ decimal image.extent.columns ++ codes " " ++ decimal image.extent.rows ++ codes "\n" ++ decimal image.greatest
+    ++ codes "\n"
     ++ flat_map row_text (rows_of image.extent.rows image.extent.columns image.pixels)
 
 -- the text of a picture in the binary format: the same lines before the pixels, but for the first word, and then a byte for each pixel
 abbrev pub binary_text_of : Image → List ℕ
 binary_text_of image =
-    codes "P5\n" ++ decimal image.extent.columns ++ codes " " ++ decimal image.extent.rows ++ codes "\n" ++ decimal image.greatest ++ codes "\n" ++ image.pixels
+    codes "P5\n" ++ decimal image.extent.columns ++ codes " " ++ decimal image.extent.rows ++ codes "\n" ++ decimal image.greatest
+    ++ codes "\n" ++ image.pixels
 
 -- examples
 two_rows : rows_of 2 3 (1 ∷ 2 ∷ 3 ∷ 4 ∷ 5 ∷ 6 ∷ []) ≡ (1 ∷ 2 ∷ 3 ∷ []) ∷ (4 ∷ 5 ∷ 6 ∷ []) ∷ []
@@ -38,10 +40,12 @@ row_of_three : row_text (4 ∷ 50 ∷ 6 ∷ []) ≡ codes "4 50 6\n"
 unfolding digits
 row_of_three = refl
 
-two_by_two : text_of (record { extent = record { rows = 2; columns = 2 }; greatest = 10; pixels = 1 ∷ 2 ∷ 3 ∷ 10 ∷ [] }) ≡ codes "P2\n2 2\n10\n1 2\n3 10\n"
+two_by_two : text_of (record { extent = record { rows = 2; columns = 2 }; greatest = 10; pixels = 1 ∷ 2 ∷ 3 ∷ 10 ∷ [] })
+    ≡ codes "P2\n2 2\n10\n1 2\n3 10\n"
 unfolding digits
 two_by_two = refl
 
-two_bytes : binary_text_of (record { extent = record { rows = 1; columns = 2 }; greatest = 99; pixels = 65 ∷ 66 ∷ [] }) ≡ codes "P5\n2 1\n99\nAB"
+two_bytes : binary_text_of (record { extent = record { rows = 1; columns = 2 }; greatest = 99; pixels = 65 ∷ 66 ∷ [] })
+    ≡ codes "P5\n2 1\n99\nAB"
 unfolding digits
 two_bytes = refl

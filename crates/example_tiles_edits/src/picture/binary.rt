@@ -1,5 +1,6 @@
 //! Reads the pixels of a picture in the binary format.
-ghost use Rattle.std.specs.Prelude.{◌≡◌, ◌<◌, List, ℕ, IfOk, MatchResult, OnErr, length};
+ghost use Rattle.std.specs.Prelude.{◌≡◌, ◌<◌, nat_lt, List, ℕ, IfOk, MatchResult, OnErr, length};
+ghost use Rattle.std.specs.List.{position};
 ghost use Rattle.example_tiles_edits.specs.picture.BinaryPicture.{HasHeader, HasPixels, IsFaultOfBytes, SpellBinary};
 ghost use Rattle.example_tiles_edits.specs.picture.Picture.{IsPicture};
 ghost use Rattle.example_tiles_edits.specs.picture.SpelledPicture.{IsRefusedBy};
@@ -8,10 +9,18 @@ use crate::picture::Extent;
 use crate::picture::fault::{Fault, ReadError};
 use std::alloc::{AllocError, Global};
 
+/// The index of the first byte that is whiter than white; `None` where none is.
+fn first_above(bytes: &[u8], white: u16) -> Option<usize>
+    ensures { result ≡ position (λ byte. nat_lt white byte) bytes.now }
+{
+    bytes.iter().position(|byte| u16::from(*byte) > white)
+}
+
 /// The bytes of the pixels, which follow a header after a byte of white space: one for each pixel, up to the value of white.
 fn pixel_bytes(rest: &[u8], extent: Extent, white: u16) -> Result<&[u8], Fault>
     ensures { MatchResult result
-        (λ bytes. HasPixels rest.now (record { extent = extent; greatest = white; pixels = bytes.now }))
+        (λ bytes. HasPixels rest.now
+        (record { extent = extent; greatest = white; pixels = bytes.now }))
         (λ fault. (text : List ℕ) → HasHeader text extent white rest.now →
         IsFaultOfBytes text fault) }
 {
@@ -23,7 +32,7 @@ fn pixel_bytes(rest: &[u8], extent: Extent, white: u16) -> Result<&[u8], Fault>
     }
     let count = extent.pixel_count();
     let bytes = &raster[..count.min(raster.len())];
-    if let Some(at) = bytes.iter().position(|byte| u16::from(*byte) > white) {
+    if let Some(at) = first_above(bytes, white) {
         return Err(Fault::TooWhite {
             number: at + 1,
             greatest: white,

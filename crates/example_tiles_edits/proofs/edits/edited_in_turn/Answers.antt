@@ -8,14 +8,12 @@ use Rattle.example_tiles_edits.proofs.edits.edited_in_turn.Goals as goal
 
 pub loop-left-preserved : goal.loop-left-preserved
 loop-left-preserved c =
-    let before = image c.loop-left.made in
-    let made = image c.in_ok-made.field-0-0 in
-    let left = c.in_ok-made.field-0-1.now in
+    let made = c.in_ok-made.ensures in
+    let before = c.loop-left.invariant in
     record {
-      picture = c.in_ok-made.ensures.picture;
-      fit = fits_left c.loop-left.left.now left before made c.loop-left.invariant.fit c.in_ok-made.ensures.begun;
-      goes_on = λ after rest. c.loop-left.invariant.goes_on after
-          (goes_on_left c.loop-left.left.now left before made after c.loop-left.invariant.fit c.in_ok-made.ensures.begun rest);
+      picture = made.picture;
+      fit = fits_left before.fit made.begun;
+      goes_on = λ after rest. before.goes_on after (goes_on_left before.fit made.begun rest);
     }
 
 pub returns-clause-edited : goal.returns-clause-edited

@@ -6,23 +6,21 @@ use Rattle.example_tiles_edits.proofs.words.read_edits.Goals as goal
 
 pub returns-in_default-clause-refused : goal.returns-in_default-clause-refused
 returns-in_default-clause-refused c =
-    stopped_at c.args.words.now _ c.loop-at.at c.first_edit.result c.loop-at.invariant.spelled c.loop-at-test.true
-    (rw take_rest at c.first_edit.ensures.edit) c.in_default.is
+    stopped_at c.args.words.now _ c.loop-at.at c.loop-at.invariant.spelled (rw take_rest at c.first_edit.ensures.edit)
+    c.loop-at-test.true c.in_default.is
 
 pub loop-at-preserved : goal.loop-at-preserved
 loop-at-preserved c =
-    let more =
-    read_more c.args.words.now c.loop-at.edits.items c.loop-at.at c.in-Some.taken c.in-Some.edit c.first_edit.result
-    c.loop-at.invariant.spelled (rw take_rest at c.first_edit.ensures.edit) c.in-Some.is in
+    let read = rw take_rest at c.first_edit.ensures.edit in
     let taken = rw (take_rest, length-drop) at c.in-Some.ensures.taken in
     record {
       within = omega (arith, taken.1, c.loop-at.invariant.within);
-      spelled = rw c.in_ok-push.ensures.items more;
+      spelled = rw c.in_ok-push.ensures.items
+          (read_more c.args.words.now c.loop-at.edits.items c.loop-at.at c.loop-at.invariant.spelled read c.in-Some.is);
     }
 
 pub returns-in_err-push-clause-refused : goal.returns-in_err-push-clause-refused
 returns-in_err-push-clause-refused c =
-    let begins =
-    begins_with c.args.words.now c.loop-at.edits.items c.loop-at.at (c.in-Some.edit, c.in-Some.taken) c.first_edit.result
-    c.loop-at.invariant.spelled (rw take_rest at c.first_edit.ensures.edit) c.in-Some.is in
+    let first = rw take_rest at c.first_edit.ensures.edit in
+    let begins = begins_with c.args.words.now _ c.loop-at.at c.loop-at.invariant.spelled first c.in-Some.is in
     search rules

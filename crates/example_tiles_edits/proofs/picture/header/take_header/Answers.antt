@@ -13,6 +13,4 @@ returns-clause-binary c binary =
     let first = subst (λ (format : Format). StandsFirst text (magic_of format) after) binary c.in_ok-format.ensures.first in
     let bounds = c.greatest_white.ensures ∙ ap greatest_white binary in
     let allowed = rw bounds at c.in_ok-white.ensures.in_range in
-    header_of_numbers text after c.take_number.new.words.bytes c.take_number-2.new.words.bytes c.take_number-3.new.words.bytes
-    c.in_ok-columns.columns c.in_ok-rows.rows c.in_ok-white.field-0
-    first c.in_ok-columns.ensures.first c.in_ok-rows.ensures.first c.in_ok-white.ensures.first allowed
+    header_of_numbers first c.in_ok-columns.ensures.first c.in_ok-rows.ensures.first c.in_ok-white.ensures.first allowed

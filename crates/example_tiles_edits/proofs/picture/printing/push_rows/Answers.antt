@@ -4,13 +4,12 @@ use Rattle.std.specs.List.{flat_map}
 use Rattle.example_tiles_edits.specs.picture.PrintedPicture.{row_text, rows_of}
 use Rattle.example_tiles_edits.proofs.picture.printing.push_rows.Goals as goal
 
-one_row_more : (rows i columns : ℕ) (text rest longer row others : List ℕ) → i < rows → longer ≡ text ++ row_text row
-    → row ≡ take columns rest → others ≡ drop columns rest
-    → longer ++ flat_map row_text (rows_of (rows - (i + 1)) columns others) ≡ text ++ flat_map row_text (rows_of (rows - i) columns rest)
-one_row_more rows i columns text rest longer row others h pushed front back =
+one_row_more : (rows i columns : ℕ) (text rest : List ℕ) → i < rows
+    → (text ++ row_text (take columns rest)) ++ flat_map row_text (rows_of (rows - (i + 1)) columns (drop columns rest))
+    ≡ text ++ flat_map row_text (rows_of (rows - i) columns rest)
+one_row_more rows i columns text rest below =
     let e : rows - i ≡ suc (rows - (i + 1)) = omega arith in
-    rw (pushed, front, back, e) (append_assoc text (row_text (take columns rest))
-    (flat_map row_text (rows_of (rows - (i + 1)) columns (drop columns rest))))
+    rw e (append_assoc text (row_text (take columns rest)) (flat_map row_text (rows_of (rows - (i + 1)) columns (drop columns rest))))
 
 rows_left : (rows i columns : ℕ) → i < rows → (rows - i) * columns ≡ columns + (rows - (i + 1)) * columns
 rows_left rows i columns h = let e : rows - i ≡ suc (rows - (i + 1)) = omega arith in rw e (omega arith)
@@ -19,9 +18,10 @@ pub loop-preserved : goal.loop-preserved
 loop-preserved c =
     let rows = c.args.extent.rows in
     let columns = c.args.extent.columns in
+    let parts = c.split_at.ensures in
+    let below = c.loop-test.true in
     record {
-      text = one_row_more rows c.loop.counter columns (string_bytes c.loop.text) c.loop.rest.now (string_bytes c.push_row.new.text)
-          c.split_at.result.0.now c.split_at.result.1.now
-          c.loop-test.true c.in_ok-push_row.ensures c.split_at.ensures.front c.split_at.ensures.back ∙ c.loop.invariant.text;
-      left = omega (arith, c.split_at.ensures.back_len, c.loop.invariant.left, rows_left rows c.loop.counter columns c.loop-test.true);
+      text = rw (c.in_ok-push_row.ensures, parts.front, parts.back)
+          (one_row_more rows c.loop.counter columns (string_bytes c.loop.text) c.loop.rest.now below ∙ c.loop.invariant.text);
+      left = omega (arith, parts.back_len, c.loop.invariant.left, rows_left rows c.loop.counter columns below);
     }

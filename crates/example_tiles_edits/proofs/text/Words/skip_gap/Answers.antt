@@ -21,8 +21,7 @@ loop-self-preserved-then-first-eq35 c =
     record {
       fits = omega (arith, shorter (drop 1 text) rest after, ap length is, c.loop-self.invariant.fits);
       words = words_after_comment c.loop-self.self-inside.number text (drop 1 text) rest is after ∙ c.loop-self.invariant.words;
-      gap = gap_after_comment c.self.inside.rest.now text (drop 1 text) rest
-          (c.loop-self.invariant.gap (omega (arith, c.in-len1-up.len_at_least))) is after;
+      gap = gap_after_comment (c.loop-self.invariant.gap (omega (arith, c.in-len1-up.len_at_least))) is after;
     }
 
 pub loop-self-preserved : goal.loop-self-preserved
@@ -33,8 +32,6 @@ loop-self-preserved c =
     let white = sym c.is_ascii_whitespace.ensures.value ∙ c.if-is_ascii_whitespace.true in
     rw take_rest (record {
       fits = omega (arith, one_line c.from.result first c.from.ensures, ap length is, c.loop-self.invariant.fits);
-      words = words_after_blank c.loop-self.self-inside.number c.from.result first text (drop 1 text) is white c.from.ensures
-          ∙ c.loop-self.invariant.words;
-      gap = λ some. gap_after_blank c.self.inside.rest.now text (drop 1 text) first
-          (c.loop-self.invariant.gap (omega (arith, c.in-len1-up.len_at_least))) is white;
+      words = words_after_blank c.loop-self.self-inside.number c.from.result is white c.from.ensures ∙ c.loop-self.invariant.words;
+      gap = λ some. gap_after_blank (c.loop-self.invariant.gap (omega (arith, c.in-len1-up.len_at_least))) is white;
     })

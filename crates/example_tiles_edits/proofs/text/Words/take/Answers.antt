@@ -7,13 +7,12 @@ use Rattle.example_tiles_edits.proofs.text.Words.take.Goals as goal
 pub returns-then-is_empty : goal.returns-then-is_empty
 returns-then-is_empty c =
     let is = subst (λ (left : TextLeft). IsSkipped c.args.self.now left) (sym c.self.view_is) c.skip_gap.ensures in
-    no_word c.args.self.now (record { number = c.self.inside.number; bytes = c.self.inside.rest.now }) c.split_word.result.0.now
-    c.split_word.result.1.now is c.split_word.ensures.parts c.split_word.ensures.apart
+    no_word c.split_word.result.0.now c.split_word.result.1.now is c.split_word.ensures.parts c.split_word.ensures.apart
     (eqb-true _ 0 (sym c.is_empty.ensures ∙ c.if-is_empty.true))
 
 pub returns : goal.returns
 returns c =
-    let is = subst (λ (left : TextLeft). IsSkipped c.args.self.now left) (sym c.self.view_is) c.skip_gap.ensures in
+    let skipped = subst (λ (left : TextLeft). IsSkipped c.args.self.now left) (sym c.self.view_is) c.skip_gap.ensures in
     let some = eqb-false _ 0 (sym c.is_empty.ensures ∙ c.if-is_empty.false) in
-    word_taken c.args.self.now (record { number = c.self.inside.number; bytes = c.self.inside.rest.now }) c.split_word.result.0.now
-    c.split_word.result.1.now is c.split_word.ensures.parts c.split_word.ensures.plain c.split_word.ensures.apart (omega arith)
+    let word = c.split_word.ensures in
+    word_taken skipped word.parts word.plain word.apart (omega arith)
