@@ -7,7 +7,7 @@ use Rattle.std.proofs.lemmas.List.{get_or-take, length-take-le, take-append-drop
 use Rattle.std.proofs.lemmas.List.Elements.{All-from_get_or}
 use Rattle.std.proofs.lemmas.List.Quantifiers.{position-Some}
 use Rattle.std.proofs.lemmas.List.Sums.{fails_before_first}
-use Rattle.example_tiles_edits.specs.FirstWords.{HasLine, IsApart, ends_word}
+use Rattle.example_tiles_edits.specs.FirstWords.{HasLine}
 use Rattle.example_tiles_edits.specs.Words.{line_feed}
 
 cond_none : {A : Type 0} (b : Bool) (x : A) → cond b (Some x) None ≡ None → b ≡ false
@@ -28,9 +28,6 @@ before_passes p xs at e =
 
 pub parts_at : (p : ℕ → Bool) (xs : List ℕ) (at : ℕ) → position p xs ≡ Some at → drop at xs ≡ get_or xs at 0 ∷ drop (at + 1) xs
 parts_at p xs at e = let found = position-Some p xs at 0 e in let below : at < length xs = found.0 in rw add-one (drop-cons xs at 0 below)
-
-pub apart_at : (xs : List ℕ) (at : ℕ) → position ends_word xs ≡ Some at → IsApart (drop at xs)
-apart_at xs at e = rw (parts_at ends_word xs at e) (position-Some ends_word xs at 0 e).1
 
 pub line_at : (xs : List ℕ) (at : ℕ) → position (λ b. eqb b line_feed) xs ≡ Some at → HasLine xs (drop (at + 1) xs)
 line_at xs at e =
