@@ -5,11 +5,9 @@ use Rattle.ndl_session.specs.declared.answer.Answer.{Answer}
 use Rattle.ndl_session.specs.Answer.{answer_of, IsReply}
 use Rattle.ndl_session.specs.devices.Session.{AppendsAnswer, IsInput}
 
-pub answered : (known_input old new : Option (List ℕ)) (answer : Answer) (bytes : List ℕ) (status : ℕ)
-    → ((input : List ℕ) × IsInput known_input input × IsReply answer (answer_of input))
-    → bytes ≡ string_bytes answer.text
-    → Appends old new bytes
-    → status ≡ answer.status
-    → AppendsAnswer old new known_input status
-answered known_input old new answer bytes status (input, is_input, reply) text whole same =
-    (input, is_input, subst (Appends old new) (text ∙ reply.text) whole, same ∙ reply.status)
+module _ (known_input old new : Option (List ℕ)) where
+  pub answered : {bytes : List ℕ} {status : ℕ} (answer : Answer)
+      → ((input : List ℕ) × IsInput known_input input × IsReply answer (answer_of input)) → bytes ≡ string_bytes answer.text
+      → Appends old new bytes → status ≡ answer.status → AppendsAnswer old new known_input status
+  answered answer (input, is_input, reply) text whole same =
+      (input, is_input, subst (Appends old new) (text ∙ reply.text) whole, same ∙ reply.status)

@@ -20,32 +20,31 @@ printed_places [] = refl
 printed_places (place ∷ places) = ap (λ texts. decimal place ∷ texts) (printed_places places)
 
 -- one line after another
-three_lines : (t0 t1 t2 t3 a b c : List ℕ) → t0 ≡ [] → t1 ≡ t0 ++ a → t2 ≡ t1 ++ b → t3 ≡ t2 ++ c → t3 ≡ a ++ b ++ c
-three_lines t0 t1 t2 t3 a b c e0 e1 e2 e3 = e3 ∙ ap (λ t. t ++ c) (e2 ∙ ap (λ t. t ++ b) (e1 ∙ ap (λ t. t ++ a) e0))
+three_lines : {t0 t1 t2 t3 : List ℕ} (a b c : List ℕ) → t0 ≡ [] → t1 ≡ t0 ++ a → t2 ≡ t1 ++ b → t3 ≡ t2 ++ c → t3 ≡ a ++ b ++ c
+three_lines a b c e0 e1 e2 e3 = e3 ∙ ap (λ t. t ++ c) (e2 ∙ ap (λ t. t ++ b) (e1 ∙ ap (λ t. t ++ a) e0))
 
 places_texts : (view : View) (places : List ℕ) → map pos places ≡ view_places RowMajor view
     → map decimal places ≡ map signed_decimal (view_places RowMajor view)
 places_texts view places same = sym (printed_places places) ∙ ap (map signed_decimal) same
 
 -- a line of all that an iterator gives
-pub line_of_all : {S A : Type 0} {steps : S → Option A → S → Type 0} {source : S} (spelled : A → List ℕ) (name separator old new : List ℕ)
-    (all : List A)
-    → YieldsList steps (λ item. item) source all
+pub line_of_all : {S A : Type 0} {steps : S → Option A → S → Type 0} {source : S} {new : List ℕ} (spelled : A → List ℕ)
+    (name separator old : List ℕ) (all : List A) → YieldsList steps (λ item. item) source all
     → ((list : List A) × Drains steps source list × (new ≡ old ++ line name (listed separator (map spelled list))))
     → new ≡ old ++ line name (listed separator (map spelled all))
-line_of_all spelled name separator old new all gives (list, (last, (end, taken, none)), e) =
+line_of_all spelled name separator old all gives (list, (last, (end, taken, none)), e) =
     e ∙ ap (λ items. old ++ line name (listed separator (map spelled items)))
     (sym (map-id list) ∙ items_from_drains list (end, taken, λ _. (last, none)) gives)
 
-pub listing_text : (view : View) (places : List ℕ) (t0 t1 t2 t3 : List ℕ) → IsView view → map pos places ≡ view_places RowMajor view
+pub listing_text : {view : View} {t0 t1 t2 t3 : List ℕ} (places : List ℕ) → IsView view → map pos places ≡ view_places RowMajor view
     → t0 ≡ []
     → t1 ≡ t0 ++ line (codes "shape") (listed (codes ",") (map decimal (map (λ axis. axis.len) (axes view.shape view.strides))))
     → t2 ≡ t1 ++ line (codes "strides") (listed (codes ",") (map signed_decimal (map (λ axis. axis.stride) (axes view.shape view.strides))))
     → t3 ≡ t2 ++ line (codes "places") (listed (codes " ") (map decimal places))
     → t3 ≡ (listing view).text
-listing_text view places t0 t1 t2 t3 is_view same e0 e1 e2 e3 =
+listing_text {view} {t0} {t1} {t2} places is_view same e0 e1 e2 e3 =
     let count = is_view.valid.same_count in
-    three_lines t0 t1 t2 t3 _ _ _ e0
+    three_lines _ _ _ e0
     (e1 ∙ ap (λ lens. t0 ++ line (codes "shape") (listed (codes ",") (map decimal lens))) (lens-axes_from 0 view.shape view.strides count))
     (e2 ∙ ap (λ strides. t1 ++ line (codes "strides") (listed (codes ",") (map signed_decimal strides)))
     (strides-axes_from 0 view.shape view.strides count))

@@ -1,9 +1,8 @@
 -- A text cut at its first separator reads as one cut at all of them, where a number follows.
-use Rattle.std.proofs.Common.{◌≡◌, ◌≢◌, true, ℕ, ℤ, List, [], ◌∷◌, get_or, take, drop, eqb, nat_eq, Option, Some, None, refl, sym, ap, ◌∙◌}
+use Rattle.std.proofs.Common.{◌≡◌, ◌≢◌, true, ℕ, ℤ, List, [], ◌∷◌, take, drop, eqb, nat_eq, Option, Some, None, refl, sym, ap, ◌∙◌}
 use Rattle.std.proofs.Common.{arith}
-use Rattle.std.specs.List.{onto_first}
 use Rattle.std.specs.Option.{option_map}
-use Rattle.std.proofs.lemmas.Bool.{ne_eqb, and_parts}
+use Rattle.std.proofs.lemmas.Bool.{and_parts}
 use Rattle.std.specs.Cmp.Lexicographic.{pointwise}
 use Rattle.ndarray_layout.specs.declared.SliceInfoElem.{SliceInfoElem}
 use Rattle.ndarray_layout.specs.declared.SliceInfoElem.TheVariants as elem
@@ -16,19 +15,19 @@ use Rattle.ndl_session.proofs.texts.Parts.{lone_part, some_part}
 use Rattle.ndl_session.proofs.texts.NumberParts.{number_part}
 
 -- ---- the step
-step_at : (range step : List ℕ) (cut : List (List ℕ)) (o : Option ℤ) → signed_number_of step ≡ o
-    → ((z : ℤ) → o ≡ Some z → cut ≡ step ∷ []) → ((part : List ℕ) → cut ≡ part ∷ [] → part ≡ step) → cut ≢ []
-    → slice_of_parts (range ∷ cut) ≡ (o >>= λ z. slice_of_bounds z (parts dot range))
-step_at range step cut (Some z) e one lone some = rw (one z refl, e) refl
-step_at range step [] None e one lone some = absurd (some refl)
-step_at range step (part ∷ []) None e one lone some = rw (lone part refl, e) refl
-step_at range step (part ∷ other ∷ more) None e one lone some = refl
+module _ (range step : List ℕ) where
+  step_at : (cut : List (List ℕ)) (o : Option ℤ) → signed_number_of step ≡ o → ((z : ℤ) → o ≡ Some z → cut ≡ step ∷ [])
+      → ((part : List ℕ) → cut ≡ part ∷ [] → part ≡ step) → cut ≢ []
+      → slice_of_parts (range ∷ cut) ≡ (o >>= λ z. slice_of_bounds z (parts dot range))
+  step_at cut (Some z) e one lone some = rw (one z refl, e) refl
+  step_at [] None e one lone some = absurd (some refl)
+  step_at (part ∷ []) None e one lone some = rw (lone part refl, e) refl
+  step_at (part ∷ other ∷ more) None e one lone some = refl
 
-pub with_step : (range step : List ℕ) → slice_of_parts
-    (range ∷ parts semicolon step) ≡ (signed_number_of step >>= λ z. slice_of_bounds z (parts dot range))
-with_step range step =
-    step_at range step (parts semicolon step) (signed_number_of step) refl
-    (number_part semicolon (λ r. omega arith) (λ e. omega arith) step) (lone_part semicolon step) (some_part semicolon step)
+  pub with_step : slice_of_parts (range ∷ parts semicolon step) ≡ (signed_number_of step >>= λ z. slice_of_bounds z (parts dot range))
+  with_step =
+      step_at (parts semicolon step) (signed_number_of step) refl
+      (number_part semicolon (λ r. omega arith) (λ e. omega arith) step) (lone_part semicolon step) (some_part semicolon step)
 
 -- ---- the bounds
 some_of_map : {A B : Type 0} (f : A → B) (o : Option A) (y : B) → option_map f o ≡ Some y → (x : A) × (o ≡ Some x)
@@ -48,31 +47,22 @@ no_end : (step : ℤ) (start : Option ℤ) → slice_from step start None ≡ No
 no_end step (Some s) = refl
 no_end step None = refl
 
-bounds_at : (step : ℤ) (start end : List ℕ) (cut : List (List ℕ)) (o : Option (Option ℤ)) → end_of end ≡ o
-    → ((e : Option ℤ) → o ≡ Some e → cut ≡ end ∷ []) → ((part : List ℕ) → cut ≡ part ∷ [] → part ≡ end)
-    → slice_of_bounds step (start ∷ [] ∷ cut) ≡ slice_from step (start_of start) o
-bounds_at step start end cut (Some e) h one lone = rw (one e refl, h) refl
-bounds_at step start end [] None h one lone = sym (no_end step (start_of start))
-bounds_at step start end (part ∷ []) None h one lone = rw (lone part refl, h) refl
-bounds_at step start end (part ∷ other ∷ more) None h one lone = sym (no_end step (start_of start))
+module _ (step : ℤ) (start end : List ℕ) where
+  bounds_at : (cut : List (List ℕ)) (o : Option (Option ℤ)) → end_of end ≡ o → ((e : Option ℤ) → o ≡ Some e → cut ≡ end ∷ [])
+      → ((part : List ℕ) → cut ≡ part ∷ [] → part ≡ end)
+      → slice_of_bounds step (start ∷ [] ∷ cut) ≡ slice_from step (start_of start) o
+  bounds_at cut (Some e) h one lone = rw (one e refl, h) refl
+  bounds_at [] None h one lone = sym (no_end step (start_of start))
+  bounds_at (part ∷ []) None h one lone = rw (lone part refl, h) refl
+  bounds_at (part ∷ other ∷ more) None h one lone = sym (no_end step (start_of start))
 
-pub two_dots : (step : ℤ) (start end : List ℕ)
-    → slice_of_bounds step (start ∷ [] ∷ parts dot end) ≡ slice_from step (start_of start) (end_of end)
-two_dots step start end = bounds_at step start end (parts dot end) (end_of end) refl (end_part end) (lone_part dot end)
-
--- one dot, and no other right after it
-not_next : (step : ℤ) (start : List ℕ) (b : ℕ) (cut : List (List ℕ)) → slice_of_bounds step (start ∷ onto_first b cut) ≡ None
-not_next step start b [] = refl
-not_next step start b (part ∷ more) = refl
-
-pub one_dot : (step : ℤ) (start rest : List ℕ) → get_or rest 0 0 ≢ dot → slice_of_bounds step (start ∷ parts dot rest) ≡ None
-one_dot step start [] ne = refl
-one_dot step start (b ∷ bs) ne = rw (ne_eqb b dot ne) (not_next step start b (parts dot bs))
+  two_dots : slice_of_bounds step (start ∷ [] ∷ parts dot end) ≡ slice_from step (start_of start) (end_of end)
+  two_dots = bounds_at (parts dot end) (end_of end) refl (end_part end) (lone_part dot end)
 
 -- both dots are there
-pub cut_bounds : (step : ℤ) (range start rest end : List ℕ) → parts dot range ≡ start ∷ parts dot rest
+pub cut_bounds : {start end : List ℕ} (step : ℤ) (range rest : List ℕ) → parts dot range ≡ start ∷ parts dot rest
     → pointwise nat_eq (take 1 rest) (dot ∷ []) ≡ true → end ≡ drop 1 rest
     → slice_of_bounds step (parts dot range) ≡ slice_from step (start_of start) (end_of end)
-cut_bounds step range start [] end cut second e = absurd (cc)
-cut_bounds step range start (b ∷ bs) end cut second e =
+cut_bounds step range [] cut second e = absurd (cc)
+cut_bounds {start} step range (b ∷ bs) cut second e =
     rw (cut, (and_parts (eqb b dot) true second).0) (two_dots step start bs ∙ ap (λ t. slice_from step (start_of start) (end_of t)) (sym e))

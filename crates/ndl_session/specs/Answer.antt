@@ -76,7 +76,8 @@ pub record IsReply (answer : Answer) (reply : Reply) : Type 0 where
   pub status : answer.status ≡ reply.status
 
 -- examples
-an_unreadable_line : (answer : Answer) → string_bytes answer.text ≡ codes "line 1: unreadable\n" → answer.status ≡ 2 → IsReply answer (unreadable 1)
+an_unreadable_line : (answer : Answer) → string_bytes answer.text ≡ codes "line 1: unreadable\n" → answer.status ≡ 2
+    → IsReply answer (unreadable 1)
 unfolding digits
 an_unreadable_line answer text status = record { text = text; status = status }
 

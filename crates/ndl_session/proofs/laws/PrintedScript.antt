@@ -21,7 +21,7 @@ use Rattle.ndl_session.specs.text.Bytes.{line_feed, space}
 use Rattle.ndl_session.specs.text.Lines.{lines_from, lines_of, parts, words_of}
 use Rattle.ndl_session.specs.text.Numbers.{IsIsize, IsUsize}
 use Rattle.ndl_session.specs.text.Printing.{listed}
-use Rattle.ndl_session.specs.script.DataLine.{IsLayout, LayoutValue, layout_of, layout_words, mode_text}
+use Rattle.ndl_session.specs.script.DataLine.{IsLayout, LayoutValue, layout_of, layout_words, mode_of, mode_text}
 use Rattle.ndl_session.specs.script.Elements.{IsElement, elements_text}
 use Rattle.ndl_session.specs.script.Lists.{lengths_text, strides_text}
 use Rattle.ndl_session.specs.script.Script.{IsScript, ScriptValue, line_text, script_of, script_text, steps_of_lines}
@@ -43,17 +43,18 @@ step_of-step_words (ReshapeTo shape RowMajor) fits = rw (lengths_of-lengths_text
 step_of-step_words (ReshapeTo shape ColumnMajor) fits = rw (lengths_of-lengths_text shape fits) refl
 step_of-step_words (BroadcastTo shape) fits = rw (lengths_of-lengths_text shape fits) refl
 
-layout_of_record : (len : ℕ) (mode : CanIndexCheckMode) (shape : List ℕ) (strides : List ℤ) → IsUsize len → All IsUsize shape
-    → All IsIsize strides
-    → layout_of (layout_words (record { len = len; mode = mode; shape = shape; strides = strides })) ≡ Some
-    (record { len = len; mode = mode; shape = shape; strides = strides })
-layout_of_record len OwnedMutable shape strides l s t =
-    rw (number_of-decimal len l, lengths_of-lengths_text shape s, strides_of-strides_text strides t) refl
-layout_of_record len ReadOnly shape strides l s t =
-    rw (number_of-decimal len l, lengths_of-lengths_text shape s, strides_of-strides_text strides t) refl
+mode_of-mode_text : (mode : CanIndexCheckMode) → mode_of (mode_text mode) ≡ Some mode
+mode_of-mode_text OwnedMutable = refl
+mode_of-mode_text ReadOnly = refl
 
-pub layout_of-layout_words : (layout : LayoutValue) → IsLayout layout → layout_of (layout_words layout) ≡ Some layout
-layout_of-layout_words layout fits = layout_of_record layout.len layout.mode layout.shape layout.strides fits.len fits.shape fits.strides
+layout_of-layout_words : (layout : LayoutValue) → IsLayout layout → layout_of (layout_words layout) ≡ Some layout
+layout_of-layout_words layout fits =
+    rw (
+      number_of-decimal layout.len fits.len,
+      mode_of-mode_text layout.mode,
+      lengths_of-lengths_text layout.shape fits.shape,
+      strides_of-strides_text layout.strides fits.strides,
+    ) refl
 
 -- ---- words: a byte or more, none of them a space or before it
 record IsWord (text : List ℕ) : Type 0 where

@@ -1,5 +1,6 @@
 -- What a session writes.
-use Rattle.std.specs.Prelude.{◌≡◌, ◌≢◌, ℕ, zero, suc, ◌++◌, List, [], ◌∷◌, ◌⊎◌, codes, length, slice_index_or, take, Option, Some, None, Result, Ok, Err, IfSome, refl}
+use Rattle.std.specs.Prelude.{◌≡◌, ◌≢◌, ℕ, zero, suc, ◌++◌, List, [], ◌∷◌, ◌⊎◌, codes, length, slice_index_or, take}
+use Rattle.std.specs.Prelude.{Option, Some, None, Result, Ok, Err, IfSome, refl}
 use Rattle.std.specs.Fmt.{digits}
 use Rattle.std.specs.Io.KnownBytes.{Appends}
 use Rattle.std.proofs.Common.{ap, arith, inl, inr, lit<, suc-ne-zero, sym}

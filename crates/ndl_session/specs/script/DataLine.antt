@@ -54,7 +54,8 @@ mode_text ReadOnly = codes "read"
 
 -- the words of a layout's line
 abbrev pub layout_words : LayoutValue → List (List ℕ)
-layout_words layout = codes "data" ∷ decimal layout.len ∷ mode_text layout.mode ∷ lengths_text layout.shape ∷ strides_text layout.strides ∷ []
+layout_words layout =
+    codes "data" ∷ decimal layout.len ∷ mode_text layout.mode ∷ lengths_text layout.shape ∷ strides_text layout.strides ∷ []
 
 -- examples
 a_shape_kept : (layout : Layout) → layout.shape.items ≡ 2 ∷ 3 ∷ [] → (layout_value layout).shape ≡ 2 ∷ 3 ∷ []
@@ -77,6 +78,8 @@ no_axes = refl
 a_word_missing : layout_of (words_of (codes "data 4 owned 4")) ≡ None
 a_word_missing = refl
 
-words_of_two_axes : layout_words (record { len = 6; mode = ReadOnly; shape = 2 ∷ 3 ∷ []; strides = negsuc 2 ∷ pos 1 ∷ [] }) ≡ words_of (codes "data 6 read 2,3 -3,1")
+words_of_two_axes :
+    layout_words (record { len = 6; mode = ReadOnly; shape = 2 ∷ 3 ∷ []; strides = negsuc 2 ∷ pos 1 ∷ [] })
+    ≡ words_of (codes "data 6 read 2,3 -3,1")
 unfolding digits
 words_of_two_axes = refl

@@ -145,7 +145,9 @@ no_elements = refl
 empty_element : elements_of (codes "..,,..") ≡ None
 empty_element = refl
 
-text_of_each_kind : elements_text (elem.Index (negsuc 0) ∷ elem.NewAxis ∷ elem.Slice (pos 1) (Some (pos 4)) (negsuc 1) ∷ []) ≡ codes "-1,NewAxis,1..4;-2"
+text_of_each_kind :
+    elements_text (elem.Index (negsuc 0) ∷ elem.NewAxis ∷ elem.Slice (pos 1) (Some (pos 4)) (negsuc 1) ∷ [])
+    ≡ codes "-1,NewAxis,1..4;-2"
 unfolding digits
 text_of_each_kind = refl
 

@@ -49,7 +49,8 @@ steps_of_lines (line ∷ lines) = both (λ step steps. step ∷ steps) (of_line 
 -- the script of lines, with the layout first, or the number of the first unreadable one, which is 1 where there is none
 abbrev pub script_of_lines : List NumberedLine → Result ScriptValue ℕ
 script_of_lines [] = Err 1
-script_of_lines (line ∷ lines) = both (λ layout steps. record { layout = layout; steps = steps }) (of_line layout_of line) (steps_of_lines lines)
+script_of_lines (line ∷ lines) =
+    both (λ layout steps. record { layout = layout; steps = steps }) (of_line layout_of line) (steps_of_lines lines)
 
 -- the script that an input spells, or the number of its first unreadable line
 abbrev pub script_of : List ℕ → Result ScriptValue ℕ
@@ -102,7 +103,8 @@ with_a_step = refl
 without_a_step : script_of (codes "data 4 owned 4 1") ≡ Ok (record { layout = four; steps = [] })
 without_a_step = refl
 
-with_two_steps : script_of (codes "data 4 owned 4 1\nslice 1..;-2\n\nclamp 9..\n") ≡ Ok (record { layout = four; steps = two_of_four ∷ clamped ∷ [] })
+with_two_steps : script_of (codes "data 4 owned 4 1\nslice 1..;-2\n\nclamp 9..\n")
+    ≡ Ok (record { layout = four; steps = two_of_four ∷ clamped ∷ [] })
 with_two_steps = refl
 
 nothing : script_of [] ≡ Err 1
@@ -124,7 +126,10 @@ past_a_step : script_of (codes "data 4 owned 4 1\nslice ..\n\nslise ..\n") ≡ E
 past_a_step = refl
 
 three_axes : script_of (codes "data 8 owned 2,2,2 4,2,1\n")
-    ≡ Ok (record { layout = record { len = 8; mode = OwnedMutable; shape = 2 ∷ 2 ∷ 2 ∷ []; strides = pos 4 ∷ pos 2 ∷ pos 1 ∷ [] }; steps = [] })
+    ≡ Ok (record {
+      layout = record { len = 8; mode = OwnedMutable; shape = 2 ∷ 2 ∷ 2 ∷ []; strides = pos 4 ∷ pos 2 ∷ pos 1 ∷ [] };
+      steps = [];
+    })
 three_axes = refl
 
 unended_carriage_return : script_of (codes "data 1 owned 1 1\r") ≡ Err 1
@@ -133,6 +138,7 @@ unended_carriage_return = refl
 text_of_a_line : line_text (codes "merge" ∷ codes "1" ∷ codes "0" ∷ []) ≡ codes "merge 1 0\n"
 text_of_a_line = refl
 
-text_of_two_steps : script_text (record { layout = four; steps = two_of_four ∷ clamped ∷ [] }) ≡ codes "data 4 owned 4 1\nslice 1..;-2\nclamp 9..\n"
+text_of_two_steps : script_text (record { layout = four; steps = two_of_four ∷ clamped ∷ [] })
+    ≡ codes "data 4 owned 4 1\nslice 1..;-2\nclamp 9..\n"
 unfolding digits
 text_of_two_steps = refl

@@ -16,7 +16,8 @@ number_of word = if is_decimal word && nat_lt (digits_value 10 word) (2 ^ 64) th
 
 -- the negative of the number of a word that is a decimal, down to -2^63
 abbrev pub negative_of : List ℕ → Option ℤ
-negative_of digits = if is_decimal digits && nat_le (digits_value 10 digits) (2 ^ 63) then Some (neg_ℤ (pos (digits_value 10 digits))) else None
+negative_of digits =
+    if is_decimal digits && nat_le (digits_value 10 digits) (2 ^ 63) then Some (neg_ℤ (pos (digits_value 10 digits))) else None
 
 -- the number with a sign of a word: a decimal up to 2^63 - 1, or `-` and a decimal for its negative, down to -2^63
 abbrev pub signed_number_of : List ℕ → Option ℤ

@@ -1,6 +1,6 @@
 //! The words of a line, and the parts of a text.
 ghost use Rattle.std.specs.Prelude.{◌≡◌, ◌<◌, ◌==◌, [], ◌∷◌, map, length, IfOk, IfSome, MatchOption};
-ghost use Rattle.std.specs.List.{after_first};
+ghost use Rattle.std.specs.List.{after_first, position};
 ghost use Rattle.ndl_session.specs.text.Lines.{parts, words_of};
 
 use std::alloc::{AllocError, Global};
@@ -16,6 +16,13 @@ pub(super) fn words(alloc: Global, line: &[u8]) -> Result<Vec<&[u8]>, AllocError
         .collect(alloc)
 }
 
+/// The index of the first byte that is this one; `None` where none is.
+fn position_of(text: &[u8], byte: u8) -> Option<usize>
+    ensures { result ≡ position (λ b. b == byte) text.now }
+{
+    text.iter().position(|b| *b == byte)
+}
+
 /// The parts of a text before and after the first separator; `None` without one.
 pub(crate) fn split_once(text: &[u8], separator: u8) -> Option<(&[u8], &[u8])>
     ensures parts { MatchOption result (parts separator text.now ≡ text.now ∷ [])
@@ -24,6 +31,6 @@ pub(crate) fn split_once(text: &[u8], separator: u8) -> Option<(&[u8], &[u8])>
         (λ found. found.1.now ≡ after_first (λ b. b == separator) text.now) }
     ensures shorter { IfSome result (λ found. length found.1.now < length text.now) }
 {
-    let at = text.iter().position(|b| *b == separator)?;
+    let at = position_of(text, separator)?;
     Some((&text[..at], &text[at + 1..]))
 }

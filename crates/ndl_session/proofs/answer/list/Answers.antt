@@ -9,19 +9,19 @@ use Rattle.ndl_session.proofs.answer.list.Goals as goal
 
 pub returns : goal.returns
 returns c = record {
-  text = listing_text c.args.view.now c.in_ok-places.places.items _ _ _ _ c.axes.ensures.is_view c.in_ok-places.ensures.items
+  text = listing_text c.in_ok-places.places.items c.axes.ensures.is_view c.in_ok-places.ensures.items
       c.new-text.ensures.bytes
-      (line_of_all decimal (codes "shape") (codes ",") _ _ _
+      (line_of_all decimal (codes "shape") (codes ",") _ _
       (YieldsList-from_map _ (λ axis. axis.len)
       (YieldsList-at c.map-lens.ensures.source (YieldsList-from_first (λ axis. axis) axes_left _ c.axes.ensures.list))
       c.map-lens.ensures.closure (λ x r q k. search rules))
       c.in_ok-push_line.ensures.line)
-      (line_of_all signed_decimal (codes "strides") (codes ",") _ _ _
+      (line_of_all signed_decimal (codes "strides") (codes ",") _ _
       (YieldsList-from_map _ (λ axis. axis.stride)
       (YieldsList-at c.map-strides.ensures.source (YieldsList-from_first (λ axis. axis) axes_left _ c.axes-2.ensures.list))
       c.map-strides.ensures.closure (λ x r q k. search rules))
       c.in_ok-push_line-2.ensures.line)
-      (line_of_all decimal (codes "places") (codes " ") _ _ _
+      (line_of_all decimal (codes "places") (codes " ") _ _
       (YieldsList-from_copied (YieldsList-at c.copied.ensures.source
       (YieldsList-from_slice _ (c.iter.ensures.rest ∙ c.deref.ensures.value))))
       c.in_ok-push_line-3.ensures.line);

@@ -57,7 +57,7 @@ returns-else-write_failed-clause-answered g c not_memory not_failed =
     let known = sym c.failed-write_failed.ensures ∙ c.if-write_failed.false in
     elim c.match-answer_input.branch [
       | in-Ok w ↦ (let is = w.writer-is in
-          rw is (answered _ _ _ w.in-Ok.answer _ _ w.in-Ok.ensures.answer
+          rw is (answered _ _ _ w.in-Ok.answer w.in-Ok.ensures.answer
           w.as_bytes.ensures.value (w.write_whole.ensures.whole (rw is at known)) w.status-is))
       | in-Err-ReadFailed w ↦ absurd (not_failed w.status-is)
       | in-Err-OutOfMemory w ↦ absurd (not_memory w.status-is)
