@@ -1,6 +1,6 @@
 -- What `parse` reads, in the words of the definition.
 use Rattle.std.proofs.Common.{◌≡◌, ◌≢◌, ℕ, ◌^◌, ◌<◌, Bool, true, false, cond, ◌&&◌, eqb, List, [], ◌∷◌, length, get_or, Some, None, Result}
-use Rattle.std.proofs.Common.{Ok, Err, refl, sym, ap, ◌∙◌, arith, eqb-true, nat_eq, Bor, MatchResult}
+use Rattle.std.proofs.Common.{Ok, Err, refl, sym, ap, ◌∙◌, arith, nat_eq, Bor, MatchResult}
 use Rattle.std.specs.Result.{OkIff, result_ok}
 use Rattle.std.specs.Bool.{Decides}
 use Rattle.std.specs.Str.{IsUtf8, IsAscii, all_ascii_digits}
@@ -12,7 +12,7 @@ use Rattle.std.proofs.Math.Bool.{and-true}
 use Rattle.std.specs.List.{starts_with}
 use Rattle.std.proofs.lemmas.Fmt.{IsAscii-from_digits}
 use Rattle.std.proofs.lemmas.Str.{IsUtf8-from_ascii}
-use Rattle.std.proofs.lemmas.Str.Parse.{IsNumeralModel, numerals_by_value, tells_all_ascii_digits, not_in_digits, parse_plain}
+use Rattle.std.proofs.lemmas.Str.Parse.{IsNumeralModel, numerals_by_value, tells_all_ascii_digits, parse_plain}
 use Rattle.example_tiles_edits.specs.Numbers.{is_decimal, number_of}
 
 abbrev plus_sign : ℕ
@@ -39,10 +39,6 @@ not_decimal ds fits x e = rw (and_left (is_decimal ds) fits e) refl
 pub digits_of_decimal : (ds : List ℕ) → is_decimal ds ≡ true → all_ascii_digits ds ≡ true
 digits_of_decimal ds e = (and_parts _ _ e).1
 
-plus_is_not : (text : List ℕ) → get_or text 0 0 ≡ plus_sign → is_decimal text ≡ false
-plus_is_not text e =
-    false_from_ne_true _ (λ t. let p = and_parts _ _ t in not_in_digits own text plus_sign p.1 (λ r. omega arith) 0 (ltb-true _ _ p.0) e)
-
 digits_ascii : (ds : List ℕ) → all_ascii_digits ds ≡ true → IsAscii ds
 digits_ascii ds h = IsAscii-from_digits ds (own.to ds h)
 
@@ -55,17 +51,10 @@ pub number_parsed : {E : Type 0} (text : List ℕ) (r : Result ℕ E) → Parses
 number_parsed text r h ne =
     chosen r _ _ _ (parse_plain own 32 text r h ne) (in_range text _ _ (Decides-ltb (digits_value 10 text) (2 ^ 32)))
 
-pub number_with_plus : (text : List ℕ) → get_or text 0 0 ≡ plus_sign → number_of text ≡ None
-number_with_plus text e = not_decimal text _ _ (plus_is_not text e)
-
 pub number_not_utf8 : (text : List ℕ) → ¬ (IsUtf8 text) → number_of text ≡ None
 number_not_utf8 text bad = not_decimal text _ _ (not_utf8_is_not text bad)
 
 -- ---- the calls' answers
-pub plus : (text : List ℕ) → starts_with nat_eq text (plus_sign ∷ []) ≡ true → get_or text 0 0 ≡ plus_sign
-plus [] e = absurd (cc)
-plus (b ∷ bs) e = sym (eqb-true plus_sign b (and_parts _ _ e).0)
-
 pub no_plus : (text : List ℕ) → starts_with nat_eq text (plus_sign ∷ []) ≡ false → get_or text 0 0 ≢ plus_sign
 no_plus [] e f = absurd (omega arith)
 no_plus (b ∷ bs) e f = eqb-false plus_sign b (sym (and-true (eqb plus_sign b)) ∙ e) (sym f)

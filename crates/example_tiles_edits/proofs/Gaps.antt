@@ -5,8 +5,8 @@ use mir.Val.{bool_byte}
 use Rattle.std.specs.Char.{is_ascii_whitespace}
 use Rattle.std.specs.List.{All}
 use Rattle.std.proofs.lemmas.Bool.{cases_Bool}
-use Rattle.example_tiles_edits.specs.FirstWords.{HasGap, IsAfterLine, IsApart, IsAtWord, IsGap, IsSkipped, IsTaken, IsWord, TextLeft}
-use Rattle.example_tiles_edits.specs.FirstWords.{ends_word, words_left}
+use Rattle.example_tiles_edits.specs.FirstWords.{HasGap, IsAfterLine, IsApart, IsGap, IsSkipped, IsTaken, IsWord, TextLeft}
+use Rattle.example_tiles_edits.specs.FirstWords.{ends_word}
 use Rattle.example_tiles_edits.specs.FirstWords.IsGap.{none, blank, comment}
 use Rattle.example_tiles_edits.specs.Words.{line_feed, words_from}
 use Rattle.example_tiles_edits.proofs.laws.FirstWords.{words_from-blank, words_from-comment, words_from-last_comment, words_from-word}
@@ -93,13 +93,3 @@ word_taken {skipped} {word} {rest} is parts plain apart some =
         apart = apart;
       };
     }
-
-none_taken : (number : ℕ) (bytes : List ℕ) → IsAtWord bytes → IsApart bytes → words_from number bytes ≡ []
-none_taken number [] at apart = refl
-none_taken number (b ∷ bytes) at apart = absurd (let both : true ≡ false = sym apart ∙ at in cc)
-
-pub no_word : {text skipped : TextLeft} (word rest : List ℕ) → IsSkipped text skipped → skipped.bytes ≡ word ++ rest → IsApart rest
-    → length word ≡ 0 → words_left text ≡ []
-no_word {skipped} [] rest is parts apart empty =
-    sym is.words ∙ none_taken skipped.number skipped.bytes is.at_word (subst IsApart (sym parts) apart)
-no_word (b ∷ word) rest is parts apart empty = absurd (omega arith)

@@ -1,14 +1,8 @@
 use Rattle.std.proofs.Common.{◌∙◌, subst, sym, arith}
-use Rattle.std.proofs.lemmas.Bool.{eqb-true, eqb-false}
+use Rattle.std.proofs.lemmas.Bool.{eqb-false}
 use Rattle.example_tiles_edits.specs.FirstWords.{IsSkipped, TextLeft}
-use Rattle.example_tiles_edits.proofs.Gaps.{no_word, word_taken}
+use Rattle.example_tiles_edits.proofs.Gaps.{word_taken}
 use Rattle.example_tiles_edits.proofs.text.Words.take.Goals as goal
-
-pub returns-then-is_empty : goal.returns-then-is_empty
-returns-then-is_empty c =
-    let is = subst (λ (left : TextLeft). IsSkipped c.args.self.now left) (sym c.self.view_is) c.skip_gap.ensures in
-    no_word c.split_word.result.0.now c.split_word.result.1.now is c.split_word.ensures.parts c.split_word.ensures.apart
-    (eqb-true _ 0 (sym c.is_empty.ensures ∙ c.if-is_empty.true))
 
 pub returns : goal.returns
 returns c =
