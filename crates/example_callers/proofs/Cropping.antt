@@ -17,37 +17,28 @@ use Rattle.ndarray_layout.proofs.laws.ArgumentFault.{elements_of_no_fault}
 use Rattle.ndarray_layout.proofs.laws.SlicedView.{fits_of_no_refusal}
 use Rattle.ndarray_layout.proofs.laws.UnitStep.{length-picks_by_one, ranges, selected_by_ranges}
 
-pub place_in_crop : (view : View) (elems : List SliceInfoElem) (top left : ℕ) (bottom right : Option ℤ) (made : Result View LayoutError)
-    → elems ≡ ranges (top ∷ left ∷ []) (bottom ∷ right ∷ [])
-    → IfOk made (λ crop. crop ≡ slice_of Strict elems view) → IfOk made (λ crop. Descends (selected Strict elems view.shape) view crop)
-    → IfOk made (λ crop. (i j : ℕ) → IsTrue (is_index crop.shape (i ∷ j ∷ [])) → place_at crop (i ∷ j ∷ []) ≡ place_at view
-    ((top + i) ∷ (left + j) ∷ []))
-place_in_crop view elems top left bottom right (Ok crop) are is kept = λ i j here.
-    let of_slice = rw (is, are) at here in
-    (kept.places (i ∷ j ∷ []) here).1
-    ∙ ap (λ all. place_at view (selected Strict all view.shape (i ∷ j ∷ []))) are
-    ∙ ap (place_at view) (selected_by_ranges Strict (top ∷ left ∷ []) (bottom ∷ right ∷ []) view.shape (i ∷ j ∷ []) of_slice)
-place_in_crop view elems top left bottom right (Err e) are is kept = tt
+-- two axes, of which as many entries are picked as lie between the bounds
+rows_between : (rows top bottom : ℕ) → length (picks Strict rows (slice_with (pos top) (Some (pos bottom)) (pos 1))) ≡ bottom - top
+rows_between rows top bottom = length-picks_by_one Strict rows (pos top) (Some (pos bottom))
 
--- two elements for two axes
-sizes : (top bottom left right : ℕ) (shape : List ℕ) → 2 ≡ length shape
+pub sizes : (top left bottom right : ℕ) (shape : List ℕ) → 2 ≡ length shape
     → sliced_shape Strict (ranges (top ∷ left ∷ []) (Some (pos bottom) ∷ Some (pos right) ∷ []))
     shape ≡ (bottom - top) ∷ (right - left) ∷ []
-sizes top bottom left right [] count = absurd (omega arith)
-sizes top bottom left right (rows ∷ []) count = absurd (omega arith)
-sizes top bottom left right (rows ∷ columns ∷ []) count =
-    let first = length-picks_by_one Strict rows (pos top) (Some (pos bottom)) in
-    let second = length-picks_by_one Strict columns (pos left) (Some (pos right)) in
+sizes top left bottom right [] count = absurd (omega arith)
+sizes top left bottom right (rows ∷ []) count = absurd (omega arith)
+sizes top left bottom right (rows ∷ columns ∷ []) count =
+    let first = rows_between rows top bottom in
+    let second = rows_between columns left right in
     cc
-sizes top bottom left right (rows ∷ columns ∷ more ∷ shape) count = absurd (omega arith)
+sizes top left bottom right (rows ∷ columns ∷ more ∷ shape) count = absurd (omega arith)
 
 -- `..` leaves all columns
-sizes_of_band : (top bottom : ℕ) (shape : List ℕ) → 2 ≡ length shape
+pub sizes_of_band : (top bottom : ℕ) (shape : List ℕ) → 2 ≡ length shape
     → sliced_shape Strict (ranges (top ∷ 0 ∷ []) (Some (pos bottom) ∷ None ∷ [])) shape ≡ (bottom - top) ∷ slice_index shape 1 ∷ []
 sizes_of_band top bottom [] count = absurd (omega arith)
 sizes_of_band top bottom (rows ∷ []) count = absurd (omega arith)
 sizes_of_band top bottom (rows ∷ columns ∷ []) count =
-    let first = length-picks_by_one Strict rows (pos top) (Some (pos bottom)) in
+    let first = rows_between rows top bottom in
     let all : length (picks Strict columns (slice_with (pos 0) None (pos 1))) ≡ columns =
     omega (arith, length-picks_by_one Strict columns (pos 0) None) in
     cc
@@ -59,20 +50,26 @@ two_axes : (view : View) (elems : List SliceInfoElem) → in_count elems ≡ 2 �
 two_axes view elems two none = sym two
     ∙ (elements_of_no_fault Strict view.shape elems (fits_of_no_refusal Strict (Some 2) view.shape elems (sym none))).0
 
-pub shape_of_band : (view : View) (elems : List SliceInfoElem) (top bottom : ℕ) (made : Result View LayoutError)
-    → elems ≡ ranges (top ∷ 0 ∷ []) (Some (pos bottom) ∷ None ∷ [])
-    → shape_fault made ≡ slice_refusal Strict (Some 2) view.shape elems → IfOk made (λ band. band ≡ slice_of Strict elems view)
-    → IfOk made (λ band. band.shape ≡ (bottom - top) ∷ slice_index view.shape 1 ∷ [])
-shape_of_band view elems top bottom (Ok band) are fault is =
-    ap (λ made. made.shape) is ∙ ap (λ all. sliced_shape Strict all view.shape) are
-    ∙ sizes_of_band top bottom view.shape (two_axes view elems (ap in_count are) fault)
-shape_of_band view elems top bottom (Err e) are fault is = tt
+-- a picture between bounds of its rows and of its columns
+module _ {elems : List SliceInfoElem} (view : View) (top left : ℕ) (bottom right : Option ℤ)
+    (are : elems ≡ ranges (top ∷ left ∷ []) (bottom ∷ right ∷ [])) where
+  pub place_in_crop : (made : Result View LayoutError) → IfOk made (λ crop. crop ≡ slice_of Strict elems view)
+      → IfOk made (λ crop. Descends (selected Strict elems view.shape) view crop)
+      → IfOk made (λ crop. (i j : ℕ) → IsTrue (is_index crop.shape (i ∷ j ∷ [])) → place_at crop (i ∷ j ∷ []) ≡ place_at view
+      ((top + i) ∷ (left + j) ∷ []))
+  place_in_crop (Ok crop) is kept = λ i j here.
+      let of_slice = rw (is, are) at here in
+      (kept.places (i ∷ j ∷ []) here).1
+      ∙ ap (λ all. place_at view (selected Strict all view.shape (i ∷ j ∷ []))) are
+      ∙ ap (place_at view) (selected_by_ranges Strict (top ∷ left ∷ []) (bottom ∷ right ∷ []) view.shape (i ∷ j ∷ []) of_slice)
+  place_in_crop (Err e) is kept = tt
 
-pub shape_of_crop : (view : View) (elems : List SliceInfoElem) (top bottom left right : ℕ) (made : Result View LayoutError)
-    → elems ≡ ranges (top ∷ left ∷ []) (Some (pos bottom) ∷ Some (pos right) ∷ [])
-    → shape_fault made ≡ slice_refusal Strict (Some 2) view.shape elems → IfOk made (λ crop. crop ≡ slice_of Strict elems view)
-    → IfOk made (λ crop. crop.shape ≡ (bottom - top) ∷ (right - left) ∷ [])
-shape_of_crop view elems top bottom left right (Ok crop) are fault is =
-    ap (λ made. made.shape) is ∙ ap (λ all. sliced_shape Strict all view.shape) are
-    ∙ sizes top bottom left right view.shape (two_axes view elems (ap in_count are) fault)
-shape_of_crop view elems top bottom left right (Err e) are fault is = tt
+  pub shape_of_crop : (made : Result View LayoutError) (shape : List ℕ)
+      → (2 ≡ length view.shape → sliced_shape Strict (ranges (top ∷ left ∷ []) (bottom ∷ right ∷ [])) view.shape ≡ shape)
+      → shape_fault made ≡ slice_refusal Strict (Some 2) view.shape elems → IfOk made (λ crop. crop ≡ slice_of Strict elems view)
+      → IfOk made (λ crop. crop.shape ≡ shape)
+  shape_of_crop (Ok crop) shape left_of fault is =
+      ap (λ made. made.shape) is
+      ∙ ap (λ all. sliced_shape Strict all view.shape) are
+      ∙ left_of (two_axes view elems (ap in_count are) fault)
+  shape_of_crop (Err e) shape left_of fault is = tt

@@ -2,7 +2,7 @@
 use Rattle.std.proofs.Common.{◌≡◌, pos, Some, [], ◌∷◌, w64, refl, arith}
 use Rattle.std.proofs.lemmas.Int.{to_z_pos}
 use Rattle.ndarray_layout.proofs.laws.UnitStep.{ranges}
-use Rattle.example_callers.proofs.Cropping.{place_in_crop, shape_of_crop}
+use Rattle.example_callers.proofs.Cropping.{place_in_crop, shape_of_crop, sizes}
 use Rattle.example_callers.proofs.crops.crop.Goals as goal
 
 -- the argument of the slice: both ends of each range fit an `isize`
@@ -18,10 +18,14 @@ argument c =
 
 pub returns-clause-place : goal.returns-clause-place
 returns-clause-place c =
-    place_in_crop c.args.picture.now _ c.args.rows.start c.args.columns.start (Some (pos c.args.rows.end)) (Some (pos c.args.columns.end))
-    c.slice.result (argument c) c.slice.ensures.sliced c.slice.ensures.kept
+    let rows = c.args.rows in
+    let columns = c.args.columns in
+    place_in_crop c.args.picture.now rows.start columns.start (Some (pos rows.end)) (Some (pos columns.end)) (argument c) c.slice.result
+    c.slice.ensures.sliced c.slice.ensures.kept
 
 pub returns-clause-shape : goal.returns-clause-shape
 returns-clause-shape c =
-    shape_of_crop c.args.picture.now _ c.args.rows.start c.args.rows.end c.args.columns.start c.args.columns.end c.slice.result
-    (argument c) c.slice.ensures.fault c.slice.ensures.sliced
+    let rows = c.args.rows in
+    let columns = c.args.columns in
+    shape_of_crop c.args.picture.now rows.start columns.start (Some (pos rows.end)) (Some (pos columns.end)) (argument c) c.slice.result _
+    (sizes rows.start columns.start rows.end columns.end c.args.picture.now.shape) c.slice.ensures.fault c.slice.ensures.sliced

@@ -37,13 +37,13 @@ pub returns-clause-remainder : goal.returns-clause-remainder
 returns-clause-remainder g c = λ none. absurd (none (all_signed c.divide.new.strides) (divided g c))
 
 -- a view has the strides that it was made with
-made_with : (size : ℤ) (start : ℕ) (shape strides : List ℕ) (bytes : List ℤ) (made : Result View ErrorKind)
+made_with : {bytes : List ℤ} (size : ℤ) (start : ℕ) (shape strides : List ℕ) (made : Result View ErrorKind)
     → IfOk made (λ view. view ≡ view_of start shape strides) → map (λ stride. stride *ℤ size) (all_signed strides) ≡ bytes
     → IfOk made (λ view. map (λ stride. stride *ℤ size) view.strides ≡ bytes)
-made_with size start shape strides bytes (Ok view) is same = ap (λ v. map (λ stride. stride *ℤ size) v.strides) is ∙ same
-made_with size start shape strides bytes (Err kind) is same = tt
+made_with size start shape strides (Ok view) is same = ap (λ v. map (λ stride. stride *ℤ size) v.strides) is ∙ same
+made_with size start shape strides (Err kind) is same = tt
 
 pub returns-clause-strides : goal.returns-clause-strides
 returns-clause-strides g c =
-    made_with (pos c.args.elem_size) _ _ _ (all_signed (g.D.Lengths.list c.args.byte_strides)) c.from_parts.result c.from_parts.ensures.view
+    made_with (pos c.args.elem_size) _ _ _ c.from_parts.result c.from_parts.ensures.view
     (ap (λ strides. map (λ stride. stride *ℤ pos c.args.elem_size) (all_signed strides)) (written g c) ∙ divided g c)

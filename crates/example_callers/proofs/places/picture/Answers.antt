@@ -14,19 +14,18 @@ use Rattle.ndarray_layout.proofs.laws.Acceptance.{accepted_valid}
 use Rattle.ndarray_layout.proofs.laws.NonzeroSize.{length_le_nonzero_size}
 use Rattle.example_callers.proofs.places.picture.Goals as goal
 
-row_after_row : (len rows columns : ℕ) (shape strides : List ℕ) (made : Result View ErrorKind) → shape ≡ rows ∷ columns ∷ []
+row_after_row : {rows columns : ℕ} {shape strides : List ℕ} (len : ℕ) (made : Result View ErrorKind) → shape ≡ rows ∷ columns ∷ []
     → strides ≡ columns ∷ 1 ∷ []
     → result_err made ≡ acceptance 1 len OwnedMutable shape (all_signed strides)
     → IfOk made (λ view. view ≡ view_of (low_span shape (all_signed strides)) shape strides)
     → IfOk made (λ view. (row column : ℕ) → place_at view (row ∷ column ∷ []) ≡ pos (row * columns + column))
-row_after_row len rows columns shape strides (Ok view) lens steps fault is = λ row column.
+row_after_row {rows} {columns} len (Ok view) lens steps fault is = λ row column.
     let accepted = rw (lens, steps) at (sym fault) in
     let valid = accepted_valid 1 len OwnedMutable (rows ∷ columns ∷ []) (all_signed (columns ∷ 1 ∷ [])) accepted in
     let small : columns ≤ limit = omega (arith, valid.size_fits, length_le_nonzero_size (rows ∷ columns ∷ []) 1) in
     rw (is, lens, steps, to_z_pos w64 columns (omega arith)) (omega (arith, ints))
-row_after_row len rows columns shape strides (Err kind) lens steps fault is = tt
+row_after_row len (Err kind) lens steps fault is = tt
 
 pub returns-clause-place : goal.returns-clause-place
 returns-clause-place c =
-    row_after_row _ c.args.rows c.args.columns _ _ c.new.result c.new_ix2-shape.ensures c.new_ix2-strides.ensures c.new.ensures.fault
-    c.new.ensures.view
+    row_after_row _ c.new.result c.new_ix2-shape.ensures c.new_ix2-strides.ensures c.new.ensures.fault c.new.ensures.view

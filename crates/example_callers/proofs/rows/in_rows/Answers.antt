@@ -11,24 +11,27 @@ use Rattle.ndarray_layout.specs.View.{View, place_at}
 use Rattle.ndarray_layout.proofs.laws.RowMajor.{source_in_row, index_of_list}
 use Rattle.example_callers.proofs.rows.in_rows.Goals as goal
 
-by_flat_index : (view : View) (rows columns : ℕ) (shape : List ℕ) (made : Result View LayoutError) → shape ≡ rows ∷ columns ∷ []
+-- the indices of a grid of rows stand for these of a view
+abbrev StandFor : View → ℕ → ℕ → (ℕ → ℕ → List ℕ) → View → Type 0
+StandFor view rows columns index grid = (i j : ℕ) → IsTrue (is_index (rows ∷ columns ∷ []) (i ∷ j ∷ []))
+    → place_at grid (i ∷ j ∷ []) ≡ place_at view (index i j)
+
+by_flat_index : {rows columns : ℕ} {shape : List ℕ} (view : View) (made : Result View LayoutError) → shape ≡ rows ∷ columns ∷ []
     → IfOk made (λ grid. grid ≡ reshape_of RowMajor shape view)
     → IfOk made (λ grid. Descends (reshape_source RowMajor view.shape shape) view grid)
-    → IfOk made (λ grid. (i j : ℕ) → IsTrue (is_index (rows ∷ columns ∷ []) (i ∷ j ∷ [])) → place_at grid (i ∷ j ∷ []) ≡ place_at view
-    (index_of_flat_in RowMajor view.shape (i * columns + j)))
-by_flat_index view rows columns shape (Ok grid) lens is kept = λ i j here.
+    → IfOk made (StandFor view rows columns (λ i j. index_of_flat_in RowMajor view.shape (i * columns + j)))
+by_flat_index {rows} {columns} view (Ok grid) lens is kept = λ i j here.
     let found : IsTrue (is_index grid.shape (i ∷ j ∷ [])) = rw (is, lens) here in
     (kept.places (i ∷ j ∷ []) found).1
     ∙ ap (λ all. place_at view (reshape_source RowMajor view.shape all (i ∷ j ∷ []))) lens
     ∙ ap (place_at view) (source_in_row view.shape rows columns i j)
-by_flat_index view rows columns shape (Err e) lens is kept = tt
+by_flat_index view (Err e) lens is kept = tt
 
 -- along one axis it is that number itself
 of_line : (view : View) (rows columns : ℕ) (made : Result View LayoutError)
-    → IfOk made (λ grid. (i j : ℕ) → IsTrue (is_index (rows ∷ columns ∷ []) (i ∷ j ∷ [])) → place_at grid (i ∷ j ∷ []) ≡ place_at view
-    (index_of_flat_in RowMajor view.shape (i * columns + j)))
-    → IfOk made (λ grid. (len i j : ℕ) → view.shape ≡ len ∷ [] → IsTrue (is_index (rows ∷ columns ∷ []) (i ∷ j ∷ [])) → place_at grid
-    (i ∷ j ∷ []) ≡ place_at view ((i * columns + j) ∷ []))
+    → IfOk made (StandFor view rows columns (λ i j. index_of_flat_in RowMajor view.shape (i * columns + j)))
+    → IfOk made (λ grid. (len i j : ℕ) → view.shape ≡ len ∷ [] → IsTrue (is_index (rows ∷ columns ∷ []) (i ∷ j ∷ []))
+    → place_at grid (i ∷ j ∷ []) ≡ place_at view ((i * columns + j) ∷ []))
 of_line view rows columns (Ok grid) by = λ len i j line here.
     by i j here
     ∙ ap (λ shape. place_at view (index_of_flat_in RowMajor shape (i * columns + j))) line
@@ -37,8 +40,7 @@ of_line view rows columns (Err e) by = tt
 
 pub returns-clause-place : goal.returns-clause-place
 returns-clause-place g c =
-    by_flat_index c.args.view.now c.args.rows c.args.columns _ c.reshape.result c.new_ix2.ensures c.reshape.ensures.reshaped
-    c.reshape.ensures.kept
+    by_flat_index c.args.view.now c.reshape.result c.new_ix2.ensures c.reshape.ensures.reshaped c.reshape.ensures.kept
 
 pub returns-clause-line : goal.returns-clause-line
 returns-clause-line g c = of_line c.args.view.now c.args.rows c.args.columns c.reshape.result (returns-clause-place g c)

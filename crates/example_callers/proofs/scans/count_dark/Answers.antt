@@ -1,5 +1,5 @@
 -- Each item of the loop is the next place of the view. It counts where its pixel is dark, and in the end no place is left.
-use Rattle.std.proofs.Common.{◌≡◌, ◌+◌, ◌<◌, ◌^◌, ℕ, ℤ, pos, Bool, true, false, cond, List, ◌∷◌, length, arith, subst, sym, ap, ◌∙◌}
+use Rattle.std.proofs.Common.{◌≡◌, ◌+◌, ◌<◌, ◌^◌, ℕ, ℤ, pos, Bool, cond, List, ◌∷◌, length, arith, subst, sym, ap, ◌∙◌}
 use Rattle.std.specs.List.{All, count_by}
 use Rattle.std.specs.Prelude.{nat_lt, slice_index}
 use Rattle.std.proofs.lemmas.Bool.{le-ltb, lt-ltb}
@@ -17,10 +17,10 @@ abbrev is_dark : List ℕ → ℕ → ℤ → Bool
 is_dark pixels bound place = nat_lt (slice_index pixels (magnitude place)) bound
 
 -- the first of the places that are left counts or not
-first_counts : (pixels : List ℕ) (bound place : ℕ) {left rest : List ℤ} {b : Bool} → left ≡ pos place ∷ rest
+first_counts : {place : ℕ} {left rest : List ℤ} {b : Bool} (pixels : List ℕ) (bound : ℕ) → left ≡ pos place ∷ rest
     → nat_lt (slice_index pixels place) bound ≡ b
     → count_by (is_dark pixels bound) left ≡ cond b 1 0 + count_by (is_dark pixels bound) rest
-first_counts pixels bound place {rest = rest} first is =
+first_counts {place} {rest = rest} pixels bound first is =
     ap (count_by (is_dark pixels bound)) first
     ∙ sum_by-cons (λ place. cond (is_dark pixels bound place) 1 0) (pos place) rest
     ∙ ap (λ t. cond t 1 0 + count_by (is_dark pixels bound) rest) is
@@ -60,22 +60,26 @@ bounds-pixels-place g c = (first_inside c.in-Some.ensures.steps c.loop-place.inv
 
 pub overflow_add-count : goal.overflow_add-count
 overflow_add-count g c =
-    let here = first_counts c.args.pixels.now c.args.bound c.in-Some.place c.in-Some.ensures.steps (lt-ltb _ _ c.if-pixels-place.true) in
+    let dark = lt-ltb _ _ c.if-pixels-place.true in
     let fits = count_fits c.args.pixels.now c.args.bound c.iter_places-place-items.ensures.is_view c.loop-place.invariant.counted in
-    omega (arith, here, fits)
+    omega (arith, first_counts c.args.pixels.now c.args.bound c.in-Some.ensures.steps dark, fits)
 
 pub loop-place-preserved-then-pixels-place : goal.loop-place-preserved-then-pixels-place
 loop-place-preserved-then-pixels-place g c =
-    let here = first_counts c.args.pixels.now c.args.bound c.in-Some.place c.in-Some.ensures.steps (lt-ltb _ _ c.if-pixels-place.true) in
+    let before = c.loop-place.invariant in
+    let steps = c.in-Some.ensures.steps in
+    let dark = lt-ltb _ _ c.if-pixels-place.true in
     record {
-      counted = omega (arith, here, c.loop-place.invariant.counted);
-      inside = (first_inside c.in-Some.ensures.steps c.loop-place.invariant.inside).1;
+      counted = omega (arith, first_counts c.args.pixels.now c.args.bound steps dark, before.counted);
+      inside = (first_inside steps before.inside).1;
     }
 
 pub loop-place-preserved : goal.loop-place-preserved
 loop-place-preserved g c =
-    let here = first_counts c.args.pixels.now c.args.bound c.in-Some.place c.in-Some.ensures.steps (le-ltb _ _ c.if-pixels-place.false) in
+    let before = c.loop-place.invariant in
+    let steps = c.in-Some.ensures.steps in
+    let bright = le-ltb _ _ c.if-pixels-place.false in
     record {
-      counted = omega (arith, here, c.loop-place.invariant.counted);
-      inside = (first_inside c.in-Some.ensures.steps c.loop-place.invariant.inside).1;
+      counted = omega (arith, first_counts c.args.pixels.now c.args.bound steps bright, before.counted);
+      inside = (first_inside steps before.inside).1;
     }

@@ -4,17 +4,14 @@ use Rattle.std.proofs.Common.{arith}
 use Rattle.std.proofs.lemmas.List.{map-append, map_more, take_all}
 use Rattle.std.proofs.lemmas.Option.{slice_get-get_or}
 use Rattle.std.specs.Prelude.{slice_get}
-use Rattle.ndarray_layout.specs.declared.Order.TheVariants.{RowMajor}
 use Rattle.ndarray_layout.specs.Signed.{magnitude}
-use Rattle.ndarray_layout.specs.View.{view_places}
 use Rattle.example_callers.proofs.slices.pixels_of.Goals as goal
 
-one_more : (pixels places : List ℕ) (i : ℕ) (old new : List ℕ) → i < length places → get_or places i 0 < length pixels
-    → new ≡ old ++ get_or pixels (get_or places i 0) 0 ∷ [] → map Some old ≡ map (slice_get pixels) (take i places)
-    → map Some new ≡ map (slice_get pixels) (take (i + 1) places)
-one_more pixels places i old new at below pushed same =
-    ap (map Some) pushed
-    ∙ map-append Some old (get_or pixels (get_or places i 0) 0 ∷ [])
+one_more : (pixels places copies : List ℕ) (i : ℕ) → i < length places → get_or places i 0 < length pixels
+    → map Some copies ≡ map (slice_get pixels) (take i places)
+    → map Some (copies ++ get_or pixels (get_or places i 0) 0 ∷ []) ≡ map (slice_get pixels) (take (i + 1) places)
+one_more pixels places copies i at below same =
+    map-append Some copies (get_or pixels (get_or places i 0) 0 ∷ [])
     ∙ ap (λ xs. xs ++ Some (get_or pixels (get_or places i 0) 0) ∷ []) same
     ∙ ap (λ o. map (slice_get pixels) (take i places) ++ o ∷ []) (sym (slice_get-get_or pixels (get_or places i 0) 0 below))
     ∙ sym (map_more (slice_get pixels) places i 0 at)
@@ -23,29 +20,31 @@ by_numbers : (pixels places : List ℕ) → map (slice_get pixels) places ≡ ma
 by_numbers pixels [] = refl
 by_numbers pixels (place ∷ places) = ap (λ found. slice_get pixels place ∷ found) (by_numbers pixels places)
 
-all_places : (pixels places listed : List ℕ) (at : List ℤ) (i : ℕ) (copies : List ℕ) → length places ≤ i → places ≡ listed
-    → map pos listed ≡ at
-    → map Some copies ≡ map (slice_get pixels) (take i places) → map Some copies ≡ map (λ place. slice_get pixels (magnitude place)) at
-all_places pixels places listed at i copies done is of_view same =
+all_places : {places listed : List ℕ} {at : List ℤ} (pixels copies : List ℕ) (i : ℕ) → length places ≤ i → places ≡ listed
+    → map pos listed ≡ at → map Some copies ≡ map (slice_get pixels) (take i places)
+    → map Some copies ≡ map (λ place. slice_get pixels (magnitude place)) at
+all_places {listed} pixels copies i done is of_view same =
     same
-    ∙ ap (map (slice_get pixels)) (take_all i places done ∙ is)
+    ∙ ap (map (slice_get pixels)) (take_all i _ done ∙ is)
     ∙ by_numbers pixels listed
     ∙ ap (map (λ place. slice_get pixels (magnitude place))) of_view
 
 pub loop-place-preserved : goal.loop-place-preserved
 loop-place-preserved g c =
+    let before = c.loop-place.invariant in
+    let pushed = c.push_reserved.ensures in
     let places = c.deref-place-items.result.now in
     let i = c.loop-place.place-index in
+    let there = c.loop-place-test.true in
     let inside = rw (← c.deref-place-items.ensures.value) at (c.in_ok-places.ensures.inside (length c.args.pixels.now) c.requires) in
     record {
-      items = one_more c.args.pixels.now places i c.loop-place.copies.items c.push_reserved.new.self.items c.loop-place-test.true
-          (inside i 0 c.loop-place-test.true) c.push_reserved.ensures.items c.loop-place.invariant.items;
-      len = omega (arith, c.push_reserved.ensures.len, c.loop-place.invariant.len);
-      capacity = omega (arith, c.push_reserved.ensures.capacity, c.loop-place.invariant.capacity);
+      items = rw pushed.items
+          (one_more c.args.pixels.now places c.loop-place.copies.items i there (inside i 0 there) before.items);
+      len = omega (arith, pushed.len, before.len);
+      capacity = omega (arith, pushed.capacity, before.capacity);
     }
 
 pub returns-clause-copies : goal.returns-clause-copies
 returns-clause-copies g c =
-    all_places c.args.pixels.now c.deref-place-items.result.now c.in_ok-places.places.items (view_places RowMajor c.args.view.now)
-    c.loop-place.place-index c.loop-place.copies.items
-    c.loop-place-test.false c.deref-place-items.ensures.value c.in_ok-places.ensures.items c.loop-place.invariant.items
+    all_places c.args.pixels.now c.loop-place.copies.items c.loop-place.place-index c.loop-place-test.false
+    c.deref-place-items.ensures.value c.in_ok-places.ensures.items c.loop-place.invariant.items
