@@ -11,15 +11,15 @@ use Rattle.ndarray_layout.specs.View.{View, place_at}
 use Rattle.ndarray_layout.proofs.laws.RowMajor.{source_in_row, index_of_list}
 use Rattle.example_callers.proofs.rows.in_rows.Goals as goal
 
--- the indices of a grid of rows stand for these of a view
-abbrev StandFor : View → ℕ → ℕ → (ℕ → ℕ → List ℕ) → View → Type 0
-StandFor view rows columns index grid = (i j : ℕ) → IsTrue (is_index (rows ∷ columns ∷ []) (i ∷ j ∷ []))
-    → place_at grid (i ∷ j ∷ []) ≡ place_at view (index i j)
+-- an index of a grid of rows stands for the index of its flat index
+abbrev IsByFlatIndex : View → ℕ → ℕ → View → Type 0
+IsByFlatIndex view rows columns grid = (i j : ℕ) → IsTrue (is_index (rows ∷ columns ∷ []) (i ∷ j ∷ []))
+    → place_at grid (i ∷ j ∷ []) ≡ place_at view (index_of_flat_in RowMajor view.shape (i * columns + j))
 
 by_flat_index : {rows columns : ℕ} {shape : List ℕ} (view : View) (made : Result View LayoutError) → shape ≡ rows ∷ columns ∷ []
     → IfOk made (λ grid. grid ≡ reshape_of RowMajor shape view)
     → IfOk made (λ grid. Descends (reshape_source RowMajor view.shape shape) view grid)
-    → IfOk made (StandFor view rows columns (λ i j. index_of_flat_in RowMajor view.shape (i * columns + j)))
+    → IfOk made (IsByFlatIndex view rows columns)
 by_flat_index {rows} {columns} view (Ok grid) lens is kept = λ i j here.
     let found : IsTrue (is_index grid.shape (i ∷ j ∷ [])) = rw (is, lens) here in
     (kept.places (i ∷ j ∷ []) found).1
@@ -29,7 +29,7 @@ by_flat_index view (Err e) lens is kept = tt
 
 -- along one axis it is that number itself
 of_line : (view : View) (rows columns : ℕ) (made : Result View LayoutError)
-    → IfOk made (StandFor view rows columns (λ i j. index_of_flat_in RowMajor view.shape (i * columns + j)))
+    → IfOk made (IsByFlatIndex view rows columns)
     → IfOk made (λ grid. (len i j : ℕ) → view.shape ≡ len ∷ [] → IsTrue (is_index (rows ∷ columns ∷ []) (i ∷ j ∷ []))
     → place_at grid (i ∷ j ∷ []) ≡ place_at view ((i * columns + j) ∷ []))
 of_line view rows columns (Ok grid) by = λ len i j line here.
