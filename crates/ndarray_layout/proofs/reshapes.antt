@@ -11,6 +11,7 @@ pub mod Ones
 pub mod Products
 pub mod FlatIndices
 pub mod Reached
+pub mod SamePlaces
 pub mod Splits
 pub mod Tails
 pub mod Turned

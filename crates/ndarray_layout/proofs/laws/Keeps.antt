@@ -22,6 +22,7 @@ use Rattle.ndarray_layout.specs.reshape.ReshapeFault.{reshape_fault}
 use Rattle.ndarray_layout.specs.private.ReshapeProgress.{PlacesAlike}
 use Rattle.ndarray_layout.proofs.reshapes.Complete.{good-of-alike, alike-of-good}
 use Rattle.ndarray_layout.proofs.reshapes.Forced.{forced-of-alike, alike-forced}
+use Rattle.ndarray_layout.proofs.reshapes.SamePlaces.{HasIndex, SamePlaces}
 
 length-index_of_flat : (shape : List ℕ) (r : ℕ) → length (index_of_flat shape r) ≡ length shape
 length-index_of_flat [] r = refl
@@ -65,22 +66,37 @@ module _ {order : Order} {from : List ℕ} {strides : List ℤ} {to : List ℕ} 
       ∙ place-at-flat_index order from strides r (omega arith)
       ∙ offset-as_read order from strides r e
 
-pub keeps-of-alike : (order : Order) (from : List ℕ) (strides : List ℤ) (to : List ℕ) (others : List ℤ) → length from ≡ length strides
-    → length to ≡ length others → size from ≡ size to
-    → PlacesAlike (as_read order from) (as_read order strides) (as_read order to) (as_read order others)
-    → Keeps order from strides to others
-keeps-of-alike order from strides to others e g sizes alike =
-    let by_flat_index = λ (r : ℕ). offset_of strides (index_of_flat_in order from r) in
-    let whole = size-as_read order from in
-    let there : places order 0 to others ≡ map by_flat_index (below (size to)) =
-    fill_by_all by_flat_index (places order 0 to others) (size to) (pos 0)
-    (count-places order to others) (λ r l.
-    place-at-flat_index order to others r l ∙ offset-as_read order to others r g ∙ alike r (omega arith)
-    ∙ sym (offset-as_read order from strides r e)) in
-    let here : places order 0 from strides ≡ map by_flat_index (below (size from)) =
-    fill_by_all by_flat_index (places order 0 from strides) (size from)
-    (pos 0) (count-places order from strides) (λ r l. place-at-flat_index order from strides r l) in
-    record { same_count = g; same_places = there ∙ ap (λ n. map by_flat_index (below n)) (sym sizes) ∙ sym here }
+  -- the same as the axes are read
+  pub same-of-keeps : length from ≡ length strides → Keeps order from strides to others
+      → SamePlaces (as_read order from) (as_read order strides) (as_read order to) (as_read order others)
+  same-of-keeps e k = record {
+    sizes = size-as_read order from ∙ size-of-keeps k ∙ sym (size-as_read order to);
+    alike = alike-of-keeps e k;
+  }
+
+  pub keeps-of-alike : length from ≡ length strides → length to ≡ length others → size from ≡ size to
+      → PlacesAlike (as_read order from) (as_read order strides) (as_read order to) (as_read order others)
+      → Keeps order from strides to others
+  keeps-of-alike e g sizes alike =
+      let by_flat_index = λ (r : ℕ). offset_of strides (index_of_flat_in order from r) in
+      let whole = size-as_read order from in
+      let there : places order 0 to others ≡ map by_flat_index (below (size to)) =
+      fill_by_all by_flat_index (places order 0 to others) (size to) (pos 0)
+      (count-places order to others) (λ r l.
+      place-at-flat_index order to others r l ∙ offset-as_read order to others r g ∙ alike r (omega arith)
+      ∙ sym (offset-as_read order from strides r e)) in
+      let here : places order 0 from strides ≡ map by_flat_index (below (size from)) =
+      fill_by_all by_flat_index (places order 0 from strides) (size from)
+      (pos 0) (count-places order from strides) (λ r l. place-at-flat_index order from strides r l) in
+      record { same_count = g; same_places = there ∙ ap (λ n. map by_flat_index (below n)) (sym sizes) ∙ sym here }
+
+-- a layout with an index has one as it is read
+has_index-as_read : (order : Order) {lens : List ℕ} {strides : List ℤ} → HasIndex lens strides
+    → HasIndex (as_read order lens) (as_read order strides)
+has_index-as_read order {lens} {strides} at = record {
+  same_count = length-as_read order lens ∙ at.same_count ∙ sym (length-as_read order strides);
+  some = is_empty-as_read order lens ∙ at.some;
+}
 
 -- ---- reshape is complete
 -- the sizes agree and no joint is bad
@@ -88,37 +104,25 @@ abbrev pub Fits : Order → List ℕ → List ℤ → List ℕ → Type 0
 Fits order from strides to = (size from ≡ size to) × (has_bad_joint (as_read order from) (as_read order strides) (as_read order to) ≡ false)
 
 -- exactly there some strides, any whole numbers, keep the places
-pub keeps-exactly : (order : Order) (from : List ℕ) (strides : List ℤ) (to : List ℕ) → is_empty from ≡ false → is_empty to ≡ false
-    → length from ≡ length strides → Fits order from strides to ↔ ((others : List ℤ) × Keeps order from strides to others)
-keeps-exactly order from strides to some more e = (λ fits. make fits, λ k. fit k)
+pub keeps-exactly : (order : Order) {from : List ℕ} {strides : List ℤ} (to : List ℕ) → HasIndex from strides → is_empty to ≡ false
+    → Fits order from strides to ↔ ((others : List ℤ) × Keeps order from strides to others)
+keeps-exactly order {from} {strides} to at more = (λ fits. make fits, λ k. fit k.1)
   where
-    from_read : is_empty (as_read order from) ≡ false
-    from_read = is_empty-as_read order from ∙ some
-
-    to_read : is_empty (as_read order to) ≡ false
-    to_read = is_empty-as_read order to ∙ more
-
-    counts : length (as_read order from) ≡ length (as_read order strides)
-    counts = length-as_read order from ∙ e ∙ sym (length-as_read order strides)
-
-    fit : (others : List ℤ) × Keeps order from strides to others → Fits order from strides to
-    fit k =
-        let sizes = size-of-keeps k.1 in
-        let equal : length (as_read order to) ≡ length (as_read order k.0) = length-as_read order to ∙ k.1.same_count
-        ∙ sym (length-as_read order k.0) in (
-          sizes,
-          good-of-alike (as_read order from) (as_read order strides) (as_read order to) (as_read order k.0) from_read to_read counts
-              equal (size-as_read order from ∙ sizes ∙ sym (size-as_read order to)) (alike-of-keeps e k.1),
-        )
+    fit : {others : List ℤ} → Keeps order from strides to others → Fits order from strides to
+    fit k = (
+      size-of-keeps k,
+      good-of-alike (has_index-as_read order at) (has_index-as_read order (record { same_count = k.same_count; some = more }))
+          (same-of-keeps at.same_count k),
+    )
 
     make : Fits order from strides to → (others : List ℤ) × Keeps order from strides to others
     make fits =
-        let made = alike-of-good (as_read order from) (as_read order strides) (as_read order to) from_read to_read counts
+        let made = alike-of-good (as_read order to) (has_index-as_read order at) (is_empty-as_read order to ∙ more)
         (size-as_read order from ∙ fits.0 ∙ sym (size-as_read order to)) fits.1 in
         let others = as_read order made.0 in
         let equal : length to ≡ length others = sym (length-as_read order to) ∙ made.1 ∙ sym (length-as_read order made.0) in (
           others,
-          keeps-of-alike order from strides to others e equal fits.0
+          keeps-of-alike at.same_count equal fits.0
               (subst (PlacesAlike (as_read order from) (as_read order strides) (as_read order to)) (sym (as_read-as_read order made.0))
               made.2),
         )
@@ -129,31 +133,23 @@ pub keeps-forced : {order : Order} {from : List ℕ} {strides : List ℤ} {to : 
     → length from ≡ length strides → Keeps order from strides to others → axis < length to → 1 < get_or (as_read order to) axis 0
     → get_or (as_read order others) axis (pos 0) ≡ offset_at_flat_index (as_read order from) (as_read order strides)
     (size_after (as_read order to) axis)
-keeps-forced {order} {from} {strides} {to} {others} axis more e k l long =
-    let sizes = size-of-keeps k in
-    let equal : length (as_read order to) ≡ length (as_read order others) = length-as_read order to ∙ k.same_count
-    ∙ sym (length-as_read order others) in
+keeps-forced {order} {to = to} axis more e k l long =
     let count = length-as_read order to in
-    forced-of-alike (as_read order from) (as_read order strides) (as_read order to) (as_read order others) axis (is_empty-as_read order to
-    ∙ more) (size-as_read order from ∙ sizes ∙ sym (size-as_read order to)) equal (alike-of-keeps e k) (omega arith) long
+    forced-of-alike axis (has_index-as_read order (record { same_count = k.same_count; some = more })) (same-of-keeps e k) (omega arith) long
 
-pub forced-keeps : (order : Order) (from : List ℕ) (strides : List ℤ) (to : List ℕ) → is_empty from ≡ false → is_empty to ≡ false
-    → length from ≡ length strides → Fits order from strides to → Keeps order from strides to (forced_strides order from strides to)
-forced-keeps order from strides to some more e fits =
-    let kept = (keeps-exactly order from strides to some more e).0 fits in
-    let others = kept.0 in
-    let sizes : size (as_read order from) ≡ size (as_read order to) = size-as_read order from ∙ fits.0 ∙ sym (size-as_read order to) in
-    let equal : length (as_read order to) ≡ length (as_read order others) = length-as_read order to ∙ kept.1.same_count
-    ∙ sym (length-as_read order others) in
-    let at = stride_at (as_read order from) (as_read order strides) (as_read order to) in
-    let made : PlacesAlike (as_read order from) (as_read order strides) (as_read order to) (map at (below (length (as_read order to)))) =
-    alike-forced (as_read order from) (as_read order strides) (as_read order to) (as_read order others) (is_empty-as_read order to
-    ∙ more) sizes equal (alike-of-keeps e kept.1) in
-    let read : map at (below (length (as_read order to))) ≡ as_read order (forced_strides order from strides to) =
-    ap (λ n. map at (below n)) (length-as_read order to) ∙ sym (as_read-as_read order (map at (below (length to)))) in
-    let counts : length to ≡ length (forced_strides order from strides to) = sym (length-map-range_with_len at 0 (length to))
-    ∙ sym (length-as_read order (map at (below (length to)))) in
-    keeps-of-alike order from strides to (forced_strides order from strides to) e counts fits.0
+pub forced-keeps : (order : Order) {from : List ℕ} {strides : List ℤ} (to : List ℕ) → HasIndex from strides → is_empty to ≡ false
+    → Fits order from strides to → Keeps order from strides to (forced_strides order from strides to)
+forced-keeps order {from} {strides} to at more fits =
+    let kept = (keeps-exactly order to at more).0 fits in
+    let stride = stride_at (as_read order from) (as_read order strides) (as_read order to) in
+    let strides_of = λ (n : ℕ). map stride (below n) in
+    let made = alike-forced (has_index-as_read order (record { same_count = kept.1.same_count; some = more }))
+    (same-of-keeps at.same_count kept.1) in
+    let read : strides_of (length (as_read order to)) ≡ as_read order (forced_strides order from strides to) =
+    ap strides_of (length-as_read order to) ∙ sym (as_read-as_read order (strides_of (length to))) in
+    let counts : length to ≡ length (forced_strides order from strides to) = sym (length-map-range_with_len stride 0 (length to))
+    ∙ sym (length-as_read order (strides_of (length to))) in
+    keeps-of-alike at.same_count counts fits.0
     (subst (PlacesAlike (as_read order from) (as_read order strides) (as_read order to)) read made)
 
 -- ---- the fault of a reshape
@@ -192,11 +188,11 @@ fault-exactly order from strides to = (λ none. fit none, λ fits. fault fits)
     ]
 
 -- and exactly where some strides keep the places
-pub fault-complete : (order : Order) (from : List ℕ) (strides : List ℤ) (to : List ℕ) → is_empty from ≡ false → is_empty to ≡ false
-    → length from ≡ length strides → (reshape_fault order from strides to ≡ None) ↔ ((others : List ℤ) × Keeps order from strides to others)
-fault-complete order from strides to some more e =
+pub fault-complete : (order : Order) {from : List ℕ} {strides : List ℤ} (to : List ℕ) → HasIndex from strides → is_empty to ≡ false
+    → (reshape_fault order from strides to ≡ None) ↔ ((others : List ℤ) × Keeps order from strides to others)
+fault-complete order {from} {strides} to at more =
     let fits = fault-exactly order from strides to in
-    let kept = keeps-exactly order from strides to some more e in
+    let kept = keeps-exactly order to at more in
     (λ none. kept.0 (fits.0 none), λ k. fits.1 (kept.1 k))
 
 -- an item counted from the back
@@ -228,11 +224,10 @@ agree-as_read ColumnMajor to others strides e g agree axis long =
     sym one ∙ agree back (omega arith) (subst (λ n. 1 < n) (sym (from-back to axis 0 l)) long) ∙ other
 
 -- all strides that do agree with those of the definition on each axis of more than one entry
-pub keeps-agree : {order : Order} {from : List ℕ} {strides : List ℤ} {to : List ℕ} {others : List ℤ} → is_empty from ≡ false
-    → is_empty to ≡ false → length from ≡ length strides → Keeps order from strides to others
-    → AgreeOnLonger to others (forced_strides order from strides to)
-keeps-agree {order} {from} {strides} {to} {others} some more e k =
-    let forced = forced-keeps order from strides to some more e ((keeps-exactly order from strides to some more e).1 (others, k)) in
+pub keeps-agree : {order : Order} {from : List ℕ} {strides : List ℤ} {to : List ℕ} {others : List ℤ} → HasIndex from strides
+    → is_empty to ≡ false → Keeps order from strides to others → AgreeOnLonger to others (forced_strides order from strides to)
+keeps-agree {order} {from} {strides} {to} {others} at more k =
+    let forced = forced-keeps order to at more ((keeps-exactly order to at more).1 (others, k)) in
     agree-as_read order to others (forced_strides order from strides to) k.same_count forced.same_count (λ axis l long.
-    keeps-forced axis more e k l long
-    ∙ sym (keeps-forced axis more e forced l long))
+    keeps-forced axis more at.same_count k l long
+    ∙ sym (keeps-forced axis more at.same_count forced l long))

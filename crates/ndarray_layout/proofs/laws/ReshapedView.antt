@@ -23,6 +23,7 @@ use Rattle.ndarray_layout.specs.reshape.Keeps.{Keeps}
 use Rattle.ndarray_layout.specs.reshape.ReshapeFault.{reshape_fault}
 use Rattle.nd_base.proofs.laws.Reading.{size-as_read}
 use Rattle.ndarray_layout.proofs.laws.Keeps.{Fits, alike-of-keeps, forced-keeps, keeps-exactly, offset-as_read, size-of-keeps}
+use Rattle.ndarray_layout.proofs.reshapes.SamePlaces.{has_index-of-valid}
 use Rattle.ndarray_layout.specs.Descends.{Descends}
 use Rattle.ndarray_layout.specs.View.{View, IsView, view_places}
 use Rattle.ndarray_layout.proofs.laws.KeepsPlaces.{Descends-kept}
@@ -156,7 +157,7 @@ reshaped_keeps order shape {view} v none = by (is_empty shape) refl
         → Keeps order view.shape view.strides shape (cond e (replicate (length shape) (pos 0)) (forced_strides order view.shape view.strides
         shape))
     by true e = empty_keeps (parts.1 ∙ e) e (sym (length-replicate (length shape) (pos 0)))
-    by false e = forced-keeps order view.shape view.strides shape (parts.1 ∙ e) e v.valid.same_count
+    by false e = forced-keeps order shape (has_index-of-valid v.valid (parts.1 ∙ e)) e
         (fits_of_no_fault order view.shape view.strides shape (parts.2 e))
 
 -- a view can be read as one of a shape exactly where that is not refused
@@ -175,7 +176,7 @@ no_refusal_of_fits order shape {view} v fits =
     rw (le-ltb limit (nonzero_size shape) fits.0) (none_from (is_empty view.shape) (is_empty shape)
     (reshape_fault order view.shape view.strides shape) same (λ some.
     no_fault_of_fits order view.shape view.strides shape
-    ((keeps-exactly order view.shape view.strides shape (same ∙ some) some v.valid.same_count).1 fits.1)))
+    ((keeps-exactly order shape (has_index-of-valid v.valid (same ∙ some)) some).1 fits.1)))
 
 pub reshape_refusal-ReshapeFits : (order : Order) (shape : List ℕ) {view : View} → IsView view
     → (reshape_refusal order shape view ≡ None) ↔ ReshapeFits order shape view

@@ -15,10 +15,10 @@ use Rattle.ndarray_layout.specs.private.ReshapeProgress.{Member, PlacesAlike}
 use Rattle.ndarray_layout.proofs.reshapes.Members.{member-of-any, any-of-member}
 use Rattle.ndarray_layout.proofs.reshapes.Products.{long_lens, tail-of-product, product-of-tail, size-long_lens}
 use Rattle.ndarray_layout.proofs.reshapes.FlatIndices.{long-long_axes, long-reverse, count-long_axes, lens-long_axes, offset-at-flat_index}
-use Rattle.ndarray_layout.proofs.reshapes.FlatIndices.{long-kept}
-use Rattle.ndarray_layout.proofs.reshapes.FlatIndices.{long-left}
-use Rattle.ndarray_layout.proofs.reshapes.Splits.{TailsFit, AllLong, reaches}
-use Rattle.ndarray_layout.proofs.reshapes.Tails.{IsLooseTail, IsTail, AreAlike, lens_of, tails_of_alike}
+use Rattle.ndarray_layout.proofs.reshapes.FlatIndices.{long-kept, long-left}
+use Rattle.ndarray_layout.proofs.reshapes.SamePlaces.{HasIndex, SamePlaces}
+use Rattle.ndarray_layout.proofs.reshapes.Splits.{TailsFit, AllLong, HasAlike, reaches}
+use Rattle.ndarray_layout.proofs.reshapes.Tails.{IsLooseTail, IsTail, HaveSamePlaces, lens_of, tails_of_alike}
 use Rattle.ndarray_layout.proofs.reshapes.Values.{Axes, value, count, AreLong}
 
 -- a loose tail is longer than one entry
@@ -97,34 +97,32 @@ product-of-good to j l good =
           (not_from_false test missing)))
     ]
 
-pub tails-of-good : (from : List ℕ) (strides : List ℤ) (to : List ℕ) → is_empty from ≡ false → is_empty to ≡ false
-    → length from ≡ length strides → size from ≡ size to → has_bad_joint from strides to ≡ false
-    → TailsFit (fast from strides) (fast_lens to)
-tails-of-good from strides to some more same sizes good p l =
+pub tails-of-good : {from : List ℕ} {strides : List ℤ} (to : List ℕ) → HasIndex from strides → is_empty to ≡ false → size from ≡ size to
+    → has_bad_joint from strides to ≡ false → TailsFit (fast from strides) (fast_lens to)
+tails-of-good {from} {strides} to at more sizes good p l =
     let rows = long_axes from strides in
     let found = joint-of-tail rows p l in
     let j = found.0 in
-    let whole : j * p ≡ size to = found.1 ∙ count-long_axes from strides some same ∙ sizes in
+    let whole : j * p ≡ size to = found.1 ∙ count-long_axes at ∙ sizes in
     let inside = joint-below j p (loose-more (reverse rows) p (long-reverse rows (long-long_axes from strides)) l)
     (size_of_nonempty to more) whole in
-    let member : Member (loose_joints from strides) j = subst (λ js. Member js j) (sym (joints-of-long from strides some)) found.2 in
+    let member : Member (loose_joints from strides) j = subst (λ js. Member js j) (sym (joints-of-long from strides at.some)) found.2 in
     tail-of-product to j p more (product-of-good to j inside (bad-of from strides to j member good)) whole
 
-pub good-of-tails : (from : List ℕ) (strides : List ℤ) (to : List ℕ) → is_empty from ≡ false → is_empty to ≡ false
-    → length from ≡ length strides → size from ≡ size to → TailsFit (fast from strides) (fast_lens to)
-    → has_bad_joint from strides to ≡ false
-good-of-tails from strides to some more same sizes fit =
+pub good-of-tails : {from : List ℕ} {strides : List ℤ} (to : List ℕ) → HasIndex from strides → is_empty to ≡ false → size from ≡ size to
+    → TailsFit (fast from strides) (fast_lens to) → has_bad_joint from strides to ≡ false
+good-of-tails {from} {strides} to at more sizes fit =
     elim (cases_Bool (has_bad_joint from strides to)) [
       | inl bad ↦
           let found = member-of-any (is_bad_joint to) (loose_joints from strides) bad in
           let j = found.0 in
           let rows = long_axes from strides in
-          let member : Member (joints rows) j = subst (λ js. Member js j) (joints-of-long from strides some) found.1 in
-          let at = tail-of-joint rows j member in
-          let p = at.0 in
-          let long = loose-more (reverse rows) p (long-reverse rows (long-long_axes from strides)) at.2 in
-          let whole : j * p ≡ size to = at.1 ∙ count-long_axes from strides some same ∙ sizes in
-          let product = product-of-tail to j p more (omega arith) (fit p at.2) whole in
+          let member : Member (joints rows) j = subst (λ js. Member js j) (joints-of-long from strides at.some) found.1 in
+          let tail = tail-of-joint rows j member in
+          let p = tail.0 in
+          let long = loose-more (reverse rows) p (long-reverse rows (long-long_axes from strides)) tail.2 in
+          let whole : j * p ≡ size to = tail.1 ∙ count-long_axes at ∙ sizes in
+          let product = product-of-tail to j p more (omega arith) (fit p tail.2) whole in
           let test = list_any (λ product. product == j) (cumulative_products to) in
           let yes_product : test ≡ true = any-of-member (λ product. product == j) (cumulative_products to) j product (eq-eqb j j refl) in
           let no_product : test ≡ false = not-true test (and_parts (nat_lt j (size to)) (not test) found.2).1 in
@@ -133,24 +131,32 @@ good-of-tails from strides to some more same sizes fit =
     ]
 
 -- ---- strides that keep the places
-pub good-of-alike : (from : List ℕ) (strides : List ℤ) (to : List ℕ) (others : List ℤ) → is_empty from ≡ false → is_empty to ≡ false
-    → length from ≡ length strides → length to ≡ length others → size from ≡ size to → PlacesAlike from strides to others
-    → has_bad_joint from strides to ≡ false
-good-of-alike from strides to others some more same equal sizes alike =
-    let rows = long_axes from strides in
-    let lines = long_axes to others in
-    let rows_long = long-reverse rows (long-long_axes from strides) in
-    let lines_long = long-reverse lines (long-long_axes to others) in
-    let rows_count : count (fast from strides) ≡ size from = count-reverse rows ∙ count-long_axes from strides some same in
-    let lines_count : count (fast to others) ≡ size to = count-reverse lines ∙ count-long_axes to others more equal in
-    let lens : lens_of (fast to others) ≡ fast_lens to = lens-reverse lines ∙ ap reverse (lens-long_axes to others equal) in
-    let values : AreAlike (fast from strides) (fast to others) = λ r l.
-    sym (offset-at-flat_index from strides r some same (omega arith)) ∙ sym (alike r (omega arith))
-    ∙ offset-at-flat_index to others r more equal
-    (omega arith) in
-    good-of-tails from strides to some more same sizes
-    (λ p l. subst (λ ls. IsTail ls p) lens (tails_of_alike (length (fast from strides) + length (fast to others)) (fast from strides)
-    (fast to others) (omega arith) rows_long lines_long (rows_count ∙ sizes ∙ sym lines_count) values p l))
+count-fast : {lens : List ℕ} {strides : List ℤ} → HasIndex lens strides → count (fast lens strides) ≡ size lens
+count-fast {lens} {strides} at = count-reverse (long_axes lens strides) ∙ count-long_axes at
+
+long-fast : (lens : List ℕ) (strides : List ℤ) → AreLong (fast lens strides)
+long-fast lens strides = long-reverse (long_axes lens strides) (long-long_axes lens strides)
+
+pub good-of-alike : {from : List ℕ} {strides : List ℤ} {to : List ℕ} {others : List ℤ} → HasIndex from strides → HasIndex to others
+    → SamePlaces from strides to others → has_bad_joint from strides to ≡ false
+good-of-alike {from} {strides} {to} {others} at also same =
+    let rows_count = count-fast at in
+    let lines_count = count-fast also in
+    let sizes = same.sizes in
+    let lens : lens_of (fast to others) ≡ fast_lens to = lens-reverse (long_axes to others)
+    ∙ ap reverse (lens-long_axes to others also.same_count) in
+    let places : HaveSamePlaces (fast from strides) (fast to others) = record {
+      long = long-fast from strides;
+      others_long = long-fast to others;
+      counts = rows_count ∙ sizes ∙ sym lines_count;
+      alike = record {
+        values = λ r l.
+            sym (offset-at-flat_index r at (omega arith)) ∙ sym (same.alike r (omega arith))
+            ∙ offset-at-flat_index r also (omega arith);
+      };
+    } in
+    good-of-tails to at also.some sizes (λ p l. subst (λ ls. IsTail ls p) lens
+    (tails_of_alike (length (fast from strides) + length (fast to others)) (fast from strides) (fast to others) (omega arith) places p l))
 
 -- strides for the axes of more than one entry are strides for all
 pub record StridesOf (lens : List ℕ) (axes : Axes) : Type 0 where
@@ -194,31 +200,30 @@ strides-of (len ∷ lens) axes e =
     ]
 
 -- axes of the longer lengths that are alike give strides that are
-from-axes : (from : List ℕ) (strides : List ℤ) (to : List ℕ) (axes : Axes) → is_empty from ≡ false → is_empty to ≡ false
-    → length from ≡ length strides → size from ≡ size to → lens_of axes ≡ fast_lens to → AreAlike (fast from strides) axes
-    → (others : List ℤ) × (length to ≡ length others) × PlacesAlike from strides to others
-from-axes from strides to axes some more same sizes lens alike =
-    let turned : lens_of (reverse axes) ≡ long_lens to = lens-reverse axes ∙ ap reverse lens ∙ reverse-reverse (long_lens to) in
-    let made = strides-of to (reverse axes) turned in
-    let back : fast to made.strides ≡ axes = ap reverse made.longer ∙ reverse-reverse axes in
-    let rows_count : count (fast from strides) ≡ size from = count-reverse (long_axes from strides) ∙ count-long_axes from strides some
-    same in (
+from-axes : {from : List ℕ} {strides : List ℤ} (to : List ℕ) → HasIndex from strides → is_empty to ≡ false → size from ≡ size to
+    → HasAlike (fast from strides) (fast_lens to) → (others : List ℤ) × (length to ≡ length others) × PlacesAlike from strides to others
+from-axes to at more sizes a =
+    let turned : lens_of (reverse a.others) ≡ long_lens to = lens-reverse a.others ∙ ap reverse a.lens_are
+    ∙ reverse-reverse (long_lens to) in
+    let made = strides-of to (reverse a.others) turned in
+    let back : fast to made.strides ≡ a.others = ap reverse made.longer ∙ reverse-reverse a.others in
+    let rows_count = count-fast at in (
       made.strides,
       made.same_count,
       λ r l.
-          offset-at-flat_index to made.strides r more made.same_count (omega arith) ∙ ap (λ xs. value xs r) back
-          ∙ sym (alike r (omega arith))
-          ∙ sym (offset-at-flat_index from strides r some same l),
+          offset-at-flat_index r (record { same_count = made.same_count; some = more }) (omega arith)
+          ∙ ap (λ xs. value xs r) back
+          ∙ sym (a.alike.values r (omega arith))
+          ∙ sym (offset-at-flat_index r at l),
     )
 
-pub alike-of-good : (from : List ℕ) (strides : List ℤ) (to : List ℕ) → is_empty from ≡ false → is_empty to ≡ false
-    → length from ≡ length strides → size from ≡ size to → has_bad_joint from strides to ≡ false
-    → (others : List ℤ) × (length to ≡ length others) × PlacesAlike from strides to others
-alike-of-good from strides to some more same sizes good =
-    let rows = long_axes from strides in
-    let rows_long = long-reverse rows (long-long_axes from strides) in
-    let counts : count (fast from strides) ≡ size (fast_lens to) = count-reverse rows ∙ count-long_axes from strides some same ∙ sizes
-    ∙ sym (size-long_lens to more) ∙ sym (size-reverse (long_lens to)) in
-    let a = reaches (length (fast from strides) + length (fast_lens to)) (fast from strides) (fast_lens to) (omega arith) rows_long
-    (all-long-reverse (long_lens to) (all-long to)) counts (tails-of-good from strides to some more same sizes good) in
-    from-axes from strides to a.0 some more same sizes a.1 a.2
+pub alike-of-good : {from : List ℕ} {strides : List ℤ} (to : List ℕ) → HasIndex from strides → is_empty to ≡ false → size from ≡ size to
+    → has_bad_joint from strides to ≡ false → (others : List ℤ) × (length to ≡ length others) × PlacesAlike from strides to others
+alike-of-good {from} {strides} to at more sizes good =
+    from-axes to at more sizes (reaches (length (fast from strides) + length (fast_lens to)) (fast from strides) (fast_lens to)
+    (omega arith) (record {
+      long = long-fast from strides;
+      lens_long = all-long-reverse (long_lens to) (all-long to);
+      counts = count-fast at ∙ sizes ∙ sym (size-long_lens to more) ∙ sym (size-reverse (long_lens to));
+      tails = tails-of-good to at more sizes good;
+    }))

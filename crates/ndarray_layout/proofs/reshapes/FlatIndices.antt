@@ -11,8 +11,9 @@ use Rattle.std.proofs.lemmas.Nat.{div_below, mod_below, mod-mul-add, div-mul-add
 use Rattle.nd_base.proofs.laws.Definitions.{offset_of, index_of_flat, is_empty, size}
 use Rattle.nd_base.proofs.laws.Size.{size_of_nonempty}
 use Rattle.ndarray_layout.proofs.reshapes.Values.{Axes, value, count, AreLong}
-use Rattle.ndarray_layout.proofs.reshapes.Joins.{long_axes, is_empty-rest, one-of-short, count-reverse}
+use Rattle.ndarray_layout.proofs.reshapes.Joins.{long_axes, one-of-short, count-reverse}
 use Rattle.ndarray_layout.proofs.reshapes.Products.{long_lens}
+use Rattle.ndarray_layout.proofs.reshapes.SamePlaces.{HasIndex, rest-has_index}
 use Rattle.ndarray_layout.proofs.reshapes.Tails.{count-pos, lens_of}
 
 -- ---- axes after others
@@ -66,16 +67,15 @@ long-reverse [] h = tt
 long-reverse (axis ∷ axes) h = subst AreLong (sym (reverse-append (axis ∷ []) axes)) (long-push (reverse axes) axis (long-reverse axes h.1)
     h.0)
 
-pub count-long_axes : (lens : List ℕ) (strides : List ℤ) → is_empty lens ≡ false → length lens ≡ length strides
-    → count (long_axes lens strides) ≡ size lens
-count-long_axes [] strides h e = refl
-count-long_axes (len ∷ lens) [] h e = absurd (omega arith)
-count-long_axes (len ∷ lens) (stride ∷ strides) h e =
-    let rest = count-long_axes lens strides (is_empty-rest len lens h) (omega arith) in
+pub count-long_axes : {lens : List ℕ} {strides : List ℤ} → HasIndex lens strides → count (long_axes lens strides) ≡ size lens
+count-long_axes {lens = []} at = refl
+count-long_axes {lens = len ∷ lens} {strides = []} at = let count = at.same_count in absurd (omega arith)
+count-long_axes {lens = len ∷ lens} {strides = stride ∷ strides} at =
+    let rest = count-long_axes (rest-has_index at) in
     elim (cases_Bool (nat_lt 1 len)) [
       | inl long ↦ ap count (long-kept len lens stride strides long) ∙ ap (λ n. len * n) rest
-      | inr short ↦ ap count (long-left len lens stride strides short) ∙ rest ∙ sym (ap (λ n. n * size lens) (one-of-short lens h short)
-          ∙ one-mul (size lens))
+      | inr short ↦ ap count (long-left len lens stride strides short) ∙ rest
+          ∙ sym (ap (λ n. n * size lens) (one-of-short lens at.some short) ∙ one-mul (size lens))
     ]
 
 pub lens-long_axes : (lens : List ℕ) (strides : List ℤ) → length lens ≡ length strides → lens_of (long_axes lens strides) ≡ long_lens lens
@@ -91,17 +91,17 @@ lens-long_axes (len ∷ lens) (stride ∷ strides) e =
     ]
 
 -- ---- the index of a flat index lies as far as the value says
-pub offset-at-flat_index : (lens : List ℕ) (strides : List ℤ) (r : ℕ) → is_empty lens ≡ false → length lens ≡ length strides → r < size lens
+pub offset-at-flat_index : {lens : List ℕ} {strides : List ℤ} (r : ℕ) → HasIndex lens strides → r < size lens
     → offset_of strides (index_of_flat lens r) ≡ value (reverse (long_axes lens strides)) r
-offset-at-flat_index [] strides r h e l = refl
-offset-at-flat_index (len ∷ lens) [] r h e l = absurd (omega arith)
-offset-at-flat_index (len ∷ lens) (stride ∷ strides) r h e l =
-    let none = is_empty-rest len lens h in
-    let some = size_of_nonempty lens none in
+offset-at-flat_index {lens = []} r at l = refl
+offset-at-flat_index {lens = len ∷ lens} {strides = []} r at l = let count = at.same_count in absurd (omega arith)
+offset-at-flat_index {lens = len ∷ lens} {strides = stride ∷ strides} r at l =
+    let after = rest-has_index at in
+    let some = size_of_nonempty lens after.some in
     let rows = long_axes lens strides in
     let fast = reverse rows in
-    let whole : count fast ≡ size lens = count-reverse rows ∙ count-long_axes lens strides none (omega arith) in
-    let rest = offset-at-flat_index lens strides (r % size lens) none (omega arith) (mod_below r (size lens) some) in
+    let whole : count fast ≡ size lens = count-reverse rows ∙ count-long_axes after in
+    let rest = offset-at-flat_index (r % size lens) after (mod_below r (size lens) some) in
     elim (cases_Bool (nat_lt 1 len)) [
       | inl long ↦
           let below : r / size lens < len = div_below r (size lens) len some l in
@@ -116,7 +116,7 @@ offset-at-flat_index (len ∷ lens) (stride ∷ strides) r h e l =
           ap (λ z. (pos (r / size lens) *ℤ stride) +ℤ z) (rest ∙ again) ∙ omega (arith, ints, last, split)
           ∙ sym (ap (λ xs. value xs r) turned)
       | inr short ↦
-          let one = one-of-short {len = len} lens h short in
+          let one = one-of-short {len = len} lens at.some short in
           let below : r < size lens = omega (arith, ap (λ n. n * size lens) one, one-mul (size lens)) in
           let first : r / size lens ≡ 0 = div-eq_of_lt below in
           let same : r % size lens ≡ r = mod-eq_of_lt below in

@@ -13,6 +13,7 @@ use Rattle.nd_dim.specs.Strides.{size_after}
 use Rattle.ndarray_layout.specs.reshape.ForcedStrides.{offset_at_flat_index, stride_of_one, stride_at}
 use Rattle.ndarray_layout.specs.private.ReshapeProgress.{PlacesAlike}
 use Rattle.ndarray_layout.proofs.reshapes.Joins.{is_empty-rest}
+use Rattle.ndarray_layout.proofs.reshapes.SamePlaces.{HasIndex, SamePlaces}
 
 -- the first index lies at the beginning
 offset-first : (lens : List ℕ) (strides : List ℤ) → offset_of strides (index_of_flat lens 0) ≡ pos 0
@@ -58,23 +59,32 @@ offset-of-axis (len ∷ lens) (stride ∷ strides) (suc axis) h e l long =
     ∙ ap₂ (λ i r. (pos i *ℤ stride) +ℤ offset_of strides (index_of_flat lens r)) (div-eq_of_lt few) (mod-eq_of_lt few)
     ∙ omega (arith, ints, rest)
 
--- strides that agree on longer axes agree on the offset of each index
-pub offset-agree : (lens : List ℕ) (strides others : List ℤ) (index : List ℕ) → is_index lens index ≡ true → length lens ≡ length strides
-    → length lens ≡ length others →
-    ((axis : ℕ) → axis < length lens → 1 < get_or lens axis 0 → get_or strides axis (pos 0) ≡ get_or others axis (pos 0))
+-- strides that agree on longer axes
+record Agree (lens : List ℕ) (strides others : List ℤ) : Type 0 where
+  pub count : length lens ≡ length strides
+  pub others_count : length lens ≡ length others
+  pub longer : (axis : ℕ) → axis < length lens → 1 < get_or lens axis 0 → get_or strides axis (pos 0) ≡ get_or others axis (pos 0)
+
+-- agree on the offset of each index
+offset-agree : (lens : List ℕ) (strides others : List ℤ) (index : List ℕ) → is_index lens index ≡ true → Agree lens strides others
     → offset_of strides index ≡ offset_of others index
-offset-agree [] strides others [] h e g agree = refl
-offset-agree [] strides others (i ∷ index) h e g agree = absurd (cc)
-offset-agree (len ∷ lens) strides others [] h e g agree = absurd (cc)
-offset-agree (len ∷ lens) [] others (i ∷ index) h e g agree = absurd (omega arith)
-offset-agree (len ∷ lens) (stride ∷ strides) [] (i ∷ index) h e g agree = absurd (omega arith)
-offset-agree (len ∷ lens) (stride ∷ strides) (other ∷ others) (i ∷ index) h e g agree =
+offset-agree [] strides others [] h agree = refl
+offset-agree [] strides others (i ∷ index) h agree = absurd (cc)
+offset-agree (len ∷ lens) strides others [] h agree = absurd (cc)
+offset-agree (len ∷ lens) [] others (i ∷ index) h agree = let count = agree.count in absurd (omega arith)
+offset-agree (len ∷ lens) (stride ∷ strides) [] (i ∷ index) h agree = let count = agree.others_count in absurd (omega arith)
+offset-agree (len ∷ lens) (stride ∷ strides) (other ∷ others) (i ∷ index) h agree =
     let parts = and_parts (nat_lt i len) (is_index lens index) h in
     let below = ltb-true i len parts.0 in
-    let rest = offset-agree lens strides others index parts.1 (omega arith) (omega arith) (λ axis l long. agree (suc axis) (omega arith)
-    long) in
+    let count = agree.count in
+    let others_count = agree.others_count in
+    let rest = offset-agree lens strides others index parts.1 (record {
+      count = omega arith;
+      others_count = omega arith;
+      longer = λ axis l long. agree.longer (suc axis) (omega arith) long;
+    }) in
     elim (cases_lt 1 len) [
-      | inl long ↦ ap₂ (λ s z. (pos i *ℤ s) +ℤ z) (agree 0 (omega arith) long) rest
+      | inl long ↦ ap₂ (λ s z. (pos i *ℤ s) +ℤ z) (agree.longer 0 (omega arith) long) rest
       | inr short ↦
           let first : i ≡ 0 = omega arith in
           ap (λ n. (pos n *ℤ stride) +ℤ offset_of strides index) first ∙ omega (arith, ints, rest)
@@ -83,12 +93,13 @@ offset-agree (len ∷ lens) (stride ∷ strides) (other ∷ others) (i ∷ index
 
 -- ---- strides that keep the places
 -- on a longer axis they are those of the definition
-pub forced-of-alike : (from : List ℕ) (strides : List ℤ) (to : List ℕ) (others : List ℤ) (axis : ℕ) → is_empty to ≡ false
-    → size from ≡ size to → length to ≡ length others → PlacesAlike from strides to others → axis < length to → 1 < get_or to axis 0
+pub forced-of-alike : {from : List ℕ} {strides : List ℤ} {to : List ℕ} {others : List ℤ} (axis : ℕ) → HasIndex to others
+    → SamePlaces from strides to others → axis < length to → 1 < get_or to axis 0
     → get_or others axis (pos 0) ≡ offset_at_flat_index from strides (size_after to axis)
-forced-of-alike from strides to others axis more sizes e alike l long =
-    let few = size_after-below to axis more l long in
-    sym (offset-of-axis to others axis more e l long) ∙ alike (size_after to axis) (omega arith)
+forced-of-alike {to = to} {others} axis at same l long =
+    let few = size_after-below to axis at.some l long in
+    let sizes = same.sizes in
+    sym (offset-of-axis to others axis at.some at.same_count l long) ∙ same.alike (size_after to axis) (omega arith)
 
 -- and the strides of the definition keep the places wherever some do
 pub stride_at-long : (from : List ℕ) (strides : List ℤ) (to : List ℕ) (axis : ℕ) → 1 < get_or to axis 0
@@ -100,15 +111,17 @@ stride_at-long from strides to (suc axis) h = cond-true (nat_lt 1 (get_or to (su
     (stride_of_one from strides to (suc axis) (stride_at from strides to axis))
     (lt-ltb 1 (get_or to (suc axis) 0) h)
 
-pub alike-forced : (from : List ℕ) (strides : List ℤ) (to : List ℕ) (others : List ℤ) → is_empty to ≡ false → size from ≡ size to
-    → length to ≡ length others → PlacesAlike from strides to others
-    → PlacesAlike from strides to (map (stride_at from strides to) (below (length to)))
-alike-forced from strides to others more sizes e alike r l =
+pub alike-forced : {from : List ℕ} {strides : List ℤ} {to : List ℕ} {others : List ℤ} → HasIndex to others
+    → SamePlaces from strides to others → PlacesAlike from strides to (map (stride_at from strides to) (below (length to)))
+alike-forced {from} {strides} {to} {others} at same r l =
     let forced = map (stride_at from strides to) (below (length to)) in
-    let count : length forced ≡ length to = length-map-range_with_len (stride_at from strides to) 0 (length to) in
-    let index = index_of_flat to r in
-    offset-agree to forced others index (is_index-index_of_flat to r (omega arith)) (sym count) e (λ axis below long.
-    get_or-map-range_with_len (stride_at from strides to) 0 (length to) axis axis (pos 0) below (omega arith)
-    ∙ stride_at-long from strides to axis long
-    ∙ sym (forced-of-alike from strides to others axis more sizes e alike below long))
-    ∙ alike r l
+    let sizes = same.sizes in
+    let agree : Agree to forced others = record {
+      count = sym (length-map-range_with_len (stride_at from strides to) 0 (length to));
+      others_count = at.same_count;
+      longer = λ axis below long.
+          get_or-map-range_with_len (stride_at from strides to) 0 (length to) axis axis (pos 0) below (omega arith)
+          ∙ stride_at-long from strides to axis long
+          ∙ sym (forced-of-alike axis at same below long);
+    } in
+    offset-agree to forced others (index_of_flat to r) (is_index-index_of_flat to r (omega arith)) agree ∙ same.alike r l

@@ -342,6 +342,12 @@ pub strides-forced : {from : List ℕ} {strides : List ℤ} {to : List ℕ} {new
 strides-forced {from} {strides} {to} {news} more sizes e end alike ones = fill_by_all (stride_at from strides to) news (length to) (pos 0)
     (sym e) at_axis
   where
+    on_longer : (j : ℕ) → j < length to → nat_lt 1 (get_or to j 0) ≡ true → get_or news j (pos 0) ≡ stride_at from strides to j
+    on_longer j l long =
+        let more_than_one = ltb-true 1 (get_or to j 0) long in
+        forced-of-alike j (record { same_count = e; some = more }) (record { sizes = sizes; alike = alike }) l more_than_one
+        ∙ sym (stride_at-long from strides to j more_than_one)
+
     at_one : (j : ℕ) → j < length to → nat_lt 1 (get_or to j 0) ≡ false → get_or to j 0 ≡ 1
     at_one j l short =
         let some = length_pos to j more l in
@@ -353,16 +359,14 @@ strides-forced {from} {strides} {to} {news} more sizes e end alike ones = fill_b
     at_axis : (j : ℕ) → j < length to → get_or news j (pos 0) ≡ stride_at from strides to j
     at_axis zero l =
         elim (cases_Bool (nat_lt 1 (get_or to 0 0))) [
-          | inl long ↦ forced-of-alike from strides to news 0 more sizes e alike l (ltb-true 1 (get_or to 0 0) long)
-              ∙ sym (stride_at-long from strides to 0 (ltb-true 1 (get_or to 0 0) long))
+          | inl long ↦ on_longer 0 l long
           | inr short ↦ ones.written 0 (omega arith) (at_one 0 l short)
               ∙ sym (cond-false (nat_lt 1 (get_or to 0 0)) (offset_at_flat_index from strides (size_after to 0))
               (stride_of_one from strides to 0 (pos 1)) short)
         ]
     at_axis (suc j) l =
         elim (cases_Bool (nat_lt 1 (get_or to (suc j) 0))) [
-          | inl long ↦ forced-of-alike from strides to news (suc j) more sizes e alike l (ltb-true 1 (get_or to (suc j) 0) long)
-              ∙ sym (stride_at-long from strides to (suc j) (ltb-true 1 (get_or to (suc j) 0) long))
+          | inl long ↦ on_longer (suc j) l long
           | inr short ↦
               ones.written (suc j) (omega arith) (at_one (suc j) l short)
               ∙ ap (stride_of_one from strides to (suc j)) (at_axis j (omega arith))

@@ -30,8 +30,10 @@ size-long (len ∷ lens) h =
     omega arith
 
 -- axes of these lengths with the places of a layout
-abbrev pub HasAlike : Axes → List ℕ → Type 0
-HasAlike axes lens = (others : Axes) × (lens_of others ≡ lens) × AreAlike axes others
+pub record HasAlike (axes : Axes) (lens : List ℕ) : Type 0 where
+  pub others : Axes
+  pub lens_are : lens_of others ≡ lens
+  pub alike : AreAlike axes others
 
 -- a tail of more than the first length is a tail of the others, times it
 tail-rest : (len q : ℕ) (lens : List ℕ) → 1 < len → 0 < q → IsTail (len ∷ lens) (len * q) → IsTail lens q
@@ -54,121 +56,146 @@ loose-pos (axis ∷ axes) p h (inr l) =
     omega arith
 
 -- an axis of the length in front keeps what is alike
-alike-under : (len : ℕ) (stride : ℤ) (axes others : Axes) → 0 < len → AreAlike axes others
+alike-under : (len : ℕ) (stride : ℤ) {axes others : Axes} → 0 < len → AreAlike axes others
     → AreAlike ((len, stride) ∷ axes) ((len, stride) ∷ others)
-alike-under len stride axes others h alike r l =
-    let below : r / len < count axes = div_below r len (count axes) h (omega (arith, mul_comm len (count axes))) in
-    ap (λ z. (pos (r % len) *ℤ stride) +ℤ z) (alike (r / len) below)
+alike-under len stride {axes} h alike = record {
+  values = λ r l.
+      let below : r / len < count axes = div_below r len (count axes) h (omega (arith, mul_comm len (count axes))) in
+      ap (λ z. (pos (r % len) *ℤ stride) +ℤ z) (alike.values (r / len) below);
+}
 
 -- ---- one more length of the other shape
 -- where the first length is that of the first axis
-taken-whole : (len : ℕ) (stride : ℤ) (axes : Axes) (lens : List ℕ) → 0 < len → HasAlike axes lens
+taken-whole : (len : ℕ) (stride : ℤ) {axes : Axes} {lens : List ℕ} → 0 < len → HasAlike axes lens
     → HasAlike ((len, stride) ∷ axes) (len ∷ lens)
-taken-whole len stride axes lens h a = ((len, stride) ∷ a.0, ap (λ ls. len ∷ ls) a.1, alike-under len stride axes a.0 h a.2)
+taken-whole len stride h a = record {
+  others = (len, stride) ∷ a.others;
+  lens_are = ap (λ ls. len ∷ ls) a.lens_are;
+  alike = alike-under len stride h a.alike;
+}
 
 -- where it is a part of it
-taken-part : (len q : ℕ) (stride : ℤ) (axes : Axes) (lens : List ℕ) → AreLong ((len, stride) ∷ (q, pos len *ℤ stride) ∷ axes)
+taken-part : (len q : ℕ) (stride : ℤ) {axes : Axes} {lens : List ℕ} → AreLong ((len, stride) ∷ (q, pos len *ℤ stride) ∷ axes)
     → HasAlike ((q, pos len *ℤ stride) ∷ axes) lens → HasAlike ((len * q, stride) ∷ axes) (len ∷ lens)
-taken-part len q stride axes lens h a =
+taken-part len q stride {axes} h a =
     let one = h.0 in
-    let m = merge len q stride (pos len *ℤ stride) axes h refl in
-    let under = alike-under len stride ((q, pos len *ℤ stride) ∷ axes) a.0 (omega arith) a.2 in
+    let m = merge (len, stride) (q, pos len *ℤ stride) axes h refl in
+    let under = alike-under len stride (omega arith) a.alike in
     let entries = m.entries in
-    ((len, stride) ∷ a.0, ap (λ ls. len ∷ ls) a.1, λ r l. m.places r ∙ under r (omega arith))
+    record {
+      others = (len, stride) ∷ a.others;
+      lens_are = ap (λ ls. len ∷ ls) a.lens_are;
+      alike = record { values = λ r l. m.places r ∙ under.values r (omega arith) };
+    }
 
 -- ---- all of them
 -- each loose tail of a layout is a tail of lengths
 abbrev pub TailsFit : Axes → List ℕ → Type 0
 TailsFit axes lens = (p : ℕ) → IsLooseTail axes p → IsTail lens p
 
+-- longer axes, and longer lengths whose product is their count and among whose tails are their loose ones
+pub record CanSplit (axes : Axes) (lens : List ℕ) : Type 0 where
+  pub long : AreLong axes
+  pub lens_long : AllLong lens
+  pub counts : count axes ≡ size lens
+  pub tails : TailsFit axes lens
+
 -- as many axes and lengths as n have axes alike
 abbrev pub Reaches : ℕ → Type 0
-Reaches n = (axes : Axes) (lens : List ℕ) → length axes + length lens ≤ n → AreLong axes → AllLong lens → count axes ≡ size lens
-    → TailsFit axes lens → HasAlike axes lens
+Reaches n = (axes : Axes) (lens : List ℕ) → length axes + length lens ≤ n → CanSplit axes lens → HasAlike axes lens
 
 -- the first axis is no part of a longer one
 abbrev pub StandsAlone : ℕ × ℤ → Axes → Type 0
 StandsAlone axis axes = (axes ≡ []) ⊎ IsApart axis.0 axis.1 axes
 
 -- so the first of the lengths goes into it a whole number of times
-first-part : (axis : ℕ × ℤ) (axes : Axes) (len : ℕ) (lens : List ℕ) → 1 < axis.0 → StandsAlone axis axes
-    → count (axis ∷ axes) ≡ size (len ∷ lens) → TailsFit (axis ∷ axes) (len ∷ lens) → (q : ℕ) × (axis.0 ≡ len * q)
-first-part axis axes len lens h (inl alone) e fit = (size lens, sym (ap (λ xs. axis.0 * count xs) alone ∙ mul-one axis.0) ∙ e)
-first-part axis axes len lens h (inr apart) e fit =
-    elim (fit axis.0 (inl (refl, apart))) [
-      | inl one ↦ absurd (omega arith)
+first-part : {axis : ℕ × ℤ} {axes : Axes} {len : ℕ} {lens : List ℕ} → StandsAlone axis axes → CanSplit (axis ∷ axes) (len ∷ lens)
+    → (q : ℕ) × (axis.0 ≡ len * q)
+first-part {axis} {lens = lens} (inl alone) can = (
+  size lens,
+  sym (ap (λ xs. axis.0 * count xs) alone ∙ mul-one axis.0) ∙ can.counts,
+)
+first-part {axis} (inr apart) can =
+    elim (can.tails axis.0 (inl (refl, apart))) [
+      | inl one ↦ let long = can.long.0 in absurd (omega arith)
       | inr t ↦ (t.0, t.1)
     ]
 
--- a loose tail after it is a tail after the first length
-rest-fits : (len : ℕ) (stride : ℤ) (axes : Axes) (lens : List ℕ) → 1 < len → AreLong axes → TailsFit ((len, stride) ∷ axes) (len ∷ lens)
-    → TailsFit axes lens
-rest-fits len stride axes lens h g fit p l = tail-rest len p lens h (loose-pos axes p g l) (fit (len * p) (inr (p, refl, l)))
+-- what comes after an axis of the first length is split too
+split-rest : {len : ℕ} {stride : ℤ} {axes : Axes} {lens : List ℕ} → CanSplit ((len, stride) ∷ axes) (len ∷ lens) → CanSplit axes lens
+split-rest {len} {axes = axes} {lens} can =
+    let one = can.long.0 in
+    record {
+      long = can.long.1;
+      lens_long = can.lens_long.1;
+      counts = cancel len (omega arith) can.counts;
+      tails = λ p l. tail-rest len p lens one (loose-pos axes p can.long.1 l) (can.tails (len * p) (inr (p, refl, l)));
+    }
 
-by-whole : {n : ℕ} → Reaches n → (len : ℕ) (stride : ℤ) (axes : Axes) (lens : List ℕ) → length axes + length lens ≤ n
-    → AreLong ((len, stride) ∷ axes) → AllLong lens → count ((len, stride) ∷ axes) ≡ size (len ∷ lens)
-    → TailsFit ((len, stride) ∷ axes) (len ∷ lens) → HasAlike ((len, stride) ∷ axes) (len ∷ lens)
-by-whole reach len stride axes lens small h g e fit =
-    let one = h.0 in
-    taken-whole len stride axes lens (omega arith) (reach axes lens small h.1 g (cancel len (omega arith) e)
-    (rest-fits len stride axes lens h.0 h.1 fit))
+by-part : {n : ℕ} → Reaches n → (len q : ℕ) {stride : ℤ} {axes : Axes} {lens : List ℕ} → suc (length axes) + length lens ≤ n → 1 < q
+    → CanSplit ((len * q, stride) ∷ axes) (len ∷ lens) → HasAlike ((len * q, stride) ∷ axes) (len ∷ lens)
+by-part reach len q {stride} {axes} {lens} small several can =
+    let long : AreLong ((len, stride) ∷ (q, pos len *ℤ stride) ∷ axes) = (can.lens_long.0, (several, can.long.1)) in
+    let m = merge (len, stride) (q, pos len *ℤ stride) axes long refl in
+    let apart : CanSplit ((len, stride) ∷ (q, pos len *ℤ stride) ∷ axes) (len ∷ lens) = record {
+      long = long;
+      lens_long = can.lens_long;
+      counts = sym m.entries ∙ can.counts;
+      tails = λ p l. can.tails p (m.loose p l);
+    } in
+    taken-part len q stride long (reach ((q, pos len *ℤ stride) ∷ axes) lens small (split-rest apart))
 
-by-part : {n : ℕ} → Reaches n → (len q : ℕ) (stride : ℤ) (axes : Axes) (lens : List ℕ) → suc (length axes) + length lens ≤ n → 1 < len
-    → 1 < q → AreLong axes → AllLong lens → count ((len * q, stride) ∷ axes) ≡ size (len ∷ lens)
-    → TailsFit ((len * q, stride) ∷ axes) (len ∷ lens) → HasAlike ((len * q, stride) ∷ axes) (len ∷ lens)
-by-part reach len q stride axes lens small h k g a e fit =
-    let long : AreLong ((len, stride) ∷ (q, pos len *ℤ stride) ∷ axes) = (h, (k, g)) in
-    let m = merge len q stride (pos len *ℤ stride) axes long refl in
-    let apart : TailsFit ((len, stride) ∷ (q, pos len *ℤ stride) ∷ axes) (len ∷ lens) = λ p l. fit p (m.loose p l) in
-    let counts : q * count axes ≡ size lens = cancel len (omega arith) (sym (mul_assoc len q (count axes)) ∙ e) in
-    taken-part len q stride axes lens long (reach ((q, pos len *ℤ stride) ∷ axes) lens small (k, g) a counts
-    (rest-fits len stride ((q, pos len *ℤ stride) ∷ axes) lens h (k, g) apart))
-
-by-first : {n : ℕ} → Reaches n → (axis : ℕ × ℤ) (axes : Axes) (len : ℕ) (lens : List ℕ) → length axes + length lens < n + 1
-    → suc (length axes) + length lens ≤ n → AreLong (axis ∷ axes) → AllLong (len ∷ lens) → StandsAlone axis axes
-    → count (axis ∷ axes) ≡ size (len ∷ lens) → TailsFit (axis ∷ axes) (len ∷ lens) → HasAlike (axis ∷ axes) (len ∷ lens)
-by-first reach axis axes len lens few small h g alone e fit =
-    let part = first-part axis axes len lens h.0 alone e fit in
+by-first : {n : ℕ} → Reaches n → {axis : ℕ × ℤ} {axes : Axes} {len : ℕ} {lens : List ℕ} → suc (length axes) + length lens ≤ n
+    → StandsAlone axis axes → CanSplit (axis ∷ axes) (len ∷ lens) → HasAlike (axis ∷ axes) (len ∷ lens)
+by-first reach {axis} {axes} {len} {lens} small alone can =
+    let part = first-part alone can in
     let q = part.0 in
-    let one = h.0 in
-    let given : count ((len * q, axis.1) ∷ axes) ≡ size (len ∷ lens) = ap (λ m. m * count axes) (sym part.1) ∙ e in
-    let fits : TailsFit ((len * q, axis.1) ∷ axes) (len ∷ lens) = subst (λ m. TailsFit ((m, axis.1) ∷ axes) (len ∷ lens)) part.1 fit in
+    let one = can.long.0 in
+    let first_long = can.lens_long.0 in
+    let given : CanSplit ((len * q, axis.1) ∷ axes) (len ∷ lens) = subst (λ m. CanSplit ((m, axis.1) ∷ axes) (len ∷ lens)) part.1 can in
     let made : HasAlike ((len * q, axis.1) ∷ axes) (len ∷ lens) = elim (cases_eq q 1) [
       | inl lone ↦
           let whole : len * q ≡ len = ap (λ m. len * m) lone ∙ mul-one len in
+          let rest = split-rest (subst (λ m. CanSplit ((m, axis.1) ∷ axes) (len ∷ lens)) whole given) in
           subst (λ m. HasAlike ((m, axis.1) ∷ axes) (len ∷ lens)) (sym whole)
-          (by-whole reach len axis.1 axes lens (omega arith) (g.0, h.1) g.1 (ap (λ m. m * count axes) (sym whole) ∙ given)
-          (subst (λ m. TailsFit ((m, axis.1) ∷ axes) (len ∷ lens)) whole fits))
+          (taken-whole len axis.1 (omega arith) (reach axes lens (omega arith) rest))
       | inr several ↦
           elim (cases_eq q 0) [
             | inl none ↦
                 let nothing : len * q ≡ 0 = ap (λ m. len * m) none ∙ mul-zero len in
                 absurd (omega (arith, part.1))
-            | inr some ↦ by-part reach len q axis.1 axes lens small g.0 (omega arith) h.1 g.1 given fits
+            | inr some ↦ by-part reach len q small (omega arith) given
           ]
     ] in
     subst (λ m. HasAlike ((m, axis.1) ∷ axes) (len ∷ lens)) (sym part.1) made
 
 -- lengths whose product is the count of a layout, and among whose tails are its loose ones, have axes alike
 pub reaches : (n : ℕ) → Reaches n
-reaches n [] [] small h g e fit = ([], refl, λ r l. refl)
-reaches n [] (len ∷ lens) small h g e fit =
-    let some = size-long lens g.1 in
+reaches n [] [] small can = record { others = []; lens_are = refl; alike = record { values = λ r l. refl } }
+reaches n [] (len ∷ lens) small can =
+    let some = size-long lens can.lens_long.1 in
     let more : len * 1 ≤ len * size lens = mul-le-mul_left len some in
-    let long = g.0 in
+    let long = can.lens_long.0 in
+    let counts = can.counts in
     absurd (omega arith)
-reaches n (axis ∷ axes) [] small h g e fit = absurd (none-left axis.0 axis.1 axes h e)
-reaches zero (axis ∷ axes) (len ∷ lens) small h g e fit = absurd (omega arith)
-reaches (suc n) (axis ∷ []) (len ∷ lens) small h g e fit = by-first (reaches n) axis [] len lens (omega arith) (omega arith) h g (inl refl)
-    e fit
-reaches (suc n) (axis ∷ next ∷ axes) (len ∷ lens) small h g e fit =
+reaches n (axis ∷ axes) [] small can = absurd (none-left axis.0 axis.1 axes can.long can.counts)
+reaches zero (axis ∷ axes) (len ∷ lens) small can = absurd (omega arith)
+reaches (suc n) (axis ∷ []) (len ∷ lens) small can = by-first (reaches n) (omega arith) (inl refl) can
+reaches (suc n) (axis ∷ next ∷ axes) (len ∷ lens) small can =
     elim (int_cases) [
       | inl same ↦
-          let m = merge axis.0 next.0 axis.1 next.1 axes h same in
-          let merged : Axes = (axis.0 * next.0, axis.1) ∷ axes in
-          let a : HasAlike merged (len ∷ lens) = reaches n merged (len ∷ lens) (omega arith) m.long g (m.entries ∙ e)
-          (λ p l. fit p (m.loose_back p l)) in
+          let m = merge axis next axes can.long same in
           let entries = m.entries in
-          (a.0, a.1, λ r l. sym (m.places r) ∙ a.2 r (omega arith))
-      | inr differ ↦ by-first (reaches n) axis (next ∷ axes) len lens (omega arith) (omega arith) h g (inr differ) e fit
+          let a = reaches n ((axis.0 * next.0, axis.1) ∷ axes) (len ∷ lens) (omega arith) (record {
+            long = m.long;
+            lens_long = can.lens_long;
+            counts = entries ∙ can.counts;
+            tails = λ p l. can.tails p (m.loose_back p l);
+          }) in
+          record {
+            others = a.others;
+            lens_are = a.lens_are;
+            alike = record { values = λ r l. sym (m.places r) ∙ a.alike.values r (omega arith) };
+          }
+      | inr differ ↦ by-first (reaches n) (omega arith) (inr differ) can
     ]

@@ -82,22 +82,29 @@ long-product a b h g =
     let more : a * 1 ≤ a * b = mul-le-mul_left a (omega arith) in
     omega arith
 
-pub merge : (len next : ℕ) (stride second : ℤ) (axes : Axes) → AreLong ((len, stride) ∷ (next, second) ∷ axes) → second ≡ pos len *ℤ stride
-    → IsMerge ((len, stride) ∷ (next, second) ∷ axes) ((len * next, stride) ∷ axes)
-merge len next stride second axes h e = subst (λ s. IsMerge ((len, stride) ∷ (next, s) ∷ axes) ((len * next, stride) ∷ axes)) (sym e)
+pub merge : (axis next : ℕ × ℤ) (axes : Axes) → AreLong (axis ∷ next ∷ axes) → next.1 ≡ pos axis.0 *ℤ axis.1
+    → IsMerge (axis ∷ next ∷ axes) ((axis.0 * next.0, axis.1) ∷ axes)
+merge axis next axes h e = subst (λ s. IsMerge (axis ∷ (next.0, s) ∷ axes) ((axis.0 * next.0, axis.1) ∷ axes)) (sym e)
     (record {
-      long = (long-product len next h.0 h.1.0, h.1.1);
-      entries = mul_assoc len next (count axes);
+      long = (long-product axis.0 next.0 h.0 h.1.0, h.1.1);
+      entries = mul_assoc axis.0 next.0 (count axes);
       shorter = refl;
-      places = λ r. sym (value-merged len next stride axes r (let one = h.0 in omega arith) (let one = h.1.0 in omega arith));
-      loose = loose-merged len next stride axes;
-      loose_back = loose-split len next stride axes;
-      tails = tail-merged len next (lens_of axes);
+      places = λ r. sym (value-merged axis.0 next.0 axis.1 axes r (let one = h.0 in omega arith) (let one = h.1.0 in omega arith));
+      loose = loose-merged axis.0 next.0 axis.1 axes;
+      loose_back = loose-split axis.0 next.0 axis.1 axes;
+      tails = tail-merged axis.0 next.0 (lens_of axes);
     })
 
 -- ---- the same places have the same tails
-abbrev pub AreAlike : Axes → Axes → Type 0
-AreAlike axes others = (r : ℕ) → r < count axes → value axes r ≡ value others r
+pub record AreAlike (axes others : Axes) : Type 0 where
+  pub values : (r : ℕ) → r < count axes → value axes r ≡ value others r
+
+-- longer axes, and others with their places
+pub record HaveSamePlaces (axes others : Axes) : Type 0 where
+  pub long : AreLong axes
+  pub others_long : AreLong others
+  pub counts : count axes ≡ count others
+  pub alike : AreAlike axes others
 
 -- a layout of another count of entries isn't without axes
 pub none-left : (len : ℕ) (stride : ℤ) (axes : Axes) → AreLong ((len, stride) ∷ axes) → count ((len, stride) ∷ axes) ≡ 1 → ⊥
@@ -107,41 +114,55 @@ none-left len stride axes h e =
     let here = h.0 in
     omega arith
 
--- the strides of the axes that move fastest are the same
-pub first-stride : (len : ℕ) {stride : ℤ} (axes : Axes) (other : ℕ) {step : ℤ} (others : Axes) → 1 < len → 1 < other
-    → 1 < count ((len, stride) ∷ axes) → AreAlike ((len, stride) ∷ axes) ((other, step) ∷ others) → stride ≡ step
-first-stride len {stride} axes other {step} others h g some alike =
-    let here = value-below len stride axes 1 h in
-    let there = value-below other step others 1 g in
-    let same = alike 1 some in
-    omega (arith, ints, here, there, same)
-
--- the stride of the next axis is the whole of the first, where the other layout's first axis is longer
-next-stride : (len next : ℕ) (stride second : ℤ) (axes : Axes) (other : ℕ) (step : ℤ) (others : Axes) → 1 < len → 1 < next → len < other
-    → 0 < count axes →
-    AreAlike ((len, stride) ∷ (next, second) ∷ axes) ((other, step) ∷ others) → second ≡ pos len *ℤ step
-next-stride len next stride second axes other step others h g longer some alike =
-    let more : next * 1 ≤ next * count axes = mul-le-mul_left next some in
-    let most : len * 2 ≤ len * (next * count axes) = mul-le-mul_left len (omega arith) in
-    let whole : Axes = (len, stride) ∷ (next, second) ∷ axes in
-    let here : value whole (len * 1) ≡ value ((next, second) ∷ axes) 1 = value-whole len stride ((next, second) ∷ axes) 1 (omega arith) in
-    let second_there = value-below next second axes 1 g in
-    let there = value-below other step others len longer in
-    let one : len * 1 ≡ len = omega arith in
-    let same = alike len (omega arith) in
-    omega (arith, ints, here, second_there, there, same, ap (value whole) one)
-
--- layouts whose first axes are as long go on alike
-alike-rest : (len : ℕ) (stride : ℤ) (axes : Axes) (step : ℤ) (others : Axes) → 0 < len
-    → AreAlike ((len, stride) ∷ axes) ((len, step) ∷ others) → AreAlike axes others
-alike-rest len stride axes step others h alike q l =
-    let room : len * suc q ≤ len * count axes = mul-le-mul_left len l in
-    let here = value-whole len stride axes q h in
-    let there = value-whole len step others q h in
-    sym here ∙ alike (len * q) (omega arith) ∙ there
-
 pub cancel : (len : ℕ) {a b : ℕ} → 0 < len → len * a ≡ len * b → a ≡ b
 cancel len {a} {b} h e = sym (mul-div_cancel_left a h) ∙ ap (λ n. n / len) e ∙ mul-div_cancel_left b h
+
+-- the strides of the axes that move fastest are the same
+first-stride : {axis other : ℕ × ℤ} {axes others : Axes} → HaveSamePlaces (axis ∷ axes) (other ∷ others) → axis.1 ≡ other.1
+first-stride {axis} {other} {axes} {others} same =
+    let long = same.long.0 in
+    let some = count-pos axes same.long.1 in
+    let more : axis.0 * 1 ≤ axis.0 * count axes = mul-le-mul_left axis.0 some in
+    let here = value-below axis.0 axis.1 axes 1 long in
+    let there = value-below other.0 other.1 others 1 same.others_long.0 in
+    let equal = same.alike.values 1 (omega arith) in
+    omega (arith, ints, here, there, equal)
+
+-- the stride of the next axis is the whole of the first, where the other layout's first axis is longer
+next-stride : {axis next other : ℕ × ℤ} {axes others : Axes} → axis.0 < other.0
+    → HaveSamePlaces (axis ∷ next ∷ axes) (other ∷ others) → next.1 ≡ pos axis.0 *ℤ other.1
+next-stride {axis} {next} {other} {axes} {others} longer same =
+    let long = same.long.0 in
+    let next_long = same.long.1.0 in
+    let some = count-pos axes same.long.1.1 in
+    let more : next.0 * 1 ≤ next.0 * count axes = mul-le-mul_left next.0 some in
+    let most : axis.0 * 2 ≤ axis.0 * (next.0 * count axes) = mul-le-mul_left axis.0 (omega arith) in
+    let here : value (axis ∷ next ∷ axes) (axis.0 * 1) ≡ value (next ∷ axes) 1 =
+    value-whole axis.0 axis.1 (next ∷ axes) 1 (omega arith) in
+    let second = value-below next.0 next.1 axes 1 next_long in
+    let there = value-below other.0 other.1 others axis.0 longer in
+    let one : axis.0 * 1 ≡ axis.0 = omega arith in
+    let equal = same.alike.values axis.0 (omega arith) in
+    omega (arith, ints, here, second, there, equal, ap (value (axis ∷ next ∷ axes)) one)
+
+-- layouts whose first axes are as long go on alike
+rest-alike : {axis other : ℕ × ℤ} {axes others : Axes} → axis.0 ≡ other.0 → HaveSamePlaces (axis ∷ axes) (other ∷ others)
+    → HaveSamePlaces axes others
+rest-alike {axis} {other} {axes} {others} e same =
+    let long = same.long.0 in
+    let counts = same.counts in
+    record {
+      long = same.long.1;
+      others_long = same.others_long.1;
+      counts = cancel axis.0 (omega arith) (counts ∙ ap (λ m. m * count others) (sym e));
+      alike = record {
+        values = λ q l.
+            let room : axis.0 * suc q ≤ axis.0 * count axes = mul-le-mul_left axis.0 l in
+            let there = value-whole other.0 other.1 others q (omega arith) in
+            sym (value-whole axis.0 axis.1 axes q (omega arith)) ∙ same.alike.values (axis.0 * q) (omega arith)
+            ∙ ap (λ m. value (other ∷ others) (m * q)) e ∙ there;
+      };
+    }
 
 -- a tail after an axis that both begin with
 tail-further : (len : ℕ) (stride : ℤ) (axes : Axes) (lens : List ℕ) (p : ℕ) → ((q : ℕ) → IsLooseTail axes q → IsTail lens q)
@@ -150,55 +171,55 @@ tail-further len stride axes lens p rest (inl h) = inr (1, h.0 ∙ sym (mul-one 
 tail-further len stride axes lens p rest (inr h) = inr (h.0, h.1, rest h.0 h.2)
 
 -- a shorter first axis is one with the next
-pub merged-alike : (axes others : Axes) (axis other : ℕ × ℤ) → AreLong (axis ∷ axes) → AreLong (other ∷ others) → axis.0 < other.0
-    → count (axis ∷ axes) ≡ count (other ∷ others) →
-    AreAlike (axis ∷ axes) (other ∷ others) → (merged : Axes) × IsMerge (axis ∷ axes) merged
-merged-alike [] others axis other h g less e alike =
-    let some = count-pos others g.1 in
+merged-alike : (axes : Axes) {others : Axes} {axis other : ℕ × ℤ} → axis.0 < other.0 → HaveSamePlaces (axis ∷ axes) (other ∷ others)
+    → (merged : Axes) × IsMerge (axis ∷ axes) merged
+merged-alike [] {others} {axis} {other} less same =
+    let some = count-pos others same.others_long.1 in
     let more : other.0 * 1 ≤ other.0 * count others = mul-le-mul_left other.0 some in
+    let counts = same.counts in
     absurd (omega arith)
-merged-alike (next ∷ rest) others axis other h g less e alike =
-    let long = h.0 in
-    let some = count-pos (next ∷ rest) h.1 in
-    let more : axis.0 * 1 ≤ axis.0 * (next.0 * count rest) = mul-le-mul_left axis.0 some in
-    let same : axis.1 ≡ other.1 = first-stride axis.0 (next ∷ rest) other.0 others h.0 g.0 (omega arith) alike in
-    let whole = next-stride axis.0 next.0 axis.1 next.1 rest other.0 other.1 others h.0 h.1.0 less (count-pos rest h.1.1) alike in
-    ((axis.0 * next.0, axis.1) ∷ rest, merge axis.0 next.0 axis.1 next.1 rest h (whole ∙ ap (λ z. pos axis.0 *ℤ z) (sym same)))
+merged-alike (next ∷ rest) {axis = axis} less same =
+    let whole = next-stride less same ∙ ap (λ z. pos axis.0 *ℤ z) (sym (first-stride same)) in
+    ((axis.0 * next.0, axis.1) ∷ rest, merge axis next rest same.long whole)
 
-alike-turned : (axes others : Axes) → count axes ≡ count others → AreAlike axes others → AreAlike others axes
-alike-turned axes others e alike r h = sym (alike r (omega arith))
+alike-turned : {axes others : Axes} → HaveSamePlaces axes others → HaveSamePlaces others axes
+alike-turned same =
+    let counts = same.counts in
+    record {
+      long = same.others_long;
+      others_long = same.long;
+      counts = sym counts;
+      alike = record { values = λ r h. sym (same.alike.values r (omega arith)) };
+    }
 
-alike-merged : {axes merged : Axes} (others : Axes) → IsMerge axes merged → AreAlike axes others → AreAlike merged others
-alike-merged others m alike r h =
-    let same = m.entries in
-    m.places r ∙ alike r (omega arith)
+alike-merged : {axes merged others : Axes} → IsMerge axes merged → HaveSamePlaces axes others → HaveSamePlaces merged others
+alike-merged m same =
+    let entries = m.entries in
+    record {
+      long = m.long;
+      others_long = same.others_long;
+      counts = entries ∙ same.counts;
+      alike = record { values = λ r h. m.places r ∙ same.alike.values r (omega arith) };
+    }
 
 -- the loose tails of a layout are tails of each other one with its places; n counts the axes of both down
-pub tails_of_alike : (n : ℕ) (axes others : Axes) → length axes + length others ≤ n → AreLong axes → AreLong others
-    → count axes ≡ count others → AreAlike axes others →
-    (p : ℕ) → IsLooseTail axes p → IsTail (lens_of others) p
-tails_of_alike n [] others fits h g e alike p loose = absurd loose
-tails_of_alike n (axis ∷ axes) [] fits h g e alike p loose = absurd (none-left axis.0 axis.1 axes h e)
-tails_of_alike zero (axis ∷ axes) (other ∷ others) fits h g e alike p loose = absurd (omega arith)
-tails_of_alike (suc n) (axis ∷ axes) (other ∷ others) fits h g e alike p loose =
+pub tails_of_alike : (n : ℕ) (axes others : Axes) → length axes + length others ≤ n → HaveSamePlaces axes others → (p : ℕ)
+    → IsLooseTail axes p → IsTail (lens_of others) p
+tails_of_alike n [] others fits same p loose = absurd loose
+tails_of_alike n (axis ∷ axes) [] fits same p loose = absurd (none-left axis.0 axis.1 axes same.long same.counts)
+tails_of_alike zero (axis ∷ axes) (other ∷ others) fits same p loose = absurd (omega arith)
+tails_of_alike (suc n) (axis ∷ axes) (other ∷ others) fits same p loose =
     elim (cases_order axis.0 other.0) [
-      | inl same ↦
-          let even : AreAlike (axis ∷ axes) ((axis.0, other.1) ∷ others) = subst (λ m. AreAlike (axis ∷ axes) ((m, other.1) ∷ others))
-          (sym same) alike in
-          let counts : count axes ≡ count others = cancel axis.0 (let one = h.0 in omega arith)
-          (e ∙ ap (λ m. m * count others) (sym same)) in
-          let rest = λ (q : ℕ) (l : IsLooseTail axes q). tails_of_alike n axes others (omega arith) h.1 g.1 counts
-          (alike-rest axis.0 axis.1 axes other.1 others (let one = h.0 in omega arith) even) q l in
-          subst (λ m. IsTail (m ∷ lens_of others) p) same (tail-further axis.0 axis.1 axes (lens_of others) p rest loose)
+      | inl equal ↦
+          let rest = tails_of_alike n axes others (omega arith) (rest-alike equal same) in
+          subst (λ m. IsTail (m ∷ lens_of others) p) equal (tail-further axis.0 axis.1 axes (lens_of others) p rest loose)
       | inr (inl less) ↦
-          let m = merged-alike axes others axis other h g less e alike in
+          let m = merged-alike axes less same in
           let fewer = m.1.shorter in
-          tails_of_alike n m.0 (other ∷ others) (omega arith) m.1.long g (m.1.entries ∙ e) (alike-merged (other ∷ others) m.1 alike) p
-          (m.1.loose p loose)
+          tails_of_alike n m.0 (other ∷ others) (omega arith) (alike-merged m.1 same) p (m.1.loose p loose)
       | inr (inr more) ↦
-          let turned = alike-turned (axis ∷ axes) (other ∷ others) e alike in
-          let m = merged-alike others axes other axis g h more (sym e) turned in
+          let turned = alike-turned same in
+          let m = merged-alike others more turned in
           let fewer = m.1.shorter in
-          let back = alike-turned m.0 (axis ∷ axes) (m.1.entries ∙ sym e) (alike-merged (axis ∷ axes) m.1 turned) in
-          m.1.tails p (tails_of_alike n (axis ∷ axes) m.0 (omega arith) h m.1.long (e ∙ sym m.1.entries) back p loose)
+          m.1.tails p (tails_of_alike n (axis ∷ axes) m.0 (omega arith) (alike-turned (alike-merged m.1 turned)) p loose)
     ]

@@ -1,6 +1,6 @@
 -- What the walk says of axes as they are read, said of them in order.
 use Rattle.std.proofs.Common.{◌≡◌, ℕ, ◌≤◌, false, List, [], ◌∷◌, ◌++◌, length, map, reverse, refl, sym, ap, ap₂, ◌∙◌, arith, subst, None}
-use Rattle.std.proofs.Common.{Some, Result, Ok, Err}
+use Rattle.std.proofs.Common.{Some, Result, Ok, Err, ℤ}
 use Rattle.std.specs.Prelude.{IfOk, IfErr, OnOk}
 use Rattle.nd_base.specs.declared.error.ShapeError.{ShapeError}
 use Rattle.std.proofs.lemmas.List.{length-map, map-append, reverse-append}
@@ -12,8 +12,9 @@ use Rattle.ndarray_layout.specs.reshape.ForcedStrides.{forced_strides, stride_at
 use Rattle.ndarray_layout.specs.reshape.Joints.{has_bad_joint}
 use Rattle.ndarray_layout.specs.reshape.Keeps.{Keeps}
 use Rattle.ndarray_layout.specs.reshape.ReshapeFault.{reshape_fault, fault_as_read}
-use Rattle.ndarray_layout.specs.private.ReshapeProgress.{CanWalk, PlacesAlike, layouts}
+use Rattle.ndarray_layout.specs.private.ReshapeProgress.{CanWalk, Layouts, PlacesAlike, layouts}
 use Rattle.ndarray_layout.proofs.reshapes.Complete.{good-of-alike}
+use Rattle.ndarray_layout.proofs.reshapes.SamePlaces.{HasIndex, SamePlaces}
 use Rattle.nd_base.proofs.laws.Reading.{length-as_read, as_read-as_read, size-as_read, is_empty-as_read}
 use Rattle.ndarray_layout.proofs.laws.Keeps.{fault-exactly, forced-keeps}
 use Rattle.nd_base.proofs.laws.Reading.{map-as_read}
@@ -58,19 +59,15 @@ fault-read : (order : Order) (from strides to : List ℕ)
 fault-read order from strides to = ap (λ ss. fault_as_read (as_read order from) ss (as_read order to)) (map-as_read order signed strides)
 
 -- strides that keep the places, as they are read, leave no fault
-none-read : (order : Order) (from strides to out : List ℕ)
-    → CanWalk (layouts (as_read order from) (as_read order strides) (as_read order to)) → length out ≡ length to
-    → size (as_read order from) ≡ size (as_read order to) →
-    PlacesAlike (as_read order from) (all_signed (as_read order strides)) (as_read order to) (all_signed out) → reshape_fault order from
-    (all_signed strides) to ≡ None
-none-read order from strides to out w room sizes alike =
+none-read : (order : Order) (from strides to : List ℕ) {news : List ℤ}
+    → CanWalk (layouts (as_read order from) (as_read order strides) (as_read order to)) → HasIndex (as_read order to) news
+    → SamePlaces (as_read order from) (all_signed (as_read order strides)) (as_read order to) news
+    → reshape_fault order from (all_signed strides) to ≡ None
+none-read order from strides to w at same =
     let turned = map-as_read order signed strides in
-    let count = length-map out signed in
-    let equal : length (as_read order to) ≡ length (all_signed out) = length-as_read order to ∙ sym room ∙ sym count in
-    let good = good-of-alike (as_read order from) (all_signed (as_read order strides)) (as_read order to) (all_signed out) w.some w.more
-    w.same_count equal sizes alike in
+    let good = good-of-alike (record { same_count = w.same_count; some = w.some }) at same in
     (fault-exactly order from (all_signed strides) to).1 (
-      sym (size-as_read order from) ∙ sizes ∙ size-as_read order to,
+      sym (size-as_read order from) ∙ same.sizes ∙ size-as_read order to,
       sym (ap (λ ss. has_bad_joint (as_read order from) ss (as_read order to)) turned) ∙ good,
     )
 
@@ -98,8 +95,9 @@ module _ {X : Type 0} {order read : Order} where
       → IfOk result (λ done. PlacesAlike (as_read read from) (all_signed (as_read read strides)) (as_read read to)
       (all_signed (as_read read out))) → OnOk result (reshape_fault order from (all_signed strides) to ≡ None)
   filled-fits from strides to out (Ok done) is w room sizes alike =
-      ap (λ o. reshape_fault o from (all_signed strides) to) is ∙ none-read read from strides to (as_read read out) w
-      (room ∙ length-as_read read to) sizes alike
+      let count = length-map (as_read read out) signed in
+      ap (λ o. reshape_fault o from (all_signed strides) to) is ∙ none-read read from strides to w
+      (record { same_count = sym room ∙ sym count; some = w.more }) (record { sizes = sizes; alike = alike })
   filled-fits from strides to out (Err kind) is w room sizes alike = tt
 
   pub filled-strides : (from strides to out : List ℕ) (result : Result X ShapeError) → order ≡ read
@@ -112,17 +110,17 @@ module _ {X : Type 0} {order read : Order} where
       made ∙ sym (ap (λ o. forced_strides o from (all_signed strides) to) is)
   filled-strides from strides to out (Err kind) is room made = tt
 
+-- layouts of equal lists are equal
+pub layouts-same : {lens steps news from strides to : List ℕ} → lens ≡ from → steps ≡ strides → news ≡ to
+    → layouts lens steps news ≡ layouts from strides to
+layouts-same e f g = λ i. layouts (e i) (f i) (g i)
+
 -- strides that are those of the definition keep the places
-pub keeps-filled : {order : Order} {from strides to lens steps news : List ℕ} (given : List ℕ) → lens ≡ from → steps ≡ strides → news ≡ to
-    → is_empty from ≡ false → is_empty to ≡ false → length from ≡ length (all_signed strides)
-    → reshape_fault order lens (all_signed steps) news ≡ None → all_signed given ≡ forced_strides order lens (all_signed steps) news
-    → Keeps order from (all_signed strides) to (all_signed given)
-keeps-filled {order} {from} {strides} {to} {lens} {steps} given e f g some more count none made =
-    let fault : reshape_fault order from (all_signed strides) to ≡ None = sym (ap (λ x. reshape_fault order x (all_signed strides) to) e)
-    ∙ sym (ap (λ x. reshape_fault order lens (all_signed x) to) f) ∙ sym (ap (λ x. reshape_fault order lens (all_signed steps) x) g)
-    ∙ none in
-    let forced : all_signed given ≡ forced_strides order from (all_signed strides) to = made
-    ∙ ap (λ x. forced_strides order lens (all_signed steps) x) g
-    ∙ ap (λ x. forced_strides order lens (all_signed x) to) f ∙ ap (λ x. forced_strides order x (all_signed strides) to) e in
-    subst (Keeps order from (all_signed strides) to) (sym forced) (forced-keeps order from (all_signed strides) to some more count
-    ((fault-exactly order from (all_signed strides) to).0 fault))
+pub keeps-filled : {order : Order} {read both : Layouts} (given : List ℕ) → read ≡ both → HasIndex both.from both.strides
+    → is_empty both.to ≡ false → reshape_fault order read.from read.strides read.to ≡ None
+    → all_signed given ≡ forced_strides order read.from read.strides read.to → Keeps order both.from both.strides both.to (all_signed given)
+keeps-filled {order} {both = both} given e at more none made =
+    let fault = subst (λ l. reshape_fault order l.from l.strides l.to ≡ None) e none in
+    let forced = subst (λ l. all_signed given ≡ forced_strides order l.from l.strides l.to) e made in
+    subst (Keeps order both.from both.strides both.to) (sym forced)
+    (forced-keeps order both.to at more ((fault-exactly order both.from both.strides both.to).0 fault))
