@@ -13,13 +13,14 @@ use Rattle.nd_base.proofs.laws.Offset.{offset_bounds}
 use Rattle.nd_base.proofs.laws.FlatIndex.{is_index-index_of_flat}
 use Rattle.nd_base.proofs.laws.Size.{size_of_nonempty, size_take_more, size_take_le, size_drop_le, size_from, drop_nonempty}
 use Rattle.nd_base.proofs.laws.Span.{low_high_span}
-use Rattle.ndarray_layout.specs.private.ReshapeProgress.{Layouts, layouts, fault_of, PlacesAlike, IsDense, segment}
+use Rattle.ndarray_layout.specs.private.ReshapeProgress.{Layouts, layouts, fault_of, IsDense, segment}
 use Rattle.ndarray_layout.specs.private.ReshapeProgress.{GoodBelow, IsReached, IsBlock}
 use Rattle.ndarray_layout.proofs.reshapes.Blocks.{length-seg, first-block}
 use Rattle.ndarray_layout.proofs.reshapes.Halfway.{halfway-first, halfway-reached}
 use Rattle.ndarray_layout.proofs.reshapes.Reached.{take-mono, sizes-fault}
 use Rattle.ndarray_layout.proofs.reshapes.DenseRuns.{run-of-dense}
-use Rattle.ndarray_layout.proofs.reshapes.WalkSteps.{alike-step, none-dense, written-dense, take-nonempty, segment-nonempty, segments-size}
+use Rattle.ndarray_layout.proofs.reshapes.WalkSteps.{GoesOn, StepAsOne, AlikeUpTo, HasBlockStrides, alike-step, none-dense}
+use Rattle.ndarray_layout.proofs.reshapes.WalkSteps.{written-dense, take-nonempty, segment-nonempty, segments-size}
 use Rattle.nd_base.proofs.laws.Size.{length_pos}
 
 -- ---- lists
@@ -43,17 +44,17 @@ pub record Keeping (to out news : List ℕ) (k : ℕ) : Type 0 where
   pub count : length news ≡ length to
   pub same : (j : ℕ) → j < k → get_or news j 0 ≡ get_or out j 0
 
-pub alike-next : {both : Layouts} {out news : List ℕ} {i i_end k k_end : ℕ} (step : ℤ)
-    → IsReached both i k → IsReached both i_end k_end → i ≤ i_end → k ≤ k_end
-    → Keeping both.to out news k → IsDense (segment i i_end both.from) (segment i i_end both.strides) step
-    → IsDense (segment k k_end both.to) (segment k k_end (all_signed news)) step
-    → PlacesAlike (take i both.from) (take i both.strides) (take k both.to) (take k (all_signed out))
-    → PlacesAlike (take i_end both.from) (take i_end both.strides) (take k_end both.to) (take k_end (all_signed news))
-alike-next {out} {news} {k} step at further l g keeping dense new_dense alike =
-    let same : take k (all_signed news) ≡ take k (all_signed out) = take-map signed k news
-    ∙ ap all_signed (take-same news out k (keeping.count ∙ sym keeping.room) keeping.same) ∙ sym (take-map signed k out) in
+-- so are their strides, as signed numbers
+pub take-kept : {to out news : List ℕ} {k : ℕ} → Keeping to out news k → take k (all_signed news) ≡ take k (all_signed out)
+take-kept {out = out} {news} {k} keeping = take-map signed k news
+    ∙ ap all_signed (take-same news out k (keeping.count ∙ sym keeping.room) keeping.same) ∙ sym (take-map signed k out)
+
+pub alike-next : {both : Layouts} {out news : List ℕ} {i i_end k k_end : ℕ} {step : ℤ} → GoesOn both i i_end k k_end
+    → Keeping both.to out news k → StepAsOne both (all_signed news) i i_end k k_end step → AlikeUpTo both (all_signed out) i k
+    → AlikeUpTo both (all_signed news) i_end k_end
+alike-next {out = out} {news} {k = k} on keeping one alike =
     let count = length-map news signed in
-    alike-step (all_signed out) (all_signed news) step at further (sym keeping.count ∙ sym count) l g same dense new_dense alike
+    alike-step (all_signed out) on (sym keeping.count ∙ sym count) (take-kept keeping) one alike
 
 -- ---- an axis of both
 pub reached-both : {both : Layouts} {i k : ℕ} → IsReached both i k
@@ -72,17 +73,18 @@ one-dense to news k stride e l f =
 pub alike-both : {from : List ℕ} (strides : List ℕ) {to : List ℕ} {out news : List ℕ} {i k stride : ℕ}
     → IsReached (layouts from strides to) i k → IsReached (layouts from strides to) (i + 1) (k + 1)
     → Keeping to out news k → get_or news k 0 ≡ stride → stride ≡ get_or strides i 0
-    → PlacesAlike (take i from) (take i (all_signed strides)) (take k to) (take k (all_signed out))
-    → PlacesAlike (take (i + 1) from) (take (i + 1) (all_signed strides)) (take (k + 1) to) (take (k + 1) (all_signed news))
+    → AlikeUpTo (layouts from strides to) (all_signed out) i k → AlikeUpTo (layouts from strides to) (all_signed news) (i + 1) (k + 1)
 alike-both {from} strides {to} {news = news} {i} {k} {stride} at further keeping here s alike =
     let from_in = further.from_in in
     let to_in = further.to_in in
     let block = first-block from (all_signed strides) i at.can_walk.same_count (omega arith) in
-    let dense : IsDense (segment i (i + 1) from) (segment i (i + 1) (all_signed strides)) (signed stride) =
-    subst (IsDense (segment i (i + 1) from) (segment i (i + 1) (all_signed strides))) (get_or-map signed strides i 0
-    ∙ ap signed (sym s)) block.dense in
-    alike-next (signed stride) at further (omega arith) (omega arith) keeping dense
-    (one-dense to news k stride keeping.count (omega arith) here) alike
+    let on : GoesOn (layouts from strides to) i (i + 1) k (k + 1) =
+    record { reached = at; further = further; from_ahead = omega arith; to_ahead = omega arith } in
+    alike-next on keeping (record {
+      dense = subst (IsDense (segment i (i + 1) from) (segment i (i + 1) (all_signed strides)))
+          (get_or-map signed strides i 0 ∙ ap signed (sym s)) block.dense;
+      new_dense = one-dense to news k stride keeping.count (omega arith) here;
+    }) alike
 
 -- ---- an axis of one entry
 stays : (lens : List ℕ) (k : ℕ) → k < length lens → get_or lens k 0 ≡ 1 → size (take (k + 1) lens) ≡ size (take k lens)
@@ -102,14 +104,17 @@ module _ {both : Layouts} {i k : ℕ} where
       }
 
   pub alike-from : (out : List ℕ) → IsReached both i k → get_or both.from i 0 ≡ 1 → length out ≡ length both.to
-      → PlacesAlike (take i both.from) (take i both.strides) (take k both.to) (take k (all_signed out))
-      → PlacesAlike (take (i + 1) both.from) (take (i + 1) both.strides) (take k both.to) (take k (all_signed out))
+      → AlikeUpTo both (all_signed out) i k → AlikeUpTo both (all_signed out) (i + 1) k
   alike-from out at one e alike =
       let left = in-of-len both.from i (λ z. omega arith) in
       let block = first-block both.from both.strides i at.can_walk.same_count left in
-      alike-next (get_or both.strides i (pos 0)) at (reached-from at one) (omega arith) (omega arith)
-      (record { room = e; count = e; same = λ j l. refl }) block.dense
-      (none-dense both.to (all_signed out) k (get_or both.strides i (pos 0))) alike
+      let on : GoesOn both i (i + 1) k k =
+      record { reached = at; further = reached-from at one; from_ahead = omega arith; to_ahead = omega arith } in
+      let kept : Keeping both.to out out k = record { room = e; count = e; same = λ j l. refl } in
+      alike-next on kept (record {
+        dense = block.dense;
+        new_dense = none-dense both.to (all_signed out) k (get_or both.strides i (pos 0));
+      }) alike
 
   pub reached-to : IsReached both i k → get_or both.to k 0 ≡ 1 → IsReached both i (k + 1)
   reached-to at one =
@@ -123,13 +128,15 @@ module _ {both : Layouts} {i k : ℕ} where
       }
 
   pub alike-to : {out news : List ℕ} → IsReached both i k → get_or both.to k 0 ≡ 1 → Keeping both.to out news k
-      → PlacesAlike (take i both.from) (take i both.strides) (take k both.to) (take k (all_signed out))
-      → PlacesAlike (take i both.from) (take i both.strides) (take (k + 1) both.to) (take (k + 1) (all_signed news))
-  alike-to {out} {news} at one keeping alike =
+      → AlikeUpTo both (all_signed out) i k → AlikeUpTo both (all_signed news) i (k + 1)
+  alike-to {news = news} at one keeping alike =
       let left = in-of-len both.to k (λ z. omega arith) in
-      let step = signed (get_or news k 0) in
-      alike-next step at (reached-to at one) (omega arith) (omega arith) keeping (none-dense both.from both.strides i step)
-      (one-dense both.to news k (get_or news k 0) keeping.count left refl) alike
+      let on : GoesOn both i i k (k + 1) =
+      record { reached = at; further = reached-to at one; from_ahead = omega arith; to_ahead = omega arith } in
+      alike-next on keeping (record {
+        dense = none-dense both.from both.strides i (signed (get_or news k 0));
+        new_dense = one-dense both.to news k (get_or news k 0) keeping.count left refl;
+      }) alike
 
 -- ---- the end of one shape
 grows : (lens : List ℕ) (k j : ℕ) → is_empty lens ≡ false → k ≤ j → j < length lens → get_or lens j 0 ≢ 1 → size (take k lens) < size lens
@@ -144,24 +151,20 @@ grows lens k j h l g other =
 
 -- an axis of more than one entry is left of the old shape, or of the new one
 pub from-left-fault : {both : Layouts} {i k : ℕ} (j : ℕ) → IsReached both i k → length both.to ≤ k → i ≤ j → j < length both.from
-    → get_or both.from j 0 ≢ 1
-    → fault_of both ≡ Some IncompatibleShape
+    → get_or both.from j 0 ≢ 1 → fault_of both ≡ Some IncompatibleShape
 from-left-fault {both} {i} {k} j at over l g other =
     let whole : size both.to ≡ size (take k both.to) = sym (ap size (take_all k both.to over)) in
     let sizes = at.sizes in
     let more = grows both.from i j at.can_walk.some l g other in
-    sizes-fault both.from both.strides both.to (size (take i both.from)) at.can_walk.some at.joints (inr (omega arith))
-    (λ same. omega arith)
+    sizes-fault both at.can_walk.some at.joints (inr (omega arith)) (λ same. omega arith)
 
 pub to-left-fault : {both : Layouts} {i k : ℕ} (j : ℕ) → IsReached both i k → length both.from ≤ i → k ≤ j → j < length both.to
-    → get_or both.to j 0 ≢ 1
-    → fault_of both ≡ Some IncompatibleShape
+    → get_or both.to j 0 ≢ 1 → fault_of both ≡ Some IncompatibleShape
 to-left-fault {both} {i} {k} j at over l g other =
     let whole : size both.from ≡ size (take i both.from) = sym (ap size (take_all i both.from over)) in
     let sizes = at.sizes in
     let more = grows both.to k j at.can_walk.more l g other in
-    sizes-fault both.from both.strides both.to (size (take i both.from)) at.can_walk.some at.joints (inl (omega arith))
-    (λ same. omega arith)
+    sizes-fault both at.can_walk.some at.joints (inl (omega arith)) (λ same. omega arith)
 
 -- ---- a block
 span-take : (shape : List ℕ) (strides : List ℤ) (n : ℕ) → span (take n shape) (take n strides) ≤ span shape strides
@@ -196,10 +199,12 @@ module _ {both : Layouts} {i i_end k k_end : ℕ} {step : ℤ} where
       let part = take k_end both.to in
       let count = length-take-le k_end both.to to_in in
       let part_some = take-nonempty both.to k_end at.can_walk.more in
+      let on : GoesOn both i i_end k k_end =
+      record { reached = at; further = further; from_ahead = omega arith; to_ahead = omega arith } in
       let n = size (drop (j + 1) part) in
       let whole : k + (k_end - k) ≡ k_end = omega arith in
       let same : drop k part ≡ segment k k_end both.to = ap (λ m. drop k (take m both.to)) (sym whole) ∙ drop-take k (k_end - k) both.to in
-      let sizes = segments-size at further (omega arith) (omega arith) in
+      let sizes = segments-size on in
       let all : size lens ≡ size (drop k part) = sizes ∙ sym (ap size same) in
       let parts = size_from part k (omega arith) in
       let len : get_or part k 0 ≡ get_or both.to k 0 = get_or-take k_end both.to k 0 (omega arith) in
@@ -227,12 +232,14 @@ module _ {both : Layouts} {i i_end k k_end : ℕ} {step : ℤ} where
 
   pub alike-block : {out news : List ℕ} → IsReached both i k → IsReached both i_end k_end
       → IsBlock both.from both.strides i i_end step → k < k_end → Keeping both.to out news k
-      → ((j : ℕ) → k ≤ j → j < k_end → signed (get_or news j 0) ≡ pos (size (drop (j + 1) (take k_end both.to))) *ℤ step)
-      → PlacesAlike (take i both.from) (take i both.strides) (take k both.to) (take k (all_signed out))
-      → PlacesAlike (take i_end both.from) (take i_end both.strides) (take k_end both.to) (take k_end (all_signed news))
-  alike-block {out} {news} at further block l keeping written alike =
+      → HasBlockStrides both.to (all_signed news) k k_end step → AlikeUpTo both (all_signed out) i k
+      → AlikeUpTo both (all_signed news) i_end k_end
+  alike-block {news = news} at further block l keeping written alike =
       let ahead = block.ahead in
       let count = length-map news signed in
-      let dense = written-dense both.to (all_signed news) k k_end step (sym keeping.count ∙ sym count) (omega arith) further.to_in
-      (λ j above below. get_or-map signed news j 0 ∙ written j above below) in
-      alike-next step at further (omega arith) (omega arith) keeping block.dense dense alike
+      let on : GoesOn both i i_end k k_end =
+      record { reached = at; further = further; from_ahead = omega arith; to_ahead = omega arith } in
+      alike-next on keeping (record {
+        dense = block.dense;
+        new_dense = written-dense (sym keeping.count ∙ sym count) (omega arith) written;
+      }) alike

@@ -10,6 +10,7 @@ use Rattle.nd_base.proofs.laws.Definitions.{offset_of, index_of_flat, is_empty, 
 use Rattle.nd_base.proofs.laws.Size.{size_of_nonempty, size-append, size-push}
 use Rattle.ndarray_layout.specs.private.ReshapeProgress.{PlacesAlike, IsDense}
 use Rattle.ndarray_layout.proofs.reshapes.Joins.{is_empty-rest}
+use Rattle.ndarray_layout.proofs.reshapes.SamePlaces.{HasIndex, SamePlaces, rest-has_index}
 use Rattle.nd_base.proofs.laws.Times.{times_times, times_sum}
 
 -- so the index of a flat index lies that many steps from the first one
@@ -72,20 +73,19 @@ dense-of-products (len ∷ lens) (stride ∷ strides) step e h = (
 
 -- ---- groups of axes one after another
 -- the first group counts whole turns of the second
-pub offset-append : (lens : List ℕ) (strides : List ℤ) (others : List ℕ) (steps : List ℤ) (r : ℕ) → length lens ≡ length strides
-    → is_empty lens ≡ false → 0 < size others → r < size lens * size others →
-    offset_of (strides ++ steps) (index_of_flat (lens ++ others) r) ≡ offset_of strides (index_of_flat lens (r / size others)) +ℤ offset_of
-    steps (index_of_flat others (r % size others))
-offset-append [] [] others steps r e h some l =
+pub offset-append : {lens : List ℕ} {strides : List ℤ} (others : List ℕ) (steps : List ℤ) (r : ℕ) → HasIndex lens strides → 0 < size others
+    → r < size lens * size others → offset_of (strides ++ steps) (index_of_flat (lens ++ others) r)
+    ≡ offset_of strides (index_of_flat lens (r / size others)) +ℤ offset_of steps (index_of_flat others (r % size others))
+offset-append {lens = []} {strides = []} others steps r at some l =
     let same : r % size others ≡ r = mod-eq_of_lt (omega arith) in
     ap (λ n. offset_of steps (index_of_flat others n)) (sym same) ∙ omega (arith, ints)
-offset-append [] (stride ∷ strides) others steps r e h some l = absurd (omega arith)
-offset-append (len ∷ lens) [] others steps r e h some l = absurd (omega arith)
-offset-append (len ∷ lens) (stride ∷ strides) others steps r e h some l =
+offset-append {lens = []} {strides = stride ∷ strides} others steps r at some l = let count = at.same_count in absurd (omega arith)
+offset-append {lens = len ∷ lens} {strides = []} others steps r at some l = let count = at.same_count in absurd (omega arith)
+offset-append {lens = len ∷ lens} {strides = stride ∷ strides} others steps r at some l =
     let m = size lens in
     let n = size others in
-    let none = is_empty-rest len lens h in
-    let more = size_of_nonempty lens none in
+    let after = rest-has_index at in
+    let more = size_of_nonempty lens after.some in
     let whole = size-append lens others in
     let parts : r % (m * n) ≡ (r / n % m) * n + r % n = mod-mul r more some in
     let low = mod_below r n some in
@@ -93,7 +93,7 @@ offset-append (len ∷ lens) (stride ∷ strides) others steps r e h some l =
     let high : r % (m * n) / n ≡ r / n % m = ap (λ k. k / n) parts ∙ div-mul-add (r / n % m) n (r % n) low in
     let entry : r % (m * n) % n ≡ r % n = ap (λ k. k % n) parts ∙ mod-mul-add (r / n % m) n (r % n) low in
     let within : r % (m * n) < m * n = mod_below r (m * n) (omega (arith, nonzero m n more some)) in
-    let rest = offset-append lens strides others steps (r % (m * n)) (omega arith) none some within in
+    let rest = offset-append others steps (r % (m * n)) after some within in
     ap (λ k. (pos (r / k) *ℤ stride) +ℤ offset_of (strides ++ steps) (index_of_flat (lens ++ others) (r % k))) whole
     ∙ ap₂ (λ i z. (pos i *ℤ stride) +ℤ z) count rest
     ∙ ap₂ (λ i j. (pos (r / n / m) *ℤ stride) +ℤ (offset_of strides (index_of_flat lens i) +ℤ offset_of steps (index_of_flat others j)))
@@ -105,20 +105,19 @@ offset-append (len ∷ lens) (stride ∷ strides) others steps r e h some l =
     nonzero zero b g k = absurd (omega arith)
     nonzero (suc a) zero g k = absurd (omega arith)
 
-pub places-append : (from : List ℕ) (strides : List ℤ) (to : List ℕ) (others : List ℤ) (lens : List ℕ) (steps : List ℤ) (news : List ℕ)
-    (offs : List ℤ) → length from ≡ length strides → length to ≡ length others → is_empty from ≡ false → is_empty to ≡ false → is_empty lens
-    ≡ false →
-    size from ≡ size to → size lens ≡ size news → PlacesAlike from strides to others → PlacesAlike lens steps news offs
-    → PlacesAlike (from ++ lens) (strides ++ steps) (to ++ news) (others ++ offs)
-places-append from strides to others lens steps news offs e g h k some same equal alike like r l =
+pub places-append : {from : List ℕ} {strides : List ℤ} {to : List ℕ} {others : List ℤ} {lens : List ℕ} {steps : List ℤ} {news : List ℕ}
+    {offs : List ℤ} → HasIndex from strides → HasIndex to others → is_empty lens ≡ false → SamePlaces from strides to others
+    → SamePlaces lens steps news offs → PlacesAlike (from ++ lens) (strides ++ steps) (to ++ news) (others ++ offs)
+places-append {from} {strides} {to} {others} {lens} {steps} {news} {offs} at also some same like r l =
     let n = size lens in
     let more = size_of_nonempty lens some in
     let whole = size-append from lens in
+    let equal = like.sizes in
     let inside : r < size from * n = omega arith in
-    let there : r < size to * size news = omega (arith, ap₂ (λ x y. x * y) same equal) in
+    let there : r < size to * size news = omega (arith, ap₂ (λ x y. x * y) same.sizes equal) in
     let turn : r / n < size from = div_below r n (size from) more inside in
     let low = mod_below r n more in
-    offset-append to others news offs r g k (omega arith) there
+    offset-append news offs r also (omega arith) there
     ∙ ap (λ m. offset_of others (index_of_flat to (r / m)) +ℤ offset_of offs (index_of_flat news (r % m))) (sym equal)
-    ∙ ap₂ (λ x y. x +ℤ y) (alike (r / n) turn) (like (r % n) low)
-    ∙ sym (offset-append from strides lens steps r e h more inside)
+    ∙ ap₂ (λ x y. x +ℤ y) (same.alike (r / n) turn) (like.alike (r % n) low)
+    ∙ sym (offset-append lens steps r at more inside)

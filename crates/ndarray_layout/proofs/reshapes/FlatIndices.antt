@@ -8,7 +8,7 @@ use Rattle.std.proofs.lemmas.Bool.{cases_Bool, cond-true, cond-false, ltb-true}
 use Rattle.std.proofs.lemmas.Int.{ints}
 use Rattle.std.proofs.lemmas.List.{reverse-append}
 use Rattle.std.proofs.lemmas.Nat.{div_below, mod_below, mod-mul-add, div-mul-add}
-use Rattle.nd_base.proofs.laws.Definitions.{offset_of, index_of_flat, is_empty, size}
+use Rattle.nd_base.proofs.laws.Definitions.{offset_of, index_of_flat, size}
 use Rattle.nd_base.proofs.laws.Size.{size_of_nonempty}
 use Rattle.ndarray_layout.proofs.reshapes.Values.{Axes, value, count, AreLong}
 use Rattle.ndarray_layout.proofs.reshapes.Joins.{long_axes, one-of-short, count-reverse}

@@ -12,6 +12,7 @@ use Rattle.ndarray_layout.proofs.reshapes.Blocks.{IsBetween, first-block, block-
 use Rattle.ndarray_layout.proofs.reshapes.Blocks.{between-to, between-from, between-none}
 use Rattle.ndarray_layout.proofs.reshapes.Reached.{LastLonger, take-mono, member-product, good-more, joint-of-apart, no-joint}
 use Rattle.ndarray_layout.proofs.reshapes.Reached.{bad-joint-fault, sizes-fault}
+use Rattle.ndarray_layout.proofs.reshapes.SamePlaces.{walk-has_index}
 use Rattle.nd_base.proofs.laws.Size.{length_pos}
 
 -- the products are those of the lengths read since the axes i and k
@@ -150,7 +151,7 @@ module _ {both : Layouts} {i k : ℕ} where
         from_size = next-product both.from from_end (size (take i both.from)) from_product l at.from_size e;
         to_size = at.to_size;
         joints = good-more both.from both.strides both.to from_end at.can_walk.some
-            (λ m. absurd (no-joint at.can_walk.some at.can_walk.same_count l before.last more fits m)) at.joints;
+            (λ m. absurd (no-joint (walk-has_index at.can_walk) l before.last more fits m)) at.joints;
         block = subst (IsBlock both.from both.strides i (from_end + 1)) (sym s) (block-longer at.can_walk.same_count l fits at.block);
         between = λ apart. between-from at.can_walk.some l (omega arith) (subst (LastLonger both.from both.strides (from_end + 1)) (sym s)
             (longer-first from_end more)) before;
@@ -178,8 +179,7 @@ module _ {both : Layouts} {i k from_end to_end from_product to_product : ℕ} {s
       let from_size = at.from_size in
       let to_size = at.to_size in
       let below = sizes-below both.from i to_product from_product at.can_walk.some less in
-      sizes-fault both.from both.strides both.to (size (take from_end both.from)) at.can_walk.some at.joints (inr (omega arith))
-      (λ same. omega arith)
+      sizes-fault both at.can_walk.some at.joints (inr (omega arith)) (λ same. omega arith)
 
   pub halfway-from-end : IsHalfway both i k from_end to_end from_product to_product step
       → from_product < to_product → from_end ≡ length both.from → fault_of both ≡ Some IncompatibleShape
@@ -189,8 +189,7 @@ module _ {both : Layouts} {i k from_end to_end from_product to_product : ℕ} {s
       let from_size = at.from_size in
       let to_size = at.to_size in
       let below = sizes-below both.from i from_product to_product at.can_walk.some less in
-      sizes-fault both.from both.strides both.to (size (take from_end both.from)) at.can_walk.some at.joints (inl (omega arith))
-      (λ same. omega arith)
+      sizes-fault both at.can_walk.some at.joints (inl (omega arith)) (λ same. omega arith)
 
   pub halfway-apart : {len : ℕ} {next : ℤ} → IsHalfway both i k from_end to_end from_product to_product step → from_product < to_product
       → from_end < length both.from
@@ -203,6 +202,6 @@ module _ {both : Layouts} {i k from_end to_end from_product to_product : ℕ} {s
       let below = sizes-below both.from i from_product to_product at.can_walk.some less in
       let part = size_take_le both.to to_end at.can_walk.more in
       let joint =
-      joint-of-apart at.can_walk.same_count l before.last (omega arith) (λ same. apart (same ∙ sym (ap₂ (λ n z. pos n *ℤ z) e s))) in
-      bad-joint-fault both.from both.strides both.to (size (take from_end both.from)) joint (omega arith)
+      joint-of-apart (walk-has_index at.can_walk) l before.last (omega arith) (λ same. apart (same ∙ sym (ap₂ (λ n z. pos n *ℤ z) e s))) in
+      bad-joint-fault both (size (take from_end both.from)) joint (omega arith)
       (between-none at.can_walk.more (omega arith) before)

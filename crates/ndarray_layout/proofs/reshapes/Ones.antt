@@ -1,6 +1,6 @@
 -- Axes of one entry: how many stand at a product of lengths, and the strides that the walk gives them.
 use Rattle.std.proofs.Common.{◌≡◌, ◌≢◌, ℕ, zero, suc, ◌+◌, ◌-◌, ◌*◌, ◌<◌, ◌≤◌, ◌==◌, Bool, true, false, ℤ, pos, ◌*ℤ◌, List, [], ◌∷◌, length}
-use Rattle.std.proofs.Common.{get_or, take, drop, map, refl, sym, ap, ap₂, ◌∙◌, inl, inr, arith, add-one, subst}
+use Rattle.std.proofs.Common.{get_or, take, drop, map, refl, sym, ap, ap₂, ◌∙◌, inl, inr, arith, add-one}
 use Rattle.std.specs.List.{filter, list_any, range_with_len}
 use Rattle.std.specs.Prelude.{slice_index_or, nat_lt}
 use Rattle.std.proofs.Math.Nat.{mul-one, mul-le-mul_left}
@@ -14,76 +14,80 @@ use Rattle.nd_dim.specs.Strides.{size_after}
 use Rattle.ndarray_layout.specs.reshape.ForcedStrides.{is_one_at, ones_before, strides_of_ones, stride_of_one, stride_at}
 use Rattle.ndarray_layout.specs.reshape.ForcedStrides.{offset_at_flat_index}
 use Rattle.ndarray_layout.specs.reshape.Joints.{cumulative_products}
-use Rattle.ndarray_layout.specs.private.ReshapeProgress.{Layouts, IsReached, IsInside, OnesAlike, PlacesAlike, previous}
+use Rattle.ndarray_layout.specs.private.ReshapeProgress.{Layouts, IsReached, IsInside, OnesAlike, previous}
 use Rattle.ndarray_layout.proofs.reshapes.Forced.{forced-of-alike, stride_at-long}
 use Rattle.ndarray_layout.proofs.reshapes.Members.{member-of-any, any-of-member}
 use Rattle.ndarray_layout.proofs.reshapes.Reached.{member-product, product-member, take-mono}
+use Rattle.ndarray_layout.proofs.reshapes.SamePlaces.{HasIndex, SamePlaces, places-alike-of}
+use Rattle.ndarray_layout.proofs.reshapes.WalkSteps.{AlikeUpTo, HasBlockStrides}
 use Rattle.nd_base.proofs.laws.Size.{length_pos}
 
 -- ---- numbers that pass a test
-abbrev hits : (ℕ → Bool) → ℕ → ℕ → ℕ
-hits p s n = length (filter p (range_with_len s n))
+module _ (p : ℕ → Bool) where
+  abbrev hits : ℕ → ℕ → ℕ
+  hits s n = length (filter p (range_with_len s n))
 
-filter-yes : (p : ℕ → Bool) {x : ℕ} (xs : List ℕ) → p x ≡ true → filter p (x ∷ xs) ≡ x ∷ filter p xs
-filter-yes p {x} xs e = cond-true (p x) (x ∷ filter p xs) (filter p xs) e
+  filter-yes : {x : ℕ} (xs : List ℕ) → p x ≡ true → filter p (x ∷ xs) ≡ x ∷ filter p xs
+  filter-yes {x} xs e = cond-true (p x) (x ∷ filter p xs) (filter p xs) e
 
-filter-no : (p : ℕ → Bool) (x : ℕ) (xs : List ℕ) → p x ≡ false → filter p (x ∷ xs) ≡ filter p xs
-filter-no p x xs e = cond-false (p x) (x ∷ filter p xs) (filter p xs) e
+  filter-no : (x : ℕ) (xs : List ℕ) → p x ≡ false → filter p (x ∷ xs) ≡ filter p xs
+  filter-no x xs e = cond-false (p x) (x ∷ filter p xs) (filter p xs) e
 
-hits-more : (p : ℕ → Bool) (s n i : ℕ) → s + n ≡ i → p i ≡ true → hits p s (suc n) ≡ suc (hits p s n)
-hits-more p s zero i e h = let same : s ≡ i = omega arith in ap length (filter-yes p [] (ap p same ∙ h))
-hits-more p s (suc n) i e h =
-    elim (cases_Bool (p s)) [
-      | inl hit ↦
-          ap length (filter-yes p (range_with_len (s + 1) (suc n)) hit)
-          ∙ ap suc (hits-more p (s + 1) n i (omega arith) h)
-          ∙ sym (ap (λ xs. suc (length xs)) (filter-yes p (range_with_len (s + 1) n) hit))
-      | inr miss ↦
-          ap length (filter-no p s (range_with_len (s + 1) (suc n)) miss)
-          ∙ hits-more p (s + 1) n i (omega arith) h
-          ∙ sym (ap (λ xs. suc (length xs)) (filter-no p s (range_with_len (s + 1) n) miss))
-    ]
+  hits-more : (s n i : ℕ) → s + n ≡ i → p i ≡ true → hits s (suc n) ≡ suc (hits s n)
+  hits-more s zero i e h = let same : s ≡ i = omega arith in ap length (filter-yes [] (ap p same ∙ h))
+  hits-more s (suc n) i e h =
+      elim (cases_Bool (p s)) [
+        | inl hit ↦
+            ap length (filter-yes (range_with_len (s + 1) (suc n)) hit)
+            ∙ ap suc (hits-more (s + 1) n i (omega arith) h)
+            ∙ sym (ap (λ xs. suc (length xs)) (filter-yes (range_with_len (s + 1) n) hit))
+        | inr miss ↦
+            ap length (filter-no s (range_with_len (s + 1) (suc n)) miss)
+            ∙ hits-more (s + 1) n i (omega arith) h
+            ∙ sym (ap (λ xs. suc (length xs)) (filter-no s (range_with_len (s + 1) n) miss))
+      ]
 
-hits-same : (p : ℕ → Bool) (s n i : ℕ) → s + n ≡ i → p i ≡ false → hits p s (suc n) ≡ hits p s n
-hits-same p s zero i e h = let same : s ≡ i = omega arith in ap length (filter-no p s [] (ap p same ∙ h))
-hits-same p s (suc n) i e h =
-    elim (cases_Bool (p s)) [
-      | inl hit ↦
-          ap length (filter-yes p (range_with_len (s + 1) (suc n)) hit)
-          ∙ ap suc (hits-same p (s + 1) n i (omega arith) h)
-          ∙ sym (ap length (filter-yes p (range_with_len (s + 1) n) hit))
-      | inr miss ↦
-          ap length (filter-no p s (range_with_len (s + 1) (suc n)) miss)
-          ∙ hits-same p (s + 1) n i (omega arith) h
-          ∙ sym (ap length (filter-no p s (range_with_len (s + 1) n) miss))
-    ]
+  hits-same : (s n i : ℕ) → s + n ≡ i → p i ≡ false → hits s (suc n) ≡ hits s n
+  hits-same s zero i e h = let same : s ≡ i = omega arith in ap length (filter-no s [] (ap p same ∙ h))
+  hits-same s (suc n) i e h =
+      elim (cases_Bool (p s)) [
+        | inl hit ↦
+            ap length (filter-yes (range_with_len (s + 1) (suc n)) hit)
+            ∙ ap suc (hits-same (s + 1) n i (omega arith) h)
+            ∙ sym (ap length (filter-yes (range_with_len (s + 1) n) hit))
+        | inr miss ↦
+            ap length (filter-no s (range_with_len (s + 1) (suc n)) miss)
+            ∙ hits-same (s + 1) n i (omega arith) h
+            ∙ sym (ap length (filter-no s (range_with_len (s + 1) n) miss))
+      ]
 
-hits-none : (p : ℕ → Bool) (m n : ℕ) → m ≤ n → ((j : ℕ) → m ≤ j → j < n → p j ≡ false) → hits p 0 n ≡ hits p 0 m
-hits-none p m zero l h = let none : 0 ≡ m = omega arith in ap (hits p 0) none
-hits-none p m (suc n) l h =
-    elim (cases_eq (suc n) m) [
-      | inl end ↦ ap (hits p 0) end
-      | inr other ↦ hits-same p 0 n n (omega arith) (h n (omega arith) (omega arith)) ∙ hits-none p m n (omega arith)
-          (λ j above under. h j above (omega arith))
-    ]
+  hits-none : (m n : ℕ) → m ≤ n → ((j : ℕ) → m ≤ j → j < n → p j ≡ false) → hits 0 n ≡ hits 0 m
+  hits-none m zero l h = let none : 0 ≡ m = omega arith in ap (hits 0) none
+  hits-none m (suc n) l h =
+      elim (cases_eq (suc n) m) [
+        | inl end ↦ ap (hits 0) end
+        | inr other ↦ hits-same 0 n n (omega arith) (h n (omega arith) (omega arith)) ∙ hits-none m n (omega arith)
+            (λ j above under. h j above (omega arith))
+      ]
 
-hit-read : (p : ℕ → Bool) (f : ℕ → ℤ) (s m n i : ℕ) (d : ℤ) → s + m ≡ i → m < n → p i ≡ true
-    → get_or (map f (filter p (range_with_len s n))) (hits p s m) d ≡ f i
-hit-read p f s m zero i d e l h = absurd (omega arith)
-hit-read p f s zero (suc n) i d e l h =
-    let same : s ≡ i = omega arith in
-    ap (λ xs. get_or (map f xs) 0 d) (filter-yes p (range_with_len (s + 1) n) (ap p same ∙ h)) ∙ ap f same
-hit-read p f s (suc m) (suc n) i d e l h =
-    elim (cases_Bool (p s)) [
-      | inl hit ↦
-          ap₂ (λ xs k. get_or (map f xs) k d) (filter-yes p (range_with_len (s + 1) n) hit)
-          (ap length (filter-yes p (range_with_len (s + 1) m) hit))
-          ∙ hit-read p f (s + 1) m n i d (omega arith) (omega arith) h
-      | inr miss ↦
-          ap₂ (λ xs k. get_or (map f xs) k d) (filter-no p s (range_with_len (s + 1) n) miss)
-          (ap length (filter-no p s (range_with_len (s + 1) m) miss))
-          ∙ hit-read p f (s + 1) m n i d (omega arith) (omega arith) h
-    ]
+  -- what is read at the number of those before one that passes, of a list with an entry for each of them
+  hit-read : (f : ℕ → ℤ) (s m n i : ℕ) → (s + m ≡ i) × (m < n) → p i ≡ true
+      → get_or (map f (filter p (range_with_len s n))) (hits s m) (pos 1) ≡ f i
+  hit-read f s m zero i at h = absurd (omega arith)
+  hit-read f s zero (suc n) i at h =
+      let same : s ≡ i = omega arith in
+      ap (λ xs. get_or (map f xs) 0 (pos 1)) (filter-yes (range_with_len (s + 1) n) (ap p same ∙ h)) ∙ ap f same
+  hit-read f s (suc m) (suc n) i at h =
+      elim (cases_Bool (p s)) [
+        | inl hit ↦
+            ap₂ (λ xs k. get_or (map f xs) k (pos 1)) (filter-yes (range_with_len (s + 1) n) hit)
+            (ap length (filter-yes (range_with_len (s + 1) m) hit))
+            ∙ hit-read f (s + 1) m n i (omega arith) h
+        | inr miss ↦
+            ap₂ (λ xs k. get_or (map f xs) k (pos 1)) (filter-no s (range_with_len (s + 1) n) miss)
+            (ap length (filter-no s (range_with_len (s + 1) m) miss))
+            ∙ hit-read f (s + 1) m n i (omega arith) h
+      ]
 
 -- ---- axes of one entry at a product
 one-at : (lens : List ℕ) {product : ℕ} (axis : ℕ) → get_or lens axis 0 ≡ 1 → size (take axis lens) ≡ product
@@ -130,12 +134,12 @@ nth-one : (lens : List ℕ) (strides : List ℤ) (product axis : ℕ) → axis <
     → size (take axis lens) ≡ product
     → get_or (strides_of_ones lens strides product) (ones_before lens product axis) (pos 1) ≡ get_or strides axis (pos 0)
 nth-one lens strides product axis l e f = hit-read (is_one_at lens product) (λ a. slice_index_or strides a (pos 0)) 0 axis (length lens)
-    axis (pos 1) (omega arith) l (one-at lens axis e f)
+    axis (omega arith) (one-at lens axis e f)
 
 -- and where there are no more
-past-ones : (lens : List ℕ) (strides : List ℤ) (axis n : ℕ) → is_empty lens ≡ false → axis ≤ length lens → get_or lens axis 0 ≢ 1
+past-ones : (lens : List ℕ) (strides : List ℤ) (axis : ℕ) {n : ℕ} → is_empty lens ≡ false → axis ≤ length lens → get_or lens axis 0 ≢ 1
     → ones_before lens (size (take axis lens)) axis ≤ n → get_or (strides_of_ones lens strides (size (take axis lens))) n (pos 1) ≡ pos 1
-past-ones lens strides axis n h l other few =
+past-ones lens strides axis {n} h l other few =
     let product = size (take axis lens) in
     let count = length-map (filter (is_one_at lens product) (below (length lens))) (λ a. slice_index_or strides a (pos 0)) in
     let same : ones_before lens product (length lens) ≡ ones_before lens product axis = hits-none (is_one_at lens product) axis
@@ -150,27 +154,30 @@ past-ones lens strides axis n h l other few =
     get_or_past (strides_of_ones lens strides product) n (pos 1) (omega arith)
 
 -- ---- the stride of an axis of one entry
-at-product : (from : List ℕ) (strides : List ℤ) (to : List ℕ) (i k : ℕ) (before : ℤ) → i ≤ length from
-    → size (take i from) ≡ size (take k to)
-    → stride_of_one from strides to k before ≡ get_or (strides_of_ones from strides (size (take k to)))
-    (ones_before to (size (take k to)) k) (pos 1)
-at-product from strides to i k before l e =
-    let test = list_any (λ product. product == size (take k to)) (cumulative_products from) in
-    let holds : test ≡ true = any-of-member (λ product. product == size (take k to)) (cumulative_products from) (size (take i from))
-    (member-product from i l) (eq-eqb (size (take i from)) (size (take k to)) e) in
-    cond-true test (get_or (strides_of_ones from strides (size (take k to))) (ones_before to (size (take k to)) k) (pos 1)) before holds
+-- the stride that an axis of the new shape has, if it is of one entry and stands at a product of the old one
+abbrev read_at : Layouts → ℕ → ℤ
+read_at both k = get_or (strides_of_ones both.from both.strides (size (take k both.to))) (ones_before both.to (size (take k both.to)) k)
+    (pos 1)
 
-off-product : (from : List ℕ) (strides : List ℤ) (to : List ℕ) (k : ℕ) {before : ℤ}
-    → ((m : ℕ) → m ≤ length from → size (take m from) ≡ size (take k to) → ⊥) → stride_of_one from strides to k before ≡ before
-off-product from strides to k {before} none =
-    let test = list_any (λ product. product == size (take k to)) (cumulative_products from) in
+at-product : (both : Layouts) (i k : ℕ) (before : ℤ) → i ≤ length both.from → size (take i both.from) ≡ size (take k both.to)
+    → stride_of_one both.from both.strides both.to k before ≡ read_at both k
+at-product both i k before l e =
+    let test = list_any (λ product. product == size (take k both.to)) (cumulative_products both.from) in
+    let holds : test ≡ true = any-of-member (λ product. product == size (take k both.to)) (cumulative_products both.from)
+    (size (take i both.from)) (member-product both.from i l) (eq-eqb (size (take i both.from)) (size (take k both.to)) e) in
+    cond-true test (read_at both k) before holds
+
+off-product : (both : Layouts) (k : ℕ) {before : ℤ}
+    → ((m : ℕ) → m ≤ length both.from → size (take m both.from) ≡ size (take k both.to) → ⊥)
+    → stride_of_one both.from both.strides both.to k before ≡ before
+off-product both k {before} none =
+    let test = list_any (λ product. product == size (take k both.to)) (cumulative_products both.from) in
     elim (cases_Bool test) [
       | inl found ↦
-          let m = member-of-any (λ product. product == size (take k to)) (cumulative_products from) found in
-          let at = product-member from m.0 m.1 in
-          absurd (none at.0 at.1 (sym at.2 ∙ eqb-true m.0 (size (take k to)) m.2))
-      | inr missing ↦ cond-false test (get_or (strides_of_ones from strides (size (take k to))) (ones_before to (size (take k to)) k)
-          (pos 1)) before missing
+          let m = member-of-any (λ product. product == size (take k both.to)) (cumulative_products both.from) found in
+          let at = product-member both.from m.0 m.1 in
+          absurd (none at.0 at.1 (sym at.2 ∙ eqb-true m.0 (size (take k both.to)) m.2))
+      | inr missing ↦ cond-false test (read_at both k) before missing
     ]
 
 -- ---- what is written stays
@@ -221,9 +228,9 @@ module _ {both : Layouts} {news : List ℤ} where
       let more : ones_before both.to (size (take (k + 1) both.to)) (k + 1) ≡ ones_before both.to (size (take k both.to)) k + 1 =
       ap (λ n. ones_before both.to n (k + 1)) same ∙ ones-next both.to (size (take k both.to)) k one refl in
       let read : stride_of_one both.from both.strides both.to k (previous news k) ≡ pos 1 =
-      at-product both.from both.strides both.to i k (previous news k) l e
+      at-product both i k (previous news k) l e
       ∙ ap (λ n. get_or (strides_of_ones both.from both.strides n) (ones_before both.to (size (take k both.to)) k) (pos 1)) (sym e)
-      ∙ past-ones both.from both.strides i (ones_before both.to (size (take k both.to)) k) at.can_walk.some l other few in
+      ∙ past-ones both.from both.strides i at.can_walk.some l other few in
       record {
         written = λ j under entry. elim (cases_eq j k) [
           | inl last ↦ ap (λ n. get_or news n (pos 0)) last ∙ here ∙ sym read
@@ -258,8 +265,7 @@ module _ {both : Layouts} {news : List ℤ} where
             let to_more : ones_before both.to (size (take (k + 1) both.to)) (k + 1) ≡ ones_before both.to product k + 1 =
             ap (λ n. ones_before both.to n (k + 1)) (stays both.to k g one) ∙ ones-next both.to product k one refl in
             let read : stride_of_one both.from both.strides both.to k (previous news k) ≡ get_or both.strides i (pos 0) =
-            at-product both.from both.strides both.to i k
-            (previous news k) (omega arith) e
+            at-product both i k (previous news k) (omega arith) e
             ∙ ap₂ (λ n m. get_or (strides_of_ones both.from both.strides n) m (pos 1)) (sym e) equal
             ∙ nth-one both.from both.strides (size (take i both.from)) i l first refl in
             record {
@@ -286,25 +292,23 @@ module _ {both : Layouts} {news : List ℤ} where
       ]
 
 -- within a block each axis of one entry has the stride of the one before it
-block-before : (to : List ℕ) (news : List ℤ) (k k_end j : ℕ) (step : ℤ) → k_end ≤ length to → k ≤ j → suc j < k_end
-    → get_or to (suc j) 0 ≡ 1 → ((a : ℕ) → k ≤ a → a < k_end → get_or news a (pos 0) ≡ pos (size (drop (a + 1) (take k_end to))) *ℤ step)
-    → get_or news (suc j) (pos 0) ≡ get_or news j (pos 0)
-block-before to news k k_end j step l above under one written =
+block-before : {to : List ℕ} {news : List ℤ} {k k_end : ℕ} {step : ℤ} (j : ℕ) → HasBlockStrides to news k k_end step → k ≤ j
+    → suc j < k_end → get_or to (suc j) 0 ≡ 1 → get_or news (suc j) (pos 0) ≡ get_or news j (pos 0)
+block-before {to} {k_end = k_end} {step} j block above under one =
     let part = take k_end to in
-    let count = length-take-le k_end to l in
+    let count = length-take-le k_end to block.in_shape in
     let whole = size_from part (suc j) (omega arith) in
     let entry : get_or part (suc j) 0 ≡ 1 = get_or-take k_end to (suc j) 0 under ∙ one in
     let same : size (drop (suc j) part) ≡ size (drop (suc j + 1) part) = whole ∙ ap (λ n. n * size (drop (suc j + 1) part)) entry
     ∙ omega arith in
-    written (suc j) (omega arith) under
+    block.written (suc j) (omega arith) under
     ∙ ap (λ n. pos n *ℤ step) (sym same ∙ ap (λ n. size (drop n part)) (sym (add-one j)))
-    ∙ sym (written j above (omega arith))
+    ∙ sym (block.written j above (omega arith))
 
-pub ones-block : {both : Layouts} {out news : List ℤ} {i i_end k k_end : ℕ} (step : ℤ)
-    → IsReached both i_end k_end → k < k_end → 1 < get_or both.to k 0 → IsInside both.from both.to k i_end k_end → Kept out news k
-    → ((a : ℕ) → k ≤ a → a < k_end → get_or news a (pos 0) ≡ pos (size (drop (a + 1) (take k_end both.to))) *ℤ step)
+pub ones-block : {both : Layouts} {out news : List ℤ} {i i_end k k_end : ℕ} {step : ℤ} → IsReached both i_end k_end → k < k_end
+    → 1 < get_or both.to k 0 → IsInside both.from both.to k i_end k_end → Kept out news k → HasBlockStrides both.to news k k_end step
     → OnesAlike both.from both.strides both.to out i k → OnesAlike both.from both.strides both.to news i_end k_end
-ones-block {both} {news = news} {i_end} {k} {k_end} step next ahead longer inside kept written ones =
+ones-block {both} {news = news} {i_end} {k} {k_end} next ahead longer inside kept written ones =
     let h = next.can_walk.some in
     let f = next.can_walk.more in
     let e = next.sizes in
@@ -331,70 +335,63 @@ ones-block {both} {news = news} {i_end} {k} {k_end} step next ahead longer insid
         elim (cases_eq k (suc j)) [
           | inl first ↦ let same = ap (λ n. get_or both.to n 0) first in absurd (omega arith)
           | inr later ↦
-              block-before both.to news k k_end j step next.to_in (omega arith) under entry written
-              ∙ sym (off-product both.from both.strides both.to (suc j) (inside.apart (suc j) (omega arith) under))
+              block-before j written (omega arith) under entry
+              ∙ sym (off-product both (suc j) (inside.apart (suc j) (omega arith) under))
         ]
 
 -- ---- the whole walk
-pub strides-forced : {from : List ℕ} {strides : List ℤ} {to : List ℕ} {news : List ℤ} {i k : ℕ} → is_empty to ≡ false → size from ≡ size to
-    → length to ≡ length news → k ≡ length to → PlacesAlike from strides to news → OnesAlike from strides to news i k
-    → news ≡ map (stride_at from strides to) (below (length to))
-strides-forced {from} {strides} {to} {news} more sizes e end alike ones = fill_by_all (stride_at from strides to) news (length to) (pos 0)
-    (sym e) at_axis
+pub strides-forced : {both : Layouts} {news : List ℤ} {i k : ℕ} → HasIndex both.to news
+    → SamePlaces both.from both.strides both.to news → k ≡ length both.to → OnesAlike both.from both.strides both.to news i k
+    → news ≡ map (stride_at both.from both.strides both.to) (below (length both.to))
+strides-forced {both} {news} at same end ones = fill_by_all stride news (length both.to) (pos 0) (sym at.same_count) at_axis
   where
-    on_longer : (j : ℕ) → j < length to → nat_lt 1 (get_or to j 0) ≡ true → get_or news j (pos 0) ≡ stride_at from strides to j
+    stride : ℕ → ℤ
+    stride = stride_at both.from both.strides both.to
+
+    on_longer : (j : ℕ) → j < length both.to → nat_lt 1 (get_or both.to j 0) ≡ true → get_or news j (pos 0) ≡ stride j
     on_longer j l long =
-        let more_than_one = ltb-true 1 (get_or to j 0) long in
-        forced-of-alike j (record { same_count = e; some = more }) (record { sizes = sizes; alike = alike }) l more_than_one
-        ∙ sym (stride_at-long from strides to j more_than_one)
+        let longer = ltb-true 1 (get_or both.to j 0) long in
+        forced-of-alike j at same l longer ∙ sym (stride_at-long both.from both.strides both.to j longer)
 
-    at_one : (j : ℕ) → j < length to → nat_lt 1 (get_or to j 0) ≡ false → get_or to j 0 ≡ 1
+    at_one : (j : ℕ) → j < length both.to → nat_lt 1 (get_or both.to j 0) ≡ false
+        → get_or news j (pos 0) ≡ stride_of_one both.from both.strides both.to j (previous news j)
     at_one j l short =
-        let some = length_pos to j more l in
-        elim (cases_lt 1 (get_or to j 0)) [
-          | inl long ↦ absurd (let holds = lt-ltb 1 (get_or to j 0) long in cc)
+        let some = length_pos both.to j at.some l in
+        ones.written j (omega arith) (elim (cases_lt 1 (get_or both.to j 0)) [
+          | inl long ↦ absurd (let holds = lt-ltb 1 (get_or both.to j 0) long in cc)
           | inr few ↦ omega arith
-        ]
+        ])
 
-    at_axis : (j : ℕ) → j < length to → get_or news j (pos 0) ≡ stride_at from strides to j
+    at_axis : (j : ℕ) → j < length both.to → get_or news j (pos 0) ≡ stride j
     at_axis zero l =
-        elim (cases_Bool (nat_lt 1 (get_or to 0 0))) [
+        elim (cases_Bool (nat_lt 1 (get_or both.to 0 0))) [
           | inl long ↦ on_longer 0 l long
-          | inr short ↦ ones.written 0 (omega arith) (at_one 0 l short)
-              ∙ sym (cond-false (nat_lt 1 (get_or to 0 0)) (offset_at_flat_index from strides (size_after to 0))
-              (stride_of_one from strides to 0 (pos 1)) short)
+          | inr short ↦ at_one 0 l short
+              ∙ sym (cond-false (nat_lt 1 (get_or both.to 0 0)) (offset_at_flat_index both.from both.strides (size_after both.to 0))
+              (stride_of_one both.from both.strides both.to 0 (pos 1)) short)
         ]
     at_axis (suc j) l =
-        elim (cases_Bool (nat_lt 1 (get_or to (suc j) 0))) [
+        elim (cases_Bool (nat_lt 1 (get_or both.to (suc j) 0))) [
           | inl long ↦ on_longer (suc j) l long
           | inr short ↦
-              ones.written (suc j) (omega arith) (at_one (suc j) l short)
-              ∙ ap (stride_of_one from strides to (suc j)) (at_axis j (omega arith))
-              ∙ sym (cond-false (nat_lt 1 (get_or to (suc j) 0)) (offset_at_flat_index from strides (size_after to (suc j)))
-              (stride_of_one from strides to (suc j) (stride_at from strides to j)) short)
+              at_one (suc j) l short
+              ∙ ap (stride_of_one both.from both.strides both.to (suc j)) (at_axis j (omega arith))
+              ∙ sym (cond-false (nat_lt 1 (get_or both.to (suc j) 0))
+              (offset_at_flat_index both.from both.strides (size_after both.to (suc j)))
+              (stride_of_one both.from both.strides both.to (suc j) (stride j)) short)
         ]
 
 -- both shapes are read whole
 pub strides-whole : {both : Layouts} {news : List ℤ} {i k : ℕ} → IsReached both i k → length both.from ≤ i → length both.to ≤ k
-    → length both.to ≡ length news
-    → PlacesAlike (take i both.from) (take i both.strides) (take k both.to) (take k news)
-    → OnesAlike both.from both.strides both.to news i k
+    → length both.to ≡ length news → AlikeUpTo both news i k → OnesAlike both.from both.strides both.to news i k
     → news ≡ map (stride_at both.from both.strides both.to) (below (length both.to))
 strides-whole {both} {news} {i} {k} at from_end to_end e alike ones =
     let counts = at.can_walk.same_count in
     let to_in = at.to_in in
     let from_all = take_all i both.from from_end in
-    let strides_all = take_all i both.strides (omega arith) in
     let to_all = take_all k both.to to_end in
-    let news_all = take_all k news (omega arith) in
-    let sizes : size both.from ≡ size both.to = sym (ap size from_all) ∙ at.sizes ∙ ap size to_all in
-    let first : PlacesAlike both.from (take i both.strides) (take k both.to) (take k news) =
-    subst (λ xs. PlacesAlike xs (take i both.strides) (take k both.to)
-    (take k news)) from_all alike in
-    let second : PlacesAlike both.from both.strides (take k both.to) (take k news) =
-    subst (λ xs. PlacesAlike both.from xs (take k both.to) (take k news))
-    strides_all first in
-    let third : PlacesAlike both.from both.strides both.to (take k news) =
-    subst (λ xs. PlacesAlike both.from both.strides xs (take k news)) to_all second in
-    let whole : PlacesAlike both.from both.strides both.to news = subst (PlacesAlike both.from both.strides both.to) news_all third in
-    strides-forced at.can_walk.more sizes e (omega arith) whole ones
+    let same : SamePlaces both.from both.strides both.to news = record {
+      sizes = sym (ap size from_all) ∙ at.sizes ∙ ap size to_all;
+      alike = places-alike-of from_all (take_all i both.strides (omega arith)) to_all (take_all k news (omega arith)) alike;
+    } in
+    strides-forced (record { same_count = e; some = at.can_walk.more }) same (omega arith) ones

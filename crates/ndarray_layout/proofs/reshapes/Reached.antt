@@ -10,11 +10,11 @@ use Rattle.nd_base.specs.declared.error.ErrorKind.TheVariants.{IncompatibleShape
 use Rattle.nd_base.specs.Size.{size, is_empty}
 use Rattle.nd_base.proofs.laws.Size.{size_of_nonempty, size_take_more}
 use Rattle.ndarray_layout.specs.reshape.Joints.{first_longer, is_loose, loose_joints, cumulative_products, is_bad_joint, has_bad_joint}
-use Rattle.ndarray_layout.specs.reshape.ReshapeFault.{fault_as_read}
-use Rattle.ndarray_layout.specs.private.ReshapeProgress.{Member, GoodBelow}
+use Rattle.ndarray_layout.specs.private.ReshapeProgress.{Member, Layouts, GoodBelow, fault_of}
 use Rattle.ndarray_layout.proofs.reshapes.Joins.{is_empty-rest, loose-apart, apart-loose, of-choice, to-choice}
 use Rattle.ndarray_layout.proofs.reshapes.Members.{member-of-any, any-of-member, member-left, member-right, member-cases, member-times}
 use Rattle.ndarray_layout.proofs.reshapes.Members.{times-member}
+use Rattle.ndarray_layout.proofs.reshapes.SamePlaces.{HasIndex, rest-has_index}
 use Rattle.ndarray_layout.proofs.reshapes.Tails.{cancel}
 
 pub some-len : (len : ℕ) (lens : List ℕ) → is_empty (len ∷ lens) ≡ false → 0 < len
@@ -141,59 +141,84 @@ pub record LastLonger (lens : List ℕ) (strides : List ℤ) (end : ℕ) (step :
   pub stride_is : get_or strides axis (pos 0) ≡ step
   pub ones : (i : ℕ) → axis < i → i < end → get_or lens i 0 ≡ 1
 
-member-at : (lens : List ℕ) (strides : List ℤ) (k n : ℕ) → length lens ≡ length strides → k < n → n < length lens → 1 < get_or lens k 0
-    → ((i : ℕ) → k < i → i < n → get_or lens i 0 ≡ 1) → 1 < get_or lens n 0
+-- two longer axes, and none between
+pub record AreNext (lens : List ℕ) (k n : ℕ) : Type 0 where
+  pub ahead : k < n
+  pub inside : n < length lens
+  pub long : 1 < get_or lens k 0
+  pub ones : (i : ℕ) → k < i → i < n → get_or lens i 0 ≡ 1
+  pub next : 1 < get_or lens n 0
+
+next-rest : {len : ℕ} {lens : List ℕ} {k n : ℕ} → AreNext (len ∷ lens) (suc k) (suc n) → AreNext lens k n
+next-rest pair =
+    let ahead = pair.ahead in
+    let inside = pair.inside in
+    record {
+      ahead = omega arith;
+      inside = omega arith;
+      long = pair.long;
+      ones = λ i h f. pair.ones (suc i) (omega arith) (omega arith);
+      next = pair.next;
+    }
+
+-- after the first axis the next longer one is the other, and the lengths before it have the product 1
+first-next : {len : ℕ} {lens : List ℕ} (strides : List ℤ) {n : ℕ} → length lens ≡ length strides → AreNext (len ∷ lens) zero (suc n)
+    → (first_longer lens strides ≡ Some (get_or lens n 0, get_or strides n (pos 0))) × (size (take n lens) ≡ 1)
+first-next {lens = lens} strides {n} e pair =
+    let inside = pair.inside in
+    let ones : (i : ℕ) → i < n → get_or lens i 0 ≡ 1 = λ i h. pair.ones (suc i) (omega arith) (omega arith) in
+    (first-longer-at lens strides n e (omega arith) ones pair.next, size-ones lens n (omega arith) ones)
+
+member-at : {lens : List ℕ} {strides : List ℤ} (k n : ℕ) → HasIndex lens strides → AreNext lens k n
     → get_or strides k (pos 0) ≢ pos (get_or lens n 0) *ℤ get_or strides n (pos 0) → Member (loose_joints lens strides) (size (take n lens))
-member-at lens strides k zero e l g long ones next apart = absurd (omega arith)
-member-at [] strides k (suc n) e l g long ones next apart = absurd (omega arith)
-member-at (len ∷ lens) [] k (suc n) e l g long ones next apart = absurd (omega arith)
-member-at (len ∷ lens) (s ∷ strides) zero (suc n) e l g long ones next apart =
-    let ones_after : (i : ℕ) → i < n → get_or lens i 0 ≡ 1 = λ i h. ones (suc i) (omega arith) (omega arith) in
-    let first = first-longer-at lens strides n (omega arith) (omega arith) ones_after next in
-    let loose : is_loose s (first_longer lens strides) ≡ true = ap (is_loose s) first
+member-at k zero at pair apart = let ahead = pair.ahead in absurd (omega arith)
+member-at {lens = []} k (suc n) at pair apart = let inside = pair.inside in absurd (omega arith)
+member-at {lens = len ∷ lens} {strides = []} k (suc n) at pair apart = let count = at.same_count in absurd (omega arith)
+member-at {lens = len ∷ lens} {strides = s ∷ strides} zero (suc n) at pair apart =
+    let first = first-next strides (rest-has_index at).same_count pair in
+    let loose : is_loose s (first_longer lens strides) ≡ true = ap (is_loose s) first.0
     ∙ apart-loose s (get_or lens n 0, get_or strides n (pos 0)) apart in
     let test = nat_lt 1 len && is_loose s (first_longer lens strides) in
-    let yes : test ≡ true = and_from (nat_lt 1 len) (is_loose s (first_longer lens strides)) (lt-ltb 1 len long) loose in
-    let whole : len ≡ len * size (take n lens) = sym (ap (λ m. len * m) (size-ones lens n (omega arith) ones_after) ∙ mul-one len) in
+    let yes : test ≡ true = and_from (nat_lt 1 len) (is_loose s (first_longer lens strides)) (lt-ltb 1 len pair.long) loose in
+    let whole : len ≡ len * size (take n lens) = sym (ap (λ m. len * m) first.1 ∙ mul-one len) in
     subst (λ j. Member (loose_joints (len ∷ lens) (s ∷ strides)) j) whole (member-left (if test then len ∷ [] else [])
     (map (λ joint. len * joint) (loose_joints lens strides)) len (to-choice test len yes))
-member-at (len ∷ lens) (s ∷ strides) (suc k) (suc n) e l g long ones next apart =
+member-at {lens = len ∷ lens} {strides = s ∷ strides} (suc k) (suc n) at pair apart =
     let test = nat_lt 1 len && is_loose s (first_longer lens strides) in
     member-right (if test then len ∷ [] else []) (map (λ joint. len * joint) (loose_joints lens strides)) (len * size (take n lens))
-    (member-times len (loose_joints lens strides) (size (take n lens)) (member-at lens strides k n (omega arith) (omega arith) (omega arith)
-    long (λ i h f. ones (suc i) (omega arith) (omega arith)) next apart))
+    (member-times len (loose_joints lens strides) (size (take n lens)) (member-at k n (rest-has_index at) (next-rest pair) apart))
 
-none-at : (lens : List ℕ) (strides : List ℤ) (k n : ℕ) → is_empty lens ≡ false → length lens ≡ length strides → k < n → n < length lens
-    → 1 < get_or lens k 0 → ((i : ℕ) → k < i → i < n → get_or lens i 0 ≡ 1) → 1 < get_or lens n 0
+none-at : {lens : List ℕ} {strides : List ℤ} (k n : ℕ) → HasIndex lens strides → AreNext lens k n
     → Member (loose_joints lens strides) (size (take n lens)) → get_or strides k (pos 0) ≢ pos (get_or lens n 0) *ℤ get_or strides n (pos 0)
-none-at lens strides k zero w e l g long ones next m = absurd (omega arith)
-none-at [] strides k (suc n) w e l g long ones next m = absurd (omega arith)
-none-at (len ∷ lens) [] k (suc n) w e l g long ones next m = absurd (omega arith)
-none-at (len ∷ lens) (s ∷ strides) zero (suc n) w e l g long ones next m =
-    let none = is_empty-rest len lens w in
-    let here = some-len len lens w in
-    let ones_after : (i : ℕ) → i < n → get_or lens i 0 ≡ 1 = λ i h. ones (suc i) (omega arith) (omega arith) in
-    let one = size-ones lens n (omega arith) ones_after in
-    let first = first-longer-at lens strides n (omega arith) (omega arith) ones_after next in
+none-at k zero at pair m = let ahead = pair.ahead in absurd (omega arith)
+none-at {lens = []} k (suc n) at pair m = let inside = pair.inside in absurd (omega arith)
+none-at {lens = len ∷ lens} {strides = []} k (suc n) at pair m = let count = at.same_count in absurd (omega arith)
+none-at {lens = len ∷ lens} {strides = s ∷ strides} zero (suc n) at pair m =
+    let after = rest-has_index at in
+    let first = first-next strides after.same_count pair in
+    let one = first.1 in
     let test = nat_lt 1 len && is_loose s (first_longer lens strides) in
     elim (member-cases (if test then len ∷ [] else []) (map (λ joint. len * joint) (loose_joints lens strides)) (len * size (take n lens))
     m) [
       | inl c ↦
           let both = of-choice test len (len * size (take n lens)) c in
           let parts = and_parts (nat_lt 1 len) (is_loose s (first_longer lens strides)) both.0 in
-          loose-apart s (get_or lens n 0, get_or strides n (pos 0)) (sym (ap (is_loose s) first) ∙ parts.1)
+          loose-apart s (get_or lens n 0, get_or strides n (pos 0)) (sym (ap (is_loose s) first.0) ∙ parts.1)
       | inr c ↦
           let t = times-member len (loose_joints lens strides) (len * size (take n lens)) c in
-          let same : size (take n lens) ≡ t.0 = cancel len here t.1 in
-          let more = joint-product lens strides t.0 none t.2 in
+          let same : size (take n lens) ≡ t.0 = cancel len (some-len len lens at.some) t.1 in
+          let more = joint-product lens strides t.0 after.some t.2 in
           let low = more.3 in
           absurd (omega arith)
     ]
-none-at (len ∷ lens) (s ∷ strides) (suc k) (suc n) w e l g long ones next m =
-    let none = is_empty-rest len lens w in
-    let here = some-len len lens w in
+none-at {lens = len ∷ lens} {strides = s ∷ strides} (suc k) (suc n) at pair m =
+    let after = rest-has_index at in
+    let rest = next-rest pair in
+    let here = some-len len lens at.some in
+    let ahead = rest.ahead in
+    let inside = rest.inside in
     let test = nat_lt 1 len && is_loose s (first_longer lens strides) in
-    let several = long-take lens k n none (omega arith) (omega arith) long in
+    let several = long-take lens k n after.some ahead (omega arith) rest.long in
     elim (member-cases (if test then len ∷ [] else []) (map (λ joint. len * joint) (loose_joints lens strides)) (len * size (take n lens))
     m) [
       | inl c ↦
@@ -204,21 +229,21 @@ none-at (len ∷ lens) (s ∷ strides) (suc k) (suc n) w e l g long ones next m 
       | inr c ↦
           let t = times-member len (loose_joints lens strides) (len * size (take n lens)) c in
           let same : t.0 ≡ size (take n lens) = sym (cancel len here t.1) in
-          none-at lens strides k n none (omega arith) (omega arith) (omega arith) long (λ i h f. ones (suc i) (omega arith) (omega arith))
-          next (subst (Member (loose_joints lens strides)) same t.2)
+          none-at k n after rest (subst (Member (loose_joints lens strides)) same t.2)
     ]
 
 module _ {lens : List ℕ} {strides : List ℤ} {n : ℕ} {step : ℤ} where
-  -- where the strides of two longer axes, with none between, go together there is no joint, and else there is one
-  pub joint-of-apart : length lens ≡ length strides → n < length lens → LastLonger lens strides n step → 1 < get_or lens n 0
-      → step ≢ pos (get_or lens n 0) *ℤ get_or strides n (pos 0) → Member (loose_joints lens strides) (size (take n lens))
-  joint-of-apart e l last next apart = member-at lens strides last.axis n e last.before l last.long last.ones next
-      (λ same. apart (sym last.stride_is ∙ same))
+  last-next : (last : LastLonger lens strides n step) → n < length lens → 1 < get_or lens n 0 → AreNext lens last.axis n
+  last-next last l next = record { ahead = last.before; inside = l; long = last.long; ones = last.ones; next = next }
 
-  pub no-joint : is_empty lens ≡ false → length lens ≡ length strides → n < length lens → LastLonger lens strides n step
-      → 1 < get_or lens n 0 → step ≡ pos (get_or lens n 0) *ℤ get_or strides n (pos 0)
-      → Member (loose_joints lens strides) (size (take n lens)) → ⊥
-  no-joint w e l last next same m = none-at lens strides last.axis n w e last.before l last.long last.ones next m (last.stride_is ∙ same)
+  -- where the strides of two longer axes, with none between, go together there is no joint, and else there is one
+  pub joint-of-apart : HasIndex lens strides → n < length lens → LastLonger lens strides n step → 1 < get_or lens n 0
+      → step ≢ pos (get_or lens n 0) *ℤ get_or strides n (pos 0) → Member (loose_joints lens strides) (size (take n lens))
+  joint-of-apart at l last next apart = member-at last.axis n at (last-next last l next) (λ same. apart (sym last.stride_is ∙ same))
+
+  pub no-joint : HasIndex lens strides → n < length lens → LastLonger lens strides n step → 1 < get_or lens n 0
+      → step ≡ pos (get_or lens n 0) *ℤ get_or strides n (pos 0) → Member (loose_joints lens strides) (size (take n lens)) → ⊥
+  no-joint at l last next same m = none-at last.axis n at (last-next last l next) m (last.stride_is ∙ same)
 
 -- ---- one more axis read
 below-next : (lens : List ℕ) (strides : List ℤ) (k : ℕ) {j : ℕ} → is_empty lens ≡ false → Member (loose_joints lens strides) j
@@ -249,48 +274,51 @@ good-more from strides to k h at good j m l =
     ]
 
 -- ---- faults
-pub bad-joint-fault : (from : List ℕ) (strides : List ℤ) (to : List ℕ) (j : ℕ) → Member (loose_joints from strides) j → j < size to
-    → (Member (cumulative_products to) j → ⊥) → fault_as_read from strides to ≡ Some IncompatibleLayout
-bad-joint-fault from strides to j m l none =
-    let test = list_any (λ product. product == j) (cumulative_products to) in
+pub bad-joint-fault : (both : Layouts) (j : ℕ) → Member (loose_joints both.from both.strides) j → j < size both.to
+    → (Member (cumulative_products both.to) j → ⊥) → fault_of both ≡ Some IncompatibleLayout
+bad-joint-fault both j m l none =
+    let test = list_any (λ product. product == j) (cumulative_products both.to) in
     let no : test ≡ false = elim (cases_Bool test) [
       | inl found ↦
-          let t = member-of-any (λ product. product == j) (cumulative_products to) found in
-          absurd (none (subst (Member (cumulative_products to)) (eqb-true t.0 j t.2) t.1))
+          let t = member-of-any (λ product. product == j) (cumulative_products both.to) found in
+          absurd (none (subst (Member (cumulative_products both.to)) (eqb-true t.0 j t.2) t.1))
       | inr missing ↦ missing
     ] in
-    let bad : is_bad_joint to j ≡ true = and_from (nat_lt j (size to)) (not test) (lt-ltb j (size to) l) (not_from_false test no) in
-    cond-true (has_bad_joint from strides to) (Some IncompatibleLayout) (if size from == size to then None else Some IncompatibleShape)
-    (any-of-member (is_bad_joint to) (loose_joints from strides) j m bad)
+    let bad : is_bad_joint both.to j ≡ true = and_from (nat_lt j (size both.to)) (not test) (lt-ltb j (size both.to) l)
+    (not_from_false test no) in
+    cond-true (has_bad_joint both.from both.strides both.to) (Some IncompatibleLayout)
+    (if size both.from == size both.to then None else Some IncompatibleShape)
+    (any-of-member (is_bad_joint both.to) (loose_joints both.from both.strides) j m bad)
 
-good-of-below : (from : List ℕ) (strides : List ℤ) (to : List ℕ) (n : ℕ) → is_empty from ≡ false → GoodBelow from strides to n
-    → (size from ≤ n) ⊎ (size to ≤ n) → has_bad_joint from strides to ≡ false
-good-of-below from strides to n h good far =
-    elim (cases_Bool (has_bad_joint from strides to)) [
+good-of-below : (both : Layouts) {n : ℕ} → is_empty both.from ≡ false → GoodBelow both.from both.strides both.to n
+    → (size both.from ≤ n) ⊎ (size both.to ≤ n) → has_bad_joint both.from both.strides both.to ≡ false
+good-of-below both {n} h good far =
+    elim (cases_Bool (has_bad_joint both.from both.strides both.to)) [
       | inl bad ↦
-          let found = member-of-any (is_bad_joint to) (loose_joints from strides) bad in
+          let found = member-of-any (is_bad_joint both.to) (loose_joints both.from both.strides) bad in
           let j = found.0 in
-          let test = list_any (λ product. product == j) (cumulative_products to) in
-          let parts = and_parts (nat_lt j (size to)) (not test) found.2 in
-          let inside = ltb-true j (size to) parts.0 in
-          let product = joint-product from strides j h found.1 in
+          let test = list_any (λ product. product == j) (cumulative_products both.to) in
+          let parts = and_parts (nat_lt j (size both.to)) (not test) found.2 in
+          let inside = ltb-true j (size both.to) parts.0 in
+          let product = joint-product both.from both.strides j h found.1 in
           let within = product.4 in
           let below : j < n = elim far [ inl f ↦ omega arith | inr f ↦ omega arith ] in
-          absurd (both_ways test (not-true test parts.1) (any-of-member (λ product. product == j) (cumulative_products to) j
+          absurd (both_ways test (not-true test parts.1) (any-of-member (λ product. product == j) (cumulative_products both.to) j
           (good j found.1 below) (eq-eqb j j refl)))
       | inr fine ↦ fine
     ]
 
-pub sizes-fault : (from : List ℕ) (strides : List ℤ) (to : List ℕ) (n : ℕ) → is_empty from ≡ false → GoodBelow from strides to n
-    → (size from ≤ n) ⊎ (size to ≤ n) → size from ≢ size to → fault_as_read from strides to ≡ Some IncompatibleShape
-sizes-fault from strides to n h good far differ =
-    let other : (size from == size to) ≡ false = elim (cases_Bool (size from == size to)) [
-      | inl same ↦ absurd (differ (eqb-true (size from) (size to) same))
+pub sizes-fault : (both : Layouts) {n : ℕ} → is_empty both.from ≡ false → GoodBelow both.from both.strides both.to n
+    → (size both.from ≤ n) ⊎ (size both.to ≤ n) → size both.from ≢ size both.to → fault_of both ≡ Some IncompatibleShape
+sizes-fault both h good far differ =
+    let same = size both.from == size both.to in
+    let other : same ≡ false = elim (cases_Bool same) [
+      | inl equal ↦ absurd (differ (eqb-true (size both.from) (size both.to) equal))
       | inr apart ↦ apart
     ] in
-    cond-false (has_bad_joint from strides to) (Some IncompatibleLayout) (if size from == size to then None else Some IncompatibleShape)
-    (good-of-below from strides to n h good far)
-    ∙ cond-false (size from == size to) None (Some IncompatibleShape) other
+    cond-false (has_bad_joint both.from both.strides both.to) (Some IncompatibleLayout) (if same then None else Some IncompatibleShape)
+    (good-of-below both h good far)
+    ∙ cond-false same None (Some IncompatibleShape) other
 
 -- a number below a product, and none of those before, is no product
 pub no-product : (to : List ℕ) (k product : ℕ) → is_empty to ≡ false → ((i : ℕ) → i < k → size (take i to) ≢ product)

@@ -8,6 +8,7 @@ use Rattle.ndarray_layout.specs.private.ReshapeProgress.{Layouts, IsReached, Pla
 use Rattle.ndarray_layout.proofs.reshapes.Blocks.{length-seg}
 use Rattle.ndarray_layout.proofs.reshapes.Products.{nonempty-parts}
 use Rattle.ndarray_layout.proofs.reshapes.DenseRuns.{run-of-dense, places-append, dense-of-products}
+use Rattle.ndarray_layout.proofs.reshapes.SamePlaces.{HasIndex, SamePlaces, places-alike-of, walk-has_index}
 use Rattle.ndarray_layout.proofs.reshapes.Tails.{cancel}
 
 pub take-split : {A : Type 0} (start end : ℕ) (items : List A) → start ≤ end → take end items ≡ take start items ++ segment start end items
@@ -23,55 +24,69 @@ take-nonempty lens k h = (nonempty-parts (take k lens) (drop k lens) (ap is_empt
 pub segment-nonempty : (lens : List ℕ) (start end : ℕ) → is_empty lens ≡ false → is_empty (segment start end lens) ≡ false
 segment-nonempty lens start end h = take-nonempty (drop start lens) (end - start) (drop_nonempty lens start h)
 
-pub segments-size : {both : Layouts} {i i_end k k_end : ℕ} → IsReached both i k → IsReached both i_end k_end → i ≤ i_end → k ≤ k_end
-    → size (segment i i_end both.from) ≡ size (segment k k_end both.to)
-segments-size {both} {i} {i_end} {k} {k_end} at further l g =
-    let some = size_of_nonempty (take i both.from) (take-nonempty both.from i at.can_walk.some) in
-    let from_parts = ap size (take-split i i_end both.from l) ∙ size-append (take i both.from) (segment i i_end both.from) in
-    let to_parts = ap size (take-split k k_end both.to g) ∙ size-append (take k both.to) (segment k k_end both.to) in
-    cancel (size (take i both.from)) some
-    (sym from_parts ∙ further.sizes ∙ to_parts ∙ ap (λ n. n * size (segment k k_end both.to)) (sym at.sizes))
+-- the reading of both shapes goes on from the axes i and k
+pub record GoesOn (both : Layouts) (i i_end k k_end : ℕ) : Type 0 where
+  pub reached : IsReached both i k
+  pub further : IsReached both i_end k_end
+  pub from_ahead : i ≤ i_end
+  pub to_ahead : k ≤ k_end
 
-pub alike-step : {both : Layouts} (others news : List ℤ) {i i_end k k_end : ℕ} (step : ℤ) → IsReached both i k → IsReached both i_end k_end
-    → length both.to ≡ length news → i ≤ i_end → k ≤ k_end → take k news ≡ take k others →
-    IsDense (segment i i_end both.from) (segment i i_end both.strides) step → IsDense (segment k k_end both.to) (segment k k_end news) step
-    → PlacesAlike (take i both.from) (take i both.strides) (take k both.to) (take k others) →
-    PlacesAlike (take i_end both.from) (take i_end both.strides) (take k_end both.to) (take k_end news)
-alike-step {both} others news {i} {i_end} {k} {k_end} step at further d l m kept dense news_dense alike =
-    let h = at.can_walk.some in
-    let g = at.can_walk.more in
-    let c = at.can_walk.same_count in
-    let f = further.from_in in
-    let t = further.to_in in
+-- the axes read then step as one, in both shapes
+pub record StepAsOne (both : Layouts) (news : List ℤ) (i i_end k k_end : ℕ) (step : ℤ) : Type 0 where
+  pub dense : IsDense (segment i i_end both.from) (segment i i_end both.strides) step
+  pub new_dense : IsDense (segment k k_end both.to) (segment k k_end news) step
+
+-- the places of the axes up to i and of the new ones up to k
+abbrev pub AlikeUpTo : Layouts → List ℤ → ℕ → ℕ → Type 0
+AlikeUpTo both news i k = PlacesAlike (take i both.from) (take i both.strides) (take k both.to) (take k news)
+
+pub segments-size : {both : Layouts} {i i_end k k_end : ℕ} → GoesOn both i i_end k k_end
+    → size (segment i i_end both.from) ≡ size (segment k k_end both.to)
+segments-size {both} {i} {i_end} {k} {k_end} on =
+    let some = size_of_nonempty (take i both.from) (take-nonempty both.from i on.reached.can_walk.some) in
+    let from_parts = ap size (take-split i i_end both.from on.from_ahead) ∙ size-append (take i both.from) (segment i i_end both.from) in
+    let to_parts = ap size (take-split k k_end both.to on.to_ahead) ∙ size-append (take k both.to) (segment k k_end both.to) in
+    cancel (size (take i both.from)) some
+    (sym from_parts ∙ on.further.sizes ∙ to_parts ∙ ap (λ n. n * size (segment k k_end both.to)) (sym on.reached.sizes))
+
+-- the first axes of a layout with an index have one
+take-has_index : {lens : List ℕ} {strides : List ℤ} (n : ℕ) → HasIndex lens strides → n ≤ length lens
+    → HasIndex (take n lens) (take n strides)
+take-has_index {lens} {strides} n at l =
+    let count = at.same_count in
+    record {
+      same_count = length-take-le n lens l ∙ sym (length-take-le n strides (omega arith));
+      some = take-nonempty lens n at.some;
+    }
+
+pub alike-step : {both : Layouts} (others : List ℤ) {news : List ℤ} {i i_end k k_end : ℕ} {step : ℤ} → GoesOn both i i_end k k_end
+    → length both.to ≡ length news → take k news ≡ take k others → StepAsOne both news i i_end k k_end step → AlikeUpTo both others i k
+    → AlikeUpTo both news i_end k_end
+alike-step {both} others {news} {i} {i_end} {k} {k_end} {step} on d kept one alike =
+    let walk = on.reached.can_walk in
+    let count = walk.same_count in
+    let from_in = on.further.from_in in
+    let to_in = on.further.to_in in
+    let from_ahead = on.from_ahead in
+    let to_ahead = on.to_ahead in
     let lens = segment i i_end both.from in
     let new_lens = segment k k_end both.to in
-    let seg_size = segments-size at further l m in
-    let like : PlacesAlike lens (segment i i_end both.strides) new_lens (segment k k_end news) = λ r below.
-    run-of-dense new_lens (segment k k_end news) step r (segment-nonempty both.to k k_end g) news_dense (omega arith)
-    ∙ sym (run-of-dense lens (segment i i_end both.strides) step r (segment-nonempty both.from i i_end h) dense below) in
-    let front : PlacesAlike (take i both.from) (take i both.strides) (take k both.to) (take k news) =
-    subst (PlacesAlike (take i both.from) (take i both.strides) (take k both.to)) (sym kept) alike in
-    let from_count : length (take i both.from) ≡ length (take i both.strides) = length-take-le i both.from (omega arith)
-    ∙ sym (length-take-le i both.strides (omega arith)) in
-    let to_count : length (take k both.to) ≡ length (take k news) = length-take-le k both.to (omega arith)
-    ∙ sym (length-take-le k news (omega arith)) in
-    let whole =
-    places-append (take i both.from) (take i both.strides) (take k both.to) (take k news) lens (segment i i_end both.strides) new_lens
-    (segment k k_end news) from_count to_count (take-nonempty both.from i h) (take-nonempty both.to k g)
-    (segment-nonempty both.from i i_end h) at.sizes
-    seg_size front like in
-    let first : PlacesAlike (take i_end both.from) (take i both.strides ++ segment i i_end both.strides) (take k both.to ++ new_lens)
-    (take k news ++ segment k k_end news) = subst (λ xs. PlacesAlike xs (take i both.strides ++ segment i i_end both.strides)
-    (take k both.to ++ new_lens) (take k news ++ segment k k_end news)) (sym (take-split i i_end both.from l)) whole in
-    let second : PlacesAlike (take i_end both.from) (take i_end both.strides) (take k both.to ++ new_lens)
-    (take k news ++ segment k k_end news) =
-    subst (λ xs. PlacesAlike (take i_end both.from) xs (take k both.to ++ new_lens) (take k news ++ segment k k_end news))
-    (sym (take-split i i_end both.strides l)) first in
-    let third : PlacesAlike (take i_end both.from) (take i_end both.strides) (take k_end both.to) (take k news ++ segment k k_end news) =
-    subst (λ xs. PlacesAlike (take i_end both.from) (take i_end both.strides) xs (take k news ++ segment k k_end news))
-    (sym (take-split k k_end both.to m)) second in
-    subst (λ xs. PlacesAlike (take i_end both.from) (take i_end both.strides) (take k_end both.to) xs) (sym (take-split k k_end news m))
-    third
+    let some = segment-nonempty both.from i i_end walk.some in
+    let sizes = segments-size on in
+    let like : SamePlaces lens (segment i i_end both.strides) new_lens (segment k k_end news) = record {
+      sizes = sizes;
+      alike = λ r below.
+          run-of-dense new_lens (segment k k_end news) step r (segment-nonempty both.to k k_end walk.more) one.new_dense (omega arith)
+          ∙ sym (run-of-dense lens (segment i i_end both.strides) step r some one.dense below);
+    } in
+    let front : SamePlaces (take i both.from) (take i both.strides) (take k both.to) (take k news) = record {
+      sizes = on.reached.sizes;
+      alike = subst (PlacesAlike (take i both.from) (take i both.strides) (take k both.to)) (sym kept) alike;
+    } in
+    places-alike-of (sym (take-split i i_end both.from from_ahead)) (sym (take-split i i_end both.strides from_ahead))
+    (sym (take-split k k_end both.to to_ahead)) (sym (take-split k k_end news to_ahead))
+    (places-append (take-has_index i (walk-has_index walk) (omega arith))
+    (take-has_index k (record { same_count = d; some = walk.more }) (omega arith)) some front like)
 
 -- no axes step as one
 pub none-dense : (lens : List ℕ) (strides : List ℤ) (k : ℕ) (step : ℤ) → IsDense (segment k k lens) (segment k k strides) step
@@ -80,18 +95,23 @@ none-dense lens strides k step =
     subst (λ n. IsDense (take n (drop k lens)) (take n (drop k strides)) step) (sym none) tt
 
 -- strides that are the products of the later lengths times a step
-pub written-dense : (to : List ℕ) (news : List ℤ) (k k_end : ℕ) (step : ℤ) → length to ≡ length news → k ≤ k_end → k_end ≤ length to
-    → ((j : ℕ) → k ≤ j → j < k_end → get_or news j (pos 0) ≡ pos (size (drop (j + 1) (take k_end to))) *ℤ step)
-    → IsDense (segment k k_end to) (segment k k_end news) step
-written-dense to news k k_end step e l g written =
-    let lens = length-seg k k_end to l g in
+-- the strides that a block of new axes gets
+pub record HasBlockStrides (to : List ℕ) (news : List ℤ) (k k_end : ℕ) (step : ℤ) : Type 0 where
+  pub in_shape : k_end ≤ length to
+  pub written : (j : ℕ) → k ≤ j → j < k_end → get_or news j (pos 0) ≡ pos (size (drop (j + 1) (take k_end to))) *ℤ step
+
+pub written-dense : {to : List ℕ} {news : List ℤ} {k k_end : ℕ} {step : ℤ} → length to ≡ length news → k ≤ k_end
+    → HasBlockStrides to news k k_end step → IsDense (segment k k_end to) (segment k k_end news) step
+written-dense {to} {news} {k} {k_end} {step} e l block =
+    let within = block.in_shape in
+    let lens = length-seg k k_end to l within in
     let count = length-seg k k_end news l (omega arith) in
     let whole : k + (k_end - k) ≡ k_end = omega arith in
     let same : drop k (take k_end to) ≡ segment k k_end to = ap (λ n. drop k (take n to)) (sym whole) ∙ drop-take k (k_end - k) to in
     dense-of-products (segment k k_end to) (segment k k_end news) step (omega arith) (λ j below.
     get_or-take (k_end - k) (drop k news) j (pos 0) (omega arith)
     ∙ get_or-drop k news j (pos 0)
-    ∙ written (k + j) (omega arith) (omega arith)
+    ∙ block.written (k + j) (omega arith) (omega arith)
     ∙ ap (λ n. pos (size (drop n (take k_end to))) *ℤ step) (sum k j)
     ∙ ap (λ xs. pos (size xs) *ℤ step) (sym (drop-drop (j + 1) k (take k_end to)) ∙ ap (drop (j + 1)) same))
   where

@@ -2,16 +2,17 @@
 use Rattle.std.proofs.Common.{◌≡◌, ◌≢◌, ℕ, zero, suc, ◌+◌, ◌-◌, ◌<◌, ◌≤◌, ℤ, pos, ◌*ℤ◌, List, length, get_or, take, drop, map, set, refl}
 use Rattle.std.proofs.Common.{sym, ap, ◌∙◌, arith, subst, length-set, get_or-set_other, get_or-set_same}
 use Rattle.std.proofs.Math.ListN.{get_or-map}
-use Rattle.std.proofs.lemmas.List.{get_or_past, length-map, take-map, take_all}
+use Rattle.std.proofs.lemmas.List.{get_or_past, length-map, take_all}
 use Rattle.nd_base.proofs.laws.Definitions.{below, all_signed, signed, size}
 use Rattle.ndarray_layout.specs.reshape.ForcedStrides.{stride_at}
 use Rattle.ndarray_layout.specs.private.ReshapeProgress.{Layouts, layouts, PlacesAlike, CanWalk, IsReached, IsBlock, IsInside}
 use Rattle.ndarray_layout.specs.private.ReshapeProgress.{HasStridesUpTo}
-use Rattle.ndarray_layout.proofs.reshapes.Advance.{Keeping, in-of-len, take-same, reached-both, alike-both, reached-from, alike-from}
-use Rattle.ndarray_layout.proofs.reshapes.Advance.{reached-to}
-use Rattle.ndarray_layout.proofs.reshapes.Advance.{alike-to, alike-block}
+use Rattle.ndarray_layout.proofs.reshapes.Advance.{Keeping, in-of-len, take-kept, reached-both, alike-both, reached-from, alike-from}
+use Rattle.ndarray_layout.proofs.reshapes.Advance.{reached-to, alike-to, alike-block}
 use Rattle.ndarray_layout.proofs.reshapes.Ones.{ones-first, ones-from, ones-to, ones-both, ones-block, written-kept, strides-whole}
 use Rattle.ndarray_layout.proofs.reshapes.Reached.{joint-product}
+use Rattle.ndarray_layout.proofs.reshapes.SamePlaces.{places-alike-of}
+use Rattle.ndarray_layout.proofs.reshapes.WalkSteps.{HasBlockStrides}
 
 signed-stays : (out news : List ℕ) (k : ℕ) → ((j : ℕ) → j < k → get_or news j 0 ≡ get_or out j 0) → (j : ℕ) → j < k
     → get_or (all_signed news) j (pos 0) ≡ get_or (all_signed out) j (pos 0)
@@ -96,12 +97,16 @@ pub written-block : {both : Layouts} {out news : List ℕ} {i i_end k k_end : �
     → IsInside both.from both.to k i_end k_end → k < k_end → Keeping both.to out news k
     → ((j : ℕ) → k ≤ j → j < k_end → signed (get_or news j 0) ≡ pos (size (drop (j + 1) (take k_end both.to))) *ℤ step)
     → HasStridesUpTo both (all_signed out) i k → HasStridesUpTo both (all_signed news) i_end k_end
-written-block {out} {news} {k = k} {step = step} longer next block inside ahead keeping written at = record {
-  reached = next;
-  alike = alike-block at.reached next block ahead keeping written at.alike;
-  ones = ones-block step next ahead longer inside (signed-stays out news k keeping.same)
-      (λ a above under. get_or-map signed news a 0 ∙ written a above under) at.ones;
-}
+written-block {both} {out} {news} {k = k} {k_end} {step} longer next block inside ahead keeping written at =
+    let strides : HasBlockStrides both.to (all_signed news) k k_end step = record {
+      in_shape = next.to_in;
+      written = λ j above under. get_or-map signed news j 0 ∙ written j above under;
+    } in
+    record {
+      reached = next;
+      alike = alike-block at.reached next block ahead keeping strides at.alike;
+      ones = ones-block next ahead longer inside (signed-stays out news k keeping.same) strides at.ones;
+    }
 
 -- ---- axes of one entry, where one shape is read whole
 from-on : (n : ℕ) {both : Layouts} (out : List ℕ) {i k : ℕ} → length out ≡ length both.to → i + n ≡ length both.from
@@ -131,18 +136,15 @@ module _ {both : Layouts} where
   -- what is written later changes nothing of it
   written-stays : {out news : List ℕ} {i k : ℕ} → Keeping both.to out news k → HasStridesUpTo both (all_signed out) i k
       → HasStridesUpTo both (all_signed news) i k
-  written-stays {out} {news} {i} {k} keeping at =
-      let same : take k (all_signed news) ≡ take k (all_signed out) = take-map signed k news
-      ∙ ap all_signed (take-same news out k (keeping.count ∙ sym keeping.room) keeping.same) ∙ sym (take-map signed k out) in
-      record {
-        reached = at.reached;
-        alike = subst (PlacesAlike (take i both.from) (take i both.strides) (take k both.to)) (sym same) at.alike;
-        ones = record {
-          written = written-kept (all_signed news) (signed-stays out news k keeping.same) at.ones;
-          from_first = at.ones.from_first;
-          to_first = at.ones.to_first;
-        };
-      }
+  written-stays {out} {news} {i} {k} keeping at = record {
+    reached = at.reached;
+    alike = subst (PlacesAlike (take i both.from) (take i both.strides) (take k both.to)) (sym (take-kept keeping)) at.alike;
+    ones = record {
+      written = written-kept (all_signed news) (signed-stays out news k keeping.same) at.ones;
+      from_first = at.ones.from_first;
+      to_first = at.ones.to_first;
+    };
+  }
 
   -- the rest of both shapes has axes of one entry alone
   pub written-whole : {out news : List ℕ} {i k : ℕ} → (i < length both.from → length both.to ≤ k)
@@ -170,18 +172,8 @@ module _ {both : Layouts} where
   whole-alike out room at =
       let count = length-map out signed in
       let counts = at.reached.can_walk.same_count in
-      let first : PlacesAlike both.from (take (length both.from) both.strides) (take (length both.to) both.to)
-      (take (length both.to) (all_signed out)) =
-      subst (λ xs. PlacesAlike xs (take (length both.from) both.strides) (take (length both.to) both.to)
-      (take (length both.to) (all_signed out)))
-      (take_all (length both.from) both.from (omega arith)) at.alike in
-      let second : PlacesAlike both.from both.strides (take (length both.to) both.to) (take (length both.to) (all_signed out)) =
-      subst (λ xs. PlacesAlike both.from xs (take (length both.to) both.to) (take (length both.to) (all_signed out)))
-      (take_all (length both.from) both.strides (omega arith)) first in
-      let third : PlacesAlike both.from both.strides both.to (take (length both.to) (all_signed out)) =
-      subst (λ xs. PlacesAlike both.from both.strides xs (take (length both.to) (all_signed out)))
-      (take_all (length both.to) both.to (omega arith)) second in
-      subst (PlacesAlike both.from both.strides both.to) (take_all (length both.to) (all_signed out) (omega arith)) third
+      places-alike-of (take_all (length both.from) both.from (omega arith)) (take_all (length both.from) both.strides (omega arith))
+      (take_all (length both.to) both.to (omega arith)) (take_all (length both.to) (all_signed out) (omega arith)) at.alike
 
   pub whole-strides : (out : List ℕ) → length out ≡ length both.to
       → HasStridesUpTo both (all_signed out) (length both.from) (length both.to)
