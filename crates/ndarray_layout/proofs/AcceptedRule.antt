@@ -15,20 +15,22 @@ use Rattle.nd_shape.proofs.laws.AcceptanceByStrides.{standard_size}
 use Rattle.nd_shape.proofs.laws.OwnedRule.{rule_holds}
 use Rattle.nd_shape.proofs.laws.StandardStrides.{standard_meets_rule}
 
--- a layout with an index that is accepted to be owned
-passes : (elem_size len : ℕ) (shape : List ℕ) (strides : List ℤ) → acceptance elem_size len OwnedMutable shape strides ≡ None
-    → is_empty shape ≡ false → meets_owned_rule shape strides ≡ true
-passes elem_size len shape strides h some = grind (arith, common_steps)
+-- an element's size in bytes, and how many elements there are
+module _ (elem_size len : ℕ) where
+  -- a layout with an index that is accepted to be owned
+  passes : (shape : List ℕ) (strides : List ℤ) → acceptance elem_size len OwnedMutable shape strides ≡ None → is_empty shape ≡ false
+      → meets_owned_rule shape strides ≡ true
+  passes shape strides h some = grind (arith, common_steps)
 
--- and a shape by its own strides or by given ones
-pub by_strides_meet : {D : Type 0} (list : D → List ℕ) (elem_size len : ℕ) {mode : CanIndexCheckMode} (shape : List ℕ) (strides : Strides D)
-    → acceptance_by_strides list elem_size len mode shape strides ≡ None → (custom_strides strides ≡ None) ⊎ (mode ≡ OwnedMutable)
-    → is_empty shape ≡ false → MeetsOwnedRule shape (all_signed (strides_list list shape strides))
-by_strides_meet list elem_size len shape C h why some = standard_meets_rule RowMajor shape (standard_size len shape h) some
-by_strides_meet list elem_size len shape F h why some = standard_meets_rule ColumnMajor shape (standard_size len shape h) some
-by_strides_meet list elem_size len shape (Custom strides) h why some =
-    elim why [
-      | inl none ↦ absurd (cc)
-      | inr owned ↦ rule_holds shape (all_signed (list strides)) (passes elem_size len shape (all_signed (list strides))
-          (subst (λ m. acceptance elem_size len m shape (all_signed (list strides)) ≡ None) owned h) some)
-    ]
+  -- and a shape by its own strides or by given ones
+  pub by_strides_meet : {D : Type 0} (list : D → List ℕ) {mode : CanIndexCheckMode} (shape : List ℕ) (strides : Strides D)
+      → acceptance_by_strides list elem_size len mode shape strides ≡ None → (custom_strides strides ≡ None) ⊎ (mode ≡ OwnedMutable)
+      → is_empty shape ≡ false → MeetsOwnedRule shape (all_signed (strides_list list shape strides))
+  by_strides_meet list shape C h why some = standard_meets_rule RowMajor shape (standard_size len shape h) some
+  by_strides_meet list shape F h why some = standard_meets_rule ColumnMajor shape (standard_size len shape h) some
+  by_strides_meet list shape (Custom strides) h why some =
+      elim why [
+        | inl none ↦ absurd (cc)
+        | inr owned ↦ rule_holds shape (all_signed (list strides)) (passes shape (all_signed (list strides))
+            (subst (λ m. acceptance elem_size len m shape (all_signed (list strides)) ≡ None) owned h) some)
+      ]

@@ -89,19 +89,32 @@ one_kept {len} {other} stride i below stays =
           }
     ]
 
-within_kept : (lens others : List ℕ) (strides : List ℤ) (entries : List ℕ) → length lens ≡ length others → length others ≡ length strides
-    → Stretched lens others → is_index lens entries ≡ true → WithinKept lens others strides entries
-within_kept [] [] [] [] e f h here = record { within = refl; offset = refl }
-within_kept [] [] (stride ∷ strides) entries e f h here = absurd (omega arith)
-within_kept [] [] [] (i ∷ entries) e f h here = absurd (cc)
-within_kept [] (other ∷ others) strides entries e f h here = absurd (omega arith)
-within_kept (len ∷ lens) [] strides entries e f h here = absurd (omega arith)
-within_kept (len ∷ lens) (other ∷ others) [] entries e f h here = absurd (omega arith)
-within_kept (len ∷ lens) (other ∷ others) (stride ∷ strides) [] e f h here = absurd (cc)
-within_kept (len ∷ lens) (other ∷ others) (stride ∷ strides) (i ∷ entries) e f h here =
+-- axes with a stride each that are stretched to as many
+record AreStretched (lens others : List ℕ) (strides : List ℤ) : Type 0 where
+  pub counts : length lens ≡ length others
+  pub strides_counts : length others ≡ length strides
+  pub stretched : Stretched lens others
+
+within_kept : {lens others : List ℕ} {strides : List ℤ} (entries : List ℕ) → AreStretched lens others strides
+    → is_index lens entries ≡ true → WithinKept lens others strides entries
+within_kept {lens = []} {others = []} {strides = []} [] s here = record { within = refl; offset = refl }
+within_kept {lens = []} {others = []} {strides = stride ∷ strides} entries s here = let e = s.strides_counts in absurd (omega arith)
+within_kept {lens = []} {others = []} {strides = []} (i ∷ entries) s here = absurd (cc)
+within_kept {lens = []} {others = other ∷ others} entries s here = let e = s.counts in absurd (omega arith)
+within_kept {lens = len ∷ lens} {others = []} entries s here = let e = s.counts in absurd (omega arith)
+within_kept {lens = len ∷ lens} {others = other ∷ others} {strides = []} entries s here = let e = s.strides_counts in absurd (omega arith)
+within_kept {lens = len ∷ lens} {others = other ∷ others} {strides = stride ∷ strides} [] s here = absurd (cc)
+within_kept {lens = len ∷ lens} {others = other ∷ others} {strides = stride ∷ strides} (i ∷ entries) s here =
     let parts = and_parts (nat_lt i len) (is_index lens entries) here in
-    let first = one_kept stride i (ltb-true i len parts.0) (h 0 (omega arith)) in
-    let rest = within_kept lens others strides entries (omega arith) (omega arith) (λ k l. h (suc k) (omega arith)) parts.1 in
+    let counts = s.counts in
+    let strides_counts = s.strides_counts in
+    let first = one_kept stride i (ltb-true i len parts.0) (s.stretched 0 (omega arith)) in
+    let after : AreStretched lens others strides = record {
+      counts = omega arith;
+      strides_counts = omega arith;
+      stretched = λ k l. s.stretched (suc k) (omega arith);
+    } in
+    let rest = within_kept entries after parts.1 in
     record {
       within = and_from (nat_lt (cond (eqb other 1) 0 i) other) (is_index others (entries_within others entries))
           (lt-ltb (cond (eqb other 1) 0 i) other first.below) rest.within;
@@ -182,9 +195,12 @@ broadcast_source_kept {shape} {view_shape} {strides} entries s here =
     let lens = drop n shape in
     let count = length_of_index shape entries here in
     let same : new_axes entries view_shape ≡ n = ap (λ m. m - length view_shape) count in
-    let stretched : Stretched lens view_shape = λ k l. rw (get_or-drop n shape k 0) (s.stretches k l) in
-    let rest = within_kept lens view_shape strides (drop n entries) (count_after shape view_shape s.fewer) s.counts stretched
-    (index_after_new n shape entries here) in
+    let stretched : AreStretched lens view_shape strides = record {
+      counts = count_after shape view_shape s.fewer;
+      strides_counts = s.counts;
+      stretched = λ k l. rw (get_or-drop n shape k 0) (s.stretches k l);
+    } in
+    let rest = within_kept (drop n entries) stretched (index_after_new n shape entries here) in
     let source : broadcast_source view_shape entries ≡ entries_within view_shape (drop n entries) =
     ap (λ m. entries_within view_shape (drop m entries)) same in
     record {
@@ -206,13 +222,17 @@ stretched_at (len ∷ lens) (other ∷ others) (stride ∷ strides) zero e f h =
 stretched_at (len ∷ lens) (other ∷ others) (stride ∷ strides) (suc k) e f h = stretched_at lens others strides k (omega arith) (omega arith)
     (omega arith)
 
--- a list that is written axis by axis is that of the strides
-pub strides_by_axes : (shape view_shape strides new : List ℕ) → length view_shape ≤ length shape → length view_shape ≡ length strides
-    → length new ≡ length shape → ((k : ℕ) → k < new_axes shape view_shape → get_or new k 0 ≡ 0)
-    → ((k : ℕ) → k < length view_shape → get_or new (new_axes shape view_shape + k) 0
-    ≡ cond (eqb (get_or shape (new_axes shape view_shape + k) 0) (get_or view_shape k 0)) (get_or strides k 0) 0) → all_signed new
-    ≡ broadcast_strides shape view_shape (all_signed strides)
-strides_by_axes shape view_shape strides new fewer counts count front after =
+-- a list that is written axis by axis
+pub record WrittenByAxis (shape view_shape strides new : List ℕ) : Type 0 where
+  pub count : length new ≡ length shape
+  pub front : (k : ℕ) → k < new_axes shape view_shape → get_or new k 0 ≡ 0
+  pub after : (k : ℕ) → k < length view_shape → get_or new (new_axes shape view_shape + k) 0
+      ≡ cond (eqb (get_or shape (new_axes shape view_shape + k) 0) (get_or view_shape k 0)) (get_or strides k 0) 0
+
+-- is that of the strides
+pub strides_by_axes : {shape view_shape strides new : List ℕ} → length view_shape ≤ length shape → length view_shape ≡ length strides
+    → WrittenByAxis shape view_shape strides new → all_signed new ≡ broadcast_strides shape view_shape (all_signed strides)
+strides_by_axes {shape} {view_shape} {strides} {new} fewer counts written =
     let n = new_axes shape view_shape in
     let lens = drop n shape in
     let zeros : List ℤ = replicate n (pos 0) in
@@ -223,17 +243,17 @@ strides_by_axes shape view_shape strides new fewer counts count front after =
     let count_lens = count_after shape view_shape fewer in
     let count_old : length old ≡ length (all_signed strides) = length-stretched_strides lens view_shape (all_signed strides) count_lens
     (counts ∙ sym count_strides) in
-    let count_all : length (all_signed new) ≡ length (zeros ++ old) = omega (arith, length-append zeros old) in
+    let count_all : length (all_signed new) ≡ length (zeros ++ old) = omega (arith, length-append zeros old, written.count) in
     ext_get_or (pos 0) (all_signed new) (zeros ++ old) count_all (λ k l.
     elim (cases_lt k n) [
       | inl less ↦
           get_or-map signed new k 0
-          ∙ ap signed (front k less)
+          ∙ ap signed (written.front k less)
           ∙ sym (get_or_append_left zeros old (pos 0) k (omega arith) ∙ get_or-replicate n k (pos 0) (pos 0) less)
       | inr more ↦
           let i = k - n in
           let at : k ≡ n + i = omega arith in
-          let inside : i < length view_shape = omega arith in
+          let inside : i < length view_shape = omega (arith, written.count) in
           let one = get_or (all_signed strides) i (pos 0) in
           let same = eqb (get_or shape (n + i) 0) (get_or view_shape i 0) in
           let here : get_or old i (pos 0) ≡ cond same one (pos 0) = stretched_at lens view_shape (all_signed strides) i count_lens
@@ -241,7 +261,7 @@ strides_by_axes shape view_shape strides new fewer counts count front after =
           (get_or-drop n shape i 0) in
           get_or-map signed new k 0
           ∙ ap (λ j. signed (get_or new j 0)) at
-          ∙ ap signed (after i inside)
+          ∙ ap signed (written.after i inside)
           ∙ signed_either same (get_or strides i 0)
           ∙ ap (λ s. cond same s (pos 0)) (sym (get_or-map signed strides i 0))
           ∙ sym here

@@ -24,20 +24,33 @@ one_high : (len : ℕ) (stride : ℤ) (high : ℕ) (z : ℤ) → z ≤ℤ pos (r
 one_high len (pos s) high z below = omega (arith, ints)
 one_high len (negsuc s) high z below = omega (arith, ints)
 
-pub collapse_kept : (shape : List ℕ) (strides : List ℤ) (axis index : ℕ) → length shape ≡ length strides → axis < length shape
-    → index < get_or shape axis 0 → CollapseKept shape strides axis index
-collapse_kept [] strides axis index e there below = absurd (omega arith)
-collapse_kept (len ∷ shape) [] axis index e there below = absurd (omega arith)
-collapse_kept (len ∷ shape) (stride ∷ strides) zero index e there below =
-    let within = axis_within len index stride below in
+-- an axis of a layout, and one of its entries
+pub record HasEntry (shape : List ℕ) (strides : List ℤ) (axis index : ℕ) : Type 0 where
+  pub counts : length shape ≡ length strides
+  pub there : axis < length shape
+  pub below : index < get_or shape axis 0
+
+rest-has_entry : {len : ℕ} {shape : List ℕ} {stride : ℤ} {strides : List ℤ} {axis index : ℕ}
+    → HasEntry (len ∷ shape) (stride ∷ strides) (suc axis) index → HasEntry shape strides axis index
+rest-has_entry at =
+    let counts = at.counts in
+    let there = at.there in
+    record { counts = omega arith; there = omega arith; below = at.below }
+
+pub collapse_kept : {shape : List ℕ} {strides : List ℤ} (axis : ℕ) {index : ℕ} → HasEntry shape strides axis index
+    → CollapseKept shape strides axis index
+collapse_kept {shape = []} axis at = let there = at.there in absurd (omega arith)
+collapse_kept {shape = len ∷ shape} {strides = []} axis at = let counts = at.counts in absurd (omega arith)
+collapse_kept {shape = len ∷ shape} {strides = stride ∷ strides} zero {index} at =
+    let within = axis_within len index stride at.below in
     record {
-      counts = e;
-      size = nonzero_more 1 len (nonzero_size shape) (nonzero_size shape) (omega arith) (omega arith);
+      counts = at.counts;
+      size = nonzero_more 1 len (nonzero_size shape) (nonzero_size shape) (omega (arith, at.below)) (omega arith);
       low = one_low len stride (low_span shape strides) (pos index *ℤ stride) within.above;
       high = one_high len stride (high_span shape strides) (pos index *ℤ stride) within.below;
     }
-collapse_kept (len ∷ shape) (stride ∷ strides) (suc axis) index e there below =
-    let rest = collapse_kept shape strides axis index (omega arith) (omega arith) below in
+collapse_kept {shape = len ∷ shape} {strides = stride ∷ strides} (suc axis) at =
+    let rest = collapse_kept axis (rest-has_entry at) in
     record {
       counts = omega (arith, rest.counts);
       size = nonzero_more len len (nonzero_size (set shape axis 1)) (nonzero_size shape) (omega arith) rest.size;
@@ -50,23 +63,22 @@ pub record SourceKept (shape : List ℕ) (strides : List ℤ) (axis index : ℕ)
   pub within : is_index shape (set entries axis index) ≡ true
   pub offset : offset_of strides (set entries axis index) ≡ (pos index *ℤ get_or strides axis (pos 0)) +ℤ offset_of strides entries
 
-pub source_kept : (shape : List ℕ) (strides : List ℤ) (axis index : ℕ) (entries : List ℕ) → length shape ≡ length strides
-    → axis < length shape → index < get_or shape axis 0 → is_index (set shape axis 1) entries ≡ true
-    → SourceKept shape strides axis index entries
-source_kept [] strides axis index entries e there below here = absurd (omega arith)
-source_kept (len ∷ shape) [] axis index entries e there below here = absurd (omega arith)
-source_kept (len ∷ shape) (stride ∷ strides) zero index [] e there below here = absurd (cc)
-source_kept (len ∷ shape) (stride ∷ strides) zero index (i ∷ entries) e there below here =
+pub source_kept : {shape : List ℕ} {strides : List ℤ} (axis : ℕ) {index : ℕ} (entries : List ℕ) → HasEntry shape strides axis index
+    → is_index (set shape axis 1) entries ≡ true → SourceKept shape strides axis index entries
+source_kept {shape = []} axis entries at here = let there = at.there in absurd (omega arith)
+source_kept {shape = len ∷ shape} {strides = []} axis entries at here = let counts = at.counts in absurd (omega arith)
+source_kept {shape = len ∷ shape} {strides = stride ∷ strides} zero [] at here = absurd (cc)
+source_kept {shape = len ∷ shape} {strides = stride ∷ strides} zero {index} (i ∷ entries) at here =
     let parts = and_parts (nat_lt i 1) (is_index shape entries) here in
     let first : i ≡ 0 = omega (arith, ltb-true i 1 parts.0) in
     record {
-      within = and_from (nat_lt index len) (is_index shape entries) (lt-ltb index len below) parts.1;
+      within = and_from (nat_lt index len) (is_index shape entries) (lt-ltb index len at.below) parts.1;
       offset = rw first (omega (arith, ints));
     }
-source_kept (len ∷ shape) (stride ∷ strides) (suc axis) index [] e there below here = absurd (cc)
-source_kept (len ∷ shape) (stride ∷ strides) (suc axis) index (i ∷ entries) e there below here =
+source_kept {shape = len ∷ shape} {strides = stride ∷ strides} (suc axis) [] at here = absurd (cc)
+source_kept {shape = len ∷ shape} {strides = stride ∷ strides} (suc axis) {index} (i ∷ entries) at here =
     let parts = and_parts (nat_lt i len) (is_index (set shape axis 1) entries) here in
-    let rest = source_kept shape strides axis index entries (omega arith) (omega arith) below parts.1 in
+    let rest = source_kept axis entries (rest-has_entry at) parts.1 in
     record {
       within = and_from (nat_lt i len) (is_index shape (set entries axis index)) parts.0 rest.within;
       offset = omega (arith, ints, rest.offset);
@@ -76,23 +88,24 @@ same_head : {x y : ℕ} {xs ys : List ℕ} → (x ∷ xs) ≡ (y ∷ ys) → x �
 same_head same = ap (λ zs. get_or zs 0 0) same
 
 -- indices of one source are one
-pub source_injective : (shape : List ℕ) (axis index : ℕ) (entries others : List ℕ) → axis < length shape
-    → is_index (set shape axis 1) entries ≡ true → is_index (set shape axis 1) others ≡ true
-    → set entries axis index ≡ set others axis index → entries ≡ others
-source_injective [] axis index entries others there p q same = absurd (omega arith)
-source_injective (len ∷ shape) zero index [] others there p q same = absurd (cc)
-source_injective (len ∷ shape) zero index (i ∷ entries) [] there p q same = absurd (cc)
-source_injective (len ∷ shape) zero index (i ∷ entries) (j ∷ others) there p q same =
-    let first = and_parts (nat_lt i 1) (is_index shape entries) p in
-    let second = and_parts (nat_lt j 1) (is_index shape others) q in
-    let at : i ≡ j = omega (arith, ltb-true i 1 first.0, ltb-true j 1 second.0) in
-    let rest : entries ≡ others = ap (drop 1) same in
-    cc
-source_injective (len ∷ shape) (suc axis) index [] others there p q same = absurd (cc)
-source_injective (len ∷ shape) (suc axis) index (i ∷ entries) [] there p q same = absurd (cc)
-source_injective (len ∷ shape) (suc axis) index (i ∷ entries) (j ∷ others) there p q same =
-    let first = and_parts (nat_lt i len) (is_index (set shape axis 1) entries) p in
-    let second = and_parts (nat_lt j len) (is_index (set shape axis 1) others) q in
-    let at : i ≡ j = same_head same in
-    let rest : entries ≡ others = source_injective shape axis index entries others (omega arith) first.1 second.1 (ap (drop 1) same) in
-    cc
+module _ (index : ℕ) where
+  pub source_injective : (shape : List ℕ) (axis : ℕ) (entries others : List ℕ) → (is_index (set shape axis 1) entries ≡ true)
+      × (is_index (set shape axis 1) others ≡ true) → axis < length shape → set entries axis index ≡ set others axis index
+      → entries ≡ others
+  source_injective [] axis entries others both there same = absurd (omega arith)
+  source_injective (len ∷ shape) zero [] others both there same = absurd (cc)
+  source_injective (len ∷ shape) zero (i ∷ entries) [] both there same = absurd (cc)
+  source_injective (len ∷ shape) zero (i ∷ entries) (j ∷ others) both there same =
+      let first = and_parts (nat_lt i 1) (is_index shape entries) both.0 in
+      let second = and_parts (nat_lt j 1) (is_index shape others) both.1 in
+      let at : i ≡ j = omega (arith, ltb-true i 1 first.0, ltb-true j 1 second.0) in
+      let rest : entries ≡ others = ap (drop 1) same in
+      cc
+  source_injective (len ∷ shape) (suc axis) [] others both there same = absurd (cc)
+  source_injective (len ∷ shape) (suc axis) (i ∷ entries) [] both there same = absurd (cc)
+  source_injective (len ∷ shape) (suc axis) (i ∷ entries) (j ∷ others) both there same =
+      let first = and_parts (nat_lt i len) (is_index (set shape axis 1) entries) both.0 in
+      let second = and_parts (nat_lt j len) (is_index (set shape axis 1) others) both.1 in
+      let at : i ≡ j = same_head same in
+      let rest = source_injective shape axis entries others (first.1, second.1) (omega arith) (ap (drop 1) same) in
+      cc

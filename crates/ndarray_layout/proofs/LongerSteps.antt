@@ -58,12 +58,12 @@ few_of_room count rest whole some room fits =
     ]
 
 -- and there is room for one that is to be kept
-pub room_at : (shape : List ℕ) (axis count : ℕ) → axis < length shape → get_or shape axis 0 ≢ 0 → 1 < get_or shape axis 0
+pub room_at : (shape : List ℕ) (axis count : ℕ) → axis < length shape → 1 < get_or shape axis 0
     → 2 ^ count * nonzero_size (drop axis shape) ≤ nonzero_size shape → nonzero_size shape ≤ limit → count < 62
-room_at shape axis count below some long so_far fits =
+room_at shape axis count below long so_far fits =
     let rest = nonzero_size (drop (axis + 1) shape) in
-    let more = room_more count (get_or shape axis 0) rest (nonzero_size shape) long (nonzero_size_from_other shape axis below some)
-    so_far in
+    let next = nonzero_size_from_other shape axis below (λ none. omega arith) in
+    let more = room_more count (get_or shape axis 0) rest (nonzero_size shape) long next so_far in
     let few = few_of_room (count + 1) rest (nonzero_size shape) (nonzero_size_pos (drop (axis + 1) shape)) more fits in
     omega (arith, few)
 

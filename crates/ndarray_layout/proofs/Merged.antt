@@ -88,28 +88,6 @@ steps_up len other (negsuc s) h g =
 up : Reaches reach_up
 up = record { few = few_up; more = more_up; steps = steps_up }
 
--- the merged axis, and what is left of the one taken, reach no further than both did
-reach_merged : {f : ℕ → ℤ → ℕ} → Reaches f → (take_len : ℕ) (take_stride : ℤ) (into_len : ℕ) (into_stride : ℤ) (left : ℕ) → left ≤ 1
-    → merge_fits take_len take_stride into_len into_stride ≡ true
-    → f (into_len * take_len) (merged_stride take_len take_stride into_len into_stride) + f left take_stride ≤ f take_len take_stride + f
-    into_len into_stride
-reach_merged {f} reaches t ts n is left one h =
-    elim (how_it_fits t ts n is h) [
-      | inl k ↦
-          let less : n * t ≤ n * 1 = mul-le-mul_left n k.few in
-          rw k.stride (omega (arith, reaches.few left ts one, reaches.more (n * t) n is (omega arith)))
-      | inr k ↦ elim k [
-        | inl k ↦
-            let less : n * t ≤ 1 * t = mul-le-mul_right t k.few in
-            rw k.stride (omega (arith, reaches.few left ts one, reaches.more (n * t) t ts (omega arith)))
-        | inr k ↦
-            let whole = reaches.steps n t is (omega (arith, k.into)) (omega (arith, k.taken)) in
-            let on : f t ts ≡ f t (pos n *ℤ is) = ap (f t) k.on in
-            rw k.stride (omega (arith, reaches.few left ts one))
-      ]
-    ]
-
--- ---- the layout
 -- one entry is left on the axis taken, or none
 abbrev left_on : ℕ → ℕ
 left_on len = cond (eqb len 0) 0 1
@@ -121,6 +99,29 @@ left_le len =
       | inr e ↦ omega (arith, cond-false {A = ℕ} (eqb len 0) 0 1 (ne_eqb len 0 e))
     ]
 
+-- the merged axis, and what is left of the one taken, reach no further than both did
+reach_merged : {f : ℕ → ℤ → ℕ} → Reaches f → (take_len : ℕ) (take_stride : ℤ) (into_len : ℕ) (into_stride : ℤ)
+    → merge_fits take_len take_stride into_len into_stride ≡ true
+    → f (into_len * take_len) (merged_stride take_len take_stride into_len into_stride) + f (left_on (into_len * take_len)) take_stride
+    ≤ f take_len take_stride + f into_len into_stride
+reach_merged {f} reaches t ts n is h =
+    let few = reaches.few (left_on (n * t)) ts (left_le (n * t)) in
+    elim (how_it_fits t ts n is h) [
+      | inl k ↦
+          let less : n * t ≤ n * 1 = mul-le-mul_left n k.few in
+          rw k.stride (omega (arith, few, reaches.more (n * t) n is (omega arith)))
+      | inr k ↦ elim k [
+        | inl k ↦
+            let less : n * t ≤ 1 * t = mul-le-mul_right t k.few in
+            rw k.stride (omega (arith, few, reaches.more (n * t) t ts (omega arith)))
+        | inr k ↦
+            let whole = reaches.steps n t is (omega (arith, k.into)) (omega (arith, k.taken)) in
+            let on : f t ts ≡ f t (pos n *ℤ is) = ap (f t) k.on in
+            rw k.stride (omega (arith, few))
+      ]
+    ]
+
+-- ---- the layout
 factor_of_left : (len : ℕ) → factor (left_on len) ≡ 1
 factor_of_left len =
     elim (cases_eq len 0) [
@@ -150,16 +151,16 @@ sum_merged {f} reaches {shape} {strides} {taken} {into} {stride} two on is =
     let ts = get_or strides taken (pos 0) in
     let shape1 = set shape into m in
     let strides1 = set strides into stride in
-    let first = sum_replaced f shape strides into m stride two.into_there two.counts in
+    let first = sum_replaced f shape strides into (m, stride) two.into_there two.counts in
     let counts1 : length shape1 ≡ length strides1 = length-set shape into m ∙ two.counts ∙ sym (length-set strides into stride) in
     let there1 : taken < length shape1 = omega (arith, length-set shape into m, two.taken_there) in
     let len1 : get_or shape1 taken 0 ≡ get_or shape taken 0 = get_or-set_other shape into taken m 0 two.apart in
     let stride1 : get_or strides1 taken (pos 0) ≡ ts = get_or-set_other strides into taken stride (pos 0) two.apart in
     let same1 : set strides1 taken ts ≡ strides1 = ap (set strides1 taken) (sym stride1) ∙ set-get_or strides1 taken (pos 0) in
     let second : sum_over_axes f (set shape1 taken u) strides1 + f (get_or shape taken 0) ts ≡ sum_over_axes f shape1 strides1 + f u ts =
-    rw (same1, len1, stride1) at (sum_replaced f shape1 strides1 taken u ts there1 counts1) in
+    rw (same1, len1, stride1) at (sum_replaced f shape1 strides1 taken (u, ts) there1 counts1) in
     let less : f m stride + f u ts ≤ f (get_or shape taken 0) ts + f (get_or shape into 0) (get_or strides into (pos 0)) =
-    rw is (reach_merged reaches (get_or shape taken 0) ts (get_or shape into 0) (get_or strides into (pos 0)) u (left_le m) on) in
+    rw is (reach_merged reaches (get_or shape taken 0) ts (get_or shape into 0) (get_or strides into (pos 0)) on) in
     omega (arith, first, second, less)
 
 -- what is left reaches no further than the layout, and is no larger
@@ -169,16 +170,16 @@ pub record MergeKept (shape : List ℕ) (strides : List ℤ) (taken into : ℕ) 
   pub low : low_span (merged_shape taken into shape) (set strides into stride) ≤ low_span shape strides
   pub high : high_span (merged_shape taken into shape) (set strides into stride) ≤ high_span shape strides
 
-size_merged : (shape : List ℕ) (taken into : ℕ) → taken < length shape → into < length shape → taken ≢ into
+size_merged : {shape : List ℕ} {strides : List ℤ} {taken into : ℕ} → TwoAxes shape strides taken into
     → nonzero_size (merged_shape taken into shape) ≤ nonzero_size shape
-size_merged shape taken into there to apart =
+size_merged {shape} {taken = taken} {into} two =
     let t = get_or shape taken 0 in
     let n = get_or shape into 0 in
     let m = whole shape taken into in
     let shape1 = set shape into m in
-    let first = size_replaced shape into m to in
-    let there1 : taken < length shape1 = omega (arith, length-set shape into m) in
-    let len1 : get_or shape1 taken 0 ≡ t = get_or-set_other shape into taken m 0 apart in
+    let first = size_replaced shape into m two.into_there in
+    let there1 : taken < length shape1 = omega (arith, length-set shape into m, two.taken_there) in
+    let len1 : get_or shape1 taken 0 ≡ t = get_or-set_other shape into taken m 0 two.apart in
     let second : nonzero_size (merged_shape taken into shape) * factor t ≡ nonzero_size shape1 * 1 =
     rw (len1, factor_of_left m) at (size_replaced shape1 taken (left_on m) there1) in
     by t n (nonzero_size shape) (nonzero_size shape1) (nonzero_size (merged_shape taken into shape)) first second
@@ -209,7 +210,7 @@ merge_kept {shape} {strides} {taken} {into} {stride} two on is =
     record {
       counts = length-set (set shape into m) taken (left_on m) ∙ length-set shape into m ∙ two.counts
           ∙ sym (length-set strides into stride);
-      size = size_merged shape taken into two.taken_there two.into_there two.apart;
+      size = size_merged two;
       low = sum_merged down two on is;
       high = sum_merged up two on is;
     }
@@ -222,9 +223,11 @@ record EntryForBoth (shape entries : List ℕ) (taken into : ℕ) : Type 0 where
   pub below : get_or entries into 0 < get_or shape taken 0 * get_or shape into 0
   pub some : 0 < get_or shape into 0
 
-entry_for_both : (shape entries : List ℕ) (taken into : ℕ) → taken < length shape → into < length shape → taken ≢ into
+entry_for_both : {shape : List ℕ} {strides : List ℤ} {taken into : ℕ} (entries : List ℕ) → TwoAxes shape strides taken into
     → is_index (merged_shape taken into shape) entries ≡ true → EntryForBoth shape entries taken into
-entry_for_both shape entries taken into there to apart here =
+entry_for_both {shape} {taken = taken} {into} entries two here =
+    let there = two.taken_there in
+    let to = two.into_there in
     let t = get_or shape taken 0 in
     let n = get_or shape into 0 in
     let m = whole shape taken into in
@@ -232,7 +235,7 @@ entry_for_both shape entries taken into there to apart here =
     let shape2 = merged_shape taken into shape in
     let count1 : length shape1 ≡ length shape = length-set shape into m in
     let count2 : length shape2 ≡ length shape = length-set shape1 taken (left_on m) ∙ count1 in
-    let on_into : get_or shape2 into 0 ≡ m = get_or-set_other shape1 taken into (left_on m) 0 (λ e. apart (sym e))
+    let on_into : get_or shape2 into 0 ≡ m = get_or-set_other shape1 taken into (left_on m) 0 (λ e. two.apart (sym e))
     ∙ get_or-set_same shape into m 0 to in
     let on_taken : get_or shape2 taken 0 ≡ left_on m = get_or-set_same shape1 taken (left_on m) 0 (omega arith) in
     let below : get_or entries into 0 < m = rw on_into at (entry_of_index shape2 entries into here (omega arith)) in
@@ -263,7 +266,7 @@ merge_source_kept {shape} {strides} {taken} {into} {stride} entries two serves h
     let is = get_or strides into (pos 0) in
     let m = whole shape taken into in
     let shape1 = set shape into m in
-    let both = entry_for_both shape entries taken into two.taken_there two.into_there two.apart here in
+    let both = entry_for_both entries two here in
     let j = get_or entries into 0 in
     let q = j / n in
     let r = j % n in
@@ -287,18 +290,21 @@ merge_source_kept {shape} {strides} {taken} {into} {stride} entries two serves h
     }
 
 -- indices of one source are one
-pub merge_source_injective : (shape : List ℕ) (taken into : ℕ) (entries others : List ℕ) → taken < length shape → into < length shape
-    → taken ≢ into → is_index (merged_shape taken into shape) entries ≡ true → is_index (merged_shape taken into shape) others ≡ true
+pub merge_source_injective : {shape : List ℕ} {strides : List ℤ} {taken into : ℕ} (entries others : List ℕ)
+    → TwoAxes shape strides taken into → is_index (merged_shape taken into shape) entries ≡ true
+    → is_index (merged_shape taken into shape) others ≡ true
     → merge_source taken into shape entries ≡ merge_source taken into shape others → entries ≡ others
-merge_source_injective shape taken into entries others there to apart here other_here same =
+merge_source_injective {shape} {taken = taken} {into} entries others two here other_here same =
+    let there = two.taken_there in
+    let to = two.into_there in
     let n = get_or shape into 0 in
-    let first = entry_for_both shape entries taken into there to apart here in
-    let second = entry_for_both shape others taken into there to apart other_here in
+    let first = entry_for_both entries two here in
+    let second = entry_for_both others two other_here in
     let j = get_or entries into 0 in
     let k = get_or others into 0 in
     let middle = set entries taken (j / n) in
     let other_middle = set others taken (k / n) in
-    let on_taken = λ (index : List ℕ) (q r : ℕ) (l : taken < length index). get_or-set_other (set index taken q) into taken r 0 apart
+    let on_taken = λ (index : List ℕ) (q r : ℕ) (l : taken < length index). get_or-set_other (set index taken q) into taken r 0 two.apart
     ∙ get_or-set_same index taken q 0 l in
     let on_into = λ (index : List ℕ) (q r : ℕ) (l : into < length index). get_or-set_same (set index taken q) into r 0
     (subst (λ x. into < x) (sym (length-set index taken q)) l) in
@@ -307,7 +313,7 @@ merge_source_injective shape taken into entries others there to apart here other
     let rests : j % n ≡ k % n = sym (on_into entries (j / n) (j % n) (omega (arith, first.count))) ∙ ap (λ l. get_or l into 0) same
     ∙ on_into others (k / n) (k % n) (omega (arith, second.count)) in
     let entry : j ≡ k = sym (div-add-mod j n) ∙ ap (λ q. n * q + j % n) quotients ∙ ap (λ r. n * (k / n) + r) rests ∙ div-add-mod k n in
-    let turned = λ (e : into ≡ taken). apart (sym e) in
+    let turned = λ (e : into ≡ taken). two.apart (sym e) in
     let middles : middle ≡ other_middle = same_with_entry into (j % n) (k % n) same (get_or-set_other entries taken into (j / n) 0 turned
     ∙ entry ∙ sym (get_or-set_other others taken into (k / n) 0 turned)) in
     same_with_entry taken (j / n) (k / n) middles (first.none ∙ sym second.none)

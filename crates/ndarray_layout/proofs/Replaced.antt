@@ -7,19 +7,15 @@ use Rattle.std.proofs.lemmas.List.{set-set, set-get_or}
 use Rattle.nd_base.proofs.laws.Definitions.{is_index, offset_of, nonzero_size, sum_over_axes}
 use Rattle.nd_base.proofs.laws.NonzeroSize.{nonzero_size_of_other, nonzero_size_of_zero}
 
--- a sum over the axes changes by the terms of that axis
-pub sum_replaced : (f : ℕ → ℤ → ℕ) (shape : List ℕ) (strides : List ℤ) (axis len : ℕ) (stride : ℤ) → axis < length shape
+-- a sum over the axes changes by the terms of that axis, which becomes one of another length and stride
+pub sum_replaced : (f : ℕ → ℤ → ℕ) (shape : List ℕ) (strides : List ℤ) (axis : ℕ) (new : ℕ × ℤ) → axis < length shape
     → length shape ≡ length strides
-    → sum_over_axes f (set shape axis len) (set strides axis stride) + f (get_or shape axis 0) (get_or strides axis (pos 0))
-    ≡ sum_over_axes f shape strides + f len stride
-sum_replaced f [] strides axis len stride h e = absurd (omega arith)
-sum_replaced f (n ∷ shape) [] axis len stride h e = absurd (omega arith)
-sum_replaced f (n ∷ shape) (s ∷ strides) zero len stride h e = omega arith
-sum_replaced f (n ∷ shape) (s ∷ strides) (suc axis) len stride h e = omega (
-  arith,
-  sum_replaced f shape strides axis len stride
-      (omega arith) (omega arith),
-)
+    → sum_over_axes f (set shape axis new.0) (set strides axis new.1) + f (get_or shape axis 0) (get_or strides axis (pos 0))
+    ≡ sum_over_axes f shape strides + f new.0 new.1
+sum_replaced f [] strides axis new h e = absurd (omega arith)
+sum_replaced f (n ∷ shape) [] axis new h e = absurd (omega arith)
+sum_replaced f (n ∷ shape) (s ∷ strides) zero new h e = omega arith
+sum_replaced f (n ∷ shape) (s ∷ strides) (suc axis) new h e = omega (arith, sum_replaced f shape strides axis new (omega arith) (omega arith))
 
 -- the factor that a length adds to the product of the lengths that are not 0
 abbrev pub factor : ℕ → ℕ
@@ -67,12 +63,8 @@ pub offset_by_stride : (strides : List ℤ) (index : List ℕ) (axis : ℕ) (str
 offset_by_stride [] index axis stride h e = absurd (omega arith)
 offset_by_stride (s ∷ strides) [] axis stride h e = absurd (omega arith)
 offset_by_stride (s ∷ strides) (i ∷ index) zero stride h e = omega (arith, ints)
-offset_by_stride (s ∷ strides) (i ∷ index) (suc axis) stride h e = omega (
-  arith,
-  ints,
-  offset_by_stride strides index axis stride
-      (omega arith) (omega arith),
-)
+offset_by_stride (s ∷ strides) (i ∷ index) (suc axis) stride h e =
+    omega (arith, ints, offset_by_stride strides index axis stride (omega arith) (omega arith))
 
 -- and with the entry on that axis
 pub offset_by_entry : (strides : List ℤ) (index : List ℕ) (axis i : ℕ) → axis < length strides → length strides ≡ length index
@@ -81,12 +73,8 @@ pub offset_by_entry : (strides : List ℤ) (index : List ℕ) (axis i : ℕ) →
 offset_by_entry [] index axis i h e = absurd (omega arith)
 offset_by_entry (s ∷ strides) [] axis i h e = absurd (omega arith)
 offset_by_entry (s ∷ strides) (j ∷ index) zero i h e = omega (arith, ints)
-offset_by_entry (s ∷ strides) (j ∷ index) (suc axis) i h e = omega (
-  arith,
-  ints,
-  offset_by_entry strides index axis i (omega arith)
-      (omega arith),
-)
+offset_by_entry (s ∷ strides) (j ∷ index) (suc axis) i h e =
+    omega (arith, ints, offset_by_entry strides index axis i (omega arith) (omega arith))
 
 -- an index of a shape with another length there is one of the shape, with an entry of the axis there
 pub index_restored : (shape index : List ℕ) (axis len i : ℕ) → is_index (set shape axis len) index ≡ true → i < get_or shape axis 0

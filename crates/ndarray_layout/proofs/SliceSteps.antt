@@ -162,9 +162,9 @@ wrote_len : (new v : ℕ) (ns out : List ℕ) {whole : List ℕ} → new < lengt
     → take (new + 1) (set ns new v) ++ out ≡ whole
 wrote_len new v ns out h e = ap (λ xs. xs ++ out) (take_more_set ns new v h) ∙ append_assoc (take new ns) (v ∷ []) out ∙ e
 
-wrote_stride : (new v : ℕ) (z : ℤ) (nt : List ℕ) (out : List ℤ) {whole : List ℤ} → new < length nt → signed v ≡ z
+wrote_stride : (new v : ℕ) {z : ℤ} (nt : List ℕ) (out : List ℤ) {whole : List ℤ} → new < length nt → signed v ≡ z
     → all_signed (take new nt) ++ (z ∷ out) ≡ whole → all_signed (take (new + 1) (set nt new v)) ++ out ≡ whole
-wrote_stride new v z nt out h s e =
+wrote_stride new v {z} nt out h s e =
     ap (λ xs. all_signed xs ++ out) (take_more_set nt new v h)
     ∙ ap (λ xs. xs ++ out) (map-append signed (take new nt) (v ∷ []))
     ∙ append_assoc (all_signed (take new nt)) (signed v ∷ []) out
@@ -173,12 +173,12 @@ wrote_stride new v z nt out h s e =
 -- ---- the steps
 module _ {fit : Fit} {elems : List SliceInfoElem} {shape : List ℕ} {strides : List ℤ} {rest : List SliceInfoElem} {lens : List ℕ}
     {steps : List ℤ} {new : ℕ} {ns nt : List ℕ} {offset : ℤ} where
-  pub slice_step : (slice : Slice) {len : ℕ} {stride : ℤ} {count : ℕ} (kept : ℕ) {moved : ℤ} → count ≡ length (picks fit len slice)
+  pub slice_step : {slice : Slice} {len : ℕ} {stride : ℤ} {count : ℕ} (kept : ℕ) {moved : ℤ} → count ≡ length (picks fit len slice)
       → signed kept ≡ picked_stride (length (picks fit len slice)) stride slice.step → moved ≡ first_offset (picks fit len slice) stride
       → slice_fault fit len slice ≡ None
       → SlicedSoFar fit elems shape strides (elem.Slice slice.start slice.end slice.step ∷ rest) (len ∷ lens) (stride ∷ steps) new ns nt
       offset → SlicedSoFar fit elems shape strides rest lens steps (new + 1) (set ns new count) (set nt new kept) (offset +ℤ moved)
-  slice_step slice {len} {stride} {count} kept n t m none s =
+  slice_step {slice} {len} {stride} {count} kept n t m none s =
       let axis = slice_kept stride (picks fit len slice) (picks_fit fit slice none) in
       let shape_is : take new ns ++ (count ∷ sliced_shape fit rest lens) ≡ sliced_shape fit elems shape = rw n s.shape_is in
       let strides_is = s.strides_is in
@@ -189,7 +189,7 @@ module _ {fit : Fit} {elems : List SliceInfoElem} {shape : List ℕ} {strides : 
         same_room = omega (arith, s.same_room, length-set ns new count, length-set nt new kept);
         fault = ap (λ fault. option_or fault (first_fault fit lens rest)) (sym none) ∙ s.fault;
         shape_is = wrote_len new count ns (sliced_shape fit rest lens) (omega (arith, s.room)) shape_is;
-        strides_is = wrote_stride new kept _ nt (sliced_strides fit rest lens steps) (omega (arith, s.room, s.same_room)) t strides_is;
+        strides_is = wrote_stride new kept nt (sliced_strides fit rest lens steps) (omega (arith, s.room, s.same_room)) t strides_is;
         offset_is = rw m (omega (arith, ints, s.offset_is));
         low = rw m (omega (arith, ints, s.low, axis.low));
         high = rw m (omega (arith, ints, s.high, axis.high));
@@ -224,17 +224,17 @@ module _ {fit : Fit} {elems : List SliceInfoElem} {shape : List ℕ} {strides : 
     same_room = omega (arith, s.same_room, length-set ns new 1, length-set nt new 0);
     fault = s.fault;
     shape_is = wrote_len new 1 ns (sliced_shape fit rest lens) (omega (arith, s.room)) s.shape_is;
-    strides_is = wrote_stride new 0 (pos 0) nt (sliced_strides fit rest lens steps) (omega (arith, s.room, s.same_room)) refl s.strides_is;
+    strides_is = wrote_stride new 0 nt (sliced_strides fit rest lens steps) (omega (arith, s.room, s.same_room)) refl s.strides_is;
     offset_is = s.offset_is;
     low = s.low;
     high = s.high;
   }
 
   -- an element at fault is the first one
-  pub slice_at_fault : (slice : Slice) {len : ℕ} {stride : ℤ} {kind : ErrorKind} → Some kind ≡ slice_fault fit len slice
+  pub slice_at_fault : {slice : Slice} {len : ℕ} {stride : ℤ} {kind : ErrorKind} → Some kind ≡ slice_fault fit len slice
       → SlicedSoFar fit elems shape strides (elem.Slice slice.start slice.end slice.step ∷ rest) (len ∷ lens) (stride ∷ steps) new ns nt
       offset → Some kind ≡ first_fault fit shape elems
-  slice_at_fault slice at s = ap (λ fault. option_or fault (first_fault fit lens rest)) at ∙ s.fault
+  slice_at_fault at s = ap (λ fault. option_or fault (first_fault fit lens rest)) at ∙ s.fault
 
   pub index_at_fault : (index : ℤ) {len : ℕ} {stride : ℤ} {kind : ErrorKind} → Some kind ≡ index_fault len index
       → SlicedSoFar fit elems shape strides (elem.Index index ∷ rest) (len ∷ lens) (stride ∷ steps) new ns nt offset
@@ -280,24 +280,20 @@ stepped {offset = offset} valid s =
     record { fits = f; next = record { so_far = rw (to_z-of_z w64 offset f) s } }
 
 module _ {fit : Fit} {elems : List SliceInfoElem} {shape strides : List ℕ} {k axis new : ℕ} {ns nt : List ℕ} {offset : ℤ} where
-  pub slice_arm : (slice : Slice) {count : ℕ} (kept : ℕ) {moved : ℤ} → IsValidLayout shape (all_signed strides)
+  pub slice_arm : {slice : Slice} {count : ℕ} (kept : ℕ) {moved : ℤ} → IsValidLayout shape (all_signed strides)
       → AtAxis fit elems shape strides (elem.Slice slice.start slice.end slice.step) k axis new ns nt offset
       → count ≡ length (picks fit (get_or shape axis 0) slice)
       → signed kept ≡ picked_stride (length (picks fit (get_or shape axis 0) slice)) (signed (get_or strides axis 0)) slice.step
       → moved ≡ first_offset (picks fit (get_or shape axis 0) slice) (signed (get_or strides axis 0))
       → slice_fault fit (get_or shape axis 0) slice ≡ None
       → Stepped fit elems shape strides (k + 1) (axis + 1) (new + 1) (set ns new count) (set nt new kept) (offset +ℤ moved)
-  slice_arm slice kept valid at n t m none =
-      stepped valid
-      (slice_step slice kept n t m none at.so_far)
+  slice_arm kept valid at n t m none = stepped valid (slice_step kept n t m none at.so_far)
 
   pub index_arm : (index : ℤ) {moved : ℤ} → IsValidLayout shape (all_signed strides)
       → AtAxis fit elems shape strides (elem.Index index) k axis new ns nt offset
       → moved ≡ meaning (get_or shape axis 0) index *ℤ signed (get_or strides axis 0) → index_fault (get_or shape axis 0) index ≡ None
       → Stepped fit elems shape strides (k + 1) (axis + 1) new ns nt (offset +ℤ moved)
-  index_arm index valid at m none =
-      stepped valid
-      (index_step index m none at.so_far)
+  index_arm index valid at m none = stepped valid (index_step index m none at.so_far)
 
 -- what an index means, and where it lies
 pub record IsEntryAt (len : ℕ) (stride : ℤ) (index : ℤ) : Type 0 where

@@ -56,9 +56,9 @@ some_size len lens some h =
     let rest = nonzero_size_pos lens in
     (omega (arith, mul-le-mul_left len rest), omega (arith, mul-le-mul_right (nonzero_size lens) some))
 
-pub entry_within : (start len : ℕ) (lens : List ℕ) (stride : ℤ) (strides : List ℤ) (i : ℕ)
+pub entry_within : {start len : ℕ} {lens : List ℕ} {stride : ℤ} {strides : List ℤ} (i : ℕ)
     → IsView (record { start = start; shape = len ∷ lens; strides = stride ∷ strides }) → i < len → IsEntry start len lens stride strides i
-entry_within start len lens stride strides i view h =
+entry_within {len = len} {lens} {stride} i view h =
     let axis = axis_within len i stride h in
     let fits = some_size len lens (omega arith) view.valid.size_fits in
     record {
@@ -82,71 +82,57 @@ as_read_none : {A : Type 0} (order : Order) → as_read {A = A} order [] ≡ []
 as_read_none RowMajor = refl
 as_read_none ColumnMajor = refl
 
--- the strides of a view by its slowest axis
-strides_split : (order : Order) {stride : ℕ} (strides rest : List ℕ) → as_read order strides ≡ stride ∷ as_read order rest
-    → as_read order (all_signed strides) ≡ signed stride ∷ all_signed (as_read order rest)
-strides_split order strides rest e = as_read_signed order strides ∙ ap all_signed e
+-- the slowest axis of a view, and the lists of the others
+pub record SlowestAxis (order : Order) (shape strides : List ℕ) (len stride : ℕ) (lens rest : List ℕ) : Type 0 where
+  pub shape_is : as_read order shape ≡ len ∷ as_read order lens
+  pub strides_is : as_read order strides ≡ stride ∷ as_read order rest
 
--- the same of the view
-pub view_split : (order : Order) (start : ℕ) {len stride : ℕ} (shape lens strides rest : List ℕ)
-    → as_read order shape ≡ len ∷ as_read order lens → as_read order strides ≡ stride ∷ as_read order rest
-    → view_as_read order start shape (all_signed strides) ≡ record {
-      start = start;
-      shape = len ∷ as_read order lens;
-      strides =
-          signed stride ∷ all_signed (as_read order rest);
-    }
-view_split order start shape lens strides rest e f = rw (e, strides_split order strides rest f) refl
+pub slowest_axis : (order : Order) (shape strides lens rest : List ℕ) {len stride : ℕ} → as_read order shape ≡ len ∷ as_read order lens
+    → as_read order strides ≡ stride ∷ as_read order rest → SlowestAxis order shape strides len stride lens rest
+slowest_axis order shape strides lens rest e f = record { shape_is = e; strides_is = f }
 
-pub entry_of : (order : Order) (start : ℕ) {len stride : ℕ} (i : ℕ) (shape lens strides rest : List ℕ)
-    → as_read order shape ≡ len ∷ as_read order lens → as_read order strides ≡ stride ∷ as_read order rest
-    → IsView (view_as_read order start shape (all_signed strides)) → i < len
-    → IsEntry start len (as_read order lens) (signed stride) (all_signed (as_read order rest)) i
-entry_of order start {len} {stride} i shape lens strides rest e f view h =
-    entry_within start len (as_read order lens) (signed stride) (all_signed (as_read order rest)) i
-    (subst IsView (view_split order start shape lens strides rest e f) view) h
+module _ {order : Order} {shape strides : List ℕ} {len stride : ℕ} {lens rest : List ℕ}
+    (slowest : SlowestAxis order shape strides len stride lens rest) where
+  strides_split : as_read order (all_signed strides) ≡ signed stride ∷ all_signed (as_read order rest)
+  strides_split = as_read_signed order strides ∙ ap all_signed slowest.strides_is
 
--- where one axis is left it is a row
-rest_of_row : (order : Order) {len : ℕ} (shape lens : List ℕ) → as_read order shape ≡ len ∷ as_read order lens → length lens ≡ 0
-    → as_read order shape ≡ len ∷ []
-rest_of_row order {len} shape lens e none = e ∙ ap (λ xs. len ∷ as_read order xs) (nil_from_length lens none)
-    ∙ ap (λ xs. len ∷ xs) (as_read_none order)
+  -- the view by it
+  pub view_split : (start : ℕ) → view_as_read order start shape (all_signed strides)
+      ≡ record { start = start; shape = len ∷ as_read order lens; strides = signed stride ∷ all_signed (as_read order rest) }
+  view_split start = rw (slowest.shape_is, strides_split) refl
 
-pub size_of_row : (order : Order) {len : ℕ} (shape lens : List ℕ) → as_read order shape ≡ len ∷ as_read order lens → length lens ≡ 0
-    → size (as_read order shape) ≡ len
-size_of_row order {len} shape lens e none =
-    let one : size (len ∷ []) ≡ len = omega arith in
-    ap size (rest_of_row order shape lens e none) ∙ one
+  pub entry_of : (start i : ℕ) → IsView (view_as_read order start shape (all_signed strides)) → i < len
+      → IsEntry start len (as_read order lens) (signed stride) (all_signed (as_read order rest)) i
+  entry_of start i view h = entry_within i (subst IsView (view_split start) view) h
 
-pub view_of_row : (order : Order) (start : ℕ) {len stride : ℕ} (shape lens strides rest : List ℕ)
-    → as_read order shape ≡ len ∷ as_read order lens → as_read order strides ≡ stride ∷ as_read order rest → length lens ≡ 0
-    → IsView (view_as_read order start shape (all_signed strides))
-    → view_as_read order start shape (all_signed strides) ≡ row_view start len (signed stride)
-view_of_row order start shape lens strides rest e f none view =
-    let row = rest_of_row order shape lens e none in
-    let split = strides_split order strides rest f in
-    let lengths : length (as_read order shape) ≡ 1 = ap length row in
-    let alone : all_signed (as_read order rest) ≡ [] = nil_from_length (all_signed (as_read order rest))
-    (omega (arith, view.valid.same_count, lengths, ap length split)) in
-    rw (row, split, alone) refl
+  -- where one axis is left it is a row
+  row_lens : length lens ≡ 0 → as_read order shape ≡ len ∷ []
+  row_lens none = slowest.shape_is ∙ ap (λ xs. len ∷ as_read order xs) (nil_from_length lens none)
+      ∙ ap (λ xs. len ∷ xs) (as_read_none order)
 
--- the walk is whole at the last entry
-pub walk_whole : (order : Order) (start : ℕ) {len stride i : ℕ} (shape lens strides rest : List ℕ)
-    → as_read order shape ≡ len ∷ as_read order lens → as_read order strides ≡ stride ∷ as_read order rest → i ≡ len
-    → view_places RowMajor (record {
-      start = start;
-      shape = i ∷ as_read order lens;
-      strides = signed stride ∷ all_signed
-          (as_read order rest);
-    }) ≡ view_places RowMajor (view_as_read order start shape (all_signed strides))
-walk_whole order start {stride} shape lens strides rest e f all =
-    ap (λ n. view_places RowMajor (record {
-      start = start;
-      shape = n ∷ as_read order lens;
-      strides = signed stride ∷ all_signed
-          (as_read order rest);
-    })) all
-    ∙ ap (view_places RowMajor) (sym (view_split order start shape lens strides rest e f))
+  pub size_of_row : length lens ≡ 0 → size (as_read order shape) ≡ len
+  size_of_row none =
+      let one : size (len ∷ []) ≡ len = omega arith in
+      ap size (row_lens none) ∙ one
+
+  pub view_of_row : (start : ℕ) → length lens ≡ 0 → IsView (view_as_read order start shape (all_signed strides))
+      → view_as_read order start shape (all_signed strides) ≡ row_view start len (signed stride)
+  view_of_row start none view =
+      let row = row_lens none in
+      let lengths : length (as_read order shape) ≡ 1 = ap length row in
+      let alone : all_signed (as_read order rest) ≡ [] = nil_from_length (all_signed (as_read order rest))
+      (omega (arith, view.valid.same_count, lengths, ap length strides_split)) in
+      rw (row, strides_split, alone) refl
+
+  -- the walk is whole at the last entry
+  pub walk_whole : (start : ℕ) {i : ℕ} → i ≡ len
+      → view_places RowMajor
+      (record { start = start; shape = i ∷ as_read order lens; strides = signed stride ∷ all_signed (as_read order rest) })
+      ≡ view_places RowMajor (view_as_read order start shape (all_signed strides))
+  walk_whole start all =
+      ap (λ n. view_places RowMajor
+      (record { start = start; shape = n ∷ as_read order lens; strides = signed stride ∷ all_signed (as_read order rest) })) all
+      ∙ ap (view_places RowMajor) (sym (view_split start))
 
 -- one row more after the rows so far
 pub row_after : (old : List ℤ) {now new : List ℤ} (rows inner : List ℤ) {all : List ℤ} → new ≡ now ++ inner → now ≡ old ++ rows

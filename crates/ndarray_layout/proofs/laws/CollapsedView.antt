@@ -11,7 +11,7 @@ use Rattle.ndarray_layout.specs.CollapsedView.{collapse_fault, collapsed_start, 
 use Rattle.ndarray_layout.specs.Descends.{Descends}
 use Rattle.ndarray_layout.specs.View.{View, IsView, view_places}
 use Rattle.ndarray_layout.proofs.ByRows.{by_rows, places_from, row_from}
-use Rattle.ndarray_layout.proofs.Collapses.{CollapseKept, collapse_kept, source_kept, source_injective}
+use Rattle.ndarray_layout.proofs.Collapses.{CollapseKept, HasEntry, collapse_kept, source_kept, source_injective}
 use Rattle.ndarray_layout.proofs.laws.KeepsPlaces.{Descends-kept}
 use Rattle.ndarray_layout.proofs.laws.View.{IsView-within}
 use Rattle.std.specs.List.{flat_map}
@@ -32,11 +32,13 @@ entry_of_no_fault shape axis index none =
 
 -- an entry of a view that can be taken
 module _ (axis index : ℕ) (view : View) (v : IsView view) (none : collapse_fault view.shape axis index ≡ None) where
-  entry : (axis < length view.shape) × (index < get_or view.shape axis 0)
-  entry = entry_of_no_fault view.shape axis index none
+  entry : HasEntry view.shape view.strides axis index
+  entry =
+      let at = entry_of_no_fault view.shape axis index none in
+      record { counts = v.valid.same_count; there = at.0; below = at.1 }
 
   kept : CollapseKept view.shape view.strides axis index
-  kept = collapse_kept view.shape view.strides axis index v.valid.same_count entry.0 entry.1
+  kept = collapse_kept axis entry
 
   -- what is left begins at a place
   pub collapsed_start_within : (pos 0 ≤ℤ collapsed_start axis index view) × (collapsed_start axis index view ≤ℤ pos limit)
@@ -57,9 +59,9 @@ module _ (axis index : ℕ) (view : View) (v : IsView view) (none : collapse_fau
   -- it is a view of the same data, whose indices lie where their sources do
   pub Descends-collapse_of : Descends (collapse_source axis index) view (collapse_of axis index view)
   Descends-collapse_of = Descends-kept is_view (λ entries here.
-      let stays = source_kept view.shape view.strides axis index entries v.valid.same_count entry.0 entry.1 here in
+      let stays = source_kept axis entries entry here in
       (stays.within, omega (arith, ints, start-collapse_of, stays.offset)))
-      (λ entries others. source_injective view.shape axis index entries others entry.0)
+      (λ entries others here also. source_injective index view.shape axis entries others (here, also) entry.there)
 
 first_entry : {start : ℕ} (stride : ℤ) → pos start +ℤ (pos 0 *ℤ stride) ≡ pos start
 first_entry (pos s) = omega (arith, ints)

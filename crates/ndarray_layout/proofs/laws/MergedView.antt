@@ -93,9 +93,6 @@ module _ (take into : ℕ) (view : View) (v : IsView view) (none : merge_fault t
   can : CanMerge take into view
   can = can_merge take into view none
 
-  axes : AreTwoAxes view.shape take into
-  axes = axes_of_no_fault view.shape take into can.axes
-
   two : TwoAxes view.shape view.strides take into
   two = two_axes v can.axes
 
@@ -114,4 +111,4 @@ module _ (take into : ℕ) (view : View) (v : IsView view) (none : merge_fault t
   Descends-merge_of = Descends-kept is_view (λ entries here.
       let stays = merge_source_kept entries two serves here in
       (stays.within, omega (arith, ints, stays.offset)))
-      (λ entries others. merge_source_injective view.shape take into entries others axes.take_there axes.into_there axes.apart)
+      (λ entries others. merge_source_injective entries others two)

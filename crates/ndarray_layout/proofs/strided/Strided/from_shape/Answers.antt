@@ -32,5 +32,5 @@ returns-clause-is_view g c =
 pub returns-clause-rule : goal.returns-clause-rule
 returns-clause-rule g c = λ why some.
     subst (λ strides. MeetsOwnedRule (g.D.Lengths.list c.args.shape.dim) (all_signed strides)) (sym c.in_ok-strides.ensures.list)
-    (by_strides_meet g.D.Lengths.list c.args.elem_size c.args.len (g.D.Lengths.list c.args.shape.dim) c.args.shape.strides
+    (by_strides_meet c.args.elem_size c.args.len g.D.Lengths.list (g.D.Lengths.list c.args.shape.dim) c.args.shape.strides
     (sym c.in_ok-can_index_slice_with_strides.ensures.fault) why some)

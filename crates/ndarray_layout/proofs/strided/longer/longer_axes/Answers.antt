@@ -16,33 +16,22 @@ returns-then-len-eq0-clause-empty c = size_of_zero_at c.args.shape.now c.loop-ax
 
 -- there is room for one more
 pub bounds-lens-count : goal.bounds-lens-count
-bounds-lens-count c = room_at c.args.shape.now c.loop-axis.axis c.loop-axis.count c.loop-axis-test.true c.if-len-eq0.false c.if-len-gt1.true
-    c.loop-axis.invariant.room c.requires.fits
+bounds-lens-count c =
+    let shape = c.args.shape.now in
+    room_at shape c.loop-axis.axis c.loop-axis.count c.loop-axis-test.true c.if-len-gt1.true c.loop-axis.invariant.room c.requires.fits
 
 pub offset_bounds-lens-count : goal.offset_bounds-lens-count
-offset_bounds-lens-count c = omega (
-  arith,
-  room_at c.args.shape.now c.loop-axis.axis c.loop-axis.count c.loop-axis-test.true
-      c.if-len-eq0.false c.if-len-gt1.true c.loop-axis.invariant.room c.requires.fits,
-)
+offset_bounds-lens-count c = omega (arith, bounds-lens-count c)
 
 pub bounds-kept-count : goal.bounds-kept-count
-bounds-kept-count c = room_at c.args.shape.now c.loop-axis.axis c.loop-axis.count c.loop-axis-test.true c.if-len-eq0.false c.if-len-gt1.true
+bounds-kept-count c = room_at c.args.shape.now c.loop-axis.axis c.loop-axis.count c.loop-axis-test.true c.if-len-gt1.true
     c.loop-axis.invariant.room c.requires.fits
 
 pub offset_bounds-kept-count : goal.offset_bounds-kept-count
-offset_bounds-kept-count c = omega (
-  arith,
-  room_at c.args.shape.now c.loop-axis.axis c.loop-axis.count c.loop-axis-test.true
-      c.if-len-eq0.false c.if-len-gt1.true c.loop-axis.invariant.room c.requires.fits,
-)
+offset_bounds-kept-count c = omega (arith, bounds-kept-count c)
 
 pub overflow_add-count : goal.overflow_add-count
-overflow_add-count c = omega (
-  arith,
-  room_at c.args.shape.now c.loop-axis.axis c.loop-axis.count c.loop-axis-test.true c.if-len-eq0.false
-      c.if-len-gt1.true c.loop-axis.invariant.room c.requires.fits,
-)
+overflow_add-count c = omega (arith, bounds-kept-count c)
 
 pub loop-axis-preserved : goal.loop-axis-preserved
 loop-axis-preserved c =
@@ -56,7 +45,7 @@ loop-axis-preserved c =
       | then-len-gt1 w ↦
           let long = w.if-len-gt1.true in
           let other : get_or shape axis 0 ≢ 1 = λ one. absurd (omega (arith, long, one)) in
-          let room : count < 62 = room_at shape axis count below c.if-len-eq0.false long c.loop-axis.invariant.room c.requires.fits in
+          let room = room_at shape axis count below long c.loop-axis.invariant.room c.requires.fits in
           rw (w.count-is, w.lens-is, w.kept-is) (record {
             sizes = (
               length-set c.loop-axis.lens count (get_or shape axis 0) ∙ c.loop-axis.invariant.sizes.0,

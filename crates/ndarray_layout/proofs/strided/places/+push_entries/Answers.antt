@@ -8,14 +8,19 @@ use Rattle.nd_base.specs.declared.order.Order.{Order}
 use Rattle.nd_base.specs.declared.order.Order.TheVariants.{RowMajor}
 use Rattle.ndarray_layout.specs.View.{IsView, view_places}
 use Rattle.ndarray_layout.specs.private.ReadView.{view_as_read, row_view}
-use Rattle.ndarray_layout.proofs.Walks.{IsEntry, entry_of, as_read_signed, places_more, row_after, view_of_row, size_of_row, walk_whole}
+use Rattle.ndarray_layout.proofs.Walks.{IsEntry, SlowestAxis, slowest_axis, entry_of, as_read_signed, places_more, row_after, view_of_row}
+use Rattle.ndarray_layout.proofs.Walks.{size_of_row, walk_whole}
 use Rattle.ndarray_layout.proofs.strided.places.+push_entries.Goals as goal
+
+slowest : (t : ℕ) (c : goal.In-loop-i t)
+    → SlowestAxis c.args.order c.args.shape.now c.args.strides.now c.in-Some-Some.len c.in-Some-Some.stride c.in-Some-Some.lens.now
+    c.in-Some-Some.rest.now
+slowest t c = record { shape_is = c.in-Some-Some.ensures.0; strides_is = c.in-Some-Some.ensures'.0 }
 
 entry : (t : ℕ) (c : goal.In-loop-i t)
     → IsEntry c.args.start c.in-Some-Some.len (as_read c.args.order c.in-Some-Some.lens.now) (signed c.in-Some-Some.stride)
     (all_signed (as_read c.args.order c.in-Some-Some.rest.now)) c.loop-i.i
-entry t c = entry_of c.args.order c.args.start c.loop-i.i c.args.shape.now c.in-Some-Some.lens.now c.args.strides.now
-    c.in-Some-Some.rest.now c.in-Some-Some.ensures.0 c.in-Some-Some.ensures'.0 c.requires.view c.loop-i-test.true
+entry t c = entry_of (slowest t c) c.args.start c.loop-i.i c.requires.view c.loop-i-test.true
 
 pub entry_place-requires-clause-small : goal.entry_place-requires-clause-small
 entry_place-requires-clause-small t c = omega (arith, (entry t c).small)
@@ -27,15 +32,16 @@ pub entry_place-requires-clause-high : goal.entry_place-requires-clause-high
 entry_place-requires-clause-high t c = (entry t c).high
 
 -- there is room for one entry more
-room_for : (length_before i len rest capacity : ℕ) {whole : ℕ} → i < len → whole ≡ len * rest → length_before + whole ≤ capacity
+room_for : (length_before rest : ℕ) {capacity i len whole : ℕ} → i < len → whole ≡ len * rest → length_before + whole ≤ capacity
     → length_before + i * rest + rest ≤ capacity
-room_for length_before i len rest capacity h e room = omega (arith, mul-le-mul_right rest h)
+room_for length_before rest h e room = omega (arith, mul-le-mul_right rest h)
 
 pub push_entries-places-requires : goal.push_entries-places-requires
 push_entries-places-requires t c =
     let order = c.args.order in
-    let known = entry_of order c.args.start c.loop-i.i c.args.shape.now c.in-Some-Some.lens.now c.args.strides.now c.in-Some-Some.rest.now
-    c.in-Some-Some.ensures.0 c.in-Some-Some.ensures'.0 c.requires.view c.loop-i-test.true in
+    let slowest = slowest_axis order c.args.shape.now c.args.strides.now c.in-Some-Some.lens.now c.in-Some-Some.rest.now
+    c.in-Some-Some.ensures.0 c.in-Some-Some.ensures'.0 in
+    let known = entry_of slowest c.args.start c.loop-i.i c.requires.view c.loop-i-test.true in
     let whole : size (as_read order c.args.shape.now) ≡ c.in-Some-Some.len * size (as_read order c.in-Some-Some.lens.now) =
     ap size c.in-Some-Some.ensures.0 in (
       omega (arith, c.in-Some-Some.ensures.1),
@@ -45,8 +51,7 @@ push_entries-places-requires t c =
           rw (as_read_signed order c.in-Some-Some.rest.now) (known.inner c.entry_place.result c.entry_place.ensures),
           omega (
             arith,
-            room_for (vec_len c.args.places) c.loop-i.i c.in-Some-Some.len (size (as_read order c.in-Some-Some.lens.now))
-                (vec_capacity c.args.places) c.loop-i-test.true whole c.requires.room,
+            room_for (vec_len c.args.places) (size (as_read order c.in-Some-Some.lens.now)) c.loop-i-test.true whole c.requires.room,
           ),
         ),
       ),
@@ -67,34 +72,29 @@ loop-i-preserved t c =
 pub returns-after-loop-i-clause-items : goal.returns-after-loop-i-clause-items
 returns-after-loop-i-clause-items t c =
     let all : c.loop-i.i ≡ c.in-Some-Some.len = omega arith in
-    let whole = walk_whole c.args.order c.args.start c.args.shape.now c.in-Some-Some.lens.now c.args.strides.now c.in-Some-Some.rest.now
-    c.in-Some-Some.ensures.0 c.in-Some-Some.ensures'.0 all in
-    c.loop-i.invariant.items ∙ ap (λ xs. map pos c.args.places.items ++ xs) whole
+    let slowest = slowest_axis c.args.order c.args.shape.now c.args.strides.now c.in-Some-Some.lens.now c.in-Some-Some.rest.now
+    c.in-Some-Some.ensures.0 c.in-Some-Some.ensures'.0 in
+    c.loop-i.invariant.items ∙ ap (λ xs. map pos c.args.places.items ++ xs) (walk_whole slowest c.args.start all)
 
 -- where one axis is left the whole view is one row
-row_of : (order : Order) (start : ℕ) {len stride : ℕ} (shape lens strides rest : List ℕ) → as_read order shape ≡ len ∷ as_read order lens
-    → as_read order strides ≡ stride ∷ as_read order rest → IsView (view_as_read order start shape (all_signed strides)) → length lens ≡ 0
-    → (view_as_read order start shape (all_signed strides) ≡ row_view start len (signed stride)) × (size (as_read order shape) ≡ len)
-row_of order start shape lens strides rest e f view none = (
-  view_of_row order start shape lens strides rest e f none view,
-  size_of_row order
-      shape lens e none,
-)
-
 pub push_row-requires : goal.push_row-requires
 push_row-requires t c =
     let none : length c.in-Some-Some.lens.now ≡ 0 = grind (arith, common_steps) in
-    let row = row_of c.args.order c.args.start c.args.shape.now c.in-Some-Some.lens.now c.args.strides.now c.in-Some-Some.rest.now
-    c.in-Some-Some.ensures.0 c.in-Some-Some.ensures'.0 c.requires.view none in
-    record { view = subst IsView row.0 c.requires.view; room = omega (arith, c.requires.room, row.1) }
+    let slowest = slowest_axis c.args.order c.args.shape.now c.args.strides.now c.in-Some-Some.lens.now c.in-Some-Some.rest.now
+    c.in-Some-Some.ensures.0 c.in-Some-Some.ensures'.0 in
+    record {
+      view = subst IsView (view_of_row slowest c.args.start none c.requires.view) c.requires.view;
+      room = omega (arith, c.requires.room, size_of_row slowest none);
+    }
 
 pub returns-then-is_empty : goal.returns-then-is_empty
 returns-then-is_empty t c =
     let none : length c.in-Some-Some.lens.now ≡ 0 = grind (arith, common_steps) in
-    let row = row_of c.args.order c.args.start c.args.shape.now c.in-Some-Some.lens.now c.args.strides.now c.in-Some-Some.rest.now
-    c.in-Some-Some.ensures.0 c.in-Some-Some.ensures'.0 c.requires.view none in
+    let slowest = slowest_axis c.args.order c.args.shape.now c.args.strides.now c.in-Some-Some.lens.now c.in-Some-Some.rest.now
+    c.in-Some-Some.ensures.0 c.in-Some-Some.ensures'.0 in
+    let row = view_of_row slowest c.args.start none c.requires.view in
     record {
-      items = c.push_row.ensures.items ∙ ap (λ view. map pos c.args.places.items ++ view_places RowMajor view) (sym row.0);
-      len = omega (arith, c.push_row.ensures.len, row.1);
+      items = c.push_row.ensures.items ∙ ap (λ view. map pos c.args.places.items ++ view_places RowMajor view) (sym row);
+      len = omega (arith, c.push_row.ensures.len, size_of_row slowest none);
       capacity = c.push_row.ensures.capacity;
     }

@@ -17,8 +17,7 @@ loop-entry-init c = record {
 
 pub entry_place-requires : goal.entry_place-requires
 entry_place-requires c =
-    let entry = entry_within c.args.start c.args.len [] (signed c.args.stride) [] c.loop-entry.entry c.requires.view
-    c.loop-entry-test.true in
+    let entry = entry_within c.loop-entry.entry c.requires.view c.loop-entry-test.true in
     record { small = omega (arith, entry.small); first = entry.first; low = entry.low; high = entry.high }
 
 pub push_reserved-requires : goal.push_reserved-requires

@@ -24,8 +24,7 @@ overflow_add-offset c =
     let h : FitsSigned w64 c.in_ok-len-in-Slice.moved = search rules in
     let known = rw (to_z-of_z w64 c.in-Slice.start f, to_z-of_z w64 c.in-Slice.step g) at c.in_ok-len-in-Slice.ensures in
     let at = at_both _ c.requires.valid c.loop-elem-test.true c.in-Slice.is (omega arith) c.loop-elem.invariant in
-    (slice_arm (record { start = c.in-Slice.start; end = c.in-Slice.end; step = c.in-Slice.step }) c.in_ok-len-in-Slice.stride
-    c.requires.valid at known.count known.stride (to_z-of_z w64 c.in_ok-len-in-Slice.moved h ∙ known.offset) (sym known.fault)).fits
+    (slice_arm c.in_ok-len-in-Slice.stride c.requires.valid at known.count known.stride (to_z-of_z w64 c.in_ok-len-in-Slice.moved h ∙ known.offset) (sym known.fault)).fits
 
 pub returns-in_err-len-in-Slice-clause-fault : goal.returns-in_err-len-in-Slice-clause-fault
 returns-in_err-len-in-Slice-clause-fault c =
@@ -34,7 +33,7 @@ returns-in_err-len-in-Slice-clause-fault c =
     let known = rw (to_z-of_z w64 c.in-Slice.start f, to_z-of_z w64 c.in-Slice.step g) at c.in_err-len-in-Slice.ensures in
     let at = at_both _ c.requires.valid c.loop-elem-test.true c.in-Slice.is (omega arith) c.loop-elem.invariant in
     let same : result_err c.from_residual.result ≡ Some c.in_err-len-in-Slice.field-0.0 = search rules in
-    same ∙ slice_at_fault (record { start = c.in-Slice.start; end = c.in-Slice.end; step = c.in-Slice.step }) known.fault at.so_far
+    same ∙ slice_at_fault known.fault at.so_far
 
 pub returns-in_err-entry-in-Index-clause-fault : goal.returns-in_err-entry-in-Index-clause-fault
 returns-in_err-entry-in-Index-clause-fault c =
@@ -79,8 +78,7 @@ loop-elem-preserved c =
           let known = rw (to_z-of_z w64 w.in-Slice.start f, to_z-of_z w64 w.in-Slice.step g) at w.in_ok-len-in-Slice.ensures in
           let at = at_both _ c.requires.valid c.loop-elem-test.true w.in-Slice.is (omega arith) c.loop-elem.invariant in
           rw (w.old_axis-is, w.new_axis-is, w.new_shape-is, w.new_strides-is, w.offset-is)
-          (slice_arm (record { start = w.in-Slice.start; end = w.in-Slice.end; step = w.in-Slice.step }) w.in_ok-len-in-Slice.stride
-          c.requires.valid at known.count known.stride (to_z-of_z w64 w.in_ok-len-in-Slice.moved h ∙ known.offset)
+          (slice_arm w.in_ok-len-in-Slice.stride c.requires.valid at known.count known.stride (to_z-of_z w64 w.in_ok-len-in-Slice.moved h ∙ known.offset)
           (sym known.fault)).next
       | in-Index+in_ok-entry-in-Index w ↦
           let h : FitsSigned w64 w.stride_offset-offset.result = search rules in
