@@ -88,24 +88,24 @@ same_head : {x y : ℕ} {xs ys : List ℕ} → (x ∷ xs) ≡ (y ∷ ys) → x �
 same_head same = ap (λ zs. get_or zs 0 0) same
 
 -- indices of one source are one
-module _ (index : ℕ) where
-  pub source_injective : (shape : List ℕ) (axis : ℕ) (entries others : List ℕ) → (is_index (set shape axis 1) entries ≡ true)
-      × (is_index (set shape axis 1) others ≡ true) → axis < length shape → set entries axis index ≡ set others axis index
-      → entries ≡ others
-  source_injective [] axis entries others both there same = absurd (omega arith)
-  source_injective (len ∷ shape) zero [] others both there same = absurd (cc)
-  source_injective (len ∷ shape) zero (i ∷ entries) [] both there same = absurd (cc)
-  source_injective (len ∷ shape) zero (i ∷ entries) (j ∷ others) both there same =
-      let first = and_parts (nat_lt i 1) (is_index shape entries) both.0 in
-      let second = and_parts (nat_lt j 1) (is_index shape others) both.1 in
-      let at : i ≡ j = omega (arith, ltb-true i 1 first.0, ltb-true j 1 second.0) in
-      let rest : entries ≡ others = ap (drop 1) same in
-      cc
-  source_injective (len ∷ shape) (suc axis) [] others both there same = absurd (cc)
-  source_injective (len ∷ shape) (suc axis) (i ∷ entries) [] both there same = absurd (cc)
-  source_injective (len ∷ shape) (suc axis) (i ∷ entries) (j ∷ others) both there same =
-      let first = and_parts (nat_lt i len) (is_index (set shape axis 1) entries) both.0 in
-      let second = and_parts (nat_lt j len) (is_index (set shape axis 1) others) both.1 in
-      let at : i ≡ j = same_head same in
-      let rest = source_injective shape axis entries others (first.1, second.1) (omega arith) (ap (drop 1) same) in
-      cc
+pub source_injective : {shape : List ℕ} {strides : List ℤ} (axis : ℕ) {index : ℕ} (entries others : List ℕ)
+    → HasEntry shape strides axis index → is_index (set shape axis 1) entries ≡ true → is_index (set shape axis 1) others ≡ true
+    → set entries axis index ≡ set others axis index → entries ≡ others
+source_injective {shape = []} axis entries others at p q same = let there = at.there in absurd (omega arith)
+source_injective {shape = len ∷ shape} {strides = []} axis entries others at p q same = let counts = at.counts in absurd (omega arith)
+source_injective {shape = len ∷ shape} {strides = stride ∷ strides} zero [] others at p q same = absurd (cc)
+source_injective {shape = len ∷ shape} {strides = stride ∷ strides} zero (i ∷ entries) [] at p q same = absurd (cc)
+source_injective {shape = len ∷ shape} {strides = stride ∷ strides} zero (i ∷ entries) (j ∷ others) at p q same =
+    let first = and_parts (nat_lt i 1) (is_index shape entries) p in
+    let second = and_parts (nat_lt j 1) (is_index shape others) q in
+    let one : i ≡ j = omega (arith, ltb-true i 1 first.0, ltb-true j 1 second.0) in
+    let rest : entries ≡ others = ap (drop 1) same in
+    cc
+source_injective {shape = len ∷ shape} {strides = stride ∷ strides} (suc axis) [] others at p q same = absurd (cc)
+source_injective {shape = len ∷ shape} {strides = stride ∷ strides} (suc axis) (i ∷ entries) [] at p q same = absurd (cc)
+source_injective {shape = len ∷ shape} {strides = stride ∷ strides} (suc axis) (i ∷ entries) (j ∷ others) at p q same =
+    let first = and_parts (nat_lt i len) (is_index (set shape axis 1) entries) p in
+    let second = and_parts (nat_lt j len) (is_index (set shape axis 1) others) q in
+    let one : i ≡ j = same_head same in
+    let rest = source_injective axis entries others (rest-has_entry at) first.1 second.1 (ap (drop 1) same) in
+    cc

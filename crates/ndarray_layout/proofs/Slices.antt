@@ -54,89 +54,94 @@ pub record SliceKept (fit : Fit) (elems : List SliceInfoElem) (shape : List ℕ)
   pub high : (sliced_offset fit elems shape strides +ℤ pos (high_span (sliced_shape fit elems shape)
       (sliced_strides fit elems shape strides))) ≤ℤ pos (high_span shape strides)
 
-pub slices_kept : (fit : Fit) (elems : List SliceInfoElem) (shape : List ℕ) (strides : List ℤ) → length shape ≡ length strides
-    → in_count elems ≡ length shape → first_fault fit shape elems ≡ None → SliceKept fit elems shape strides
-slices_kept fit [] [] strides e i f = record { counts = refl; size = omega arith; low = omega (arith, ints); high = omega (arith, ints) }
-slices_kept fit [] (len ∷ shape) strides e i f = absurd (omega arith)
-slices_kept fit (elem.NewAxis ∷ elems) shape strides e i f =
-    let rest = slices_kept fit elems shape strides e i f in
-    record {
-      counts = omega (arith, rest.counts);
-      size = omega (arith, rest.size);
-      low = omega (arith, ints, rest.low);
-      high =
-          omega (arith, ints, rest.high);
-    }
-slices_kept fit (elem.Slice start end step ∷ elems) [] strides e i f = absurd (omega arith)
-slices_kept fit (elem.Slice start end step ∷ elems) (len ∷ shape) [] e i f = absurd (omega arith)
-slices_kept fit (elem.Slice start end step ∷ elems) (len ∷ shape) (stride ∷ strides) e i f =
-    let slice : Slice = record { start = start; end = end; step = step } in
-    let none = option_or_none (slice_fault fit len slice) f in
-    let rest = slices_kept fit elems shape strides (omega arith) (omega arith) none.1 in
-    let axis = slice_kept stride (picks fit len slice) (picks_fit fit slice none.0) in
-    record {
-      counts = omega (arith, rest.counts);
-      size = nonzero_more (length (picks fit len slice)) len (nonzero_size (sliced_shape fit elems shape)) (nonzero_size shape) axis.few
-          rest.size;
-      low = omega (arith, ints, rest.low, axis.low);
-      high = omega (arith, ints, rest.high, axis.high);
-    }
-slices_kept fit (elem.Index index ∷ elems) [] strides e i f = absurd (omega arith)
-slices_kept fit (elem.Index index ∷ elems) (len ∷ shape) [] e i f = absurd (omega arith)
-slices_kept fit (elem.Index index ∷ elems) (len ∷ shape) (stride ∷ strides) e i f =
-    let none = option_or_none (index_fault len index) f in
-    let rest = slices_kept fit elems shape strides (omega arith) (omega arith) none.1 in
-    let entry = index_entry len index none.0 in
-    let axis : Within (reach_down len stride) (reach_up len stride) (meaning len index *ℤ stride) = rw (entry.0)
-    (axis_within len (magnitude (meaning len index)) stride entry.1) in
-    record {
-      counts = rest.counts;
-      size = omega (arith, nonzero_more 1 len (nonzero_size (sliced_shape fit elems shape)) (nonzero_size shape) (omega arith) rest.size);
-      low = omega (arith, ints, rest.low, axis.above);
-      high = omega (arith, ints, rest.high, axis.below);
-    }
-
 -- the index that an index of the slice stands for is one of the shape, and lies where it does
 pub record PlacesKept (fit : Fit) (elems : List SliceInfoElem) (shape : List ℕ) (strides : List ℤ) (index : List ℕ) : Type 0 where
   pub within : is_index shape (selected fit elems shape index) ≡ true
   pub offset : offset_of strides (selected fit elems shape index) ≡ sliced_offset fit elems shape strides +ℤ offset_of
       (sliced_strides fit elems shape strides) index
 
-pub places_kept : (fit : Fit) (elems : List SliceInfoElem) (shape : List ℕ) (strides : List ℤ) (index : List ℕ)
-    → length shape ≡ length strides → in_count elems ≡ length shape → first_fault fit shape elems ≡ None
-    → is_index (sliced_shape fit elems shape) index ≡ true → PlacesKept fit elems shape strides index
-places_kept fit [] [] strides [] e i f h = record { within = refl; offset = refl }
-places_kept fit [] [] strides (j ∷ index) e i f h = absurd (cc)
-places_kept fit [] (len ∷ shape) strides index e i f h = absurd (omega arith)
-places_kept fit (elem.NewAxis ∷ elems) shape strides [] e i f h = absurd (cc)
-places_kept fit (elem.NewAxis ∷ elems) shape strides (j ∷ index) e i f h =
-    let rest = places_kept fit elems shape strides index e i f (and_parts (nat_lt j 1) (is_index (sliced_shape fit elems shape) index)
-    h).1 in
-    record { within = rest.within; offset = omega (arith, ints, rest.offset) }
-places_kept fit (elem.Slice start end step ∷ elems) [] strides index e i f h = absurd (omega arith)
-places_kept fit (elem.Slice start end step ∷ elems) (len ∷ shape) [] index e i f h = absurd (omega arith)
-places_kept fit (elem.Slice start end step ∷ elems) (len ∷ shape) (stride ∷ strides) [] e i f h = absurd (cc)
-places_kept fit (elem.Slice start end step ∷ elems) (len ∷ shape) (stride ∷ strides) (j ∷ index) e i f h =
-    let slice : Slice = record { start = start; end = end; step = step } in
-    let none = option_or_none (slice_fault fit len slice) f in
-    let inside = picks_fit fit {len = len} slice none.0 in
-    let parts = and_parts (nat_lt j (length (picks fit len slice))) (is_index (sliced_shape fit elems shape) index) h in
-    let below = ltb-true j (length (picks fit len slice)) parts.0 in
-    let rest = places_kept fit elems shape strides index (omega arith) (omega arith) none.1 parts.1 in
-    let pick = get_or (picks fit len slice) j 0 in
-    record {
-      within = and_from (nat_lt pick len) (is_index shape (selected fit elems shape index)) (lt-ltb pick len (inside.within j below))
-          rest.within;
-      offset = omega (arith, ints, rest.offset, pick_offset stride j inside below);
-    }
-places_kept fit (elem.Index n ∷ elems) [] strides index e i f h = absurd (omega arith)
-places_kept fit (elem.Index n ∷ elems) (len ∷ shape) [] index e i f h = absurd (omega arith)
-places_kept fit (elem.Index n ∷ elems) (len ∷ shape) (stride ∷ strides) index e i f h =
-    let none = option_or_none (index_fault len n) f in
-    let rest = places_kept fit elems shape strides index (omega arith) (omega arith) none.1 h in
-    let entry = index_entry len n none.0 in
-    let m = magnitude (meaning len n) in
-    record {
-      within = and_from (nat_lt m len) (is_index shape (selected fit elems shape index)) (lt-ltb m len entry.1) rest.within;
-      offset = rw (← entry.0) (omega (arith, ints, rest.offset));
-    }
+module _ (fit : Fit) where
+  -- elements with an axis of the shape for each that is for one, and none at fault
+  abbrev pub FitsShape : List SliceInfoElem → List ℕ → Type 0
+  FitsShape elems shape = (in_count elems ≡ length shape) × (first_fault fit shape elems ≡ None)
+
+  pub slices_kept : (elems : List SliceInfoElem) (shape : List ℕ) (strides : List ℤ) → length shape ≡ length strides
+      → FitsShape elems shape → SliceKept fit elems shape strides
+  slices_kept [] [] strides e f = record { counts = refl; size = omega arith; low = omega (arith, ints); high = omega (arith, ints) }
+  slices_kept [] (len ∷ shape) strides e f = absurd (omega arith)
+  slices_kept (elem.NewAxis ∷ elems) shape strides e f =
+      let rest = slices_kept elems shape strides e f in
+      record {
+        counts = omega (arith, rest.counts);
+        size = omega (arith, rest.size);
+        low = omega (arith, ints, rest.low);
+        high =
+            omega (arith, ints, rest.high);
+      }
+  slices_kept (elem.Slice start end step ∷ elems) [] strides e f = absurd (omega arith)
+  slices_kept (elem.Slice start end step ∷ elems) (len ∷ shape) [] e f = absurd (omega arith)
+  slices_kept (elem.Slice start end step ∷ elems) (len ∷ shape) (stride ∷ strides) e f =
+      let slice : Slice = record { start = start; end = end; step = step } in
+      let none = option_or_none (slice_fault fit len slice) f.1 in
+      let rest = slices_kept elems shape strides (omega arith) (omega arith, none.1) in
+      let axis = slice_kept stride (picks fit len slice) (picks_fit fit slice none.0) in
+      record {
+        counts = omega (arith, rest.counts);
+        size = nonzero_more (length (picks fit len slice)) len (nonzero_size (sliced_shape fit elems shape)) (nonzero_size shape) axis.few
+            rest.size;
+        low = omega (arith, ints, rest.low, axis.low);
+        high = omega (arith, ints, rest.high, axis.high);
+      }
+  slices_kept (elem.Index index ∷ elems) [] strides e f = absurd (omega arith)
+  slices_kept (elem.Index index ∷ elems) (len ∷ shape) [] e f = absurd (omega arith)
+  slices_kept (elem.Index index ∷ elems) (len ∷ shape) (stride ∷ strides) e f =
+      let none = option_or_none (index_fault len index) f.1 in
+      let rest = slices_kept elems shape strides (omega arith) (omega arith, none.1) in
+      let entry = index_entry len index none.0 in
+      let axis : Within (reach_down len stride) (reach_up len stride) (meaning len index *ℤ stride) = rw (entry.0)
+      (axis_within len (magnitude (meaning len index)) stride entry.1) in
+      record {
+        counts = rest.counts;
+        size = omega (arith, nonzero_more 1 len (nonzero_size (sliced_shape fit elems shape)) (nonzero_size shape) (omega arith) rest.size);
+        low = omega (arith, ints, rest.low, axis.above);
+        high = omega (arith, ints, rest.high, axis.below);
+      }
+
+  pub places_kept : (elems : List SliceInfoElem) (shape : List ℕ) (strides : List ℤ) (index : List ℕ)
+      → length shape ≡ length strides → FitsShape elems shape
+      → is_index (sliced_shape fit elems shape) index ≡ true → PlacesKept fit elems shape strides index
+  places_kept [] [] strides [] e f h = record { within = refl; offset = refl }
+  places_kept [] [] strides (j ∷ index) e f h = absurd (cc)
+  places_kept [] (len ∷ shape) strides index e f h = absurd (omega arith)
+  places_kept (elem.NewAxis ∷ elems) shape strides [] e f h = absurd (cc)
+  places_kept (elem.NewAxis ∷ elems) shape strides (j ∷ index) e f h =
+      let rest = places_kept elems shape strides index e f (and_parts (nat_lt j 1) (is_index (sliced_shape fit elems shape) index)
+      h).1 in
+      record { within = rest.within; offset = omega (arith, ints, rest.offset) }
+  places_kept (elem.Slice start end step ∷ elems) [] strides index e f h = absurd (omega arith)
+  places_kept (elem.Slice start end step ∷ elems) (len ∷ shape) [] index e f h = absurd (omega arith)
+  places_kept (elem.Slice start end step ∷ elems) (len ∷ shape) (stride ∷ strides) [] e f h = absurd (cc)
+  places_kept (elem.Slice start end step ∷ elems) (len ∷ shape) (stride ∷ strides) (j ∷ index) e f h =
+      let slice : Slice = record { start = start; end = end; step = step } in
+      let none = option_or_none (slice_fault fit len slice) f.1 in
+      let inside = picks_fit fit {len = len} slice none.0 in
+      let parts = and_parts (nat_lt j (length (picks fit len slice))) (is_index (sliced_shape fit elems shape) index) h in
+      let below = ltb-true j (length (picks fit len slice)) parts.0 in
+      let rest = places_kept elems shape strides index (omega arith) (omega arith, none.1) parts.1 in
+      let pick = get_or (picks fit len slice) j 0 in
+      record {
+        within = and_from (nat_lt pick len) (is_index shape (selected fit elems shape index)) (lt-ltb pick len (inside.within j below))
+            rest.within;
+        offset = omega (arith, ints, rest.offset, pick_offset stride j inside below);
+      }
+  places_kept (elem.Index n ∷ elems) [] strides index e f h = absurd (omega arith)
+  places_kept (elem.Index n ∷ elems) (len ∷ shape) [] index e f h = absurd (omega arith)
+  places_kept (elem.Index n ∷ elems) (len ∷ shape) (stride ∷ strides) index e f h =
+      let none = option_or_none (index_fault len n) f.1 in
+      let rest = places_kept elems shape strides index (omega arith) (omega arith, none.1) h in
+      let entry = index_entry len n none.0 in
+      let m = magnitude (meaning len n) in
+      record {
+        within = and_from (nat_lt m len) (is_index shape (selected fit elems shape index)) (lt-ltb m len entry.1) rest.within;
+        offset = rw (← entry.0) (omega (arith, ints, rest.offset));
+      }

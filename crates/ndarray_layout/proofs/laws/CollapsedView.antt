@@ -61,7 +61,7 @@ module _ (axis index : ℕ) (view : View) (v : IsView view) (none : collapse_fau
   Descends-collapse_of = Descends-kept is_view (λ entries here.
       let stays = source_kept axis entries entry here in
       (stays.within, omega (arith, ints, start-collapse_of, stays.offset)))
-      (λ entries others here also. source_injective index view.shape axis entries others (here, also) entry.there)
+      (λ entries others. source_injective axis entries others entry)
 
 first_entry : {start : ℕ} (stride : ℤ) → pos start +ℤ (pos 0 *ℤ stride) ≡ pos start
 first_entry (pos s) = omega (arith, ints)

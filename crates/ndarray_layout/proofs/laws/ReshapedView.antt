@@ -47,9 +47,11 @@ offset_of_source {order} {from} {strides} {to} {others} index e k h =
     )
 
 -- different indices stand for different ones
-source_apart : (order : Order) (from to index other : List ℕ) → size from ≡ size to → is_index to index ≡ true → is_index to other ≡ true
+source_apart : {order : Order} {from : List ℕ} {strides : List ℤ} {to : List ℕ} {others : List ℤ} (index other : List ℕ)
+    → Keeps order from strides to others → is_index to index ≡ true → is_index to other ≡ true
     → reshape_source order from to index ≡ reshape_source order from to other → index ≡ other
-source_apart order from to index other sizes here there same =
+source_apart {order} {from} {to = to} index other k here there same =
+    let sizes = size-of-keeps k in
     let first =
     flat_index_in-index_of_flat_in order from (flat_index_in order to index)
     (omega (arith, flat_index_in-lt-size order to index here)) in
@@ -202,13 +204,10 @@ pub Descends-reshape_of : (order : Order) (shape : List ℕ) {view : View} → I
 Descends-reshape_of order shape {view} v none = Descends-kept whole (λ index here.
     let moved = offset_of_source index v.valid.same_count kept here in
     (moved.0, ap (λ z. pos view.start +ℤ z) moved.1))
-    (λ index other. source_apart order view.shape shape index other sizes)
+    (λ index other. source_apart index other kept)
   where
     kept : Keeps order view.shape view.strides shape (reshaped_strides order shape view)
     kept = reshaped_keeps order shape v none
-
-    sizes : size view.shape ≡ size shape
-    sizes = size-of-keeps kept
 
     whole : IsView (reshape_of order shape view)
     whole =

@@ -22,65 +22,67 @@ use Rattle.ndarray_layout.proofs.laws.SlicedView.{Descends-slice_of}
 pub share_place_symmetric : (one other : View) → SharePlace one other → SharePlace other one
 share_place_symmetric one other share = ((share.2).0, (share.2).1, (share.0, share.1, sym (share.2).2))
 
--- where no two indices of a view share a place, slices that share one meet
-pub meet_of_shared_place : (fit : Fit) (one other : List SliceInfoElem) {view : View} → IsView view
-    → argument_fault fit view.shape one ≡ None → argument_fault fit view.shape other ≡ None → HasDistinctPlaces view
-    → SharePlace (slice_of fit one view) (slice_of fit other view) → Meet fit view.shape one other
-meet_of_shared_place fit one other {view} v fits also distinct share =
-    let first = (Descends-slice_of fit one view v fits).places share.0 share.1 in
-    let second = (Descends-slice_of fit other view v also).places (share.2).0 (share.2).1 in
-    meet_of_sources fit view.shape one other fits (record {
-      index = share.0;
-      within = share.1;
-      at = (share.2).0;
-      at_within = (share.2).1;
-      same = distinct (selected fit one view.shape share.0) (selected fit other view.shape (share.2).0) first.0 second.0
-          (sym first.1 ∙ (share.2).2 ∙ second.1);
-    })
+-- two arguments that fit a view
+module _ (fit : Fit) (one other : List SliceInfoElem) {view : View} (v : IsView view) (fits : argument_fault fit view.shape one ≡ None)
+    (also : argument_fault fit view.shape other ≡ None) where
+  -- where no two indices of the view share a place, slices that share one meet
+  pub meet_of_shared_place : HasDistinctPlaces view → SharePlace (slice_of fit one view) (slice_of fit other view)
+      → Meet fit view.shape one other
+  meet_of_shared_place distinct share =
+      let first = (Descends-slice_of fit one view v fits).places share.0 share.1 in
+      let second = (Descends-slice_of fit other view v also).places (share.2).0 (share.2).1 in
+      meet_of_sources fit view.shape one other fits (record {
+        index = share.0;
+        within = share.1;
+        at = (share.2).0;
+        at_within = (share.2).1;
+        same = distinct (selected fit one view.shape share.0) (selected fit other view.shape (share.2).0) first.0 second.0
+            (sym first.1 ∙ (share.2).2 ∙ second.1);
+      })
 
--- slices that meet share a place, whatever the view
-pub shared_place_of_meet : (fit : Fit) (one other : List SliceInfoElem) {view : View} → IsView view
-    → argument_fault fit view.shape one ≡ None → argument_fault fit view.shape other ≡ None → Meet fit view.shape one other
-    → SharePlace (slice_of fit one view) (slice_of fit other view)
-shared_place_of_meet fit one other {view} v fits also meet =
-    let share = sources_of_meet fit view.shape one other fits also meet in
-    let first = (Descends-slice_of fit one view v fits).places share.index share.within in
-    let second = (Descends-slice_of fit other view v also).places share.at share.at_within in
-    (share.index, share.within, (share.at, share.at_within, first.1 ∙ ap (place_at view) share.same ∙ sym second.1))
+  -- slices that meet share a place, whatever the view
+  pub shared_place_of_meet : Meet fit view.shape one other → SharePlace (slice_of fit one view) (slice_of fit other view)
+  shared_place_of_meet meet =
+      let share = sources_of_meet fit view.shape one other fits also meet in
+      let first = (Descends-slice_of fit one view v fits).places share.index share.within in
+      let second = (Descends-slice_of fit other view v also).places share.at share.at_within in
+      (share.index, share.within, (share.at, share.at_within, first.1 ∙ ap (place_at view) share.same ∙ sym second.1))
 
--- so there slices meet exactly where they share a place
-pub meet_is_shared_place : (fit : Fit) (one other : List SliceInfoElem) {view : View} → IsView view
-    → argument_fault fit view.shape one ≡ None → argument_fault fit view.shape other ≡ None → HasDistinctPlaces view
-    → Meet fit view.shape one other ↔ SharePlace (slice_of fit one view) (slice_of fit other view)
-meet_is_shared_place fit one other v fits also distinct =
-    (shared_place_of_meet fit one other v fits also, meet_of_shared_place fit one other v fits also distinct)
+  -- so there slices meet exactly where they share a place
+  pub meet_is_shared_place : HasDistinctPlaces view
+      → Meet fit view.shape one other ↔ SharePlace (slice_of fit one view) (slice_of fit other view)
+  meet_is_shared_place distinct = (shared_place_of_meet, meet_of_shared_place distinct)
 
--- a number that is listed is the place of an index
+-- a list of numbers that are the places of a view
+pub record AreItsPlaces (view : View) (items : List ℕ) : Type 0 where
+  pub order : Order
+  pub same : map pos items ≡ view_places order view
+
+-- each is the place of an index
 pub record IsPlaceOf (view : View) (n : ℕ) : Type 0 where
   pub index : List ℕ
   pub within : is_index view.shape index ≡ true
   pub at : place_at view index ≡ pos n
 
-pub listed_place : (order : Order) (view : View) (items : List ℕ) (n : ℕ) → map pos items ≡ view_places order view → Contains items n
-    → IsPlaceOf view n
-listed_place order view items n same here =
-    let indices = indices_in order view.shape in
-    let long : length items ≡ length indices = omega (arith, length-map items pos, ap length same, length-map indices (place_at view)) in
+pub listed_place : {view : View} {items : List ℕ} (n : ℕ) → AreItsPlaces view items → Contains items n → IsPlaceOf view n
+listed_place {view} {items} n are here =
+    let indices = indices_in are.order view.shape in
+    let long : length items ≡ length indices = omega (arith, length-map items pos, ap length are.same, length-map indices (place_at view)) in
     let below : here.0 < length indices = omega (arith, here.1) in
     record {
       index = get_or indices here.0 [];
-      within = All-indices_in order view.shape here.0 [] below;
+      within = All-indices_in are.order view.shape here.0 [] below;
       at =
           sym (get_or-map (place_at view) indices here.0 [] (pos n) below)
-          ∙ ap (λ places. get_or places here.0 (pos n)) (sym same)
+          ∙ ap (λ places. get_or places here.0 (pos n)) (sym are.same)
           ∙ get_or-map pos items here.0 n (pos n) here.1
           ∙ ap pos here.2;
     }
 
 -- views that share no place have no number in both of their lists of places
-pub shared_place_of_lists : (order also : Order) (one other : View) (items more : List ℕ) (n : ℕ) → map pos items ≡ view_places order one
-    → map pos more ≡ view_places also other → Contains items n → Contains more n → SharePlace one other
-shared_place_of_lists order also one other items more n same same_more here there =
-    let first = listed_place order one items n same here in
-    let second = listed_place also other more n same_more there in
+pub shared_place_of_lists : {one other : View} {items more : List ℕ} (n : ℕ) → AreItsPlaces one items → AreItsPlaces other more
+    → Contains items n → Contains more n → SharePlace one other
+shared_place_of_lists n are also here there =
+    let first = listed_place n are here in
+    let second = listed_place n also there in
     (first.index, first.within, (second.index, second.within, first.at ∙ sym second.at))

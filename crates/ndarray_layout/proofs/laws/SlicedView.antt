@@ -66,7 +66,7 @@ module _ (fit : Fit) (elems : List SliceInfoElem) (view : View) (v : IsView view
   fits = elements_of_no_fault fit view.shape elems none
 
   kept : SliceKept fit elems view.shape view.strides
-  kept = slices_kept fit elems view.shape view.strides v.valid.same_count fits.0 fits.1
+  kept = slices_kept fit elems view.shape view.strides v.valid.same_count fits
 
   -- the slice begins at a place
   pub sliced_start_within : (pos 0 ≤ℤ sliced_start fit elems view) × (sliced_start fit elems view ≤ℤ pos limit)
@@ -87,6 +87,6 @@ module _ (fit : Fit) (elems : List SliceInfoElem) (view : View) (v : IsView view
   -- a slice of a view is a view of the same data, whose indices lie where those that they stand for do
   pub Descends-slice_of : Descends (selected fit elems view.shape) view (slice_of fit elems view)
   Descends-slice_of = Descends-kept is_view (λ index here.
-      let stays = places_kept fit elems view.shape view.strides index v.valid.same_count fits.0 fits.1 here in
+      let stays = places_kept fit elems view.shape view.strides index v.valid.same_count fits here in
       (stays.within, omega (arith, ints, start-slice_of, stays.offset)))
       (selected_injective fit elems view.shape)

@@ -8,7 +8,7 @@ use Rattle.std.proofs.lemmas.List.{take_more, get_or-drop, length-drop, length-t
 use Rattle.nd_base.specs.Size.{size, is_empty}
 use Rattle.nd_base.proofs.laws.Size.{size_take_more}
 use Rattle.ndarray_layout.specs.reshape.Joints.{cumulative_products}
-use Rattle.ndarray_layout.specs.private.ReshapeProgress.{Member, IsDense, IsBlock, segment}
+use Rattle.ndarray_layout.specs.private.ReshapeProgress.{Member, Layouts, IsReached, IsDense, IsBlock, segment}
 use Rattle.ndarray_layout.proofs.reshapes.Reached.{LastLonger, take-mono, no-product}
 use Rattle.ndarray_layout.proofs.reshapes.DenseRuns.{dense-push, dense-push-one}
 
@@ -115,19 +115,21 @@ grows lens k h l long =
     let more : size (take k lens) * 2 ≤ size (take k lens) * get_or lens k 0 = mul-le-mul_left (size (take k lens)) long in
     omega arith
 
-module _ {from : List ℕ} {strides : List ℤ} {to : List ℕ} where
-  pub between-first : (i k : ℕ) → is_empty from ≡ false → is_empty to ≡ false → i < length from → k < length to
-      → size (take i from) ≡ size (take k to) → 1 < get_or from i 0 → 1 < get_or to k 0
-      → IsBetween from strides to (i + 1) (k + 1) (get_or strides i (pos 0))
-  between-first i k h g l f e long more =
-      let from_grows = grows from i h l long in
-      let to_grows = grows to k g f more in
-      record {
-        last = longer-first i long;
-        from_products = λ n b. inl (let less = take-mono from n i h (omega arith) in omega arith);
-        to_products = λ n b. inl (let less = take-mono to n k g (omega arith) in omega arith);
-      }
+pub between-first : {both : Layouts} {i k : ℕ} → IsReached both i k → i < length both.from → k < length both.to → 1 < get_or both.from i 0
+    → 1 < get_or both.to k 0 → IsBetween both.from both.strides both.to (i + 1) (k + 1) (get_or both.strides i (pos 0))
+between-first {both} {i} {k} at l f long more =
+    let some = at.can_walk.some in
+    let to_some = at.can_walk.more in
+    let sizes = at.sizes in
+    let from_grows = grows both.from i some l long in
+    let to_grows = grows both.to k to_some f more in
+    record {
+      last = longer-first i long;
+      from_products = λ n b. inl (let less = take-mono both.from n i some (omega arith) in omega arith);
+      to_products = λ n b. inl (let less = take-mono both.to n k to_some (omega arith) in omega arith);
+    }
 
+module _ {from : List ℕ} {strides : List ℤ} {to : List ℕ} where
   -- the new shape takes its next axis
   pub between-to : {i k : ℕ} {step : ℤ} → is_empty to ≡ false → k < length to → size (take k to) < size (take i from)
       → IsBetween from strides to i k step → IsBetween from strides to i (k + 1) step

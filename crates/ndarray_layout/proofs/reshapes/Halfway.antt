@@ -82,8 +82,7 @@ module _ {both : Layouts} {i k : ℕ} where
         between = λ apart. elim lens [
           | inl same ↦ absurd (apart (e ∙ same ∙ sym f))
           | inr long ↦ subst (IsBetween both.from both.strides both.to (i + 1) (k + 1)) (sym s)
-              (between-first i k at.can_walk.some at.can_walk.more l g at.sizes long.0
-              long.1)
+              (between-first at l g long.0 long.1)
         ];
       }
 

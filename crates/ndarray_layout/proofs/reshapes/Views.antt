@@ -36,23 +36,26 @@ within_limit n none = by (ltb limit n) refl none
     by true e none = absurd (cc)
     by false e none = ltb-false limit n e
 
--- shapes that both have an index
-pub refusal_between : (order : Order) (shape : List ℕ) (view : View) → nonzero_size shape ≤ limit → is_empty view.shape ≡ false
-    → is_empty shape ≡ false → reshape_refusal order shape view ≡ reshape_fault order view.shape view.strides shape
-refusal_between order shape view fits some more = rw (le-ltb limit (nonzero_size shape) fits, some, more) refl
+-- a shape and a view that both have an index
+pub record HaveIndices (shape : List ℕ) (view : View) : Type 0 where
+  pub fits : nonzero_size shape ≤ limit
+  pub some : is_empty view.shape ≡ false
+  pub more : is_empty shape ≡ false
 
-pub refused_between : (X : Type 0) (result : Result X LayoutError) (fixed : Option ℕ) (order : Order) (shape : List ℕ) (view : View)
-    → nonzero_size shape ≤ limit → is_empty view.shape ≡ false → is_empty shape ≡ false
-    → IfErr result (λ e. IsRefusedFor (reshape_fault order view.shape view.strides shape) e)
+pub refusal_between : (order : Order) {shape : List ℕ} {view : View} → HaveIndices shape view
+    → reshape_refusal order shape view ≡ reshape_fault order view.shape view.strides shape
+refusal_between order {shape} both = rw (le-ltb limit (nonzero_size shape) both.fits, both.some, both.more) refl
+
+pub refused_between : {X : Type 0} (result : Result X LayoutError) (fixed : Option ℕ) (order : Order) {shape : List ℕ} {view : View}
+    → HaveIndices shape view → IfErr result (λ e. IsRefusedFor (reshape_fault order view.shape view.strides shape) e)
     → (NeedsNoMemory fixed (length shape) → IfErr result IsOfShape) → IfErr result (λ e. IsReshapeRefusal fixed order shape view e)
-refused_between X (Ok x) fixed order shape view fits some more refused memory = tt
-refused_between X (Err (Shape kind)) fixed order shape view fits some more refused memory = refusal_between order shape view fits some more
-    ∙ refused
-refused_between X (Err (Memory e)) fixed order shape view fits some more refused memory = ((fits, more ∙ sym some), memory)
+refused_between (Ok x) fixed order both refused memory = tt
+refused_between (Err (Shape kind)) fixed order both refused memory = refusal_between order both ∙ refused
+refused_between (Err (Memory e)) fixed order both refused memory = ((both.fits, both.more ∙ sym both.some), memory)
 
-pub strides_between : (order : Order) (shape : List ℕ) (view : View) → is_empty shape ≡ false
+pub strides_between : (order : Order) {shape : List ℕ} {view : View} → HaveIndices shape view
     → reshaped_strides order shape view ≡ forced_strides order view.shape view.strides shape
-strides_between order shape view more = rw more refl
+strides_between order both = rw both.more refl
 
 -- neither has one
 pub refusal_of_none : (order : Order) (shape : List ℕ) (view : View) → nonzero_size shape ≤ limit → is_empty view.shape ≡ true

@@ -18,28 +18,28 @@ lasting : (strides : List ℕ) (take into : ℕ) (taken : Bool)
 lasting strides take into true = sym (get_or-map signed strides take 0)
 lasting strides take into false = sym (get_or-map signed strides into 0)
 
-strides_merged : (take into : ℕ) (shape strides : List ℕ)
-    → all_signed (merged_strides take into shape strides) ≡ set (all_signed strides) into
-    (get_or (all_signed strides) (lasting_axis take into shape) (pos 0))
-strides_merged take into shape strides =
-    let taken = ltb 1 (get_or shape take 0) && leb (get_or shape into 0) 1 in
-    map-set signed strides into (cond taken (get_or strides take 0) (get_or strides into 0))
-    ∙ ap (set (all_signed strides) into) (lasting strides take into taken)
+module _ (take into : ℕ) (shape strides : List ℕ) where
+  strides_merged : all_signed (merged_strides take into shape strides) ≡ set (all_signed strides) into
+      (get_or (all_signed strides) (lasting_axis take into shape) (pos 0))
+  strides_merged =
+      let taken = ltb 1 (get_or shape take 0) && leb (get_or shape into 0) 1 in
+      map-set signed strides into (cond taken (get_or strides take 0) (get_or strides into 0))
+      ∙ ap (set (all_signed strides) into) (lasting strides take into taken)
 
--- the lists that are written are those of the view with the axes merged, or of the view
-written : (merged : Bool) (start take into : ℕ) (shape strides : List ℕ) {new_shape new_strides : List ℕ}
-    → new_shape ≡ cond merged (merged_shape take into shape) shape
-    → new_strides ≡ cond merged (merged_strides take into shape strides) strides
-    → view_of start new_shape new_strides ≡ cond merged (merge_of take into (view_of start shape strides)) (view_of start shape strides)
-written true start take into shape strides e f = rw (e, f, strides_merged take into shape strides) refl
-written false start take into shape strides e f = rw (e, f) refl
+  -- the lists that are written are those of the view with the axes merged, or of the view
+  written : (merged : Bool) (start : ℕ) {new_shape new_strides : List ℕ}
+      → new_shape ≡ cond merged (merged_shape take into shape) shape
+      → new_strides ≡ cond merged (merged_strides take into shape strides) strides
+      → view_of start new_shape new_strides ≡ cond merged (merge_of take into (view_of start shape strides)) (view_of start shape strides)
+  written true start e f = rw (e, f, strides_merged) refl
+  written false start e f = rw (e, f) refl
 
 outcome : (g : Over) (c : goal.After-merge_axes g)
     → view_of c.self.inside.start (g.D.Lengths.list c.merge_axes.new.dim) (g.D.Lengths.list c.merge_axes.new.strides)
     ≡ cond c.merge_axes.result (merge_of c.args.take.0 c.args.into.0 c.args.self.now) c.args.self.now
 outcome g c =
-    written c.merge_axes.result c.self.inside.start c.args.take.0 c.args.into.0 (g.D.Lengths.list c.self.inside.dim)
-    (g.D.Lengths.list c.self.inside.strides) c.merge_axes.ensures.shape c.merge_axes.ensures.strides
+    written c.args.take.0 c.args.into.0 (g.D.Lengths.list c.self.inside.dim) (g.D.Lengths.list c.self.inside.strides)
+    c.merge_axes.result c.self.inside.start c.merge_axes.ensures.shape c.merge_axes.ensures.strides
     ∙ ap (λ (view : View). cond c.merge_axes.result (merge_of c.args.take.0 c.args.into.0 view) view) c.self.view_is
 
 -- it was merged exactly where some stride has the entries of both

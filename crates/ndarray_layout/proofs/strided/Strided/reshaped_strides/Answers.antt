@@ -1,11 +1,11 @@
 -- Which shapes have an index says what is left to refuse.
-use Rattle.std.proofs.Common.{◌≡◌, ◌≤◌, false, sym, ap, subst, ◌∙◌}
+use Rattle.std.proofs.Common.{◌≡◌, ◌≤◌, sym, ap, subst, ◌∙◌}
 use Rattle.std.specs.Prelude.{None, IfErr, IfOk, OnOk}
 use Rattle.std.proofs.lemmas.Bool.{false≢true}
 use Rattle.nd_base.proofs.laws.Definitions.{NeedsNoMemory, all_signed, is_empty, limit, nonzero_size}
 use Rattle.ndarray_layout.specs.ReshapedView.{IsReshapeRefusal, reshape_refusal, reshaped_strides as strides_of}
 use Rattle.ndarray_layout.specs.View.{View, view_of}
-use Rattle.ndarray_layout.proofs.reshapes.Views.{refusal_between, refused_between, both_are, strides_between, strides_of_none}
+use Rattle.ndarray_layout.proofs.reshapes.Views.{HaveIndices, refusal_between, refused_between, both_are, strides_between, strides_of_none}
 use Rattle.ndarray_layout.proofs.reshapes.Views.{within_limit}
 use Rattle.std.specs.Prelude.{length}
 use Rattle.ndarray_layout.proofs.strided.Strided.reshaped_strides.Given.{Over}
@@ -36,31 +36,33 @@ returns-then-is_empty-clause-strides g c =
 abbrev here : (g : Over) → goal.After-reshape_dim g → View
 here g c = view_of c.self.inside.start (g.D.Lengths.list c.self.inside.dim) (g.D.Lengths.list c.self.inside.strides)
 
--- where both shapes have an index
-some : (g : Over) (c : goal.After-reshape_dim g)
-    → (is_empty (here g c).shape ≡ false) × (is_empty (g.E.Lengths.list c.args.shape.now) ≡ false)
-some g c = both_are c.contains-is_empty.ensures.value c.contains.ensures.value c.slice-lens.ensures.list c.slice-new_lens.ensures.list
-    c.if-is_empty-contains.false c.if-is_empty.false
-
-fits : (g : Over) (c : goal.After-reshape_dim g) → nonzero_size (g.E.Lengths.list c.args.shape.now) ≤ limit
-fits g c = within_limit (nonzero_size (g.E.Lengths.list c.args.shape.now)) c.in_ok-size_of_shape_checked.ensures.fault
+-- both shapes have an index
+have_indices : (g : Over) (c : goal.After-reshape_dim g) → HaveIndices (g.E.Lengths.list c.args.shape.now) (here g c)
+have_indices g c =
+    let both = both_are c.contains-is_empty.ensures.value c.contains.ensures.value c.slice-lens.ensures.list c.slice-new_lens.ensures.list
+    c.if-is_empty-contains.false c.if-is_empty.false in
+    record {
+      fits = within_limit (nonzero_size (g.E.Lengths.list c.args.shape.now)) c.in_ok-size_of_shape_checked.ensures.fault;
+      some = both.0;
+      more = both.1;
+    }
 
 pub returns-clause-fits : goal.returns-clause-fits
 returns-clause-fits g c =
     let to = g.E.Lengths.list c.args.shape.now in
     subst (λ (v : View). OnOk c.reshape_dim.result (reshape_refusal c.args.order to v ≡ None)) c.self.view_is
-    (rw (refusal_between c.args.order to (here g c) (fits g c) (some g c).0 (some g c).1) c.reshape_dim.ensures.fits)
+    (rw (refusal_between c.args.order (have_indices g c)) c.reshape_dim.ensures.fits)
 
 pub returns-clause-fault : goal.returns-clause-fault
 returns-clause-fault g c =
     let to = g.E.Lengths.list c.args.shape.now in
     subst (λ (v : View). IfErr c.reshape_dim.result (λ e. IsReshapeRefusal g.E.FixedCount.NDIM c.args.order to v e)) c.self.view_is
-    (refused_between _ c.reshape_dim.result g.E.FixedCount.NDIM c.args.order to (here g c) (fits g c) (some g c).0 (some g c).1
-    c.reshape_dim.ensures.fault c.reshape_dim.ensures.memory)
+    (refused_between c.reshape_dim.result g.E.FixedCount.NDIM c.args.order (have_indices g c) c.reshape_dim.ensures.fault
+    c.reshape_dim.ensures.memory)
 
 pub returns-clause-strides : goal.returns-clause-strides
 returns-clause-strides g c =
     let to = g.E.Lengths.list c.args.shape.now in
     subst (λ (v : View). IfOk c.reshape_dim.result (λ d. all_signed (g.E.Lengths.list d) ≡ strides_of c.args.order to v)) c.self.view_is
     (subst (λ strides. IfOk c.reshape_dim.result (λ d. all_signed (g.E.Lengths.list d) ≡ strides))
-    (sym (strides_between c.args.order to (here g c) (some g c).1)) c.reshape_dim.ensures.strides)
+    (sym (strides_between c.args.order (have_indices g c))) c.reshape_dim.ensures.strides)

@@ -1,5 +1,5 @@
 -- What is written grows by each axis that is not of length 1, and there is room for it.
-use Rattle.std.proofs.Common.{◌≡◌, ◌≢◌, ◌+◌, ◌*◌, ◌<◌, ◌++◌, get_or, take, drop, arith, sym, ap, ◌∙◌, refl}
+use Rattle.std.proofs.Common.{◌≡◌, ◌≢◌, ◌+◌, ◌*◌, ◌++◌, get_or, take, drop, arith, sym, ap, ◌∙◌, refl}
 use Rattle.std.proofs.Math.ListN.{length-set}
 use Rattle.nd_base.specs.Size.{nonzero_size}
 use Rattle.nd_base.proofs.laws.NonzeroSize.{nonzero_size_pos, nonzero_size_from_other}

@@ -33,12 +33,15 @@ offset_bounds-entries-index c =
     (omega (arith, many axes))) in
     omega (arith, c.type_inv.entries)
 
--- the places so far, and one more
-one_more : (moved numbers entries : List ℕ) (place number : ℕ) → place < length moved → number ≡ get_or numbers place 0
-    → ((k : ℕ) → k < place → get_or moved k 0 ≡ get_or entries (get_or numbers k 0) 0)
-    → (k : ℕ) → k < place + 1 → get_or (set moved place (get_or entries number 0)) k 0 ≡ get_or entries (get_or numbers k 0) 0
-one_more moved numbers entries place number inside is sofar k before = elim (cases_lt k place) [
-  | inl earlier ↦ get_or-set_other moved place k (get_or entries number 0) 0 (λ e. absurd (omega arith)) ∙ sofar k earlier
+-- the first places have their entries
+abbrev AreMoved : List ℕ → List ℕ → List ℕ → ℕ → Type 0
+AreMoved moved numbers entries count = (k : ℕ) → k < count → get_or moved k 0 ≡ get_or entries (get_or numbers k 0) 0
+
+-- and one more
+one_more : (moved numbers entries : List ℕ) (place : ℕ) {number : ℕ} → place < length moved → number ≡ get_or numbers place 0
+    → AreMoved moved numbers entries place → AreMoved (set moved place (get_or entries number 0)) numbers entries (place + 1)
+one_more moved numbers entries place {number} inside is so_far k before = elim (cases_lt k place) [
+  | inl earlier ↦ get_or-set_other moved place k (get_or entries number 0) 0 (λ e. absurd (omega arith)) ∙ so_far k earlier
   | inr last ↦
       let same : k ≡ place = omega arith in
       rw same (get_or-set_same moved place (get_or entries number 0) 0 inside ∙ ap (λ n. get_or entries n 0) is)
@@ -51,8 +54,7 @@ loop-place-preserved c =
     let inside : c.loop-place.place < length axes = search rules in
     let number = number_at axes c.loop-place.place c.index.result _ inside c.index.ensures in (
       length-set moved c.loop-place.place (get_or c.args.entries.now c.index.result 0) ∙ c.loop-place.invariant.0,
-      one_more moved (axis_numbers axes) c.args.entries.now c.loop-place.place c.index.result (omega (arith, c.loop-place.invariant.0))
-          number
+      one_more moved (axis_numbers axes) c.args.entries.now c.loop-place.place (omega (arith, c.loop-place.invariant.0)) number
           c.loop-place.invariant.1,
     )
 

@@ -1,13 +1,11 @@
 -- Each entry of the slowest axis gives the places of the rest of the view from its own start on.
-use Rattle.std.proofs.Common.{◌≡◌, ℕ, List, length, ◌∷◌, sym, subst, ◌+◌, ◌*◌, ◌≤◌, ◌<◌, pos, map, vec_len, vec_capacity, ◌++◌, arith, ap}
+use Rattle.std.proofs.Common.{◌≡◌, ℕ, length, sym, subst, ◌+◌, ◌*◌, ◌≤◌, ◌<◌, pos, map, vec_len, ◌++◌, arith, ap}
 use Rattle.std.proofs.Common.{◌∙◌}
 use Rattle.std.proofs.Math.Nat.{mul-le-mul_right}
 use Rattle.nd_base.proofs.laws.Definitions.{as_read, all_signed, signed, size}
 use Rattle.std.proofs.lemmas.Grind.{common_steps}
-use Rattle.nd_base.specs.declared.order.Order.{Order}
 use Rattle.nd_base.specs.declared.order.Order.TheVariants.{RowMajor}
 use Rattle.ndarray_layout.specs.View.{IsView, view_places}
-use Rattle.ndarray_layout.specs.private.ReadView.{view_as_read, row_view}
 use Rattle.ndarray_layout.proofs.Walks.{IsEntry, SlowestAxis, slowest_axis, entry_of, as_read_signed, places_more, row_after, view_of_row}
 use Rattle.ndarray_layout.proofs.Walks.{size_of_row, walk_whole}
 use Rattle.ndarray_layout.proofs.strided.places.+push_entries.Goals as goal
