@@ -21,7 +21,7 @@ use Rattle.ndarray_layout.proofs.laws.Offset.{offset_of-zeros}
 use Rattle.nd_owned.specs.declared.blocks.Block.{Block}
 use Rattle.nd_owned.specs.declared.rows.Rows.{Rows}
 use Rattle.nd_owned.specs.private.Rows.{IsBlockInside, AreInside, AreRowsInside, block_places, row_places, start_list}
-use Rattle.nd_owned.proofs.Placed.{all_first, all_of_part, all_second, inside_of_part, parts_more}
+use Rattle.nd_owned.proofs.Placed.{IsItem, all_first, all_of_part, all_second, inside_of_part, parts_more}
 use Rattle.nd_owned.proofs.RowPlaces.{begins, entry_inside, get_or-row_places, length-row_places, row_more}
 
 -- ---- how many there are
@@ -52,11 +52,11 @@ module _ (block : Block) (start row : ℕ) where
   abbrev first : ℤ
   first = pos start +ℤ (pos row *ℤ signed block.rows_stride)
 
-  pub is_row : row < block.rows → (row < length (row_starts block start)) × (first ≡ get_or (row_starts block start) row first)
-  is_row below = (
-    omega (arith, length-row_places start (signed block.rows_stride) block.rows),
-    sym (get_or-row_places start (signed block.rows_stride) block.rows row first below),
-  )
+  pub is_row : row < block.rows → IsItem (row_starts block start) row first
+  is_row below = record {
+    below = omega (arith, length-row_places start (signed block.rows_stride) block.rows);
+    is = sym (get_or-row_places start (signed block.rows_stride) block.rows row first below);
+  }
 
   -- its place, as a number
   pub row_there : {place : ℕ} → pos place ≡ first → row_from block first ≡ row_places place (signed block.stride) block.len
@@ -65,8 +65,7 @@ module _ (block : Block) (start row : ℕ) where
   pub row_inside : {place : ℕ} (count : ℕ) → row < block.rows → pos place ≡ first → IsBlockInside count block start
       → AreInside count (row_places place (signed block.stride) block.len)
   row_inside count below is inside =
-      let here = is_row below in
-      subst (AreInside count) (row_there is) (inside_of_part (row_from block) (row_starts block start) row here.0 here.1 inside.places)
+      subst (AreInside count) (row_there is) (inside_of_part (row_from block) (is_row below) inside.places)
 
   pub row_begins : row < block.rows → All (IsInside (2 ^ 63)) (row_starts block start)
       → (start < 2 ^ 63) × IsInside (2 ^ 63) first
@@ -76,24 +75,24 @@ module _ (block : Block) (start row : ℕ) where
   )
 
 -- ---- a block of several
-pub block_inside : {count : ℕ} (rows : Rows) (i : ℕ) {start : ℕ} → i < length (start_list rows.starts)
-    → start ≡ get_or (start_list rows.starts) i start → AreRowsInside count rows → IsBlockInside count rows.block start
-block_inside rows i below is inside = record {
-  places = inside_of_part (block_places rows.block) (start_list rows.starts) i below is inside.places;
-  begins = all_of_part (IsInside (2 ^ 63)) (row_starts rows.block) (start_list rows.starts) i below is inside.begin;
+pub block_inside : {count : ℕ} (rows : Rows) {i start : ℕ} → IsItem (start_list rows.starts) i start → AreRowsInside count rows
+    → IsBlockInside count rows.block start
+block_inside rows item inside = record {
+  places = inside_of_part (block_places rows.block) item inside.places;
+  begins = all_of_part (IsInside (2 ^ 63)) (row_starts rows.block) item inside.begin;
   few = inside.few;
 }
 
 -- ---- one more list of places that is read
-module _ {A Y : Type 0} (f : A → List ℤ) (xs : List A) (i : ℕ) {x : A} (got : ℤ → Y) where
-  pub more_read : (before old : List Y) {new : List Y} → i < length xs → x ≡ get_or xs i x → new ≡ old ++ map got (f x)
-      → old ≡ before ++ map got (flat_map f (take i xs)) → new ≡ before ++ map got (flat_map f (take (i + 1) xs))
-  more_read before old below is added so_far =
-      let places = flat_map f (take i xs) in
-      added
-      ∙ ap (λ ys. ys ++ map got (f x)) so_far
-      ∙ append_assoc before (map got places) (map got (f x))
-      ∙ ap (λ ys. before ++ ys) (sym (map-append got places (f x)) ∙ ap (map got) (sym (parts_more f xs i below is)))
+pub more_read : {A Y : Type 0} (f : A → List ℤ) {xs : List A} {i : ℕ} {x : A} (got : ℤ → Y) (before : List Y) {old new : List Y}
+    → IsItem xs i x → new ≡ old ++ map got (f x) → old ≡ before ++ map got (flat_map f (take i xs))
+    → new ≡ before ++ map got (flat_map f (take (i + 1) xs))
+more_read f {xs} {i} {x} got before item added so_far =
+    let places = flat_map f (take i xs) in
+    added
+    ∙ ap (λ ys. ys ++ map got (f x)) so_far
+    ∙ append_assoc before (map got places) (map got (f x))
+    ∙ ap (λ ys. before ++ ys) (sym (map-append got places (f x)) ∙ ap (map got) (sym (parts_more f item)))
 
 -- ---- lists of lists of lists
 flat_map-flat_map : {A B C : Type 0} (g : B → List C) (f : A → List B) (xs : List A)

@@ -46,19 +46,24 @@ no_entry shape axis below refused = by (get_or shape axis 0) refused
         (ap (λ here. cond (here && nat_lt 0 (suc len)) None (Some OutOfBounds)) (lt-ltb axis (length shape) below)
         ∙ ap (λ here. cond here None (Some OutOfBounds)) (lt-ltb 0 (suc len) (omega arith))))
 
+-- the first entry of an axis was taken, or it has none
+pub record IsTaken (view left : View) (axis : ℕ) (taken : Result (Unit {0}) ShapeError) : Type 0 where
+  pub fault : result_err taken ≡ collapse_fault view.shape axis 0
+  pub stays : OnErr taken (left ≡ view)
+  pub collapsed : OnOk taken (left ≡ collapse_of axis 0 view)
+
 -- what is left, by whether there was an entry
-pub rows_left : {view : View} (left : View) {axis : ℕ} {stride : ℤ} {len : ℕ} (taken : Result (Unit {0}) ShapeError) → IsView view
-    → IsLastAxis view axis stride len → result_err taken ≡ collapse_fault view.shape axis 0 → OnErr taken (left ≡ view)
-    → OnOk taken (left ≡ collapse_of axis 0 view) → (starts : List ℕ) → map pos starts ≡ view_places RowMajor left
+pub rows_left : {view left : View} {axis : ℕ} {stride : ℤ} {len : ℕ} (taken : Result (Unit {0}) ShapeError) → IsView view
+    → IsLastAxis view axis stride len → IsTaken view left axis taken → (starts : List ℕ) → map pos starts ≡ view_places RowMajor left
     → flat_map (λ start. row_places start stride len) starts ≡ view_places RowMajor view
-rows_left {view} left {axis} {len} (Ok u) v last fault stays collapsed starts same =
+rows_left {view} {axis = axis} {len = len} (Ok u) v last is starts same =
     let rows = λ (s : ℤ) (n : ℕ). flat_map (λ start. row_places start s n) starts in
     ap (λ s. rows s len) last.is_stride
     ∙ ap (λ n. rows (get_or view.strides axis (pos 0)) n) last.is_len
     ∙ sym (places-collapse_of_last view axis starts last.last (sym v.valid.same_count ∙ last.last)
-    (same ∙ ap (view_places RowMajor) collapsed))
-rows_left {view} left {axis} {stride} (Err e) v last fault stays collapsed starts same =
-    let none = no_entry view.shape axis (omega (arith, last.last)) (λ no. some_none (fault ∙ no)) in
+    (same ∙ ap (view_places RowMajor) is.collapsed))
+rows_left {view} {axis = axis} {stride} (Err e) v last is starts same =
+    let none = no_entry view.shape axis (omega (arith, last.last)) (λ no. some_none (is.fault ∙ no)) in
     let zero : 0 * size (set view.shape axis 1) ≡ 0 = omega arith in
     let empty : size view.shape ≡ 0 = size_by_axis view.shape axis (omega (arith, last.last)) ∙ ap (λ n. n * size (set view.shape axis 1))
     none ∙ zero in
@@ -69,14 +74,13 @@ rows_left {view} left {axis} {stride} (Err e) v last fault stays collapsed start
     some_none : {X : Type 0} {x : X} → Some x ≡ None → ⊥
     some_none same = absurd (cc)
 
-pub none_left : {view : View} (left : View) {axis : ℕ} {stride : ℤ} {len : ℕ} (taken : Result (Unit {0}) ShapeError)
-    → IsLastAxis view axis stride len → result_err taken ≡ collapse_fault view.shape axis 0 → OnErr taken (left ≡ view)
-    → OnOk taken (left ≡ collapse_of axis 0 view) → size view.shape ≡ 0 → size left.shape ≡ 0
-none_left {view} left {axis} (Ok u) last fault stays collapsed none =
-    let entry = entry_of_no_fault view.shape axis 0 (sym fault) in
-    ap (λ v. size v.shape) collapsed
+pub none_left : {view left : View} {axis : ℕ} (taken : Result (Unit {0}) ShapeError) → IsTaken view left axis taken → size view.shape ≡ 0
+    → size left.shape ≡ 0
+none_left {view} {axis = axis} (Ok u) is none =
+    let entry = entry_of_no_fault view.shape axis 0 (sym is.fault) in
+    ap (λ v. size v.shape) is.collapsed
     ∙ none_of_product (get_or view.shape axis 0) (size (set view.shape axis 1)) entry.1 (sym (size_by_axis view.shape axis entry.0) ∙ none)
-none_left left (Err e) last fault stays collapsed none = ap (λ v. size v.shape) stays ∙ none
+none_left (Err e) is none = ap (λ v. size v.shape) is.stays ∙ none
 
 -- its length is that of an axis
 pub last_len_fits : {view : View} {axis : ℕ} {stride : ℤ} {len : ℕ} → IsView view → IsLastAxis view axis stride len → len < 2 ^ 63

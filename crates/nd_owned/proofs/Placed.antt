@@ -17,12 +17,16 @@ other_default [] i d e below = absurd (omega arith)
 other_default (x ∷ xs) zero d e below = refl
 other_default (x ∷ xs) (suc i) d e below = other_default xs i d e (omega arith)
 
+-- an item of a list, at its index
+pub record IsItem {X : Type 0} (xs : List X) (i : ℕ) (x : X) : Type 0 where
+  pub below : i < length xs
+  pub is : x ≡ get_or xs i x
+
 -- the number of one turn of a loop over a list that is another one
-pub number_of_turn : {given xs : List ℕ} (i : ℕ) → given ≡ xs → i < length given
-    → (i < length xs) × (get_or given i 0 ≡ get_or xs i (get_or given i 0))
+pub number_of_turn : {given xs : List ℕ} (i : ℕ) → given ≡ xs → i < length given → IsItem xs i (get_or given i 0)
 number_of_turn {given} {xs} i same below =
     let under : i < length xs = subst (λ those. i < length those) same below in
-    (under, ap (λ those. get_or those i 0) same ∙ other_default xs i 0 (get_or given i 0) under)
+    record { below = under; is = ap (λ those. get_or those i 0) same ∙ other_default xs i 0 (get_or given i 0) under }
 
 -- a function of each item of a list that is the same as another one there
 map_same : {X Y : Type 0} (f g : X → Y) (xs : List X) → All (λ x. f x ≡ g x) xs → map f xs ≡ map g xs
@@ -59,12 +63,12 @@ parts_apart xs ys distinct = λ k d below here.
     ∙ sym (get_or-append-add xs ys here.0 d))
 
 -- ---- a list of lists, at one of them
-parts_of : {A X : Type 0} (f : A → List X) (xs : List A) (i : ℕ) {x : A} → i < length xs → x ≡ get_or xs i x
+parts_of : {A X : Type 0} (f : A → List X) {xs : List A} {i : ℕ} {x : A} → IsItem xs i x
     → flat_map f xs ≡ (flat_map f (take i xs) ++ f x) ++ flat_map f (drop (i + 1) xs)
-parts_of f xs i {x} below is =
+parts_of f {xs} {i} {x} item =
     let cut : xs ≡ (take i xs ++ x ∷ []) ++ drop (i + 1) xs =
     sym (take-append-drop i xs)
-    ∙ ap (λ ys. take i xs ++ ys) (drop_more xs i x below ∙ ap (λ y. y ∷ drop (i + 1) xs) (sym is))
+    ∙ ap (λ ys. take i xs ++ ys) (drop_more xs i x item.below ∙ ap (λ y. y ∷ drop (i + 1) xs) (sym item.is))
     ∙ sym (append_assoc (take i xs) (x ∷ []) (drop (i + 1) xs)) in
     ap (flat_map f) cut
     ∙ flat_map-append f (take i xs ++ x ∷ []) (drop (i + 1) xs)
@@ -72,48 +76,46 @@ parts_of f xs i {x} below is =
     (append-nil (f x)))
 
 -- those so far, with one more
-pub parts_more : {A X : Type 0} (f : A → List X) (xs : List A) (i : ℕ) {x : A} → i < length xs → x ≡ get_or xs i x
+pub parts_more : {A X : Type 0} (f : A → List X) {xs : List A} {i : ℕ} {x : A} → IsItem xs i x
     → flat_map f (take (i + 1) xs) ≡ flat_map f (take i xs) ++ f x
-parts_more f xs i {x} below is =
-    ap (flat_map f) (take_more xs i x below ∙ ap (λ y. take i xs ++ y ∷ []) (sym is))
+parts_more f {xs} {i} {x} item =
+    ap (flat_map f) (take_more xs i x item.below ∙ ap (λ y. take i xs ++ y ∷ []) (sym item.is))
     ∙ flat_map-append f (take i xs) (x ∷ [])
     ∙ ap (λ ys. flat_map f (take i xs) ++ ys) (append-nil (f x))
 
 -- one that has nothing adds nothing
-pub parts_skipped : {A X : Type 0} (f : A → List X) (xs : List A) (i : ℕ) {x : A} → i < length xs → x ≡ get_or xs i x → length (f x) ≡ 0
+pub parts_skipped : {A X : Type 0} (f : A → List X) {xs : List A} {i : ℕ} {x : A} → IsItem xs i x → length (f x) ≡ 0
     → flat_map f (take (i + 1) xs) ≡ flat_map f (take i xs)
-parts_skipped f xs i {x} below is none = parts_more f xs i below is ∙ ap (λ ys. flat_map f (take i xs) ++ ys) (nil_from_length (f x) none)
+parts_skipped f {xs} {i} {x} item none = parts_more f item ∙ ap (λ ys. flat_map f (take i xs) ++ ys) (nil_from_length (f x) none)
     ∙ append-nil (flat_map f (take i xs))
 
 -- one more of two lists of lists
-pub parts_pushed : {A B X : Type 0} (f : A → List X) (g : B → List X) (old : List A) {new : List A} (x : A) (ys : List B) (i : ℕ) {y : B}
-    → new ≡ old ++ x ∷ [] → i < length ys → y ≡ get_or ys i y → f x ≡ g y → flat_map f old ≡ flat_map g (take i ys)
-    → flat_map f new ≡ flat_map g (take (i + 1) ys)
-parts_pushed f g old x ys i {y} pushed below is same before =
-    ap (flat_map f) pushed
-    ∙ flat_map-append f old (x ∷ [])
+pub parts_pushed : {A B X : Type 0} (f : A → List X) (g : B → List X) (old : List A) (x : A) {ys : List B} {i : ℕ} {y : B} → IsItem ys i y
+    → f x ≡ g y → flat_map f old ≡ flat_map g (take i ys) → flat_map f (old ++ x ∷ []) ≡ flat_map g (take (i + 1) ys)
+parts_pushed f g old x {y = y} item same before =
+    flat_map-append f old (x ∷ [])
     ∙ ap (λ zs. flat_map f old ++ zs) (append-nil (f x) ∙ same)
     ∙ ap (λ zs. zs ++ g y) before
-    ∙ sym (parts_more g ys i below is)
+    ∙ sym (parts_more g item)
 
-pub all_of_part : {A X : Type 0} (P : X → Type 0) (f : A → List X) (xs : List A) (i : ℕ) {x : A} → i < length xs → x ≡ get_or xs i x
+pub all_of_part : {A X : Type 0} (P : X → Type 0) (f : A → List X) {xs : List A} {i : ℕ} {x : A} → IsItem xs i x
     → All P (flat_map f xs) → All P (f x)
-all_of_part P f xs i {x} below is all =
+all_of_part P f {xs} {i} {x} item all =
     all_second P (flat_map f (take i xs)) (f x) (all_first P (flat_map f (take i xs) ++ f x) (flat_map f (drop (i + 1) xs))
-    (subst (All P) (parts_of f xs i below is) all))
+    (subst (All P) (parts_of f item) all))
 
-pub inside_of_part : {A : Type 0} {count : ℕ} (f : A → List ℤ) (xs : List A) (i : ℕ) {x : A} → i < length xs → x ≡ get_or xs i x
+pub inside_of_part : {A : Type 0} {count : ℕ} (f : A → List ℤ) {xs : List A} {i : ℕ} {x : A} → IsItem xs i x
     → AreInside count (flat_map f xs) → AreInside count (f x)
-inside_of_part {count} f xs i below is inside = record {
-  within = all_of_part (IsInside count) f xs i below is inside.within;
-  fit = all_of_part (IsInside (2 ^ 63)) f xs i below is inside.fit;
+inside_of_part {count} f item inside = record {
+  within = all_of_part (IsInside count) f item inside.within;
+  fit = all_of_part (IsInside (2 ^ 63)) f item inside.fit;
 }
 
-pub pairs_of_part : {A X : Type 0} (R : X → X → Type 0) (f : A → List X) (xs : List A) (i : ℕ) {x : A} → i < length xs → x ≡ get_or xs i x
+pub pairs_of_part : {A X : Type 0} (R : X → X → Type 0) (f : A → List X) {xs : List A} {i : ℕ} {x : A} → IsItem xs i x
     → AllPairs R (flat_map f xs) → AllPairs R (f x)
-pairs_of_part R f xs i {x} below is pairs =
+pairs_of_part R f {xs} {i} {x} item pairs =
     pairs_second R (flat_map f (take i xs)) (f x)
-    (pairs_first R (flat_map f (take i xs) ++ f x) (flat_map f (drop (i + 1) xs)) (subst (AllPairs R) (parts_of f xs i below is) pairs))
+    (pairs_first R (flat_map f (take i xs) ++ f x) (flat_map f (drop (i + 1) xs)) (subst (AllPairs R) (parts_of f item) pairs))
 
 -- ---- writes
 set_same : {X : Type 0} (xs : List X) (i : ℕ) {x : X} → i < length xs → slice_get (set xs i x) i ≡ Some x
@@ -141,11 +143,10 @@ pub none_written : {X : Type 0} {stored : List X} → HasWritten [] [] stored st
 none_written = record { written = refl; kept = λ place spared. refl }
 
 -- what is at a place that a write spares stays
-stays : {X : Type 0} (count : ℕ) (places : List ℤ) (old new : List X) (z : ℤ)
-    → ((place : ℕ) → (Contains places (pos place) → ⊥) → slice_get new place ≡ slice_get old place) → IsInside count z
+stays : {X : Type 0} (count : ℕ) {places : List ℤ} {items old new : List X} (z : ℤ) → HasWritten places items old new → IsInside count z
     → (Contains places z → ⊥) → item_at_place new z ≡ item_at_place old z
-stays count places old new (pos place) kept inside spared = kept place spared
-stays count places old new (negsuc n) kept inside spared = absurd inside
+stays count (pos place) write inside spared = write.kept place spared
+stays count (negsuc n) write inside spared = absurd inside
 
 -- one write after another, at places of their own
 pub both_written : {X : Type 0} (count : ℕ) {first second : List ℤ} {items more old mid new : List X} → All (IsInside count) first
@@ -154,8 +155,8 @@ pub both_written : {X : Type 0} (count : ℕ) {first second : List ℤ} {items m
 both_written count {first} {second} {items} {more} {mid} {new} inside distinct one other =
     let apart = parts_apart first second distinct in
     let earlier : map (item_at_place new) first ≡ map (item_at_place mid) first =
-    map_same (item_at_place new) (item_at_place mid) first (λ k d below. stays count second mid new (get_or first k d) other.kept
-    (inside k d below) (apart k d below)) in
+    map_same (item_at_place new) (item_at_place mid) first (λ k d below.
+    stays count (get_or first k d) other (inside k d below) (apart k d below)) in
     record {
       written =
           map-append (item_at_place new) first second
@@ -167,15 +168,15 @@ both_written count {first} {second} {items} {more} {mid} {new} inside distinct o
     }
 
 -- one list more of lists of places
-pub one_more_written : {A X : Type 0} (count : ℕ) (f : A → List ℤ) (xs : List A) (i : ℕ) {x : A} {items more old mid new : List X}
-    → i < length xs → x ≡ get_or xs i x → All (IsInside count) (flat_map f xs) → AllPairs (λ one other. one ≢ other) (flat_map f xs)
+pub one_more_written : {A X : Type 0} (count : ℕ) (f : A → List ℤ) {xs : List A} {i : ℕ} {x : A} {items more old mid new : List X}
+    → IsItem xs i x → All (IsInside count) (flat_map f xs) → AllPairs (λ one other. one ≢ other) (flat_map f xs)
     → HasWritten (flat_map f (take i xs)) items old mid → HasWritten (f x) more mid new
     → HasWritten (flat_map f (take (i + 1) xs)) (items ++ more) old new
-one_more_written count f xs i {x} {items} {more} {old} {new} below is inside distinct one other =
+one_more_written count f {xs} {i} {x} {items} {more} {old} {new = new} item inside distinct one other =
     let first = flat_map f (take i xs) in
     let others = flat_map f (drop (i + 1) xs) in
-    let cut = parts_of f xs i below is in
-    subst (λ places. HasWritten places (items ++ more) old new) (sym (parts_more f xs i below is))
+    let cut = parts_of f item in
+    subst (λ places. HasWritten places (items ++ more) old new) (sym (parts_more f item))
     (both_written count
     (all_first (IsInside count) first (f x) (all_first (IsInside count) (first ++ f x) others (subst (All (IsInside count)) cut inside)))
     (pairs_first (λ one other. one ≢ other) (first ++ f x) others (subst (AllPairs (λ one other. one ≢ other)) cut distinct)) one other)

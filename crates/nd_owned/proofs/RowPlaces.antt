@@ -12,7 +12,7 @@ use Rattle.ndarray_layout.specs.Indices.{below}
 use Rattle.ndarray_layout.specs.Inside.{IsInside}
 use Rattle.nd_owned.specs.Owned.{item_at_place}
 use Rattle.nd_owned.specs.private.Rows.{HasWritten, row_places}
-use Rattle.nd_owned.proofs.Placed.{all_first, both_written, one_written, pairs_first}
+use Rattle.nd_owned.proofs.Placed.{IsItem, all_first, both_written, one_written, pairs_first}
 
 -- ---- a row
 pub length-row_places : (start : ℕ) (stride : ℤ) (len : ℕ) → length (row_places start stride len) ≡ len
@@ -60,15 +60,23 @@ pub next_there : (start entry : ℕ) {place : ℕ} (stride : ℤ) → pos place 
     → pos place +ℤ stride ≡ pos start +ℤ (pos (entry + 1) *ℤ stride)
 next_there start entry stride is = omega (arith, ints, one_more_step entry stride)
 
+-- the place of an entry of a row
+pub record IsAtEntry (start : ℕ) (stride : ℤ) (entry place : ℕ) : Type 0 where
+  pub is : pos place ≡ pos start +ℤ (pos entry *ℤ stride)
+
+pub at_entry : (start : ℕ) (stride : ℤ) (entry : ℕ) {place : ℕ} → pos place ≡ pos start +ℤ (pos entry *ℤ stride)
+    → IsAtEntry start stride entry place
+at_entry start stride entry here = record { is = here }
+
 -- one item more of a row that is read
-pub read_more : {X : Type 0} (stored : List X) (start : ℕ) (stride : ℤ) (entry : ℕ) {place : ℕ} (first old : List X) {new : List X} {x : X}
-    → place < length stored → x ≡ get_or stored place x → pos place ≡ pos start +ℤ (pos entry *ℤ stride) → new ≡ old ++ x ∷ []
+pub read_more : {X : Type 0} (first old : List X) {stored new : List X} {start : ℕ} {stride : ℤ} {entry place : ℕ} {x : X}
+    → IsItem stored place x → IsAtEntry start stride entry place → new ≡ old ++ x ∷ []
     → map Some old ≡ map Some first ++ map (item_at_place stored) (row_places start stride entry)
     → map Some new ≡ map Some first ++ map (item_at_place stored) (row_places start stride (entry + 1))
-read_more stored start stride entry {place} first old {x} below read is pushed before =
+read_more first old {stored} {start = start} {stride} {entry} {place} {x} item at pushed before =
     let so_far = map (item_at_place stored) (row_places start stride entry) in
-    let last : Some x ≡ item_at_place stored (pos start +ℤ (pos entry *ℤ stride)) = ap Some read
-    ∙ sym (slice_get-get_or stored place x below) ∙ ap (item_at_place stored) is in
+    let last : Some x ≡ item_at_place stored (pos start +ℤ (pos entry *ℤ stride)) = ap Some item.is
+    ∙ sym (slice_get-get_or stored place x item.below) ∙ ap (item_at_place stored) at.is in
     ap (map Some) pushed
     ∙ map-append Some old (x ∷ [])
     ∙ ap (λ items. items ++ Some x ∷ []) before
@@ -85,21 +93,20 @@ after_first {others} {first} {x} i cut is = is ∙ ap (λ n. get_or (first ∷ o
     (sym cut)
 
 -- one item more of a row that is written
-pub write_more : {X : Type 0} (count start : ℕ) (stride : ℤ) (entry : ℕ) {place : ℕ} (items : List X) {old mid : List X} {x : X}
+pub write_more : {X : Type 0} (count : ℕ) {start : ℕ} {stride : ℤ} {entry place : ℕ} {items old mid : List X} {x : X}
     → All (IsInside count) (row_places start stride (length items))
-    → AllPairs (λ one other. one ≢ other) (row_places start stride (length items)) → entry < length items → x ≡ get_or items entry x
-    → place < length mid → pos place ≡ pos start +ℤ (pos entry *ℤ stride)
-    → HasWritten (row_places start stride entry) (take entry items) old mid
+    → AllPairs (λ one other. one ≢ other) (row_places start stride (length items)) → IsItem items entry x → place < length mid
+    → IsAtEntry start stride entry place → HasWritten (row_places start stride entry) (take entry items) old mid
     → HasWritten (row_places start stride (entry + 1)) (take (entry + 1) items) old (set mid place x)
-write_more count start stride entry {place} items {old} {mid} {x} inside distinct below given within is before =
+write_more count {start} {stride} {entry} {place} {items} {old} {mid} {x} inside distinct item within at before =
     let all = row_places start stride (length items) in
     let first = row_places start stride entry in
     let last = pos start +ℤ (pos entry *ℤ stride) in
     let others = drop (entry + 1) all in
     let cut : all ≡ (first ++ last ∷ []) ++ others =
     sym (take-append-drop (entry + 1) all) ∙ ap (λ places. places ++ others) (take-row_places start stride (length items) (entry + 1)
-    (omega arith) ∙ row_more start stride entry) in
-    let here : HasWritten (last ∷ []) (x ∷ []) mid (set mid place x) = subst (λ z. HasWritten (z ∷ []) (x ∷ []) mid (set mid place x)) is
+    (omega (arith, item.below)) ∙ row_more start stride entry) in
+    let here : HasWritten (last ∷ []) (x ∷ []) mid (set mid place x) = subst (λ z. HasWritten (z ∷ []) (x ∷ []) mid (set mid place x)) at.is
     (one_written within) in
     let both : HasWritten (first ++ last ∷ []) (take entry items ++ x ∷ []) old (set mid place x) =
     both_written count
@@ -107,8 +114,8 @@ write_more count start stride entry {place} items {old} {mid} {x} inside distinc
     (subst (All (IsInside count)) cut inside)))
     (pairs_first (λ one other. one ≢ other) (first ++ last ∷ []) others (subst (AllPairs (λ one other. one ≢ other)) cut distinct)) before
     here in
-    let more : take (entry + 1) items ≡ take entry items ++ x ∷ [] = take_more items entry x below ∙ ap (λ y. take entry items ++ y ∷ [])
-    (sym given) in
+    let more : take (entry + 1) items ≡ take entry items ++ x ∷ [] = take_more items entry x item.below
+    ∙ ap (λ y. take entry items ++ y ∷ []) (sym item.is) in
     subst (λ places. HasWritten places (take (entry + 1) items) old (set mid place x)) (sym (row_more start stride entry))
     (subst (λ done. HasWritten (first ++ last ∷ []) done old (set mid place x)) (sym more) both)
 
@@ -153,21 +160,20 @@ neighbours_within count start (suc len) some inside =
     omega arith
 
 -- what is before and after items that are put in place of others
-got_outside : {X : Type 0} (old items : List X) (start stop place : ℕ) → stop ≡ start + length items → stop ≤ length old
-    → (start ≤ place → place < stop → ⊥)
-    → slice_get (take start old ++ (items ++ drop stop old)) place ≡ slice_get old place
-got_outside old [] zero zero place e within outside = refl
-got_outside old [] zero (suc stop) place e within outside = absurd (omega arith)
-got_outside old (i ∷ items) zero zero place e within outside = absurd (omega arith)
-got_outside [] (i ∷ items) zero (suc stop) place e within outside = absurd (omega arith)
-got_outside (x ∷ old) (i ∷ items) zero (suc stop) zero e within outside = absurd (outside (omega arith) (omega arith))
-got_outside (x ∷ old) (i ∷ items) zero (suc stop) (suc place) e within outside = got_outside old items zero stop place (omega arith)
-    (omega arith) (λ low high. outside (omega arith) (omega arith))
-got_outside [] items (suc start) stop place e within outside = absurd (omega arith)
-got_outside (x ∷ old) items (suc start) zero place e within outside = absurd (omega arith)
-got_outside (x ∷ old) items (suc start) (suc stop) zero e within outside = refl
-got_outside (x ∷ old) items (suc start) (suc stop) (suc place) e within outside = got_outside old items start stop place (omega arith)
-    (omega arith) (λ low high. outside (omega arith) (omega arith))
+got_outside : {X : Type 0} (old items : List X) (start stop place : ℕ) → (stop ≡ start + length items) × (stop ≤ length old)
+    → (start ≤ place → place < stop → ⊥) → slice_get (take start old ++ (items ++ drop stop old)) place ≡ slice_get old place
+got_outside old [] zero zero place at outside = refl
+got_outside old [] zero (suc stop) place at outside = absurd (omega arith)
+got_outside old (i ∷ items) zero zero place at outside = absurd (omega arith)
+got_outside [] (i ∷ items) zero (suc stop) place at outside = absurd (omega arith)
+got_outside (x ∷ old) (i ∷ items) zero (suc stop) zero at outside = absurd (outside (omega arith) (omega arith))
+got_outside (x ∷ old) (i ∷ items) zero (suc stop) (suc place) at outside =
+    got_outside old items zero stop place (omega arith) (λ low high. outside (omega arith) (omega arith))
+got_outside [] items (suc start) stop place at outside = absurd (omega arith)
+got_outside (x ∷ old) items (suc start) zero place at outside = absurd (omega arith)
+got_outside (x ∷ old) items (suc start) (suc stop) zero at outside = refl
+got_outside (x ∷ old) items (suc start) (suc stop) (suc place) at outside =
+    got_outside old items start stop place (omega arith) (λ low high. outside (omega arith) (omega arith))
 
 put_in : {X : Type 0} {old items : List X} (start : ℕ) → start + length items ≤ length old
     → HasWritten (row_places start (pos 1) (length items)) items old (take start old ++ (items ++ drop (start + length items) old))
@@ -186,7 +192,7 @@ put_in {old} {items} start within =
     ∙ take_at items (drop (start + length items) old) (length items) refl in
     record {
       written = read_neighbours new start (length items) long ∙ ap (map Some) there;
-      kept = λ place spared. got_outside old items start (start + length items) place refl within
+      kept = λ place spared. got_outside old items start (start + length items) place (refl, within)
           (λ low high. spared (at_entry place low high));
     }
   where

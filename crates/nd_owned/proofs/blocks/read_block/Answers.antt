@@ -1,9 +1,8 @@
 -- The items of one more row.
-use Rattle.std.proofs.Common.{◌≡◌, ◌+◌, ◌*◌, ◌≤◌, ◌++◌, Some, length, map, sym, ap, subst, ◌∙◌, arith}
+use Rattle.std.proofs.Common.{◌≡◌, ◌+◌, ◌*◌, ◌≤◌, ◌++◌, Some, length, map, sym, ap, ◌∙◌, arith}
 use Rattle.std.specs.List.{flat_map}
 use Rattle.std.proofs.Math.Nat.{mul-le-mul_right}
 use Rattle.std.proofs.lemmas.List.{take_all}
-use Rattle.ndarray_layout.specs.Inside.{IsInside}
 use Rattle.ndarray_layout.specs.Signed.{signed}
 use Rattle.nd_owned.specs.Owned.{item_at_place}
 use Rattle.nd_owned.proofs.BlockPlaces.{is_row, length-block_places, more_read, row_begins, row_from, row_inside, row_starts, row_there}
@@ -46,8 +45,7 @@ loop-row-preserved g c =
     let here = is_row block start row c.loop-row-test.true in
     let got = item_at_place c.args.stored.now in
     record {
-      items = more_read (row_from block) (row_starts block start) row got (map Some c.args.items.items) (map Some c.loop-row.items.items)
-          here.0 here.1
+      items = more_read (row_from block) got (map Some c.args.items.items) here
           (c.read_row-items.ensures.items ∙ ap (λ places. map Some c.loop-row.items.items ++ map got places)
           (sym (row_there block start row c.row_start-first.ensures))) c.loop-row.invariant.items;
       len = omega (arith, c.read_row-items.ensures.len, c.loop-row.invariant.len);

@@ -69,11 +69,11 @@ loop-row-preserved g c =
       left = c.split_at.ensures.back ∙ ap (drop len) c.loop-row.invariant.left ∙ drop-drop len (row * len) items
           ∙ ap (λ n. drop n items) next;
       written = λ distinct. subst (λ xs. HasWritten (flat_map (row_from block) (take (row + 1) starts)) xs c.args.stored.now new) done
-          (one_more_written (length c.args.stored.now) (row_from block) starts row turn.0 turn.1 c.requires.inside.places.within distinct
+          (one_more_written (length c.args.stored.now) (row_from block) turn c.requires.inside.places.within distinct
           (c.loop-row.invariant.written distinct)
           (subst (λ places. HasWritten places first old new) (sym there)
           (here (subst (AllPairs (λ one other. one ≢ other)) there
-          (pairs_of_part (λ one other. one ≢ other) (row_from block) starts row turn.0 turn.1 distinct)))));
+          (pairs_of_part (λ one other. one ≢ other) (row_from block) turn distinct)))));
     }
 
 pub returns-clause-written : goal.returns-clause-written

@@ -7,7 +7,7 @@ use Rattle.ndarray_layout.specs.Inside.{IsInside}
 use Rattle.ndarray_layout.specs.Signed.{signed}
 use Rattle.nd_owned.specs.Owned.{item_at_place}
 use Rattle.nd_owned.specs.private.Rows.{row_places}
-use Rattle.nd_owned.proofs.RowPlaces.{begins, entry_inside, neighbours_within, next_there, read_more, read_neighbours, start_there}
+use Rattle.nd_owned.proofs.RowPlaces.{at_entry, begins, entry_inside, neighbours_within, next_there, read_more, read_neighbours, start_there}
 use Rattle.nd_owned.proofs.rows.read_row.Goals as goal
 
 pub overflow_add-start : goal.overflow_add-start
@@ -62,10 +62,10 @@ loop-entry-init g c =
     record {
       small = begins (2 ^ 63) start stride c.args.len c.requires.inside.fit (omega arith);
       next = next_there start 0 stride (start_there stride);
-      items = read_more stored start stride 0 c.args.items.items c.args.items.items
-          (begins (length stored) start stride c.args.len c.requires.inside.within (omega arith)) c.index-stored-start.is
-          (start_there stride) c.push_reserved.ensures.items
-          (sym (append-nil (map Some c.args.items.items)));
+      items = read_more c.args.items.items c.args.items.items (record {
+        below = begins (length stored) start stride c.args.len c.requires.inside.within (omega arith);
+        is = c.index-stored-start.is;
+      }) (at_entry start stride 0 (start_there stride)) c.push_reserved.ensures.items (sym (append-nil (map Some c.args.items.items)));
       len = c.push_reserved.ensures.len;
       capacity = c.push_reserved.ensures.capacity;
     }
@@ -107,10 +107,11 @@ loop-entry-preserved g c =
       small = subst (IsInside (2 ^ 63)) (sym here) (entry_inside (2 ^ 63) start stride c.args.len i c.requires.inside.fit
           c.loop-entry-test.true);
       next = next_there start i stride here;
-      items = read_more stored start stride i c.args.items.items c.loop-entry.items.items
-          (subst (IsInside (length stored)) (sym here) (entry_inside (length stored) start stride c.args.len i c.requires.inside.within
-          c.loop-entry-test.true))
-          c.index-stored-place.is here c.push_reserved-in-loop-entry.ensures.items c.loop-entry.invariant.items;
+      items = read_more c.args.items.items c.loop-entry.items.items (record {
+        below = subst (IsInside (length stored)) (sym here) (entry_inside (length stored) start stride c.args.len i
+            c.requires.inside.within c.loop-entry-test.true);
+        is = c.index-stored-place.is;
+      }) (at_entry start stride i here) c.push_reserved-in-loop-entry.ensures.items c.loop-entry.invariant.items;
       len = omega (arith, c.push_reserved-in-loop-entry.ensures.len, c.loop-entry.invariant.len);
       capacity = c.push_reserved-in-loop-entry.ensures.capacity ∙ c.loop-entry.invariant.capacity;
     }

@@ -7,7 +7,7 @@ use Rattle.ndarray_layout.specs.Inside.{IsInside}
 use Rattle.ndarray_layout.specs.Signed.{signed}
 use Rattle.nd_owned.specs.private.Rows.{HasWritten, row_places}
 use Rattle.nd_owned.proofs.Placed.{none_written}
-use Rattle.nd_owned.proofs.RowPlaces.{after_first, begins, entry_inside, neighbours_within, next_there, start_there, write_more}
+use Rattle.nd_owned.proofs.RowPlaces.{after_first, at_entry, begins, entry_inside, neighbours_within, next_there, start_there, write_more}
 use Rattle.nd_owned.proofs.RowPlaces.{write_neighbours}
 use Rattle.nd_owned.proofs.rows.write_row.Goals as goal
 
@@ -77,10 +77,10 @@ loop-item-init g c =
     record {
       small = begins (2 ^ 63) start stride (length items) c.requires.fit some;
       next = next_there start 0 stride (start_there stride);
-      written = λ distinct. write_more (length stored) start stride 0 items c.requires.within distinct some
-          (sym (ap (λ xs. get_or xs 0 first) c.in-Some.ensures.cases.0)) (begins (length stored) start stride (length items)
-          c.requires.within some) (start_there stride)
-          (none_written);
+      written = λ distinct. write_more (length stored) c.requires.within distinct
+          (record { below = some; is = sym (ap (λ xs. get_or xs 0 first) c.in-Some.ensures.cases.0) })
+          (begins (length stored) start stride (length items) c.requires.within some) (at_entry start stride 0 (start_there stride))
+          none_written;
     }
 
 pub place_after-place-requires-clause-inside : goal.place_after-place-requires-clause-inside
@@ -117,8 +117,9 @@ loop-item-preserved g c =
     record {
       small = subst (IsInside (2 ^ 63)) (sym here) (entry_inside (2 ^ 63) start stride (length items) (i + 1) c.requires.fit below);
       next = next_there start (i + 1) stride here;
-      written = λ distinct. write_more (length stored) start stride (i + 1) items c.requires.within distinct below
-          (after_first i c.in-Some.ensures.cases.0 c.item-item.is) within here (c.loop-item.invariant.written distinct);
+      written = λ distinct. write_more (length stored) c.requires.within distinct
+          (record { below = below; is = after_first i c.in-Some.ensures.cases.0 c.item-item.is }) within
+          (at_entry start stride (i + 1) here) (c.loop-item.invariant.written distinct);
     }
 
 pub returns : goal.returns

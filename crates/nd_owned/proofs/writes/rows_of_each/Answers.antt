@@ -1,5 +1,6 @@
 -- One more slice has its rows, or none where it picks nothing; only memory can be refused.
-use Rattle.std.proofs.Common.{◌≡◌, ◌<◌, None, length, map, sym, ap, ◌∙◌, arith}
+use Rattle.std.proofs.Common.{◌≡◌, None, length, map, sym, ap, ◌∙◌, arith}
+use Rattle.std.specs.List.{flat_map}
 use Rattle.std.proofs.lemmas.Bool.{eq-eqb, eqb-true, false≢true}
 use Rattle.std.proofs.lemmas.List.{length-map}
 use Rattle.ndarray_layout.specs.declared.Fit.TheVariants.{Strict}
@@ -8,7 +9,7 @@ use Rattle.nd_owned.specs.declared.rows.Rows.{Rows}
 use Rattle.nd_owned.specs.private.Rows.{AreRowsInside, rows_places}
 use Rattle.nd_owned.specs.Writes.{write_of, write_places}
 use Rattle.nd_owned.proofs.Faults.{all_pushed, handed_on, have_counts, of_this, this}
-use Rattle.nd_owned.proofs.Placed.{parts_pushed, parts_skipped}
+use Rattle.nd_owned.proofs.Placed.{IsItem, parts_pushed, parts_skipped}
 use Rattle.nd_owned.proofs.Slices.{each_count, each_fits}
 use Rattle.nd_owned.proofs.writes.rows_of_each.Goals as goal
 
@@ -18,15 +19,17 @@ loop-slice-preserved-then-is_empty g c =
     let item = c.loop-slice-item.result in
     let view = c.args.view.now in
     let writes = map write_of c.args.writes.now in
-    let below : i < length writes = omega (arith, length-map c.args.writes.now write_of, c.loop-slice-test.true) in
-    let here = this write_of c.args.writes.now i c.loop-slice-test.true c.loop-slice-item.is in
+    let at : IsItem writes i (write_of item) = record {
+      below = omega (arith, length-map c.args.writes.now write_of, c.loop-slice-test.true);
+      is = this write_of c.args.writes.now i c.loop-slice-test.true c.loop-slice-item.is;
+    } in
     let none : length item.1.items ≡ 0 = sym item.1.ok.0 ∙ eqb-true item.1.len 0 (sym c.is_empty.ensures ∙ c.if-is_empty.true) in
     let as_many = of_this (λ write. length (write_places view write) ≡ length write.items) write_of c.args.writes.now i
     c.loop-slice-test.true c.loop-slice-item.is
     (each_count view writes (have_counts view.shape writes c.requires).counts) in
     record {
-      places = c.loop-slice.invariant.places ∙ sym (parts_skipped (write_places view) writes i below here (as_many ∙ none));
-      items = c.loop-slice.invariant.items ∙ sym (parts_skipped (λ write. write.items) writes i below here none);
+      places = c.loop-slice.invariant.places ∙ sym (parts_skipped (write_places view) at (as_many ∙ none));
+      items = c.loop-slice.invariant.items ∙ sym (parts_skipped (λ write. write.items) at none);
       counts = c.loop-slice.invariant.counts;
       inside = c.loop-slice.invariant.inside;
     }
@@ -65,16 +68,18 @@ loop-slice-preserved g c =
     let old = c.loop-slice.row_items.items in
     let new = c.push.new.self.items in
     let pushed = c.in_ok-push.ensures.items in
-    let below : i < length writes = omega (arith, length-map c.args.writes.now write_of, c.loop-slice-test.true) in
-    let here = this write_of c.args.writes.now i c.loop-slice-test.true c.loop-slice-item.is in
+    let at : IsItem writes i (write_of item) = record {
+      below = omega (arith, length-map c.args.writes.now write_of, c.loop-slice-test.true);
+      is = this write_of c.args.writes.now i c.loop-slice-test.true c.loop-slice-item.is;
+    } in
     let as_many = of_this (λ write. length (write_places view write) ≡ length write.items) write_of c.args.writes.now i
     c.loop-slice-test.true c.loop-slice-item.is
     (each_count view writes (have_counts view.shape writes c.requires).counts) in
     record {
-      places = parts_pushed (λ one. rows_places one.rows) (write_places view) old _ writes i pushed below here c.in_ok-rows.ensures.places
-          c.loop-slice.invariant.places;
-      items = parts_pushed (λ one. one.items.now) (λ write. write.items) old _ writes i pushed below here c.as_slice-items.ensures.value
-          c.loop-slice.invariant.items;
+      places = ap (flat_map (λ one. rows_places one.rows)) pushed
+          ∙ parts_pushed (λ one. rows_places one.rows) (write_places view) old _ at c.in_ok-rows.ensures.places c.loop-slice.invariant.places;
+      items = ap (flat_map (λ one. one.items.now)) pushed
+          ∙ parts_pushed (λ one. one.items.now) (λ write. write.items) old _ at c.as_slice-items.ensures.value c.loop-slice.invariant.items;
       counts = all_pushed (λ one. length (rows_places one.rows) ≡ length one.items.now) old _ pushed c.loop-slice.invariant.counts
           (ap length c.in_ok-rows.ensures.places ∙ as_many ∙ sym (ap length c.as_slice-items.ensures.value));
       inside = λ len within. all_pushed (λ one. AreRowsInside len one.rows) old _ pushed

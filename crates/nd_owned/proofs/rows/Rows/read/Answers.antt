@@ -1,5 +1,5 @@
 -- The items of one more block.
-use Rattle.std.proofs.Common.{◌≡◌, ℕ, ◌+◌, ◌*◌, ◌≤◌, ◌++◌, [], Some, length, get_or, map, sym, ap, ◌∙◌, arith}
+use Rattle.std.proofs.Common.{◌+◌, ◌*◌, ◌≤◌, [], length, get_or, map, ap, ◌∙◌, arith}
 use Rattle.std.specs.List.{flat_map}
 use Rattle.std.proofs.Math.Nat.{mul-le-mul_right}
 use Rattle.std.proofs.lemmas.Bool.{false≢true}
@@ -18,14 +18,14 @@ pub read_block-items-requires-clause-inside : goal.read_block-items-requires-cla
 read_block-items-requires-clause-inside g c =
     let rows = c.args.self.now in
     let turn = number_of_turn c.loop-start.start-index c.as_slice-start-items.ensures c.loop-start-test.true in
-    block_inside rows c.loop-start.start-index turn.0 turn.1 c.requires.inside
+    block_inside rows turn c.requires.inside
 
 pub read_block-items-requires-clause-room : goal.read_block-items-requires-clause-room
 read_block-items-requires-clause-room g c =
     let rows = c.args.self.now in
     let starts = start_list rows.starts in
     let i = c.loop-start.start-index in
-    let more : i + 1 ≤ length starts = omega (arith, (number_of_turn i c.as_slice-start-items.ensures c.loop-start-test.true).0) in
+    let more : i + 1 ≤ length starts = omega (arith, (number_of_turn i c.as_slice-start-items.ensures c.loop-start-test.true).below) in
     omega (
       arith,
       c.loop-start.invariant.len,
@@ -43,8 +43,7 @@ loop-start-preserved g c =
     let i = c.loop-start.start-index in
     let turn = number_of_turn i c.as_slice-start-items.ensures c.loop-start-test.true in
     record {
-      items = more_read (block_places rows.block) starts i (item_at_place c.args.stored.now) [] (map Some c.loop-start.items.items)
-          turn.0 turn.1 c.read_block-items.ensures.items c.loop-start.invariant.items;
+      items = more_read (block_places rows.block) (item_at_place c.args.stored.now) [] turn c.read_block-items.ensures.items c.loop-start.invariant.items;
       len = omega (
         arith,
         c.read_block-items.ensures.len,

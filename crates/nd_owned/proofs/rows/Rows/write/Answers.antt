@@ -1,5 +1,5 @@
 -- The items of one more block are at their places.
-use Rattle.std.proofs.Common.{◌≡◌, ◌≢◌, ℕ, ◌+◌, ◌*◌, ◌≤◌, ◌++◌, length, get_or, take, drop, sym, ap, subst, ◌∙◌, arith}
+use Rattle.std.proofs.Common.{◌≡◌, ◌≢◌, ◌+◌, ◌*◌, ◌≤◌, ◌++◌, length, get_or, take, drop, sym, ap, subst, ◌∙◌, arith}
 use Rattle.std.specs.List.{AllPairs, flat_map}
 use Rattle.std.proofs.Math.Nat.{mul-le-mul_right}
 use Rattle.std.proofs.Math.Seq.{take-add}
@@ -15,7 +15,7 @@ write_block-left-requires-clause-inside g c =
     let i = c.loop-start.start-index in
     let start = get_or c.as_slice-start-items.result.now i 0 in
     let turn = number_of_turn i c.as_slice-start-items.ensures c.loop-start-test.true in
-    subst (λ n. IsBlockInside n rows.block start) (sym c.loop-start.auto.stored) (block_inside rows i turn.0 turn.1 c.requires.inside)
+    subst (λ n. IsBlockInside n rows.block start) (sym c.loop-start.auto.stored) (block_inside rows turn c.requires.inside)
 
 pub write_block-left-requires-clause-enough : goal.write_block-left-requires-clause-enough
 write_block-left-requires-clause-enough g c =
@@ -23,7 +23,7 @@ write_block-left-requires-clause-enough g c =
     let starts = start_list rows.starts in
     let i = c.loop-start.start-index in
     let size = rows.block.rows * rows.block.len in
-    let more : i + 1 ≤ length starts = omega (arith, (number_of_turn i c.as_slice-start-items.ensures c.loop-start-test.true).0) in
+    let more : i + 1 ≤ length starts = omega (arith, (number_of_turn i c.as_slice-start-items.ensures c.loop-start-test.true).below) in
     omega (
       arith,
       ap length c.loop-start.invariant.left,
@@ -58,8 +58,8 @@ loop-start-preserved g c =
       left = c.write_block-left.ensures.left ∙ ap (λ n. drop n c.loop-start.left.now) long ∙ ap (drop size) c.loop-start.invariant.left
           ∙ drop-drop size (i * size) items ∙ ap (λ n. drop n items) next;
       written = λ distinct. subst (λ xs. HasWritten (flat_map f (take (i + 1) starts)) xs c.args.stored.now new) done
-          (one_more_written (length c.args.stored.now) f starts i turn.0 turn.1 c.requires.inside.places.within distinct
-          (c.loop-start.invariant.written distinct) (here (pairs_of_part (λ one other. one ≢ other) f starts i turn.0 turn.1 distinct)));
+          (one_more_written (length c.args.stored.now) f turn c.requires.inside.places.within distinct
+          (c.loop-start.invariant.written distinct) (here (pairs_of_part (λ one other. one ≢ other) f turn distinct)));
     }
 
 pub returns : goal.returns
