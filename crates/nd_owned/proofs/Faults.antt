@@ -21,6 +21,7 @@ use Rattle.ndarray_layout.specs.Meet.{Meet}
 use Rattle.ndarray_layout.specs.ShapeFault.{shape_fault}
 use Rattle.ndarray_layout.specs.SlicedView.{slice_refusal}
 use Rattle.nd_owned.specs.private.Checks.{IsIntersectionFaultOf}
+use Rattle.nd_owned.proofs.Placed.{IsItem}
 use Rattle.nd_owned.specs.Writes.{Write, IsFaultOfWrites, IsIntersectionFault, counts_fault, has_count, slices_fault}
 
 -- ---- a list that a function was applied to, at its next item
@@ -88,13 +89,13 @@ handed_on Y (Err (Shape kind)) error is none = subst (λ e. shape_fault {X = Y} 
 
 -- ---- counts of items
 -- whether there are as many items for each, by those so far and the next
-pub next_count : {T X : Type 0} (f : X → Write T) (shape : List ℕ) (xs : List X) (i : ℕ) {x : X} (have : Bool) {this : Bool} → i < length xs
-    → x ≡ get_or xs i x → has_count shape (f x) ≡ this
+pub next_count : {T X : Type 0} (f : X → Write T) (shape : List ℕ) {xs : List X} {i : ℕ} {x : X} (have : Bool) {this : Bool}
+    → IsItem xs i x → has_count shape (f x) ≡ this
     → list_all (has_count shape) (map f xs) ≡ (have && list_all (has_count shape) (drop i (map f xs)))
     → list_all (has_count shape) (map f xs) ≡ (have && (this && list_all (has_count shape) (drop (i + 1) (map f xs))))
-next_count f shape xs i have below is counts before =
+next_count f shape {xs} {i} have item counts before =
     before
-    ∙ ap (λ ys. have && list_all (has_count shape) ys) (next f xs i below is)
+    ∙ ap (λ ys. have && list_all (has_count shape) ys) (next f xs i item.below item.is)
     ∙ ap (λ b. have && (b && list_all (has_count shape) (drop (i + 1) (map f xs)))) counts
 
 pub none_more : (have after : Bool) → (have && (false && after)) ≡ false
@@ -124,10 +125,10 @@ got_later (suc n) [] k = refl
 got_later (suc n) (x ∷ xs) k = let e : suc n + k ≡ suc (n + k) = omega arith in rw e (got_later n xs k)
 
 -- one that shares an index with a slice after it is one of two that do
-pub of_two : {T : Type 0} (shape : List ℕ) (writes after : List (Write T)) (i : ℕ) (write : Write T) (kind : ErrorKind)
+pub of_two : {T : Type 0} (shape : List ℕ) (writes : List (Write T)) {after : List (Write T)} (i : ℕ) {write : Write T} (kind : ErrorKind)
     → slice_get writes i ≡ Some write → after ≡ drop (i + 1) writes
     → IsIntersectionFaultOf shape write.slice after (Some kind) → IsIntersectionFault shape writes (Some kind)
-of_two {T = T} shape writes after i write kind here e (is, at, shared) =
+of_two {T = T} shape writes {after} i {write} kind here e (is, at, shared) =
     let meets = λ (one : Write T). λ (other : Write T). Meet Strict shape one.slice other.slice in
     let there : slice_get after at ≡ slice_get writes (i + 1 + at) = ap (λ xs. slice_get xs at) e ∙ got_later (i + 1) writes at in (
       is,

@@ -55,8 +55,8 @@ returns-in_err-check_apart_from g c =
     (subst (λ lens. IsIntersectionFaultOf lens c.as_slice.result.now after (Some kind)) (c.slice-shape.ensures.list ∙ c.dim.ensures.list)
     c.in_err-check_apart_from.ensures) in
     subst (IsIntersectionFault shape (map write_of writes)) (sym same)
-    (of_two shape (map write_of writes) after i (write_of c.index-writes-at.result) kind
-    (this_got write_of writes i c.loop-at-test.true c.index-writes-at.is) (rest write_of writes i) shared)
+    (of_two shape (map write_of writes) i kind (this_got write_of writes i c.loop-at-test.true c.index-writes-at.is)
+    (rest write_of writes i) shared)
 
 pub loop-at-preserved : goal.loop-at-preserved
 loop-at-preserved g c =

@@ -6,6 +6,7 @@ use Rattle.std.specs.Option.{option_or}
 use Rattle.std.specs.Result.{result_err}
 use Rattle.nd_owned.specs.Writes.{has_count, slices_fault, write_of}
 use Rattle.nd_owned.proofs.Faults.{next_count, next_fault, none_more}
+use Rattle.nd_owned.proofs.Placed.{IsItem}
 use Rattle.nd_owned.proofs.writes.have_counts.Goals as goal
 use Rattle.nd_owned.proofs.writes.have_counts.Goals.{then-branch-len, else-branch-len}
 
@@ -27,17 +28,18 @@ loop-slice-preserved g c =
     let writes = c.args.writes.now in
     let have = c.loop-slice.have in
     let after = list_all (has_count shape) (drop (i + 1) (map write_of writes)) in
+    let at : IsItem writes i item = record { below = c.loop-slice-test.true; is = c.loop-slice-item.is } in
     record {
       fault =
           next_fault write_of shape writes i c.loop-slice-test.true c.loop-slice-item.is c.loop-slice.invariant.fault
           ∙ ap (λ first. option_or first (slices_fault shape (drop (i + 1) (map write_of writes)))) (sym c.in_ok-picked.ensures.fault);
       counts = elim c.if-branch-len.branch [
-        | then-branch-len w ↦ next_count write_of shape writes i have c.loop-slice-test.true c.loop-slice-item.is
+        | then-branch-len w ↦ next_count write_of shape have at
             (ne_eqb (length item.1.items) _ (λ same. w.if-branch-len.true (c.in_ok-picked.ensures.size ∙ sym same ∙ sym item.1.ok.0
             ∙ sym c.len.ensures))) c.loop-slice.invariant.counts
             ∙ none_more have after
             ∙ ap (λ b. b && after) (sym w.have-is)
-        | else-branch-len w ↦ next_count write_of shape writes i have c.loop-slice-test.true c.loop-slice-item.is
+        | else-branch-len w ↦ next_count write_of shape have at
             (eq-eqb (length item.1.items) _ (sym item.1.ok.0 ∙ sym c.len.ensures ∙ sym w.if-branch-len.false ∙ c.in_ok-picked.ensures.size))
             c.loop-slice.invariant.counts
             ∙ ap (λ b. b && after) (sym w.have-is)
