@@ -1,13 +1,14 @@
 -- Facts for one axis that is sliced between two bounds.
-use Rattle.std.proofs.Common.{◌≡◌, ℕ, ◌-◌, ◌*◌, ◌<◌, ◌≤◌, max, List, [], ◌∷◌, length, get_or, arith, refl, sym, ap, ◌∙◌, inl, inr, None}
-use Rattle.std.proofs.Common.{ℤ, pos, ◌+ℤ◌, ◌*ℤ◌, FitsSigned, if◌then◌else◌, w64}
-use Rattle.std.proofs.lemmas.Bool.{cases_lt, le-leb, lt-leb}
+use Rattle.std.proofs.Common.{◌≡◌, ℕ, ◌-◌, ◌*◌, ◌<◌, ◌≤◌, max, List, length, get_or, arith, sym, ap, ◌∙◌, inl, inr, None}
+use Rattle.std.proofs.Common.{ℤ, pos, ◌+ℤ◌, ◌*ℤ◌, FitsSigned, w64}
+use Rattle.std.proofs.lemmas.Bool.{cases_lt}
 use Rattle.std.proofs.lemmas.Int.{ints, fits_signed_mul}
 use Rattle.std.proofs.Math.IntN.{*ℤ-zero}
 use Rattle.std.specs.List.{range_with_len}
 use Rattle.nd_slice.proofs.Definitions.{Fit, Slice, between, directed, end_meaning, every, first_offset, limit, magnitude, picked_stride}
 use Rattle.nd_slice.proofs.Definitions.{picks, reach, slice_fault, start_meaning}
 use Rattle.nd_slice.proofs.laws.SliceFault.{fits_of_no_fault, step_moves}
+use Rattle.nd_slice.proofs.laws.Offsets.{offset_of_some, picked_few, picked_many}
 use Rattle.nd_slice.proofs.laws.Between.{between_steps, between_below, between_within, some_between}
 
 -- the picks of a slice, by the bounds that it means
@@ -26,25 +27,9 @@ module _ (fit : Fit) (len : ℕ) (slice : Slice) where
   pub moves : (step : ℤ) → None ≡ slice_fault fit len slice → step ≡ slice.step → 0 < magnitude step
   moves step e same = rw same (step_moves fit len slice (fits_of_no_fault fit len slice (sym e)))
 
--- how far the first of them lies
-pub offset_of_some : (xs : List ℕ) (s : ℤ) → 0 < length xs → first_offset xs s ≡ pos (get_or xs 0 0) *ℤ s
-offset_of_some [] s h = absurd (omega arith)
-offset_of_some (x ∷ xs) s h = refl
-
-pub offset_of_none : (xs : List ℕ) (s : ℤ) → length xs ≡ 0 → first_offset xs s ≡ pos 0
-offset_of_none [] s h = refl
-offset_of_none (x ∷ xs) s h = absurd (omega arith)
-
 -- the products that the code makes fit
 pub offset_fits : (len first : ℕ) (s : ℤ) → first < len → reach len s ≤ limit → FitsSigned w64 (pos first *ℤ s)
 offset_fits len first s h fits = fits_signed_mul w64 (pos first) s (len - 1) (magnitude s) (omega arith) (omega arith) (omega arith)
-
--- the new stride
-picked_many : (count : ℕ) (s step : ℤ) → 1 < count → picked_stride count s step ≡ s *ℤ step
-picked_many count s step h = ap (λ b. if b then pos 0 else (s *ℤ step)) (lt-leb count 1 h)
-
-picked_few : (count : ℕ) (s step : ℤ) → count ≤ 1 → picked_stride count s step ≡ pos 0
-picked_few count s step h = ap (λ b. if b then pos 0 else (s *ℤ step)) (le-leb count 1 h)
 
 module _ (step : ℤ) (start end : ℕ) where
   pub stride_fits : (len : ℕ) (s : ℤ) → 0 < magnitude step → end ≤ len → reach len s ≤ limit → 1 < length (between step start end)

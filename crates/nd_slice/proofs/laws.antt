@@ -1,6 +1,7 @@
 pub mod ArgumentFault
 pub mod Between
 pub mod Meet
+pub mod Offsets
 pub mod PickSequences
 pub mod Picked
 pub mod Picks

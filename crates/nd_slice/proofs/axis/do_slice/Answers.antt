@@ -2,8 +2,8 @@ use Rattle.std.proofs.Common.{rules, ◌≡◌, ◌<◌, arith, ap, sym, ◌∙�
 use Rattle.std.proofs.lemmas.Int.{to_z-of_z}
 use Rattle.nd_slice.proofs.Definitions.{between, first_offset, magnitude, picked_stride, picks, signed}
 use Rattle.nd_slice.proofs.laws.Between.{between_below, some_between, none_between}
-use Rattle.nd_slice.proofs.Slicing.{moves, picks_between, first_below, offset_fits, stride_fits, picked_steps, offset_of_some}
-use Rattle.nd_slice.proofs.Slicing.{offset_of_none}
+use Rattle.nd_slice.proofs.Slicing.{moves, picks_between, first_below, offset_fits, stride_fits, picked_steps}
+use Rattle.nd_slice.proofs.laws.Offsets.{offset_of_none, offset_of_some}
 use Rattle.nd_slice.proofs.axis.do_slice.Goals as goal
 use Rattle.nd_slice.proofs.axis.do_slice.Goals.{In_ok-start, After-first_pick, then-start-end, else-start-end}
 
