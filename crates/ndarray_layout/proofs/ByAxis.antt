@@ -46,9 +46,9 @@ one_place : (order : Order) (start : ℕ) → view_places order (view_of start [
 one_place RowMajor start = let here : start + 0 ≡ start = omega arith in ap (λ n. pos n ∷ []) here
 one_place ColumnMajor start = let here : start + 0 ≡ start = omega arith in ap (λ n. pos n ∷ []) here
 
-pub by_axis : (order : Order) (start : ℕ) (lens strides : List ℕ) (axis : Fastest) → IsFastest order lens strides axis
+pub by_axis : (order : Order) {start : ℕ} {lens : List ℕ} (strides : List ℕ) (axis : Fastest) → IsFastest order lens strides axis
     → IsView (view_of start lens strides) → ByAxis order start lens strides axis
-by_axis order start lens strides axis (inl none) v =
+by_axis order {start} strides axis (inl none) v =
     let s = signed axis.stride in
     let no_strides : strides ≡ [] = nil_from_length strides
     (omega (arith, length-map strides signed, v.valid.same_count, ap length none.0)) in
@@ -70,13 +70,9 @@ by_axis order start lens strides axis (inl none) v =
           ∙ ap (λ n. rows_places s n (view_places order (view_of start axis.lens.now axis.strides.now))) (sym none.1);
       sizes = ap size none.0 ∙ sym (ap (λ n. n * size axis.lens.now) none.1 ∙ ap (λ xs. 1 * size xs) none.2);
     }
-by_axis order start lens strides axis (inr ends) v =
+by_axis order strides axis (inr ends) v =
     let signs = EndsIn-map signed ends.1 in
-    record {
-      view = IsView-others order ends.0 signs v;
-      places = places-others order ends.0 signs v;
-      sizes = size-others ends.0;
-    }
+    record { view = IsView-others order ends.0 signs v; places = places-others order ends.0 signs v; sizes = size-others ends.0 }
 
 -- ---- of a view whose places may be left out
 -- each is a number of an `isize`

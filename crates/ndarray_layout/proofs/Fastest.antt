@@ -1,6 +1,6 @@
 -- A view by the axis that moves fastest in an order: its other axes are a view whose places begin the rows along that axis.
-use Rattle.std.proofs.Common.{◌≡◌, ℕ, zero, suc, ◌+◌, ◌*◌, ◌/◌, ◌%◌, ◌<◌, ◌≤◌, ◌^◌, ℤ, pos, ◌+ℤ◌, ◌*ℤ◌, ◌≤ℤ◌, inl, inr, List, [], ◌∷◌, ◌++◌, length, map}
-use Rattle.std.proofs.Common.{refl, sym, ap, ◌∙◌, arith, length-append}
+use Rattle.std.proofs.Common.{◌≡◌, ℕ, zero, suc, ◌+◌, ◌*◌, ◌/◌, ◌%◌, ◌<◌, ◌≤◌, ◌^◌, ℤ, pos, ◌+ℤ◌, ◌*ℤ◌, ◌≤ℤ◌, inl, inr, List, [], ◌∷◌, ◌++◌}
+use Rattle.std.proofs.Common.{refl, sym, ap, ◌∙◌, arith, length-append, length, map}
 use Rattle.std.proofs.Math.Nat.{div-one, mod-eq_of_lt}
 use Rattle.std.proofs.lemmas.Bool.{cases_eq}
 use Rattle.std.proofs.lemmas.Int.{ints}
@@ -12,11 +12,13 @@ use Rattle.nd_base.proofs.laws.Definitions.{as_read, index_of_flat, index_of_fla
 use Rattle.nd_base.proofs.laws.Definitions.{reach_down, reach_up, size, sum_over_axes}
 use Rattle.nd_base.proofs.laws.NonzeroSize.{length_le_nonzero_size, nonzero_size-push, nonzero_size_of_other, nonzero_size_of_zero}
 use Rattle.nd_base.proofs.laws.Offset.{offset_of-push}
-use Rattle.nd_base.proofs.laws.Reading.{as_read-as_read, length-as_read, map-as_read, nonzero_size-as_read, offset_of-as_read, size-as_read, sum_over_axes-as_read}
+use Rattle.nd_base.proofs.laws.Reading.{as_read-as_read, length-as_read, map-as_read, nonzero_size-as_read, offset_of-as_read}
+use Rattle.nd_base.proofs.laws.Reading.{size-as_read, sum_over_axes-as_read}
 use Rattle.nd_base.proofs.laws.Size.{size-push}
 use Rattle.nd_base.proofs.laws.Span.{sum_over_axes-push}
 use Rattle.ndarray_layout.specs.View.{IsView, view_places}
 use Rattle.ndarray_layout.specs.private.PlacesLeft.{EndsIn, rows_places}
+use Rattle.ndarray_layout.proofs.reshapes.FlatIndices.{length-index_of_flat}
 use Rattle.ndarray_layout.proofs.ByRows.{by_last_axis}
 use Rattle.ndarray_layout.proofs.OneAxis.{axis_within}
 use Rattle.ndarray_layout.proofs.ReadView.{places-as_read}
@@ -137,10 +139,6 @@ module _ (order : Order) {start : ℕ} {shape lens : List ℕ} {strides others :
       ∙ ap (rows_places stride len) (places-as_read order start lens others less)
 
 -- ---- flat indices
-length-index_of_flat : (shape : List ℕ) (r : ℕ) → length (index_of_flat shape r) ≡ length shape
-length-index_of_flat [] r = refl
-length-index_of_flat (len ∷ lens) r = omega (arith, length-index_of_flat lens (r % size lens))
-
 -- the entry of the last axis is a remainder
 index_of_flat-push : (lens : List ℕ) (len r : ℕ) → r < size (lens ++ len ∷ [])
     → index_of_flat (lens ++ len ∷ []) r ≡ index_of_flat lens (r / len) ++ (r % len) ∷ []

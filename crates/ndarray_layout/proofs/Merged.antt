@@ -82,8 +82,7 @@ steps_up : (len other : ℕ) (stride : ℤ) → 0 < len → 0 < other
 steps_up len other (pos s) h g =
     both_steps len other s h g
     ∙ sym (ap (λ z. reach_up other z + (len - 1) * s) (pos-*ℤ-pos len s))
-steps_up len other (negsuc s) h g =
-    sym (ap (λ n. n + 0) (ap (reach_up other) (pos-*ℤ-negsuc len s) ∙ up_by other (len * suc s)))
+steps_up len other (negsuc s) h g = sym (ap (λ n. n + 0) (ap (reach_up other) (pos-*ℤ-negsuc len s) ∙ up_by other (len * suc s)))
 
 up : Reaches reach_up
 up = record { few = few_up; more = more_up; steps = steps_up }
@@ -140,29 +139,6 @@ pub record TwoAxes (shape : List ℕ) (strides : List ℤ) (taken into : ℕ) : 
 abbrev whole : List ℕ → ℕ → ℕ → ℕ
 whole shape taken into = get_or shape into 0 * get_or shape taken 0
 
-sum_merged : {f : ℕ → ℤ → ℕ} → Reaches f → {shape : List ℕ} {strides : List ℤ} {taken into : ℕ} {stride : ℤ}
-    → TwoAxes shape strides taken into
-    → merge_fits (get_or shape taken 0) (get_or strides taken (pos 0)) (get_or shape into 0) (get_or strides into (pos 0)) ≡ true
-    → stride ≡ merged_stride (get_or shape taken 0) (get_or strides taken (pos 0)) (get_or shape into 0) (get_or strides into (pos 0))
-    → sum_over_axes f (merged_shape taken into shape) (set strides into stride) ≤ sum_over_axes f shape strides
-sum_merged {f} reaches {shape} {strides} {taken} {into} {stride} two on is =
-    let m = whole shape taken into in
-    let u = left_on m in
-    let ts = get_or strides taken (pos 0) in
-    let shape1 = set shape into m in
-    let strides1 = set strides into stride in
-    let first = sum_replaced f shape strides into (m, stride) two.into_there two.counts in
-    let counts1 : length shape1 ≡ length strides1 = length-set shape into m ∙ two.counts ∙ sym (length-set strides into stride) in
-    let there1 : taken < length shape1 = omega (arith, length-set shape into m, two.taken_there) in
-    let len1 : get_or shape1 taken 0 ≡ get_or shape taken 0 = get_or-set_other shape into taken m 0 two.apart in
-    let stride1 : get_or strides1 taken (pos 0) ≡ ts = get_or-set_other strides into taken stride (pos 0) two.apart in
-    let same1 : set strides1 taken ts ≡ strides1 = ap (set strides1 taken) (sym stride1) ∙ set-get_or strides1 taken (pos 0) in
-    let second : sum_over_axes f (set shape1 taken u) strides1 + f (get_or shape taken 0) ts ≡ sum_over_axes f shape1 strides1 + f u ts =
-    rw (same1, len1, stride1) at (sum_replaced f shape1 strides1 taken (u, ts) there1 counts1) in
-    let less : f m stride + f u ts ≤ f (get_or shape taken 0) ts + f (get_or shape into 0) (get_or strides into (pos 0)) =
-    rw is (reach_merged reaches (get_or shape taken 0) ts (get_or shape into 0) (get_or strides into (pos 0)) on) in
-    omega (arith, first, second, less)
-
 -- what is left reaches no further than the layout, and is no larger
 pub record MergeKept (shape : List ℕ) (strides : List ℤ) (taken into : ℕ) (stride : ℤ) : Type 0 where
   pub counts : length (merged_shape taken into shape) ≡ length (set strides into stride)
@@ -201,19 +177,41 @@ size_merged {shape} {taken = taken} {into} two =
               le_of_mul-le-mul_left both (pos_of_ne-zero e)
         ]
 
-pub merge_kept : {shape : List ℕ} {strides : List ℤ} {taken into : ℕ} {stride : ℤ} → TwoAxes shape strides taken into
-    → merge_fits (get_or shape taken 0) (get_or strides taken (pos 0)) (get_or shape into 0) (get_or strides into (pos 0)) ≡ true
-    → stride ≡ merged_stride (get_or shape taken 0) (get_or strides taken (pos 0)) (get_or shape into 0) (get_or strides into (pos 0))
-    → MergeKept shape strides taken into stride
-merge_kept {shape} {strides} {taken} {into} {stride} two on is =
-    let m = whole shape taken into in
-    record {
-      counts = length-set (set shape into m) taken (left_on m) ∙ length-set shape into m ∙ two.counts
-          ∙ sym (length-set strides into stride);
-      size = size_merged two;
-      low = sum_merged down two on is;
-      high = sum_merged up two on is;
-    }
+-- two axes that go together, and the stride that both have as one
+module _ {shape : List ℕ} {strides : List ℤ} {taken into : ℕ} {stride : ℤ} (two : TwoAxes shape strides taken into)
+    (on : merge_fits (get_or shape taken 0) (get_or strides taken (pos 0)) (get_or shape into 0) (get_or strides into (pos 0)) ≡ true)
+    (is : stride ≡ merged_stride (get_or shape taken 0) (get_or strides taken (pos 0)) (get_or shape into 0) (get_or strides into (pos 0)))
+  where
+    sum_merged : {f : ℕ → ℤ → ℕ} → Reaches f
+        → sum_over_axes f (merged_shape taken into shape) (set strides into stride) ≤ sum_over_axes f shape strides
+    sum_merged {f} reaches =
+        let m = whole shape taken into in
+        let u = left_on m in
+        let ts = get_or strides taken (pos 0) in
+        let shape1 = set shape into m in
+        let strides1 = set strides into stride in
+        let first = sum_replaced f shape strides into (m, stride) two.into_there two.counts in
+        let counts1 : length shape1 ≡ length strides1 = length-set shape into m ∙ two.counts ∙ sym (length-set strides into stride) in
+        let there1 : taken < length shape1 = omega (arith, length-set shape into m, two.taken_there) in
+        let len1 : get_or shape1 taken 0 ≡ get_or shape taken 0 = get_or-set_other shape into taken m 0 two.apart in
+        let stride1 : get_or strides1 taken (pos 0) ≡ ts = get_or-set_other strides into taken stride (pos 0) two.apart in
+        let same1 : set strides1 taken ts ≡ strides1 = ap (set strides1 taken) (sym stride1) ∙ set-get_or strides1 taken (pos 0) in
+        let second : sum_over_axes f (set shape1 taken u) strides1 + f (get_or shape taken 0) ts ≡ sum_over_axes f shape1 strides1 + f u ts =
+        rw (same1, len1, stride1) at (sum_replaced f shape1 strides1 taken (u, ts) there1 counts1) in
+        let less : f m stride + f u ts ≤ f (get_or shape taken 0) ts + f (get_or shape into 0) (get_or strides into (pos 0)) =
+        rw is (reach_merged reaches (get_or shape taken 0) ts (get_or shape into 0) (get_or strides into (pos 0)) on) in
+        omega (arith, first, second, less)
+
+    pub merge_kept : MergeKept shape strides taken into stride
+    merge_kept =
+        let m = whole shape taken into in
+        record {
+          counts = length-set (set shape into m) taken (left_on m) ∙ length-set shape into m ∙ two.counts
+              ∙ sym (length-set strides into stride);
+          size = size_merged two;
+          low = sum_merged down;
+          high = sum_merged up;
+        }
 
 -- ---- its indices
 -- an index that is left: it has one entry for both axes, and none but the first on the one taken

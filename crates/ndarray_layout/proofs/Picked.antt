@@ -1,11 +1,12 @@
 -- What a slice leaves of one axis: the picks lie within the axis, and apart as their stride says.
-use Rattle.std.proofs.Common.{◌≡◌, ℕ, suc, ◌-◌, ◌*◌, ◌<◌, ◌≤◌, ℤ, pos, negsuc, ◌+ℤ◌, ◌*ℤ◌, ◌≤ℤ◌, List, [], ◌∷◌, length, get_or, nat_le, inl}
-use Rattle.std.proofs.Common.{inr, arith, refl, ap}
+use Rattle.std.proofs.Common.{◌≡◌, ℕ, suc, ◌-◌, ◌*◌, ◌<◌, ◌≤◌, ℤ, pos, negsuc, ◌+ℤ◌, ◌*ℤ◌, ◌≤ℤ◌, List, [], ◌∷◌, length, get_or, inl}
+use Rattle.std.proofs.Common.{inr, arith, ap}
 use Rattle.std.proofs.lemmas.Int.{ints}
-use Rattle.std.proofs.lemmas.Bool.{cases_lt, cond-true, cond-false, le-leb, lt-leb}
+use Rattle.std.proofs.lemmas.Bool.{cases_lt}
 use Rattle.nd_base.specs.Span.{reach, reach_down, reach_up}
 use Rattle.nd_slice.specs.Picked.{picked_stride, first_offset}
 use Rattle.nd_base.proofs.laws.Span.{reach_parts}
+use Rattle.nd_slice.proofs.laws.Offsets.{offset_of_some, picked_few, picked_many}
 use Rattle.ndarray_layout.proofs.OneAxis.{Within, axis_within}
 
 -- the picks of a slice that fits an axis of length len
@@ -22,25 +23,11 @@ pub record AxisKept (len : ℕ) (stride : ℤ) (count : ℕ) (new_stride : ℤ) 
   pub low : pos (reach_down count new_stride) ≤ℤ (pos (reach_down len stride) +ℤ offset)
   pub high : (offset +ℤ pos (reach_up count new_stride)) ≤ℤ pos (reach_up len stride)
 
-picked_few : (count : ℕ) (stride step : ℤ) → count ≤ 1 → picked_stride count stride step ≡ pos 0
-picked_few count stride step h = cond-true (nat_le count 1) (pos 0) (stride *ℤ step) (le-leb count 1 h)
-
-picked_many : (count : ℕ) (stride step : ℤ) → 1 < count → picked_stride count stride step ≡ stride *ℤ step
-picked_many count stride step h = cond-false (nat_le count 1) (pos 0) (stride *ℤ step) (lt-leb count 1 h)
-
-first_of_some : (picks : List ℕ) (stride : ℤ) → 0 < length picks → first_offset picks stride ≡ pos (get_or picks 0 0) *ℤ stride
-first_of_some [] stride h = absurd (omega arith)
-first_of_some (pick ∷ picks) stride h = refl
-
-first_of_none : (picks : List ℕ) (stride : ℤ) → length picks ≤ 0 → first_offset picks stride ≡ pos 0
-first_of_none [] stride h = refl
-first_of_none (pick ∷ picks) stride h = absurd (omega arith)
-
 -- the pick at j lies j new strides from the first
 pub pick_offset : {len : ℕ} (stride : ℤ) {step : ℤ} {picks : List ℕ} (j : ℕ) → PicksFit len step picks → j < length picks
     → pos (get_or picks j 0) *ℤ stride ≡ first_offset picks stride +ℤ (pos j *ℤ picked_stride (length picks) stride step)
 pick_offset stride {step} {picks} j fit h =
-    let first = first_of_some picks stride (omega arith) in
+    let first = offset_of_some picks stride (omega arith) in
     elim (cases_lt 1 (length picks)) [
       | inl many ↦
           let new = picked_many (length picks) stride step many in

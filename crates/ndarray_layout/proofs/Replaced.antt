@@ -15,7 +15,8 @@ pub sum_replaced : (f : ℕ → ℤ → ℕ) (shape : List ℕ) (strides : List 
 sum_replaced f [] strides axis new h e = absurd (omega arith)
 sum_replaced f (n ∷ shape) [] axis new h e = absurd (omega arith)
 sum_replaced f (n ∷ shape) (s ∷ strides) zero new h e = omega arith
-sum_replaced f (n ∷ shape) (s ∷ strides) (suc axis) new h e = omega (arith, sum_replaced f shape strides axis new (omega arith) (omega arith))
+sum_replaced f (n ∷ shape) (s ∷ strides) (suc axis) new h e =
+    omega (arith, sum_replaced f shape strides axis new (omega arith) (omega arith))
 
 -- the factor that a length adds to the product of the lengths that are not 0
 abbrev pub factor : ℕ → ℕ

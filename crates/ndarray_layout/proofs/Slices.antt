@@ -75,8 +75,7 @@ module _ (fit : Fit) where
         counts = omega (arith, rest.counts);
         size = omega (arith, rest.size);
         low = omega (arith, ints, rest.low);
-        high =
-            omega (arith, ints, rest.high);
+        high = omega (arith, ints, rest.high);
       }
   slices_kept (elem.Slice start end step ∷ elems) [] strides e f = absurd (omega arith)
   slices_kept (elem.Slice start end step ∷ elems) (len ∷ shape) [] e f = absurd (omega arith)

@@ -14,6 +14,7 @@ use Rattle.nd_base.proofs.laws.Indices.{indices_more}
 use Rattle.nd_base.proofs.laws.NonzeroSize.{nonzero_size_pos}
 use Rattle.ndarray_layout.proofs.OneAxis.{axis_within}
 use Rattle.nd_base.proofs.laws.Lists.{map-reverse}
+use Rattle.nd_base.proofs.laws.Reading.{as_read-nil}
 
 -- an entry of the first axis moves the start
 row_at : (start i : ℕ) {inner : ℕ} (stride : ℤ) (strides : List ℤ) (xs : List (List ℕ)) → pos inner ≡ pos start +ℤ (pos i *ℤ stride)
@@ -78,10 +79,6 @@ pub as_read_signed : (order : Order) (strides : List ℕ) → as_read order (all
 as_read_signed RowMajor strides = refl
 as_read_signed ColumnMajor strides = sym (map-reverse signed strides)
 
-as_read_none : {A : Type 0} (order : Order) → as_read {A = A} order [] ≡ []
-as_read_none RowMajor = refl
-as_read_none ColumnMajor = refl
-
 -- the slowest axis of a view, and the lists of the others
 pub record SlowestAxis (order : Order) (shape strides : List ℕ) (len stride : ℕ) (lens rest : List ℕ) : Type 0 where
   pub shape_is : as_read order shape ≡ len ∷ as_read order lens
@@ -108,7 +105,7 @@ module _ {order : Order} {shape strides : List ℕ} {len stride : ℕ} {lens res
   -- where one axis is left it is a row
   row_lens : length lens ≡ 0 → as_read order shape ≡ len ∷ []
   row_lens none = slowest.shape_is ∙ ap (λ xs. len ∷ as_read order xs) (nil_from_length lens none)
-      ∙ ap (λ xs. len ∷ xs) (as_read_none order)
+      ∙ ap (λ xs. len ∷ xs) (as_read-nil order)
 
   pub size_of_row : length lens ≡ 0 → size (as_read order shape) ≡ len
   size_of_row none =

@@ -56,6 +56,7 @@ pub use Rattle.nd_shape.proofs.laws.Stretches
 pub use Rattle.nd_slice.proofs.laws.ArgumentFault
 pub use Rattle.nd_slice.proofs.laws.Between
 pub use Rattle.nd_slice.proofs.laws.Meet
+pub use Rattle.nd_slice.proofs.laws.Offsets
 pub use Rattle.nd_slice.proofs.laws.PickSequences
 pub use Rattle.nd_slice.proofs.laws.Picked
 pub use Rattle.nd_slice.proofs.laws.Picks

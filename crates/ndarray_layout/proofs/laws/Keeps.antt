@@ -1,10 +1,10 @@
 -- Laws of strides that keep the places of a layout: there are some exactly where the sizes agree and no joint is bad.
-use Rattle.std.proofs.Common.{◌≡◌, ℕ, suc, ◌-◌, ◌%◌, ◌<◌, false, ℤ, pos, List, [], ◌∷◌, length, get_or, map, reverse, refl, sym, ap, ◌∙◌}
+use Rattle.std.proofs.Common.{◌≡◌, ℕ, ◌-◌, ◌<◌, false, ℤ, pos, List, [], length, get_or, map, reverse, refl, sym, ap, ◌∙◌}
 use Rattle.std.proofs.Common.{inl, inr, arith, subst}
 use Rattle.std.specs.Prelude.{◌↔◌, ◌==◌, Bool, Some, None, if◌then◌else◌}
 use Rattle.std.proofs.lemmas.Bool.{cases_Bool, cases_lt, cond-true, cond-false, eq-eqb, eqb-true}
 use Rattle.std.proofs.lemmas.Int.{ints}
-use Rattle.std.proofs.lemmas.List.{get_or-map, get_or-reverse, get_or_past, length-map, length-reverse, reverse-reverse}
+use Rattle.std.proofs.lemmas.List.{get_or-map, get_or_past, length-map, length-reverse, reverse-reverse}
 use Rattle.std.proofs.lemmas.List.FromFn.{fill_by_all, length-map-range_with_len}
 use Rattle.nd_base.specs.declared.error.ErrorKind.TheVariants.{IncompatibleShape, IncompatibleLayout}
 use Rattle.nd_base.specs.declared.order.Order.{Order}
@@ -12,6 +12,7 @@ use Rattle.nd_base.specs.declared.order.Order.TheVariants.{RowMajor, ColumnMajor
 use Rattle.nd_base.proofs.laws.Definitions.{below, indices_in, offset_of, place, places, index_of_flat, index_of_flat_in, as_read}
 use Rattle.nd_base.proofs.laws.Definitions.{is_empty, size}
 use Rattle.nd_base.proofs.laws.Indices.{get_or-indices_in, length-indices_in}
+use Rattle.nd_base.proofs.laws.Lists.{get_or-from_back}
 use Rattle.nd_base.proofs.laws.Offset.{offset_of-reverse}
 use Rattle.nd_base.proofs.laws.Reading.{length-as_read, as_read-as_read, size-as_read, is_empty-as_read}
 use Rattle.nd_dim.specs.Strides.{size_after}
@@ -20,13 +21,10 @@ use Rattle.ndarray_layout.specs.reshape.Joints.{has_bad_joint}
 use Rattle.ndarray_layout.specs.reshape.Keeps.{Keeps, AgreeOnLonger}
 use Rattle.ndarray_layout.specs.reshape.ReshapeFault.{reshape_fault}
 use Rattle.ndarray_layout.specs.private.ReshapeProgress.{PlacesAlike}
+use Rattle.ndarray_layout.proofs.reshapes.FlatIndices.{length-index_of_flat}
 use Rattle.ndarray_layout.proofs.reshapes.Complete.{good-of-alike, alike-of-good}
 use Rattle.ndarray_layout.proofs.reshapes.Forced.{forced-of-alike, alike-forced}
 use Rattle.ndarray_layout.proofs.reshapes.SamePlaces.{HasIndex, SamePlaces}
-
-length-index_of_flat : (shape : List ℕ) (r : ℕ) → length (index_of_flat shape r) ≡ length shape
-length-index_of_flat [] r = refl
-length-index_of_flat (len ∷ shape) r = ap suc (length-index_of_flat shape (r % size shape))
 
 -- the index of a flat index lies as far as that of the axes as they are read
 pub offset-as_read : (order : Order) (shape : List ℕ) (strides : List ℤ) (r : ℕ) → length shape ≡ length strides
@@ -135,7 +133,8 @@ pub keeps-forced : {order : Order} {from : List ℕ} {strides : List ℤ} {to : 
     (size_after (as_read order to) axis)
 keeps-forced {order} {to = to} axis more e k l long =
     let count = length-as_read order to in
-    forced-of-alike axis (has_index-as_read order (record { same_count = k.same_count; some = more })) (same-of-keeps e k) (omega arith) long
+    let at = has_index-as_read order (record { same_count = k.same_count; some = more }) in
+    forced-of-alike axis at (same-of-keeps e k) (omega arith) long
 
 pub forced-keeps : (order : Order) {from : List ℕ} {strides : List ℤ} (to : List ℕ) → HasIndex from strides → is_empty to ≡ false
     → Fits order from strides to → Keeps order from strides to (forced_strides order from strides to)
@@ -195,13 +194,6 @@ fault-complete order {from} {strides} to at more =
     let kept = keeps-exactly order to at more in
     (λ none. kept.0 (fits.0 none), λ k. fits.1 (kept.1 k))
 
--- an item counted from the back
-from-back : {A : Type 0} (items : List A) (axis : ℕ) (d : A) → axis < length items
-    → get_or (reverse items) (length items - 1 - axis) d ≡ get_or items axis d
-from-back items axis d l =
-    let back : length items - 1 - (length items - 1 - axis) ≡ axis = omega arith in
-    get_or-reverse items (length items - 1 - axis) d (omega arith) ∙ ap (λ k. get_or items k d) back
-
 longer-within : (lens : List ℕ) (axis : ℕ) → 1 < get_or lens axis 0 → axis < length lens
 longer-within lens axis long = elim (cases_lt axis (length lens)) [
   | inl within ↦ within
@@ -218,10 +210,10 @@ agree-as_read ColumnMajor to others strides e g agree axis long =
     let l = longer-within to axis long in
     let back = length to - 1 - axis in
     let one : get_or (reverse others) back (pos 0) ≡ get_or others axis (pos 0) = ap (λ n. get_or (reverse others) (n - 1 - axis) (pos 0)) e
-    ∙ from-back others axis (pos 0) (omega arith) in
+    ∙ get_or-from_back others axis (pos 0) (omega arith) in
     let other : get_or (reverse strides) back (pos 0) ≡ get_or strides axis (pos 0) =
-    ap (λ n. get_or (reverse strides) (n - 1 - axis) (pos 0)) g ∙ from-back strides axis (pos 0) (omega arith) in
-    sym one ∙ agree back (omega arith) (subst (λ n. 1 < n) (sym (from-back to axis 0 l)) long) ∙ other
+    ap (λ n. get_or (reverse strides) (n - 1 - axis) (pos 0)) g ∙ get_or-from_back strides axis (pos 0) (omega arith) in
+    sym one ∙ agree back (omega arith) (subst (λ n. 1 < n) (sym (get_or-from_back to axis 0 l)) long) ∙ other
 
 -- all strides that do agree with those of the definition on each axis of more than one entry
 pub keeps-agree : {order : Order} {from : List ℕ} {strides : List ℤ} {to : List ℕ} {others : List ℤ} → HasIndex from strides

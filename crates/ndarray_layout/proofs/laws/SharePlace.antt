@@ -67,7 +67,8 @@ pub record IsPlaceOf (view : View) (n : ℕ) : Type 0 where
 pub listed_place : {view : View} {items : List ℕ} (n : ℕ) → AreItsPlaces view items → Contains items n → IsPlaceOf view n
 listed_place {view} {items} n are here =
     let indices = indices_in are.order view.shape in
-    let long : length items ≡ length indices = omega (arith, length-map items pos, ap length are.same, length-map indices (place_at view)) in
+    let long : length items ≡ length indices =
+    omega (arith, length-map items pos, ap length are.same, length-map indices (place_at view)) in
     let below : here.0 < length indices = omega (arith, here.1) in
     record {
       index = get_or indices here.0 [];

@@ -3,7 +3,7 @@ use Rattle.std.proofs.Common.{◌≡◌, ◌≢◌, ℕ, zero, suc, ◌+◌, ◌
 use Rattle.std.proofs.Common.{get_or, take, drop, refl, sym, ap, ap₂, ◌∙◌, inl, inr, arith, subst, Some, w64}
 use Rattle.std.specs.Int.RustNames.{FitsSigned}
 use Rattle.std.proofs.Math.ListN.{get_or-map}
-use Rattle.std.proofs.Math.Nat.{mul-one, mul-le-mul_left, mul_comm}
+use Rattle.std.proofs.Math.Nat.{mul-le-mul_left, mul_comm}
 use Rattle.std.proofs.lemmas.Int.{ints}
 use Rattle.std.proofs.lemmas.List.{length-map, take-map, take_all, length-take-le, get_or-take, drop-take, drop-drop}
 use Rattle.nd_base.specs.declared.error.ErrorKind.TheVariants.{IncompatibleShape}
@@ -11,13 +11,13 @@ use Rattle.nd_base.proofs.laws.Definitions.{offset_of, index_of_flat, all_signed
 use Rattle.nd_base.proofs.laws.Definitions.{span}
 use Rattle.nd_base.proofs.laws.Offset.{offset_bounds}
 use Rattle.nd_base.proofs.laws.FlatIndex.{is_index-index_of_flat}
-use Rattle.nd_base.proofs.laws.Size.{size_of_nonempty, size_take_more, size_take_le, size_drop_le, size_from, drop_nonempty}
+use Rattle.nd_base.proofs.laws.Size.{size_of_nonempty, size_take_le, size_drop_le, size_from, drop_nonempty}
 use Rattle.nd_base.proofs.laws.Span.{low_high_span}
 use Rattle.ndarray_layout.specs.private.ReshapeProgress.{Layouts, layouts, fault_of, IsDense, segment}
 use Rattle.ndarray_layout.specs.private.ReshapeProgress.{GoodBelow, IsReached, IsBlock}
 use Rattle.ndarray_layout.proofs.reshapes.Blocks.{length-seg, first-block}
 use Rattle.ndarray_layout.proofs.reshapes.Halfway.{halfway-first, halfway-reached}
-use Rattle.ndarray_layout.proofs.reshapes.Reached.{take-mono, sizes-fault}
+use Rattle.ndarray_layout.proofs.reshapes.Reached.{take-mono, stays, grows, sizes-fault}
 use Rattle.ndarray_layout.proofs.reshapes.DenseRuns.{run-of-dense}
 use Rattle.ndarray_layout.proofs.reshapes.WalkSteps.{GoesOn, StepAsOne, AlikeUpTo, HasBlockStrides, alike-step, none-dense}
 use Rattle.ndarray_layout.proofs.reshapes.WalkSteps.{written-dense, take-nonempty, segment-nonempty, segments-size}
@@ -87,9 +87,6 @@ alike-both {from} strides {to} {news = news} {i} {k} {stride} at further keeping
     }) alike
 
 -- ---- an axis of one entry
-stays : (lens : List ℕ) (k : ℕ) → k < length lens → get_or lens k 0 ≡ 1 → size (take (k + 1) lens) ≡ size (take k lens)
-stays lens k l e = size_take_more lens k l ∙ ap (λ n. size (take k lens) * n) e ∙ mul-one (size (take k lens))
-
 module _ {both : Layouts} {i k : ℕ} where
   pub reached-from : IsReached both i k → get_or both.from i 0 ≡ 1 → IsReached both (i + 1) k
   reached-from at one =
@@ -139,14 +136,13 @@ module _ {both : Layouts} {i k : ℕ} where
       }) alike
 
 -- ---- the end of one shape
-grows : (lens : List ℕ) (k j : ℕ) → is_empty lens ≡ false → k ≤ j → j < length lens → get_or lens j 0 ≢ 1 → size (take k lens) < size lens
-grows lens k j h l g other =
+less-than-all : (lens : List ℕ) (k j : ℕ) → is_empty lens ≡ false → k ≤ j → j < length lens → get_or lens j 0 ≢ 1
+    → size (take k lens) < size lens
+less-than-all lens k j h l g other =
     let some = length_pos lens j h g in
-    let next = size_take_more lens j g in
+    let here = grows lens j h g (omega arith) in
     let less = size_take_le lens (j + 1) h in
     let before = take-mono lens k j h l in
-    let first = take-mono lens 0 j h (omega arith) in
-    let more : size (take j lens) * 2 ≤ size (take j lens) * get_or lens j 0 = mul-le-mul_left (size (take j lens)) (omega arith) in
     omega arith
 
 -- an axis of more than one entry is left of the old shape, or of the new one
@@ -155,7 +151,7 @@ pub from-left-fault : {both : Layouts} {i k : ℕ} (j : ℕ) → IsReached both 
 from-left-fault {both} {i} {k} j at over l g other =
     let whole : size both.to ≡ size (take k both.to) = sym (ap size (take_all k both.to over)) in
     let sizes = at.sizes in
-    let more = grows both.from i j at.can_walk.some l g other in
+    let more = less-than-all both.from i j at.can_walk.some l g other in
     sizes-fault both at.can_walk.some at.joints (inr (omega arith)) (λ same. omega arith)
 
 pub to-left-fault : {both : Layouts} {i k : ℕ} (j : ℕ) → IsReached both i k → length both.from ≤ i → k ≤ j → j < length both.to
@@ -163,7 +159,7 @@ pub to-left-fault : {both : Layouts} {i k : ℕ} (j : ℕ) → IsReached both i 
 to-left-fault {both} {i} {k} j at over l g other =
     let whole : size both.from ≡ size (take i both.from) = sym (ap size (take_all i both.from over)) in
     let sizes = at.sizes in
-    let more = grows both.to k j at.can_walk.more l g other in
+    let more = less-than-all both.to k j at.can_walk.more l g other in
     sizes-fault both at.can_walk.some at.joints (inl (omega arith)) (λ same. omega arith)
 
 -- ---- a block

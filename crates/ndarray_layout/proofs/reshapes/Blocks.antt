@@ -1,15 +1,13 @@
 -- Axes of two shapes that are read up to where they have as many indices again.
-use Rattle.std.proofs.Common.{◌≡◌, ℕ, ◌+◌, ◌-◌, ◌*◌, ◌<◌, ◌≤◌, false, ℤ, pos, ◌*ℤ◌, List, [], ◌∷◌, ◌++◌, length, get_or, take, drop, refl}
+use Rattle.std.proofs.Common.{◌≡◌, ℕ, ◌+◌, ◌-◌, ◌<◌, ◌≤◌, false, ℤ, pos, ◌*ℤ◌, List, [], ◌∷◌, ◌++◌, length, get_or, take, drop, refl}
 use Rattle.std.proofs.Common.{sym, ap, ◌∙◌, ◌⊎◌, inl, inr, arith, subst}
-use Rattle.std.proofs.Math.Nat.{mul-le-mul_left}
 use Rattle.std.proofs.lemmas.Bool.{cases_eq}
 use Rattle.std.proofs.lemmas.Int.{ints}
 use Rattle.std.proofs.lemmas.List.{take_more, get_or-drop, length-drop, length-take-le}
 use Rattle.nd_base.specs.Size.{size, is_empty}
-use Rattle.nd_base.proofs.laws.Size.{size_take_more}
 use Rattle.ndarray_layout.specs.reshape.Joints.{cumulative_products}
 use Rattle.ndarray_layout.specs.private.ReshapeProgress.{Member, Layouts, IsReached, IsDense, IsBlock, segment}
-use Rattle.ndarray_layout.proofs.reshapes.Reached.{LastLonger, take-mono, no-product}
+use Rattle.ndarray_layout.proofs.reshapes.Reached.{LastLonger, take-mono, grows, no-product}
 use Rattle.ndarray_layout.proofs.reshapes.DenseRuns.{dense-push, dense-push-one}
 
 -- each product of first lengths of the one shape lies below that of the other, or is the last one
@@ -51,38 +49,32 @@ first-block from strides k e l = record {
       ((λ long. omega (arith, ints)), tt));
 }
 
-module _ {from : List ℕ} {strides : List ℤ} {start end : ℕ} {step : ℤ} where
-  -- a longer axis, on whose whole the axes before it step
-  pub block-longer : length from ≡ length strides → end < length from → step ≡ pos (get_or from end 0) *ℤ get_or strides end (pos 0)
-      → IsBlock from strides start end step → IsBlock from strides start (end + 1) (get_or strides end (pos 0))
-  block-longer e l whole b =
-      let ahead = b.ahead in
-      let len = length-seg start end from (omega arith) (omega arith) in
-      let count = length-seg start end strides (omega arith) (omega arith) in
-      record {
-        ahead = omega arith;
-        dense = subst (λ xs. IsDense xs (segment start (end + 1) strides) (get_or strides end (pos 0)))
-            (sym (segment-more start end from 0 (omega arith) l))
-            (subst (λ ss. IsDense (segment start end from ++ get_or from end 0 ∷ []) ss (get_or strides end (pos 0)))
-            (sym (segment-more start end strides (pos 0) (omega arith) (omega arith)))
-            (dense-push (segment start end from) (segment start end strides) (get_or from end 0) (get_or strides end (pos 0)) (omega arith)
-            whole b.dense));
-      }
+-- one axis more, where what is read with it steps as one
+block-more : {from : List ℕ} {strides : List ℤ} {start end : ℕ} {next : ℤ} → length from ≡ length strides → end < length from → start < end
+    → IsDense (segment start end from ++ get_or from end 0 ∷ []) (segment start end strides ++ get_or strides end (pos 0) ∷ []) next
+    → IsBlock from strides start (end + 1) next
+block-more {from} {strides} {start} {end} {next} e l ahead dense = record {
+  ahead = omega arith;
+  dense = subst (λ xs. IsDense xs (segment start (end + 1) strides) next) (sym (segment-more start end from 0 (omega arith) l))
+      (subst (λ ss. IsDense (segment start end from ++ get_or from end 0 ∷ []) ss next)
+      (sym (segment-more start end strides (pos 0) (omega arith) (omega arith))) dense);
+}
 
-  pub block-one : length from ≡ length strides → end < length from → get_or from end 0 ≡ 1 → IsBlock from strides start end step
-      → IsBlock from strides start (end + 1) step
-  block-one e l one b =
+module _ {from : List ℕ} {strides : List ℤ} {start end : ℕ} {step : ℤ} (e : length from ≡ length strides) (l : end < length from) where
+  segment-counts : IsBlock from strides start end step → length (segment start end from) ≡ length (segment start end strides)
+  segment-counts b =
       let ahead = b.ahead in
-      let len = length-seg start end from (omega arith) (omega arith) in
-      let count = length-seg start end strides (omega arith) (omega arith) in
-      record {
-        ahead = omega arith;
-        dense = subst (λ xs. IsDense xs (segment start (end + 1) strides) step) (sym (segment-more start end from 0 (omega arith) l))
-            (subst (λ ss. IsDense (segment start end from ++ get_or from end 0 ∷ []) ss step)
-            (sym (segment-more start end strides (pos 0) (omega arith) (omega arith)))
-            (dense-push-one (segment start end from) (segment start end strides) (get_or strides end (pos 0)) step (omega arith) one
-            b.dense));
-      }
+      length-seg start end from (omega arith) (omega arith) ∙ sym (length-seg start end strides (omega arith) (omega arith))
+
+  -- a longer axis, on whose whole the axes before it step
+  pub block-longer : step ≡ pos (get_or from end 0) *ℤ get_or strides end (pos 0) → IsBlock from strides start end step
+      → IsBlock from strides start (end + 1) (get_or strides end (pos 0))
+  block-longer whole b = block-more e l b.ahead (dense-push (segment start end from) (segment start end strides) (get_or from end 0)
+      (get_or strides end (pos 0)) (segment-counts b) whole b.dense)
+
+  pub block-one : get_or from end 0 ≡ 1 → IsBlock from strides start end step → IsBlock from strides start (end + 1) step
+  block-one one b = block-more e l b.ahead (dense-push-one (segment start end from) (segment start end strides) (get_or strides end (pos 0))
+      step (segment-counts b) one b.dense)
 
 -- ---- between products
 pub longer-first : {from : List ℕ} {strides : List ℤ} (k : ℕ) → 1 < get_or from k 0
@@ -106,14 +98,6 @@ longer-one {from} {end} one last =
 
 product-next : (lens : List ℕ) (k : ℕ) → is_empty lens ≡ false → k < length lens → size (take k lens) ≤ size (take (k + 1) lens)
 product-next lens k h l = take-mono lens k (k + 1) h (omega arith)
-
-grows : (lens : List ℕ) (k : ℕ) → is_empty lens ≡ false → k < length lens → 1 < get_or lens k 0
-    → size (take k lens) < size (take (k + 1) lens)
-grows lens k h l long =
-    let next = size_take_more lens k l in
-    let some = take-mono lens 0 k h (omega arith) in
-    let more : size (take k lens) * 2 ≤ size (take k lens) * get_or lens k 0 = mul-le-mul_left (size (take k lens)) long in
-    omega arith
 
 pub between-first : {both : Layouts} {i k : ℕ} → IsReached both i k → i < length both.from → k < length both.to → 1 < get_or both.from i 0
     → 1 < get_or both.to k 0 → IsBetween both.from both.strides both.to (i + 1) (k + 1) (get_or both.strides i (pos 0))

@@ -16,6 +16,10 @@ use Rattle.ndarray_layout.proofs.reshapes.Products.{long_lens}
 use Rattle.ndarray_layout.proofs.reshapes.SamePlaces.{HasIndex, rest-has_index}
 use Rattle.ndarray_layout.proofs.reshapes.Tails.{count-pos, lens_of}
 
+pub length-index_of_flat : (shape : List ℕ) (r : ℕ) → length (index_of_flat shape r) ≡ length shape
+length-index_of_flat [] r = refl
+length-index_of_flat (len ∷ lens) r = omega (arith, length-index_of_flat lens (r % size lens))
+
 -- ---- axes after others
 pub value-append : (axes others : Axes) (r : ℕ) → value (axes ++ others) r ≡ value axes r +ℤ value others (r / count axes)
 value-append [] others r = omega (arith, ints, ap (value others) (div-one r))

@@ -60,6 +60,23 @@ len-fits lens k h f l =
     turned : (a b : ℕ) → a * b ≡ b * a
     turned a b = omega arith
 
+-- the shape whose lengths have the larger product has the larger part of its size read
+module _ {both : Layouts} {i k from_end to_end from_product to_product : ℕ} {step : ℤ}
+    (at : IsHalfway both i k from_end to_end from_product to_product step) where
+  from-ahead : to_product < from_product → size (take to_end both.to) < size (take from_end both.from)
+  from-ahead less =
+      let from_size = at.from_size in
+      let to_size = at.to_size in
+      let below = sizes-below both.from i to_product from_product at.can_walk.some less in
+      omega arith
+
+  to-ahead : from_product < to_product → size (take from_end both.from) < size (take to_end both.to)
+  to-ahead less =
+      let from_size = at.from_size in
+      let to_size = at.to_size in
+      let below = sizes-below both.from i from_product to_product at.can_walk.some less in
+      omega arith
+
 -- ---- one more axis
 module _ {both : Layouts} {i k : ℕ} where
   pub halfway-first : {len other : ℕ} {step : ℤ} → IsReached both i k → i < length both.from → k < length both.to
@@ -92,9 +109,6 @@ module _ {both : Layouts} {i k : ℕ} where
   halfway-to {to_end} {from_product} {to_product} at less l e =
       let before = at.between (omega arith) in
       let ahead = at.to_ahead in
-      let from_size = at.from_size in
-      let to_size = at.to_size in
-      let below = sizes-below both.from i to_product from_product at.can_walk.some less in
       record {
         can_walk = at.can_walk;
         from_in = at.from_in;
@@ -104,7 +118,7 @@ module _ {both : Layouts} {i k : ℕ} where
         to_size = next-product both.to to_end (size (take i both.from)) to_product l at.to_size e;
         joints = at.joints;
         block = at.block;
-        between = λ apart. between-to at.can_walk.more l (omega arith) before;
+        between = λ apart. between-to at.can_walk.more l (from-ahead at less) before;
       }
 
   pub halfway-one : {from_end to_end from_product to_product len : ℕ} {step : ℤ}
@@ -116,9 +130,6 @@ module _ {both : Layouts} {i k : ℕ} where
       let one : get_or both.from from_end 0 ≡ 1 = omega arith in
       let same : size (take (from_end + 1) both.from) ≡ size (take from_end both.from) = size_take_more both.from from_end l
       ∙ ap (λ n. size (take from_end both.from) * n) one ∙ mul-one (size (take from_end both.from)) in
-      let from_size = at.from_size in
-      let to_size = at.to_size in
-      let below = sizes-below both.from i from_product to_product at.can_walk.some less in
       record {
         can_walk = at.can_walk;
         from_in = omega arith;
@@ -128,7 +139,7 @@ module _ {both : Layouts} {i k : ℕ} where
         to_size = at.to_size;
         joints = subst (GoodBelow both.from both.strides both.to) (sym same) at.joints;
         block = block-one at.can_walk.same_count l one at.block;
-        between = λ apart. between-from at.can_walk.some l (omega arith) (longer-one one before.last) before;
+        between = λ apart. between-from at.can_walk.some l (to-ahead at less) (longer-one one before.last) before;
       }
 
   pub halfway-longer : {from_end to_end from_product to_product len : ℕ} {step next : ℤ}
@@ -139,9 +150,6 @@ module _ {both : Layouts} {i k : ℕ} where
       let before = at.between (omega arith) in
       let more : 1 < get_or both.from from_end 0 = omega arith in
       let fits : step ≡ pos (get_or both.from from_end 0) *ℤ get_or both.strides from_end (pos 0) = whole ∙ ap₂ (λ n z. pos n *ℤ z) e s in
-      let from_size = at.from_size in
-      let to_size = at.to_size in
-      let below = sizes-below both.from i from_product to_product at.can_walk.some less in
       record {
         can_walk = at.can_walk;
         from_in = omega arith;
@@ -152,7 +160,7 @@ module _ {both : Layouts} {i k : ℕ} where
         joints = good-more both.from both.strides both.to from_end at.can_walk.some
             (λ m. absurd (no-joint (walk-has_index at.can_walk) l before.last more fits m)) at.joints;
         block = subst (IsBlock both.from both.strides i (from_end + 1)) (sym s) (block-longer at.can_walk.same_count l fits at.block);
-        between = λ apart. between-from at.can_walk.some l (omega arith) (subst (LastLonger both.from both.strides (from_end + 1)) (sym s)
+        between = λ apart. between-from at.can_walk.some l (to-ahead at less) (subst (LastLonger both.from both.strides (from_end + 1)) (sym s)
             (longer-first from_end more)) before;
       }
 
@@ -175,9 +183,7 @@ module _ {both : Layouts} {i k from_end to_end from_product to_product : ℕ} {s
   halfway-to-end at less l =
       let whole : size both.to ≡ size (take to_end both.to) = sym (ap size (take_all to_end both.to (omega arith))) in
       let part = size_take_le both.from from_end at.can_walk.some in
-      let from_size = at.from_size in
-      let to_size = at.to_size in
-      let below = sizes-below both.from i to_product from_product at.can_walk.some less in
+      let below = from-ahead at less in
       sizes-fault both at.can_walk.some at.joints (inr (omega arith)) (λ same. omega arith)
 
   pub halfway-from-end : IsHalfway both i k from_end to_end from_product to_product step
@@ -185,9 +191,7 @@ module _ {both : Layouts} {i k from_end to_end from_product to_product : ℕ} {s
   halfway-from-end at less l =
       let whole : size both.from ≡ size (take from_end both.from) = sym (ap size (take_all from_end both.from (omega arith))) in
       let part = size_take_le both.to to_end at.can_walk.more in
-      let from_size = at.from_size in
-      let to_size = at.to_size in
-      let below = sizes-below both.from i from_product to_product at.can_walk.some less in
+      let below = to-ahead at less in
       sizes-fault both at.can_walk.some at.joints (inl (omega arith)) (λ same. omega arith)
 
   pub halfway-apart : {len : ℕ} {next : ℤ} → IsHalfway both i k from_end to_end from_product to_product step → from_product < to_product
@@ -196,9 +200,7 @@ module _ {both : Layouts} {i k from_end to_end from_product to_product : ℕ} {s
       → fault_of both ≡ Some IncompatibleLayout
   halfway-apart at less l e long s apart =
       let before = at.between (omega arith) in
-      let from_size = at.from_size in
-      let to_size = at.to_size in
-      let below = sizes-below both.from i from_product to_product at.can_walk.some less in
+      let below = to-ahead at less in
       let part = size_take_le both.to to_end at.can_walk.more in
       let joint =
       joint-of-apart (walk-has_index at.can_walk) l before.last (omega arith) (λ same. apart (same ∙ sym (ap₂ (λ n z. pos n *ℤ z) e s))) in

@@ -1,19 +1,9 @@
 -- What is read of both shapes within a block ends where their products meet for the first time.
-use Rattle.std.proofs.Common.{◌≡◌, ℕ, ◌+◌, ◌-◌, ◌*◌, ◌<◌, ◌≤◌, false, List, length, get_or, take, ap, inl, inr, arith}
-use Rattle.std.proofs.Math.Nat.{mul-le-mul_left}
+use Rattle.std.proofs.Common.{◌≡◌, ℕ, ◌+◌, ◌-◌, ◌<◌, false, List, length, get_or, take, ap, inl, inr, arith}
 use Rattle.std.proofs.lemmas.Bool.{cases_lt, cases_eq}
 use Rattle.nd_base.specs.Size.{size, is_empty}
-use Rattle.nd_base.proofs.laws.Size.{size_take_more}
 use Rattle.ndarray_layout.specs.private.ReshapeProgress.{IsInside}
-use Rattle.ndarray_layout.proofs.reshapes.Reached.{take-mono}
-
-grows : (lens : List ℕ) (k : ℕ) → is_empty lens ≡ false → k < length lens → 1 < get_or lens k 0
-    → size (take k lens) < size (take (k + 1) lens)
-grows lens k h l long =
-    let next = size_take_more lens k l in
-    let some = take-mono lens 0 k h (omega arith) in
-    let more : size (take k lens) * 2 ≤ size (take k lens) * get_or lens k 0 = mul-le-mul_left (size (take k lens)) long in
-    omega arith
+use Rattle.ndarray_layout.proofs.reshapes.Reached.{take-mono, grows}
 
 size-back : (lens : List ℕ) (k : ℕ) → size (take (k + 1 - 1) lens) ≡ size (take k lens)
 size-back lens k = let same : k + 1 - 1 ≡ k = omega arith in ap (λ n. size (take n lens)) same
@@ -25,11 +15,7 @@ inside-first {from} {to} i {k} h f l g e long more =
     let to_grows = grows to k f g more in
     let from_back = size-back from i in
     let to_back = size-back to k in
-    record {
-      from_below = omega arith;
-      to_below = omega arith;
-      apart = λ axis above under m within same. absurd (omega arith);
-    }
+    record { from_below = omega arith; to_below = omega arith; apart = λ axis above under m within same. absurd (omega arith) }
 
 pub inside-to : {from to : List ℕ} {k from_end to_end : ℕ} → is_empty from ≡ false → is_empty to ≡ false
     → size (take to_end to) < size (take from_end from) → IsInside from to k from_end to_end → IsInside from to k from_end (to_end + 1)
@@ -57,8 +43,4 @@ inside-from {from} {from_end} h less inside =
     let before = inside.to_below in
     let more = take-mono from from_end (from_end + 1) h (omega arith) in
     let back = size-back from from_end in
-    record {
-      from_below = omega arith;
-      to_below = omega arith;
-      apart = inside.apart;
-    }
+    record { from_below = omega arith; to_below = omega arith; apart = inside.apart }

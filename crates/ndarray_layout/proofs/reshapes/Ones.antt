@@ -1,15 +1,14 @@
 -- Axes of one entry: how many stand at a product of lengths, and the strides that the walk gives them.
 use Rattle.std.proofs.Common.{◌≡◌, ◌≢◌, ℕ, zero, suc, ◌+◌, ◌-◌, ◌*◌, ◌<◌, ◌≤◌, ◌==◌, Bool, true, false, ℤ, pos, ◌*ℤ◌, List, [], ◌∷◌, length}
-use Rattle.std.proofs.Common.{get_or, take, drop, map, refl, sym, ap, ap₂, ◌∙◌, inl, inr, arith, add-one}
+use Rattle.std.proofs.Common.{subst, get_or, take, drop, map, refl, sym, ap, ap₂, ◌∙◌, inl, inr, arith, add-one}
 use Rattle.std.specs.List.{filter, list_any, range_with_len}
 use Rattle.std.specs.Prelude.{slice_index_or, nat_lt}
-use Rattle.std.proofs.Math.Nat.{mul-one, mul-le-mul_left}
 use Rattle.std.proofs.lemmas.Bool.{cases_Bool, cases_lt, cases_eq, cond-true, cond-false, and_parts, and_from, eqb-true, eq-eqb, ltb-true}
 use Rattle.std.proofs.lemmas.Bool.{lt-ltb}
 use Rattle.std.proofs.lemmas.List.{take_all, get_or_past, get_or-take, length-map, length-take-le}
 use Rattle.std.proofs.lemmas.List.FromFn.{fill_by_all}
 use Rattle.nd_base.proofs.laws.Definitions.{below, is_empty, size}
-use Rattle.nd_base.proofs.laws.Size.{size_take_more, size_from}
+use Rattle.nd_base.proofs.laws.Size.{size_from}
 use Rattle.nd_dim.specs.Strides.{size_after}
 use Rattle.ndarray_layout.specs.reshape.ForcedStrides.{is_one_at, ones_before, strides_of_ones, stride_of_one, stride_at}
 use Rattle.ndarray_layout.specs.reshape.ForcedStrides.{offset_at_flat_index}
@@ -17,7 +16,7 @@ use Rattle.ndarray_layout.specs.reshape.Joints.{cumulative_products}
 use Rattle.ndarray_layout.specs.private.ReshapeProgress.{Layouts, IsReached, IsInside, OnesAlike, previous}
 use Rattle.ndarray_layout.proofs.reshapes.Forced.{forced-of-alike, stride_at-long}
 use Rattle.ndarray_layout.proofs.reshapes.Members.{member-of-any, any-of-member}
-use Rattle.ndarray_layout.proofs.reshapes.Reached.{member-product, product-member, take-mono}
+use Rattle.ndarray_layout.proofs.reshapes.Reached.{member-product, product-member, take-mono, stays, grows}
 use Rattle.ndarray_layout.proofs.reshapes.SamePlaces.{HasIndex, SamePlaces, places-alike-of}
 use Rattle.ndarray_layout.proofs.reshapes.WalkSteps.{AlikeUpTo, HasBlockStrides}
 use Rattle.nd_base.proofs.laws.Size.{length_pos}
@@ -117,17 +116,12 @@ ones-none : (lens : List ℕ) (n last product : ℕ) → is_empty lens ≡ false
 ones-none lens n last product h l less = hits-none (is_one_at lens product) 0 n (omega arith) (λ j above under. none-at lens product j
     (λ one e. let most = take-mono lens j last h (omega arith) in omega arith))
 
-stays : (lens : List ℕ) (k : ℕ) → k < length lens → get_or lens k 0 ≡ 1 → size (take (k + 1) lens) ≡ size (take k lens)
-stays lens k l e = size_take_more lens k l ∙ ap (λ n. size (take k lens) * n) e ∙ mul-one (size (take k lens))
+several : (lens : List ℕ) (k : ℕ) → is_empty lens ≡ false → k < length lens → get_or lens k 0 ≢ 1 → 1 < get_or lens k 0
+several lens k h l other = let some = length_pos lens k h l in omega arith
 
-grows : (lens : List ℕ) (k : ℕ) → is_empty lens ≡ false → k < length lens → get_or lens k 0 ≢ 1
-    → size (take k lens) < size (take (k + 1) lens)
-grows lens k h l other =
-    let next = size_take_more lens k l in
-    let some = take-mono lens 0 k h (omega arith) in
-    let here = length_pos lens k h l in
-    let more : size (take k lens) * 2 ≤ size (take k lens) * get_or lens k 0 = mul-le-mul_left (size (take k lens)) (omega arith) in
-    omega arith
+ones-more : (lens : List ℕ) (k : ℕ) → k < length lens → get_or lens k 0 ≡ 1
+    → ones_before lens (size (take (k + 1) lens)) (k + 1) ≡ ones_before lens (size (take k lens)) k + 1
+ones-more lens k l e = ap (λ n. ones_before lens n (k + 1)) (stays lens k l e) ∙ ones-next lens (size (take k lens)) k e refl
 
 -- the stride at a number among those of a product
 nth-one : (lens : List ℕ) (strides : List ℤ) (product axis : ℕ) → axis < length lens → get_or lens axis 0 ≡ 1
@@ -147,7 +141,7 @@ past-ones lens strides axis {n} h l other few =
     elim (cases_eq j axis) [
       | inl here ↦ absurd (other (sym (ap (λ a. get_or lens a 0) here) ∙ one))
       | inr later ↦
-          let more = grows lens axis h (omega arith) other in
+          let more = grows lens axis h (omega arith) (several lens axis h (omega arith) other) in
           let most = take-mono lens (axis + 1) j h (omega arith) in
           absurd (omega arith)
     ])) in
@@ -194,98 +188,83 @@ pub written-kept : {from : List ℕ} {strides : List ℤ} {to : List ℕ} {out :
 written-kept {from} {strides} {to} {out} news {k} kept ones j l one = kept j l ∙ ones.written j l one ∙ ap (stride_of_one from strides to j)
     (sym (previous-kept out news k j (omega arith) kept))
 
+-- and one axis more has it too
+written-next : {both : Layouts} {out : List ℤ} (news : List ℤ) {i k : ℕ} → Kept out news k
+    → OnesAlike both.from both.strides both.to out i k
+    → (get_or both.to k 0 ≡ 1 → get_or news k (pos 0) ≡ stride_of_one both.from both.strides both.to k (previous news k)) → (j : ℕ)
+    → j < k + 1 → get_or both.to j 0 ≡ 1 → get_or news j (pos 0) ≡ stride_of_one both.from both.strides both.to j (previous news j)
+written-next {both} news {k = k} kept ones here j under entry = elim (cases_eq j k) [
+  | inl last ↦ subst (λ n. get_or news n (pos 0) ≡ stride_of_one both.from both.strides both.to n (previous news n)) (sym last)
+      (here (ap (λ n. get_or both.to n 0) (sym last) ∙ entry))
+  | inr before ↦ written-kept news kept ones j (omega arith) entry
+]
+
 -- ---- the walk's steps
 module _ {both : Layouts} {news : List ℤ} where
   pub ones-first : OnesAlike both.from both.strides both.to news 0 0
-  ones-first = record {
-    written = λ j l one. absurd (omega arith);
-    from_first = λ e. omega arith;
-    to_first = λ e. omega arith;
-  }
+  ones-first = record { written = λ j l one. absurd (omega arith); from_first = λ e. omega arith; to_first = λ e. omega arith }
 
   pub ones-from : {i k : ℕ} → i < length both.from → get_or both.from i 0 ≡ 1 → get_or both.to k 0 ≢ 1
-      → OnesAlike both.from both.strides both.to news i k
-      → OnesAlike both.from both.strides both.to news (i + 1) k
+      → OnesAlike both.from both.strides both.to news i k → OnesAlike both.from both.strides both.to news (i + 1) k
   ones-from {i} l one other ones =
       let few = ones.from_first one in
-      let same = stays both.from i l one in
-      let more : ones_before both.from (size (take (i + 1) both.from)) (i + 1) ≡ ones_before both.from (size (take i both.from)) i + 1 =
-      ap (λ n. ones_before both.from n (i + 1)) same ∙ ones-next both.from (size (take i both.from)) i one refl in
-      record {
-        written = ones.written;
-        from_first = λ e. omega arith;
-        to_first = λ e. absurd (other e);
-      }
+      let more = ones-more both.from i l one in
+      record { written = ones.written; from_first = λ e. omega arith; to_first = λ e. absurd (other e) }
 
   pub ones-to : {out : List ℤ} {i k : ℕ} → IsReached both i k → k < length both.to → get_or both.from i 0 ≢ 1 → get_or both.to k 0 ≡ 1
       → Kept out news k → get_or news k (pos 0) ≡ pos 1 → OnesAlike both.from both.strides both.to out i k
       → OnesAlike both.from both.strides both.to news i (k + 1)
-  ones-to {i} {k} at g other one kept here ones =
-      let l = at.from_in in
+  ones-to {i = i} {k} at g other one kept here ones =
       let e = at.sizes in
       let few = ones.to_first one in
-      let same = stays both.to k g one in
-      let more : ones_before both.to (size (take (k + 1) both.to)) (k + 1) ≡ ones_before both.to (size (take k both.to)) k + 1 =
-      ap (λ n. ones_before both.to n (k + 1)) same ∙ ones-next both.to (size (take k both.to)) k one refl in
+      let more = ones-more both.to k g one in
       let read : stride_of_one both.from both.strides both.to k (previous news k) ≡ pos 1 =
-      at-product both i k (previous news k) l e
+      at-product both i k (previous news k) at.from_in e
       ∙ ap (λ n. get_or (strides_of_ones both.from both.strides n) (ones_before both.to (size (take k both.to)) k) (pos 1)) (sym e)
-      ∙ past-ones both.from both.strides i at.can_walk.some l other few in
+      ∙ past-ones both.from both.strides i at.can_walk.some at.from_in other few in
       record {
-        written = λ j under entry. elim (cases_eq j k) [
-          | inl last ↦ ap (λ n. get_or news n (pos 0)) last ∙ here ∙ sym read
-              ∙ sym (ap (λ n. stride_of_one both.from both.strides both.to n (previous news n)) last)
-          | inr before ↦ written-kept news kept ones j (omega arith) entry
-        ];
+        written = written-next news kept ones (λ entry. here ∙ sym read);
         from_first = λ entry. absurd (other entry);
         to_first = λ entry. omega arith;
       }
 
+  -- an axis of both, of one entry or of more
+  both-one : {out : List ℤ} {i k : ℕ} → IsReached both i k → (i < length both.from) × (k < length both.to)
+      → (get_or both.from i 0 ≡ 1) × (get_or both.to k 0 ≡ 1) → Kept out news k → get_or news k (pos 0) ≡ get_or both.strides i (pos 0)
+      → OnesAlike both.from both.strides both.to out i k → OnesAlike both.from both.strides both.to news (i + 1) (k + 1)
+  both-one {i = i} {k} at left one kept here ones =
+      let e = at.sizes in
+      let few = ones.from_first one.0 in
+      let most = ones.to_first one.1 in
+      let equal : ones_before both.to (size (take k both.to)) k ≡ ones_before both.from (size (take i both.from)) i = omega arith in
+      let from_more = ones-more both.from i left.0 one.0 in
+      let to_more = ones-more both.to k left.1 one.1 in
+      let read : stride_of_one both.from both.strides both.to k (previous news k) ≡ get_or both.strides i (pos 0) =
+      at-product both i k (previous news k) at.from_in e
+      ∙ ap₂ (λ n m. get_or (strides_of_ones both.from both.strides n) m (pos 1)) (sym e) equal
+      ∙ nth-one both.from both.strides (size (take i both.from)) i left.0 one.0 refl in
+      record {
+        written = written-next news kept ones (λ entry. here ∙ sym read);
+        from_first = λ entry. omega arith;
+        to_first = λ entry. omega arith;
+      }
+
   pub ones-both : {out : List ℤ} {i k : ℕ} → IsReached both i k → i < length both.from → k < length both.to
-      → get_or both.from i 0 ≡ get_or both.to k 0 → Kept out news k
-      → get_or news k (pos 0) ≡ get_or both.strides i (pos 0) → OnesAlike both.from both.strides both.to out i k
-      → OnesAlike both.from both.strides both.to news (i + 1) (k + 1)
-  ones-both {i} {k} at l g lens kept here ones =
+      → get_or both.from i 0 ≡ get_or both.to k 0 → Kept out news k → get_or news k (pos 0) ≡ get_or both.strides i (pos 0)
+      → OnesAlike both.from both.strides both.to out i k → OnesAlike both.from both.strides both.to news (i + 1) (k + 1)
+  ones-both {i = i} {k} at l g lens kept here ones =
       let h = at.can_walk.some in
       let f = at.can_walk.more in
-      let e = at.sizes in
-      let product = size (take k both.to) in
-      let from_next = size_take_more both.from i l in
-      let to_next = size_take_more both.to k g in
       elim (cases_eq (get_or both.to k 0) 1) [
-        | inl one ↦
-            let first : get_or both.from i 0 ≡ 1 = lens ∙ one in
-            let few = ones.from_first first in
-            let most = ones.to_first one in
-            let equal : ones_before both.to product k ≡ ones_before both.from (size (take i both.from)) i = omega arith in
-            let from_more : ones_before both.from (size (take (i + 1) both.from)) (i + 1) ≡ ones_before both.from (size (take i both.from))
-            i + 1 =
-            ap (λ n. ones_before both.from n (i + 1)) (stays both.from i l first)
-            ∙ ones-next both.from (size (take i both.from)) i first refl in
-            let to_more : ones_before both.to (size (take (k + 1) both.to)) (k + 1) ≡ ones_before both.to product k + 1 =
-            ap (λ n. ones_before both.to n (k + 1)) (stays both.to k g one) ∙ ones-next both.to product k one refl in
-            let read : stride_of_one both.from both.strides both.to k (previous news k) ≡ get_or both.strides i (pos 0) =
-            at-product both i k (previous news k) (omega arith) e
-            ∙ ap₂ (λ n m. get_or (strides_of_ones both.from both.strides n) m (pos 1)) (sym e) equal
-            ∙ nth-one both.from both.strides (size (take i both.from)) i l first refl in
-            record {
-              written = λ j under entry. elim (cases_eq j k) [
-                | inl last ↦ ap (λ n. get_or news n (pos 0)) last ∙ here ∙ sym read
-                    ∙ sym (ap (λ n. stride_of_one both.from both.strides both.to n (previous news n)) last)
-                | inr before ↦ written-kept news kept ones j (omega arith) entry
-              ];
-              from_first = λ entry. omega arith;
-              to_first = λ entry. omega arith;
-            }
+        | inl one ↦ both-one at (l, g) (lens ∙ one, one) kept here ones
         | inr other ↦
             let longer : get_or both.from i 0 ≢ 1 = λ z. other (sym lens ∙ z) in
-            let from_none = ones-none both.from (i + 1) i (size (take (i + 1) both.from)) h (omega arith) (grows both.from i h l longer) in
-            let to_none = ones-none both.to (k + 1) k (size (take (k + 1) both.to)) f (omega arith) (grows both.to k f g other) in
+            let from_none = ones-none both.from (i + 1) i (size (take (i + 1) both.from)) h (omega arith)
+            (grows both.from i h l (several both.from i h l longer)) in
+            let to_none = ones-none both.to (k + 1) k (size (take (k + 1) both.to)) f (omega arith)
+            (grows both.to k f g (several both.to k f g other)) in
             record {
-              written = λ j under entry. elim (cases_eq j k) [
-                | inl last ↦ absurd (other (sym (ap (λ n. get_or both.to n 0) last) ∙ entry))
-                | inr before ↦ written-kept news kept ones j (omega arith) entry
-              ];
+              written = written-next news kept ones (λ one. absurd (other one));
               from_first = λ entry. omega arith;
               to_first = λ entry. omega arith;
             }

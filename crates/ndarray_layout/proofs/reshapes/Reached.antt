@@ -36,6 +36,18 @@ take-mono (len ∷ lens) zero (suc k) h l =
 take-mono (len ∷ lens) (suc j) zero h l = absurd (omega arith)
 take-mono (len ∷ lens) (suc j) (suc k) h l = mul-le-mul_left len (take-mono lens j k (is_empty-rest len lens h) (omega arith))
 
+-- an axis of one entry leaves the product, and a longer one makes it larger
+pub stays : (lens : List ℕ) (k : ℕ) → k < length lens → get_or lens k 0 ≡ 1 → size (take (k + 1) lens) ≡ size (take k lens)
+stays lens k l e = size_take_more lens k l ∙ ap (λ n. size (take k lens) * n) e ∙ mul-one (size (take k lens))
+
+pub grows : (lens : List ℕ) (k : ℕ) → is_empty lens ≡ false → k < length lens → 1 < get_or lens k 0
+    → size (take k lens) < size (take (k + 1) lens)
+grows lens k h l long =
+    let next = size_take_more lens k l in
+    let some = take-mono lens 0 k h (omega arith) in
+    let more : size (take k lens) * 2 ≤ size (take k lens) * get_or lens k 0 = mul-le-mul_left (size (take k lens)) long in
+    omega arith
+
 pub member-product : (lens : List ℕ) (k : ℕ) → k ≤ length lens → Member (cumulative_products lens) (size (take k lens))
 member-product [] zero l = inl refl
 member-product [] (suc k) l = absurd (omega arith)
@@ -76,28 +88,52 @@ some-longer (len ∷ lens) (s ∷ strides) stride h l =
           omega arith
     ]
 
+-- a loose joint of a list is its first length, or a multiple of one of the later lengths
+joint-cases : (len : ℕ) (lens : List ℕ) (s : ℤ) (strides : List ℤ) (j : ℕ) → Member (loose_joints (len ∷ lens) (s ∷ strides)) j
+    → ((1 < len) × (is_loose s (first_longer lens strides) ≡ true) × (len ≡ j))
+    ⊎ ((q : ℕ) × (j ≡ len * q) × Member (loose_joints lens strides) q)
+joint-cases len lens s strides j m =
+    let test = nat_lt 1 len && is_loose s (first_longer lens strides) in
+    elim (member-cases (if test then len ∷ [] else []) (map (λ joint. len * joint) (loose_joints lens strides)) j m) [
+      | inl c ↦
+          let both = of-choice test len j c in
+          let parts = and_parts (nat_lt 1 len) (is_loose s (first_longer lens strides)) both.0 in
+          inl (ltb-true 1 len parts.0, parts.1, both.1)
+      | inr c ↦ inr (times-member len (loose_joints lens strides) j c)
+    ]
+
+first-joint : (len : ℕ) (lens : List ℕ) (s : ℤ) (strides : List ℤ) → 1 < len → is_loose s (first_longer lens strides) ≡ true
+    → Member (loose_joints (len ∷ lens) (s ∷ strides)) len
+first-joint len lens s strides long loose =
+    let test = nat_lt 1 len && is_loose s (first_longer lens strides) in
+    let yes : test ≡ true = and_from (nat_lt 1 len) (is_loose s (first_longer lens strides)) (lt-ltb 1 len long) loose in
+    member-left (if test then len ∷ [] else []) (map (λ joint. len * joint) (loose_joints lens strides)) len (to-choice test len yes)
+
+later-joint : (len : ℕ) (lens : List ℕ) (s : ℤ) (strides : List ℤ) (q : ℕ) → Member (loose_joints lens strides) q
+    → Member (loose_joints (len ∷ lens) (s ∷ strides)) (len * q)
+later-joint len lens s strides q m =
+    let test = nat_lt 1 len && is_loose s (first_longer lens strides) in
+    member-right (if test then len ∷ [] else []) (map (λ joint. len * joint) (loose_joints lens strides)) (len * q)
+    (member-times len (loose_joints lens strides) q m)
+
 pub joint-product : (lens : List ℕ) (strides : List ℤ) (j : ℕ) → is_empty lens ≡ false → Member (loose_joints lens strides) j
     → (k : ℕ) × (k ≤ length lens) × (j ≡ size (take k lens)) × (1 < j) × (j < size lens)
 joint-product [] strides j h m = absurd m
 joint-product (len ∷ lens) [] j h m = absurd m
 joint-product (len ∷ lens) (s ∷ strides) j h m =
-    let test = nat_lt 1 len && is_loose s (first_longer lens strides) in
     let here = some-len len lens h in
     let none = is_empty-rest len lens h in
-    elim (member-cases (if test then len ∷ [] else []) (map (λ joint. len * joint) (loose_joints lens strides)) j m) [
+    elim (joint-cases len lens s strides j m) [
       | inl c ↦
-          let both = of-choice test len j c in
-          let parts = and_parts (nat_lt 1 len) (is_loose s (first_longer lens strides)) both.0 in
-          let long = ltb-true 1 len parts.0 in
-          let more = some-longer lens strides s none parts.1 in
+          let long = c.0 in
+          let same = c.2 in
+          let more = some-longer lens strides s none c.1 in
           let most : len * 2 ≤ len * size lens = mul-le-mul_left len more in
-          let same = both.1 in
-          (1, omega arith, sym both.1 ∙ sym (mul-one len), omega arith, omega arith)
+          (1, omega arith, sym same ∙ sym (mul-one len), omega arith, omega arith)
       | inr c ↦
-          let t = times-member len (loose_joints lens strides) j c in
-          let rest = joint-product lens strides t.0 none t.2 in
-          let q = t.0 in
-          let e = t.1 in
+          let rest = joint-product lens strides c.0 none c.2 in
+          let q = c.0 in
+          let e = c.1 in
           let inside = rest.1 in
           let low = rest.3 in
           let high = rest.4 in
@@ -127,10 +163,9 @@ first-longer-at (len ∷ lens) (s ∷ strides) (suc n) e l ones long =
 
 long-take : (lens : List ℕ) (k n : ℕ) → is_empty lens ≡ false → k < n → k < length lens → 1 < get_or lens k 0 → 1 < size (take n lens)
 long-take lens k n h l g long =
-    let next : size (take (k + 1) lens) ≡ size (take k lens) * get_or lens k 0 = size_take_more lens k g in
+    let here = grows lens k h g long in
     let some : size (take 0 lens) ≤ size (take k lens) = take-mono lens 0 k h (omega arith) in
     let more : size (take (k + 1) lens) ≤ size (take n lens) = take-mono lens (k + 1) n h (omega arith) in
-    let most : size (take k lens) * 2 ≤ size (take k lens) * get_or lens k 0 = mul-le-mul_left (size (take k lens)) long in
     omega arith
 
 -- the last longer axis before a place, and its stride
@@ -178,15 +213,10 @@ member-at {lens = len ∷ lens} {strides = s ∷ strides} zero (suc n) at pair a
     let first = first-next strides (rest-has_index at).same_count pair in
     let loose : is_loose s (first_longer lens strides) ≡ true = ap (is_loose s) first.0
     ∙ apart-loose s (get_or lens n 0, get_or strides n (pos 0)) apart in
-    let test = nat_lt 1 len && is_loose s (first_longer lens strides) in
-    let yes : test ≡ true = and_from (nat_lt 1 len) (is_loose s (first_longer lens strides)) (lt-ltb 1 len pair.long) loose in
     let whole : len ≡ len * size (take n lens) = sym (ap (λ m. len * m) first.1 ∙ mul-one len) in
-    subst (λ j. Member (loose_joints (len ∷ lens) (s ∷ strides)) j) whole (member-left (if test then len ∷ [] else [])
-    (map (λ joint. len * joint) (loose_joints lens strides)) len (to-choice test len yes))
+    subst (λ j. Member (loose_joints (len ∷ lens) (s ∷ strides)) j) whole (first-joint len lens s strides pair.long loose)
 member-at {lens = len ∷ lens} {strides = s ∷ strides} (suc k) (suc n) at pair apart =
-    let test = nat_lt 1 len && is_loose s (first_longer lens strides) in
-    member-right (if test then len ∷ [] else []) (map (λ joint. len * joint) (loose_joints lens strides)) (len * size (take n lens))
-    (member-times len (loose_joints lens strides) (size (take n lens)) (member-at k n (rest-has_index at) (next-rest pair) apart))
+    later-joint len lens s strides (size (take n lens)) (member-at k n (rest-has_index at) (next-rest pair) apart)
 
 none-at : {lens : List ℕ} {strides : List ℤ} (k n : ℕ) → HasIndex lens strides → AreNext lens k n
     → Member (loose_joints lens strides) (size (take n lens)) → get_or strides k (pos 0) ≢ pos (get_or lens n 0) *ℤ get_or strides n (pos 0)
@@ -197,17 +227,11 @@ none-at {lens = len ∷ lens} {strides = s ∷ strides} zero (suc n) at pair m =
     let after = rest-has_index at in
     let first = first-next strides after.same_count pair in
     let one = first.1 in
-    let test = nat_lt 1 len && is_loose s (first_longer lens strides) in
-    elim (member-cases (if test then len ∷ [] else []) (map (λ joint. len * joint) (loose_joints lens strides)) (len * size (take n lens))
-    m) [
-      | inl c ↦
-          let both = of-choice test len (len * size (take n lens)) c in
-          let parts = and_parts (nat_lt 1 len) (is_loose s (first_longer lens strides)) both.0 in
-          loose-apart s (get_or lens n 0, get_or strides n (pos 0)) (sym (ap (is_loose s) first.0) ∙ parts.1)
+    elim (joint-cases len lens s strides (len * size (take n lens)) m) [
+      | inl c ↦ loose-apart s (get_or lens n 0, get_or strides n (pos 0)) (sym (ap (is_loose s) first.0) ∙ c.1)
       | inr c ↦
-          let t = times-member len (loose_joints lens strides) (len * size (take n lens)) c in
-          let same : size (take n lens) ≡ t.0 = cancel len (some-len len lens at.some) t.1 in
-          let more = joint-product lens strides t.0 after.some t.2 in
+          let same : size (take n lens) ≡ c.0 = cancel len (some-len len lens at.some) c.1 in
+          let more = joint-product lens strides c.0 after.some c.2 in
           let low = more.3 in
           absurd (omega arith)
     ]
@@ -217,19 +241,13 @@ none-at {lens = len ∷ lens} {strides = s ∷ strides} (suc k) (suc n) at pair 
     let here = some-len len lens at.some in
     let ahead = rest.ahead in
     let inside = rest.inside in
-    let test = nat_lt 1 len && is_loose s (first_longer lens strides) in
     let several = long-take lens k n after.some ahead (omega arith) rest.long in
-    elim (member-cases (if test then len ∷ [] else []) (map (λ joint. len * joint) (loose_joints lens strides)) (len * size (take n lens))
-    m) [
+    elim (joint-cases len lens s strides (len * size (take n lens)) m) [
       | inl c ↦
-          let both = of-choice test len (len * size (take n lens)) c in
-          let same = both.1 in
+          let same = c.2 in
           let more : len * 2 ≤ len * size (take n lens) = mul-le-mul_left len several in
           absurd (omega arith)
-      | inr c ↦
-          let t = times-member len (loose_joints lens strides) (len * size (take n lens)) c in
-          let same : t.0 ≡ size (take n lens) = sym (cancel len here t.1) in
-          none-at k n after rest (subst (Member (loose_joints lens strides)) same t.2)
+      | inr c ↦ none-at k n after rest (subst (Member (loose_joints lens strides)) (sym (cancel len here c.1)) c.2)
     ]
 
 module _ {lens : List ℕ} {strides : List ℤ} {n : ℕ} {step : ℤ} where

@@ -7,7 +7,8 @@ pub returns-in_err-others-clause-complete : goal.returns-in_err-others-clause-co
 returns-in_err-others-clause-complete g c = fault-complete _ _ (has_index-of-valid c.requires.valid c.requires.from_some) c.requires.to_some
 
 pub returns-in_err-others-clause-forced : goal.returns-in_err-others-clause-forced
-returns-in_err-others-clause-forced g c = λ others. keeps-agree (has_index-of-valid c.requires.valid c.requires.from_some) c.requires.to_some
+returns-in_err-others-clause-forced g c = λ others.
+    keeps-agree (has_index-of-valid c.requires.valid c.requires.from_some) c.requires.to_some
 
 pub returns-in_err-fill_reshaped-clause-complete : goal.returns-in_err-fill_reshaped-clause-complete
 returns-in_err-fill_reshaped-clause-complete g c =
@@ -21,7 +22,8 @@ pub returns-clause-complete : goal.returns-clause-complete
 returns-clause-complete g c = fault-complete _ _ (has_index-of-valid c.requires.valid c.requires.from_some) c.requires.to_some
 
 pub returns-clause-forced : goal.returns-clause-forced
-returns-clause-forced g c = λ others. keeps-agree (has_index-of-valid c.requires.valid c.requires.from_some) c.requires.to_some
+returns-clause-forced g c = λ others.
+    keeps-agree (has_index-of-valid c.requires.valid c.requires.from_some) c.requires.to_some
 
 pub returns-clause-keeps : goal.returns-clause-keeps
 returns-clause-keeps g c = keeps-filled (g.E.Lengths.list c.fill_reshaped.new.out)

@@ -9,11 +9,7 @@ use Rattle.ndarray_layout.proofs.Walks.{entry_within, row_more, row_after}
 use Rattle.ndarray_layout.proofs.strided.places.push_row.Goals as goal
 
 pub loop-entry-init : goal.loop-entry-init
-loop-entry-init c = record {
-  items = sym (append-nil (map pos c.args.places.items));
-  len = omega arith;
-  capacity = refl;
-}
+loop-entry-init c = record { items = sym (append-nil (map pos c.args.places.items)); len = omega arith; capacity = refl }
 
 pub entry_place-requires : goal.entry_place-requires
 entry_place-requires c =

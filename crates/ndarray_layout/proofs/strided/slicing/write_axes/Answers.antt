@@ -7,15 +7,10 @@ use Rattle.ndarray_layout.proofs.SliceSteps.{index_arm, index_at_fault, index_wi
 use Rattle.ndarray_layout.proofs.strided.slicing.write_axes.Goals as goal
 use Rattle.ndarray_layout.proofs.strided.slicing.write_axes.Goals.{in-Slice+in_ok-len-in-Slice, in-Index+in_ok-entry-in-Index, in-NewAxis}
 
-pub slice_axis-requires-clause-len_fits : goal.slice_axis-requires-clause-len_fits
-slice_axis-requires-clause-len_fits c =
+pub slice_axis-requires : goal.slice_axis-requires
+slice_axis-requires c =
     let at = at_both _ c.requires.valid c.loop-elem-test.true c.in-Slice.is (omega arith) c.loop-elem.invariant in
-    omega (arith, at.len_fits)
-
-pub slice_axis-requires-clause-span_fits : goal.slice_axis-requires-clause-span_fits
-slice_axis-requires-clause-span_fits c =
-    let at = at_both _ c.requires.valid c.loop-elem-test.true c.in-Slice.is (omega arith) c.loop-elem.invariant in
-    at.reach_fits
+    record { len_fits = omega (arith, at.len_fits); span_fits = at.reach_fits }
 
 pub overflow_add-offset : goal.overflow_add-offset
 overflow_add-offset c =
@@ -24,7 +19,8 @@ overflow_add-offset c =
     let h : FitsSigned w64 c.in_ok-len-in-Slice.moved = search rules in
     let known = rw (to_z-of_z w64 c.in-Slice.start f, to_z-of_z w64 c.in-Slice.step g) at c.in_ok-len-in-Slice.ensures in
     let at = at_both _ c.requires.valid c.loop-elem-test.true c.in-Slice.is (omega arith) c.loop-elem.invariant in
-    (slice_arm c.in_ok-len-in-Slice.stride c.requires.valid at known.count known.stride (to_z-of_z w64 c.in_ok-len-in-Slice.moved h ∙ known.offset) (sym known.fault)).fits
+    (slice_arm c.in_ok-len-in-Slice.stride c.requires.valid at known.count known.stride
+    (to_z-of_z w64 c.in_ok-len-in-Slice.moved h ∙ known.offset) (sym known.fault)).fits
 
 pub returns-in_err-len-in-Slice-clause-fault : goal.returns-in_err-len-in-Slice-clause-fault
 returns-in_err-len-in-Slice-clause-fault c =
@@ -43,21 +39,14 @@ returns-in_err-entry-in-Index-clause-fault c =
     let same : result_err c.from_residual-in_err-entry-in-Index.result ≡ Some c.in_err-entry-in-Index.field-0.0 = search rules in
     same ∙ index_at_fault _ known.fault at.so_far
 
-pub stride_offset-offset-requires-clause-small : goal.stride_offset-offset-requires-clause-small
-stride_offset-offset-requires-clause-small c =
+pub stride_offset-offset-requires : goal.stride_offset-offset-requires
+stride_offset-offset-requires c =
     let f : FitsSigned w64 c.in-Index.index = search rules in
     let known = rw (to_z-of_z w64 c.in-Index.index f) at c.in_ok-entry-in-Index.ensures in
     let at = at_both _ c.requires.valid c.loop-elem-test.true c.in-Index.is (omega arith) c.loop-elem.invariant in
     let entry = index_within at (sym known.fault) in
-    omega (arith, entry.small c.in_ok-entry-in-Index.entry known.entry)
-
-pub stride_offset-offset-requires-clause-fits : goal.stride_offset-offset-requires-clause-fits
-stride_offset-offset-requires-clause-fits c =
-    let f : FitsSigned w64 c.in-Index.index = search rules in
-    let known = rw (to_z-of_z w64 c.in-Index.index f) at c.in_ok-entry-in-Index.ensures in
-    let at = at_both _ c.requires.valid c.loop-elem-test.true c.in-Index.is (omega arith) c.loop-elem.invariant in
-    let entry = index_within at (sym known.fault) in
-    entry.offset_fits c.in_ok-entry-in-Index.entry known.entry
+    let index = c.in_ok-entry-in-Index.entry in
+    record { small = omega (arith, entry.small index known.entry); fits = entry.offset_fits index known.entry }
 
 pub overflow_add-offset-in-Index : goal.overflow_add-offset-in-Index
 overflow_add-offset-in-Index c =
@@ -78,7 +67,8 @@ loop-elem-preserved c =
           let known = rw (to_z-of_z w64 w.in-Slice.start f, to_z-of_z w64 w.in-Slice.step g) at w.in_ok-len-in-Slice.ensures in
           let at = at_both _ c.requires.valid c.loop-elem-test.true w.in-Slice.is (omega arith) c.loop-elem.invariant in
           rw (w.old_axis-is, w.new_axis-is, w.new_shape-is, w.new_strides-is, w.offset-is)
-          (slice_arm w.in_ok-len-in-Slice.stride c.requires.valid at known.count known.stride (to_z-of_z w64 w.in_ok-len-in-Slice.moved h ∙ known.offset)
+          (slice_arm w.in_ok-len-in-Slice.stride c.requires.valid at known.count known.stride
+          (to_z-of_z w64 w.in_ok-len-in-Slice.moved h ∙ known.offset)
           (sym known.fault)).next
       | in-Index+in_ok-entry-in-Index w ↦
           let h : FitsSigned w64 w.stride_offset-offset.result = search rules in

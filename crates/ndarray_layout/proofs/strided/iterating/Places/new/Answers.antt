@@ -19,53 +19,36 @@ product-has_none-requires c = size_fits c.requires
 
 pub new-starts-requires : goal.new-starts-requires
 new-starts-requires c =
-    let row = by_axis _ _ _ _ c.fastest_axis-row.result c.fastest_axis-row.ensures c.requires in
-    (by_axis _ _ _ _ c.fastest_axis-column.result c.fastest_axis-column.ensures row.view).view
+    let row = by_axis _ _ c.fastest_axis-row.result c.fastest_axis-row.ensures c.requires in
+    let column = by_axis _ _ c.fastest_axis-column.result c.fastest_axis-column.ensures row.view in
+    column.view
 
-pub new-starts-requires-2-clause-inside : goal.new-starts-requires-2-clause-inside
-new-starts-requires-2-clause-inside c =
-    let row = by_axis _ _ _ _ c.fastest_axis-row.result c.fastest_axis-row.ensures c.requires in
-    let column = by_axis _ _ _ _ c.fastest_axis-column.result c.fastest_axis-column.ensures row.view in
-    rows_inside c.args.order _ row.view column c.new-starts.ensures
+pub new-starts-requires-2 : goal.new-starts-requires-2
+new-starts-requires-2 c =
+    let row = by_axis _ _ c.fastest_axis-row.result c.fastest_axis-row.ensures c.requires in
+    let column = by_axis _ _ c.fastest_axis-column.result c.fastest_axis-column.ensures row.view in
+    record {
+      inside = rows_inside c.args.order _ row.view column c.new-starts.ensures;
+      some = rows_of_some c.args.order _ row.view column c.new-starts.ensures (λ some.
+          later_factor _ _ (some_size c.product-has_none.result _ (c.product-has_none.ensures ∙ row.sizes) some));
+      fits = rows_fit c.args.order _ row.view column c.new-starts.ensures;
+    }
 
-pub new-starts-requires-2-clause-some : goal.new-starts-requires-2-clause-some
-new-starts-requires-2-clause-some c =
-    let row = by_axis _ _ _ _ c.fastest_axis-row.result c.fastest_axis-row.ensures c.requires in
-    let column = by_axis _ _ _ _ c.fastest_axis-column.result c.fastest_axis-column.ensures row.view in
-    rows_of_some c.args.order _ row.view column c.new-starts.ensures (λ some.
-    later_factor _ _ (some_size c.product-has_none.result _ (c.product-has_none.ensures ∙ row.sizes) some))
-
-pub new-starts-requires-2-clause-fits : goal.new-starts-requires-2-clause-fits
-new-starts-requires-2-clause-fits c =
-    let row = by_axis _ _ _ _ c.fastest_axis-row.result c.fastest_axis-row.ensures c.requires in
-    let column = by_axis _ _ _ _ c.fastest_axis-column.result c.fastest_axis-column.ensures row.view in
-    rows_fit c.args.order _ row.view column c.new-starts.ensures
-
-pub new-requires-clause-inside : goal.new-requires-clause-inside
-new-requires-clause-inside c =
-    let row = by_axis _ _ _ _ c.fastest_axis-row.result c.fastest_axis-row.ensures c.requires in
-    let column = by_axis _ _ _ _ c.fastest_axis-column.result c.fastest_axis-column.ensures row.view in
+pub new-requires : goal.new-requires
+new-requires c =
+    let row = by_axis _ _ c.fastest_axis-row.result c.fastest_axis-row.ensures c.requires in
+    let column = by_axis _ _ c.fastest_axis-column.result c.fastest_axis-column.ensures row.view in
     let starts = c.new-starts-2.ensures ∙ rows_from c.args.order _ row.view column c.new-starts.ensures in
-    rows_inside c.args.order _ c.requires row starts
-
-pub new-requires-clause-some : goal.new-requires-clause-some
-new-requires-clause-some c =
-    let row = by_axis _ _ _ _ c.fastest_axis-row.result c.fastest_axis-row.ensures c.requires in
-    let column = by_axis _ _ _ _ c.fastest_axis-column.result c.fastest_axis-column.ensures row.view in
-    let starts = c.new-starts-2.ensures ∙ rows_from c.args.order _ row.view column c.new-starts.ensures in
-    rows_of_some c.args.order _ c.requires row starts (λ some. some_size c.product-has_none.result _ c.product-has_none.ensures some)
-
-pub new-requires-clause-fits : goal.new-requires-clause-fits
-new-requires-clause-fits c =
-    let row = by_axis _ _ _ _ c.fastest_axis-row.result c.fastest_axis-row.ensures c.requires in
-    let column = by_axis _ _ _ _ c.fastest_axis-column.result c.fastest_axis-column.ensures row.view in
-    let starts = c.new-starts-2.ensures ∙ rows_from c.args.order _ row.view column c.new-starts.ensures in
-    rows_fit c.args.order _ c.requires row starts
+    record {
+      inside = rows_inside c.args.order _ c.requires row starts;
+      some = rows_of_some c.args.order _ c.requires row starts (some_size c.product-has_none.result _ c.product-has_none.ensures);
+      fits = rows_fit c.args.order _ c.requires row starts;
+    }
 
 pub returns : goal.returns
 returns c =
-    let row = by_axis _ _ _ _ c.fastest_axis-row.result c.fastest_axis-row.ensures c.requires in
-    let column = by_axis _ _ _ _ c.fastest_axis-column.result c.fastest_axis-column.ensures row.view in
+    let row = by_axis _ _ c.fastest_axis-row.result c.fastest_axis-row.ensures c.requires in
+    let column = by_axis _ _ c.fastest_axis-column.result c.fastest_axis-column.ensures row.view in
     let starts = c.new-starts-2.ensures ∙ rows_from c.args.order _ row.view column c.new-starts.ensures in
     let view = view_of c.args.start c.args.lens.now c.args.strides.now in
     c.new.ensures
