@@ -98,7 +98,8 @@ more_read f {xs} {i} {x} got before item added so_far =
 flat_map-flat_map : {A B C : Type 0} (g : B → List C) (f : A → List B) (xs : List A)
     → flat_map (λ x. flat_map g (f x)) xs ≡ flat_map g (flat_map f xs)
 flat_map-flat_map g f [] = refl
-flat_map-flat_map g f (x ∷ xs) = ap (λ ys. flat_map g (f x) ++ ys) (flat_map-flat_map g f xs) ∙ sym (flat_map-append g (f x) (flat_map f xs))
+flat_map-flat_map g f (x ∷ xs) =
+    ap (λ ys. flat_map g (f x) ++ ys) (flat_map-flat_map g f xs) ∙ sym (flat_map-append g (f x) (flat_map f xs))
 
 -- places inside are natural numbers
 natural : (places : List ℤ) → All (IsInside (2 ^ 63)) places → map pos (map magnitude places) ≡ places

@@ -93,7 +93,8 @@ below_limit (negsuc n) low high = absurd (omega (arith, ints))
 
 pub places_fit : {view : View} → IsView view → All (IsInside (2 ^ 63)) (view_places RowMajor view)
 places_fit {view} v =
-    places_lie_within (2 ^ 63) RowMajor view (λ index is. (let here = view_place index v is in below_limit (place_at view index) here.low here.high))
+    places_lie_within (2 ^ 63) RowMajor view (λ index is.
+    (let here = view_place index v is in below_limit (place_at view index) here.low here.high))
 
 pub places_inside : {len : ℕ} {view : View} → IsView view → LiesWithin len view → AreInside len (view_places RowMajor view)
 places_inside {len} {view} v within = record { within = places_lie_within len RowMajor view within; fit = places_fit v }

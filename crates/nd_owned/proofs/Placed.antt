@@ -8,6 +8,7 @@ use Rattle.std.proofs.lemmas.List.{append-nil, drop_more, get_or-append-add, get
 use Rattle.std.proofs.lemmas.List.{take-append-drop, take_more}
 use Rattle.std.proofs.lemmas.List.Elements.{All-append, All-head, All-tail, Contains-append_left, Contains-append_right}
 use Rattle.ndarray_layout.specs.Inside.{IsInside}
+use Rattle.ndarray_layout.proofs.laws.Lists.{map_same}
 use Rattle.nd_owned.specs.Owned.{item_at_place}
 use Rattle.nd_owned.specs.private.Rows.{AreInside, HasWritten}
 
@@ -27,13 +28,6 @@ pub number_of_turn : {given xs : List ℕ} (i : ℕ) → given ≡ xs → i < le
 number_of_turn {given} {xs} i same below =
     let under : i < length xs = subst (λ those. i < length those) same below in
     record { below = under; is = ap (λ those. get_or those i 0) same ∙ other_default xs i 0 (get_or given i 0) under }
-
--- a function of each item of a list that is the same as another one there
-map_same : {X Y : Type 0} (f g : X → Y) (xs : List X) → All (λ x. f x ≡ g x) xs → map f xs ≡ map g xs
-map_same f g [] same = refl
-map_same f g (x ∷ xs) same =
-    ap (λ y. y ∷ map f xs) (All-head (λ x. f x ≡ g x) x xs same)
-    ∙ ap (λ ys. g x ∷ ys) (map_same f g xs (All-tail (λ x. f x ≡ g x) x xs same))
 
 -- ---- what holds of a list of two parts
 pub all_first : {X : Type 0} (P : X → Type 0) (xs ys : List X) → All P (xs ++ ys) → All P xs

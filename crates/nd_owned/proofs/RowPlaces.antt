@@ -159,6 +159,12 @@ neighbours_within count start (suc len) some inside =
     let last : start + len * 1 < count = entry_inside count start (pos 1) (suc len) len inside (omega arith) in
     omega arith
 
+-- so is one along a stride of 1
+pub copied_within : (count start : ℕ) {stride : ℤ} (len : ℕ) → All (IsInside count) (row_places start stride len) → stride ≡ pos 1 → 0 < len
+    → start + len ≤ count
+copied_within count start len inside one some =
+    neighbours_within count start len some (subst (λ s. All (IsInside count) (row_places start s len)) one inside)
+
 -- what is before and after items that are put in place of others
 got_outside : {X : Type 0} (old items : List X) (start stop place : ℕ) → (stop ≡ start + length items) × (stop ≤ length old)
     → (start ≤ place → place < stop → ⊥) → slice_get (take start old ++ (items ++ drop stop old)) place ≡ slice_get old place

@@ -56,7 +56,8 @@ pub returns-clause-items : goal.returns-clause-items
 returns-clause-items g c =
     let block = c.args.block in
     let starts = row_starts block c.args.start in
-    let all : length starts ≤ c.loop-row.row = omega (arith, length-row_places c.args.start (signed block.rows_stride) block.rows, c.loop-row-test.false) in
+    let all : length starts ≤ c.loop-row.row =
+    omega (arith, length-row_places c.args.start (signed block.rows_stride) block.rows, c.loop-row-test.false) in
     c.loop-row.invariant.items
     ∙ ap (λ firsts. map Some c.args.items.items ++ map (item_at_place c.args.stored.now) (flat_map (row_from block) firsts))
     (take_all c.loop-row.row starts all)

@@ -7,26 +7,21 @@ use Rattle.ndarray_layout.specs.Inside.{IsInside}
 use Rattle.ndarray_layout.specs.Signed.{signed}
 use Rattle.nd_owned.specs.Owned.{item_at_place}
 use Rattle.nd_owned.specs.private.Rows.{row_places}
-use Rattle.nd_owned.proofs.RowPlaces.{at_entry, begins, entry_inside, neighbours_within, next_there, read_more, read_neighbours, start_there}
+use Rattle.nd_owned.proofs.RowPlaces.{at_entry, begins, copied_within, entry_inside, next_there, read_more, read_neighbours, start_there}
 use Rattle.nd_owned.proofs.rows.read_row.Goals as goal
 
 pub overflow_add-start : goal.overflow_add-start
 overflow_add-start g c =
-    let count = length c.args.stored.now in
-    let one : signed c.args.stride ≡ pos 1 = ap signed (c.is_copied.ensures c.if-is_copied.true) in
-    let within : c.args.start + c.args.len ≤ count =
-    neighbours_within count c.args.start c.args.len (omega arith)
-    (subst (λ stride. All (IsInside count) (row_places c.args.start stride c.args.len)) one c.requires.inside.within) in
-    let small : count < 2 ^ 64 = search rules in
+    let within = copied_within (length c.args.stored.now) c.args.start c.args.len c.requires.inside.within
+    (ap signed (c.is_copied.ensures c.if-is_copied.true)) (omega arith) in
+    let small : length c.args.stored.now < 2 ^ 64 = search rules in
     omega arith
 
 pub slice_bounds-extend_from_slice-end : goal.slice_bounds-extend_from_slice-end
 slice_bounds-extend_from_slice-end g c =
-    let count = length c.args.stored.now in
-    let one : signed c.args.stride ≡ pos 1 = ap signed (c.is_copied.ensures c.if-is_copied.true) in
-    let within : c.args.start + c.args.len ≤ count =
-    neighbours_within count c.args.start c.args.len (omega arith)
-    (subst (λ stride. All (IsInside count) (row_places c.args.start stride c.args.len)) one c.requires.inside.within) in
+    let one = ap signed (c.is_copied.ensures c.if-is_copied.true) in
+    let within : c.args.start + c.args.len ≤ length c.args.stored.now =
+    copied_within (length c.args.stored.now) c.args.start c.args.len c.requires.inside.within one (omega arith) in
     search rules
 
 pub returns-then-is_copied-clause-items : goal.returns-then-is_copied-clause-items
@@ -36,9 +31,7 @@ returns-then-is_copied-clause-items g c =
     let start = c.args.start in
     let len = c.args.len in
     let one : signed c.args.stride ≡ pos 1 = ap signed (c.is_copied.ensures c.if-is_copied.true) in
-    let within : start + len ≤ length stored =
-    neighbours_within (length stored) start len (omega arith)
-    (subst (λ stride. All (IsInside (length stored)) (row_places start stride len)) one c.requires.inside.within) in
+    let within = copied_within (length stored) start len c.requires.inside.within one (omega arith) in
     let same : start + len - start ≡ len = omega arith in
     let pushed : c.extend_from_slice.new.self.items ≡ items ++ take (start + len - start) (drop start stored) = search rules in
     ap (map Some) pushed

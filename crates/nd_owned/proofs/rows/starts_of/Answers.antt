@@ -6,7 +6,8 @@ use Rattle.nd_owned.proofs.BlockPlaces.{one_place}
 use Rattle.nd_owned.proofs.rows.starts_of.Goals as goal
 
 pub product-requires : goal.product-requires
-product-requires g c = subst (λ lens. size lens < 2 ^ 64) (sym (c.slice.ensures.list ∙ c.dim.ensures.list)) (size_fits c.dim.ensures.is_view)
+product-requires g c =
+    subst (λ lens. size lens < 2 ^ 64) (sym (c.slice.ensures.list ∙ c.dim.ensures.list)) (size_fits c.dim.ensures.is_view)
 
 pub returns-then-product-eq1-clause-places : goal.returns-then-product-eq1-clause-places
 returns-then-product-eq1-clause-places g c =

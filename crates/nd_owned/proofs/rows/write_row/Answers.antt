@@ -7,27 +7,24 @@ use Rattle.ndarray_layout.specs.Inside.{IsInside}
 use Rattle.ndarray_layout.specs.Signed.{signed}
 use Rattle.nd_owned.specs.private.Rows.{HasWritten, row_places}
 use Rattle.nd_owned.proofs.Placed.{none_written}
-use Rattle.nd_owned.proofs.RowPlaces.{after_first, at_entry, begins, entry_inside, neighbours_within, next_there, start_there, write_more}
+use Rattle.nd_owned.proofs.RowPlaces.{after_first, at_entry, begins, copied_within, entry_inside, next_there, start_there, write_more}
 use Rattle.nd_owned.proofs.RowPlaces.{write_neighbours}
 use Rattle.nd_owned.proofs.rows.write_row.Goals as goal
 
 pub overflow_add-start : goal.overflow_add-start
 overflow_add-start g c =
-    let count = length c.args.stored.now in
-    let one : signed c.args.stride ≡ pos 1 = ap signed (c.is_copied.ensures c.if-is_copied.true) in
-    let within : c.args.start + length c.args.items.now ≤ count =
-    neighbours_within count c.args.start (length c.args.items.now) (omega (arith, c.in-Some.ensures.cases.1))
-    (subst (λ stride. All (IsInside count) (row_places c.args.start stride (length c.args.items.now))) one c.requires.within) in
-    let small : count < 2 ^ 64 = search rules in
+    let within = copied_within (length c.args.stored.now) c.args.start (length c.args.items.now) c.requires.within
+    (ap signed (c.is_copied.ensures c.if-is_copied.true)) (omega (arith, c.in-Some.ensures.cases.1)) in
+    let small : length c.args.stored.now < 2 ^ 64 = search rules in
     omega arith
 
 pub slice_bounds-copy_from_slice-end : goal.slice_bounds-copy_from_slice-end
 slice_bounds-copy_from_slice-end g c =
-    let count = length c.args.stored.now in
-    let one : signed c.args.stride ≡ pos 1 = ap signed (c.is_copied.ensures c.if-is_copied.true) in
-    let within : c.args.start + length c.args.items.now ≤ count =
-    neighbours_within count c.args.start (length c.args.items.now) (omega (arith, c.in-Some.ensures.cases.1))
-    (subst (λ stride. All (IsInside count) (row_places c.args.start stride (length c.args.items.now))) one c.requires.within) in
+    let items = length c.args.items.now in
+    let one = ap signed (c.is_copied.ensures c.if-is_copied.true) in
+    let some : 0 < items = omega (arith, c.in-Some.ensures.cases.1) in
+    let within : c.args.start + items ≤ length c.args.stored.now =
+    copied_within (length c.args.stored.now) c.args.start items c.requires.within one some in
     search rules
 
 pub offset_bounds-stored-start : goal.offset_bounds-stored-start
@@ -44,9 +41,7 @@ returns-then-is_copied g c =
     let items = c.args.items.now in
     let old = c.args.stored.now in
     let one : signed c.args.stride ≡ pos 1 = ap signed (c.is_copied.ensures c.if-is_copied.true) in
-    let within : start + length items ≤ count =
-    neighbours_within count start (length items) (omega (arith, c.in-Some.ensures.cases.1))
-    (subst (λ stride. All (IsInside count) (row_places start stride (length items))) one c.requires.within) in
+    let within = copied_within count start (length items) c.requires.within one (omega (arith, c.in-Some.ensures.cases.1)) in
     let same : start + length items - start ≡ length items = omega arith in
     λ distinct. subst (λ stride. HasWritten (row_places start stride (length items)) items old
     (take start old ++ (c.copy_from_slice.new.self ++ drop (start + length items - start) (drop start old)))) (sym one)

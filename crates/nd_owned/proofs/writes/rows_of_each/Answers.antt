@@ -77,7 +77,8 @@ loop-slice-preserved g c =
     (each_count view writes (have_counts view.shape writes c.requires).counts) in
     record {
       places = ap (flat_map (λ one. rows_places one.rows)) pushed
-          ∙ parts_pushed (λ one. rows_places one.rows) (write_places view) old _ at c.in_ok-rows.ensures.places c.loop-slice.invariant.places;
+          ∙ parts_pushed (λ one. rows_places one.rows) (write_places view) old _ at c.in_ok-rows.ensures.places
+          c.loop-slice.invariant.places;
       items = ap (flat_map (λ one. one.items.now)) pushed
           ∙ parts_pushed (λ one. one.items.now) (λ write. write.items) old _ at c.as_slice-items.ensures.value c.loop-slice.invariant.items;
       counts = all_pushed (λ one. length (rows_places one.rows) ≡ length one.items.now) old _ pushed c.loop-slice.invariant.counts

@@ -43,7 +43,8 @@ loop-start-preserved g c =
     let i = c.loop-start.start-index in
     let turn = number_of_turn i c.as_slice-start-items.ensures c.loop-start-test.true in
     record {
-      items = more_read (block_places rows.block) (item_at_place c.args.stored.now) [] turn c.read_block-items.ensures.items c.loop-start.invariant.items;
+      items = more_read (block_places rows.block) (item_at_place c.args.stored.now) [] turn c.read_block-items.ensures.items
+          c.loop-start.invariant.items;
       len = omega (
         arith,
         c.read_block-items.ensures.len,
@@ -59,4 +60,5 @@ returns-clause-items g c =
     let starts = start_list rows.starts in
     let end : length starts ≤ c.loop-start.start-index = omega (arith, c.loop-start-test.false, ap length c.as_slice-start-items.ensures) in
     c.loop-start.invariant.items
-    ∙ ap (λ xs. map (item_at_place c.args.stored.now) (flat_map (block_places rows.block) xs)) (take_all c.loop-start.start-index starts end)
+    ∙ ap (λ xs. map (item_at_place c.args.stored.now) (flat_map (block_places rows.block) xs))
+    (take_all c.loop-start.start-index starts end)

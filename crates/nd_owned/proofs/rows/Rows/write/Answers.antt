@@ -47,8 +47,9 @@ loop-start-preserved g c =
     let long = length-block_places rows.block start in
     let new = c.write_block-left.new.stored in
     let next : i * size + size ≡ (i + 1) * size = omega arith in
-    let here : AllPairs (λ one other. one ≢ other) (f start) → HasWritten (f start) (take size c.loop-start.left.now) c.loop-start.stored new =
-    subst (λ n. AllPairs (λ one other. one ≢ other) (f start) → HasWritten (f start) (take n c.loop-start.left.now) c.loop-start.stored new) long
+    let old = c.loop-start.stored in
+    let here : AllPairs (λ one other. one ≢ other) (f start) → HasWritten (f start) (take size c.loop-start.left.now) old new =
+    subst (λ n. AllPairs (λ one other. one ≢ other) (f start) → HasWritten (f start) (take n c.loop-start.left.now) old new) long
     c.write_block-left.ensures.written in
     let done : take (i * size) items ++ take size c.loop-start.left.now ≡ take ((i + 1) * size) items =
     ap (λ xs. take (i * size) items ++ take size xs) c.loop-start.invariant.left
