@@ -7,4 +7,5 @@ pub mod Stepped
 pub mod StrideAxes
 pub mod StrideOrder
 pub mod StridePlaces
+pub mod Turned
 pub mod laws

@@ -10,6 +10,7 @@ mod dimensions;
 mod error;
 mod next_index;
 mod remove_axis;
+mod sequence;
 mod shape_arg;
 mod sizes;
 mod stride_axes;
@@ -27,6 +28,7 @@ pub use nd_base::{
 };
 pub use next_index::{step_by_columns, step_by_rows};
 pub use remove_axis::RemoveAxis;
+pub use sequence::{Forward, Reverse, Sequence, SequenceMut};
 pub use shape_arg::ShapeArg;
 pub use sizes::product;
 pub use stride_axes::magnitude_at;

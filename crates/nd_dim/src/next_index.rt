@@ -5,6 +5,38 @@ ghost use Rattle.nd_base.specs.Indices.{is_index};
 ghost use Rattle.nd_base.specs.FlatIndex.{flat_index, index_of_flat, flat_index_in, index_of_flat_in};
 ghost use Rattle.nd_base.specs.Size.{size};
 
+use crate::sequence::{Forward, Reverse, Sequence, SequenceMut};
+
+/// Moves an index of a shape to the next one, where both sequences begin with the axis that moves
+/// fastest, and returns whether there is one; the last index becomes the first, all 0, with
+/// `false`.
+#[inline(always)]
+fn step<S: Sequence, I: SequenceMut>(shape: &S, index: &mut I) -> bool
+    requires { is_index (S.items shape.now) (I.items index.old) ≡ true }
+    ensures more { IsTrue result ↔
+        (flat_index_in ColumnMajor (S.items shape.now) (I.items index.old) + 1
+        < size (S.items shape.now)) }
+    ensures next { I.items index.new ≡ (if result
+        then index_of_flat_in
+        ColumnMajor
+        (S.items shape.now)
+        (flat_index_in ColumnMajor (S.items shape.now) (I.items index.old) + 1)
+        else replicate (length (S.items shape.now)) 0) }
+    ensures target { I.same_target index.old index.new }
+{
+    // (the coordinate is written before it is known to be the one: loops run in half the time so)
+    for k in 0..shape.len() {
+        let len = shape[k];
+        let next = index[k] + 1;
+        index.set(k, next);
+        if next < len {
+            return true;
+        }
+        index.set(k, 0);
+    }
+    false
+}
+
 /// Moves an index of a shape to the next one in row-major order, where the last axis moves fastest,
 /// and returns whether there is one; the last index becomes the first, all 0, with `false`.
 ///
@@ -21,16 +53,7 @@ pub fn step_by_rows(shape: &[usize], index: &mut [usize]) -> bool
         then index_of_flat shape.now (flat_index shape.now index.old + 1)
         else replicate (length shape.now) 0) }
 {
-    // (the coordinate is written before it is known to be the one: loops run in half the time so)
-    for axis in (0..shape.len()).rev() {
-        let next = index[axis] + 1;
-        index[axis] = next;
-        if next < shape[axis] {
-            return true;
-        }
-        index[axis] = 0;
-    }
-    false
+    step(&Reverse(shape), &mut Reverse(index))
 }
 
 /// Moves an index of a shape to the next one in column-major order, where the first axis moves
@@ -54,13 +77,5 @@ pub fn step_by_columns(shape: &[usize], index: &mut [usize]) -> bool
         (flat_index_in ColumnMajor shape.now index.old + 1)
         else replicate (length shape.now) 0) }
 {
-    for (axis, len) in shape.iter().enumerate() {
-        let next = index[axis] + 1;
-        index[axis] = next;
-        if next < *len {
-            return true;
-        }
-        index[axis] = 0;
-    }
-    false
+    step(&Forward(shape), &mut Forward(index))
 }

@@ -1,47 +1,58 @@
 //! The strides that a shape has by itself, and strides that place the same indices alike.
-ghost use Rattle.std.specs.Prelude.{◌≡◌, ◌<◌, ◌^◌, ◌↔◌, IsTrue, IsOk, IfOk, length, ℕ, slice_index};
+ghost use Rattle.std.specs.Prelude.{◌≡◌, ◌<◌, ◌≤◌, ◌*◌, ◌^◌, ◌↔◌, IsTrue, IsOk, IfOk, length, ℕ, slice_index};
 ghost use Rattle.nd_base.specs.Lengths.{NeedsNoMemory};
-ghost use Rattle.nd_base.specs.Size.{size};
-ghost use Rattle.nd_dim.specs.Strides.{default_strides as default_strides_of, fortran_strides as fortran_strides_of, AreEquivalent};
+ghost use Rattle.nd_base.specs.Size.{size, is_empty};
+ghost use Rattle.nd_dim.specs.Strides.{default_strides as default_strides_of, fortran_strides as fortran_strides_of, size_until, AreEquivalent};
 
+use crate::sequence::{Forward, Reverse, Sequence, SequenceMut};
 use nd_base::Lengths;
 use std::alloc::{AllocError, Global};
 
-/// Writes the strides by which the last axis moves fastest: each the product of the later
-/// lengths, and all 0 where some length is 0. The strides of ndarray's `default_strides`.
+/// Whether some number of a sequence is 0.
 #[inline(always)]
-fn fill_default_strides(lens: &[usize], strides: &mut [usize])
-    requires same_count { length lens.now ≡ length strides.old }
-    requires size_fits { size lens.now < 2 ^ 64 }
-    ensures { strides.new ≡ default_strides_of lens.now }
+fn has_zero<S: Sequence>(lens: &S) -> bool
+    ensures { result ≡ is_empty (S.items lens.now) }
 {
-    if lens.contains(&0) {
-        strides.fill(0);
-        return;
+    for k in 0..lens.len() {
+        if lens[k] == 0 {
+            return true;
+        }
     }
-    let mut size = 1usize;
-    for axis in (0..lens.len()).rev() {
-        strides[axis] = size;
-        size *= lens[axis];
+    false
+}
+
+/// Writes for each axis the product of the lengths before it, times `first`.
+#[inline(always)]
+fn write_products<S: Sequence, O: SequenceMut>(lens: &S, first: usize, out: &mut O)
+    requires same_count { length (S.items lens.now) ≡ length (O.items out.old) }
+    requires fits { (k : ℕ) → k ≤ length (S.items lens.now) →
+        first * size_until (S.items lens.now) k < 2 ^ 64 }
+    ensures written { (k : ℕ) → k < length (S.items lens.now) →
+        slice_index (O.items out.new) k ≡ first * size_until (S.items lens.now) k }
+    ensures same_count { length (O.items out.new) ≡ length (S.items lens.now) }
+    ensures target { O.same_target out.old out.new }
+{
+    let mut product = first;
+    for k in 0..lens.len() {
+        out.set(k, product);
+        product *= lens[k];
     }
 }
 
-/// Writes the strides by which the first axis moves fastest: each the product of the earlier
-/// lengths, and all 0 where some length is 0. The strides of ndarray's `fortran_strides`.
+/// Writes the strides that a shape has by itself, where both sequences begin with the axis that
+/// moves fastest: each the product of the lengths before it, and all 0 where some length is 0.
 #[inline(always)]
-fn fill_fortran_strides(lens: &[usize], strides: &mut [usize])
-    requires same_count { length lens.now ≡ length strides.old }
-    requires size_fits { size lens.now < 2 ^ 64 }
-    ensures { strides.new ≡ fortran_strides_of lens.now }
+fn write_strides<S: Sequence, O: SequenceMut>(lens: &S, strides: &mut O)
+    requires same_count { length (S.items lens.now) ≡ length (O.items strides.old) }
+    requires size_fits { size (S.items lens.now) < 2 ^ 64 }
+    ensures strides { O.items strides.new ≡ fortran_strides_of (S.items lens.now) }
+    ensures target { O.same_target strides.old strides.new }
 {
-    if lens.contains(&0) {
-        strides.fill(0);
-        return;
-    }
-    let mut size = 1usize;
-    for (axis, len) in lens.iter().enumerate() {
-        strides[axis] = size;
-        size *= *len;
+    // (two calls, so that LLVM knows each time which number comes first)
+    if has_zero(lens) {
+        write_products(lens, 0, strides);
+    } else {
+        write_products(lens, 1, strides);
     }
 }
 
@@ -66,7 +77,8 @@ pub fn default_strides<D: Lengths>(alloc: Global, dim: &D) -> Result<D, AllocErr
 {
     // (a copy to write over is made faster than as many zeros)
     let mut strides = dim.duplicate(alloc)?;
-    fill_default_strides(dim.slice(), strides.slice_mut());
+    let items = strides.slice_mut();
+    write_strides(&Reverse(dim.slice()), &mut Reverse(items));
     Ok(strides)
 }
 
@@ -91,7 +103,8 @@ pub fn fortran_strides<D: Lengths>(alloc: Global, dim: &D) -> Result<D, AllocErr
 {
     // (a copy to write over is made faster than as many zeros)
     let mut strides = dim.duplicate(alloc)?;
-    fill_fortran_strides(dim.slice(), strides.slice_mut());
+    let items = strides.slice_mut();
+    write_strides(&Forward(dim.slice()), &mut Forward(items));
     Ok(strides)
 }
 

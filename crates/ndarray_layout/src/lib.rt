@@ -4,7 +4,6 @@
 
 mod reshape;
 mod runs;
-mod sequence;
 mod strided;
 
 // Dimension types, and what all of them can do.
@@ -15,8 +14,9 @@ pub use nd_base::{
     new_ix6, new_ixdyn, set_axis_of, signed, stride_offset, stride_offset_checked, unsigned,
 };
 pub use nd_dim::{
-    Dimension, IntoDimension, RemoveAxis, ShapeArg, default_strides, fortran_strides,
-    incompatible_shapes, magnitude_at, new_dim, product, step_by_columns, step_by_rows,
+    Dimension, Forward, IntoDimension, RemoveAxis, Reverse, Sequence, SequenceMut, ShapeArg,
+    default_strides, fortran_strides, incompatible_shapes, magnitude_at, new_dim, product,
+    step_by_columns, step_by_rows,
 };
 
 // Layouts: acceptance, shapes and their builders, iterators over indices, common shapes, merges.
@@ -40,7 +40,6 @@ pub use nd_slice::{
 
 // Reshapes that move no element.
 pub use reshape::reshape_dim;
-pub use sequence::{Forward, Reverse, Sequence, SequenceMut};
 
 // Views, and runs of steps from one to the next.
 pub use runs::{Step, Stopped, run};

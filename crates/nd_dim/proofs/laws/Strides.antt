@@ -1,11 +1,11 @@
 -- Laws of the strides that a shape has by itself: each index lies at its flat index.
-use Rattle.std.proofs.Common.{◌≡◌, ℕ, zero, suc, ◌+◌, ◌-◌, ◌<◌, ◌≤◌, pos, ◌+ℤ◌, ◌*ℤ◌, true, false, eqb, List, [], ◌∷◌, ◌++◌, length}
+use Rattle.std.proofs.Common.{◌≡◌, ℕ, zero, suc, ◌+◌, ◌-◌, ◌<◌, ◌≤◌, pos, ◌+ℤ◌, ◌*ℤ◌, true, false, eqb, List, [], ◌∷◌, length}
 use Rattle.std.proofs.Common.{get_or, map, take, drop, replicate, reverse, inl, inr, refl, sym, ap, ◌∙◌, arith}
 use Rattle.std.specs.Prelude.{nat_lt}
 use Rattle.std.proofs.lemmas.Bool.{and_parts, cases_Bool, cond-true, cond-false, cond_both, or_parts}
 use Rattle.std.proofs.lemmas.Int.{ints}
 use Rattle.std.proofs.lemmas.List.{drop_at, ext_get_or, get_or-replicate, get_or-reverse, length-drop, length-map, length-replicate}
-use Rattle.std.proofs.lemmas.List.{length-reverse, map-append, reverse-append, reverse-reverse, take-append-drop}
+use Rattle.std.proofs.lemmas.List.{length-reverse, reverse-append, reverse-reverse, take-append-drop}
 use Rattle.std.proofs.lemmas.List.FromFn.{length-map-range_with_len, get_or-map-range_with_len}
 use Rattle.nd_base.specs.declared.order.Order.TheVariants.{RowMajor, ColumnMajor}
 use Rattle.nd_base.proofs.laws.Definitions.{below, is_index, offset_of, places, flat_index, flat_index_in, is_empty, limit, nonzero_size}
@@ -92,7 +92,8 @@ drop-reverse k xs =
     ∙ ap (drop (length xs - k)) (reverse-append (take k xs) (drop k xs))
     ∙ drop_at (reverse (drop k xs)) (reverse (take k xs)) (length xs - k) (length-reverse (drop k xs) ∙ length-drop k xs)
 
-zero_at : (lens : List ℕ) (k : ℕ) → is_empty lens ≡ true → k < length lens
+-- where there is no index all strides are 0
+pub zero_at : (lens : List ℕ) (k : ℕ) → is_empty lens ≡ true → k < length lens
     → (get_or (default_strides lens) k 0 ≡ 0) × (get_or (fortran_strides lens) k 0 ≡ 0)
 zero_at lens k none h =
     let zeros = get_or-replicate (length lens) k 0 0 h in (
@@ -123,6 +124,13 @@ fortran_by_default shape =
           ∙ ap size (drop-reverse k shape)
           ∙ size-reverse (take k shape))
     ])
+
+-- and the other way round
+pub default_by_fortran : (shape : List ℕ) → default_strides shape ≡ reverse (fortran_strides (reverse shape))
+default_by_fortran shape =
+    sym (ap reverse (fortran_by_default (reverse shape))
+    ∙ reverse-reverse (default_strides (reverse (reverse shape)))
+    ∙ ap default_strides (reverse-reverse shape))
 
 -- the strides by columns place each index at its flat index by columns
 pub offset_of-fortran_strides : (shape index : List ℕ) → is_index shape index ≡ true

@@ -10,8 +10,8 @@ ghost use Rattle.ndarray_layout.specs.private.ReshapeProgress.{CanWalk, IsReache
 ghost use Rattle.ndarray_layout.specs.reshape.ForcedStrides.{forced_strides, stride_at};
 ghost use Rattle.ndarray_layout.specs.reshape.ReshapeFault.{reshape_fault};
 
-use crate::sequence::{Forward, Reverse, Sequence, SequenceMut};
 use nd_base::{ErrorKind, Lengths, Order, ShapeError, from_kind, signed, unsigned};
+use nd_dim::{Forward, Reverse, Sequence, SequenceMut};
 
 /// How far two shapes are read: so many axes of each, which have as many indices.
 #[derive(Clone, Copy)]

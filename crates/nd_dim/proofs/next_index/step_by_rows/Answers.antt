@@ -1,41 +1,48 @@
-use Rattle.std.proofs.Common.{ℕ, ◌+◌, ◌-◌, get_or, arith, length-set, refl, set-set}
-use Rattle.nd_base.proofs.laws.IsIndex.{length_of_index}
-use Rattle.nd_dim.proofs.Stepped.{row_start, row_entry, row_turn, row_step, row_end}
+use Rattle.std.proofs.Common.{rules, ◌≡◌, ◌+◌, ℕ, Bool, true, false, List, length, replicate, reverse, cond}
+use Rattle.std.proofs.Common.{sym, ap, ap₂, subst, ◌∙◌, arith}
+use Rattle.std.proofs.lemmas.List.{length-reverse, reverse-reverse}
+use Rattle.nd_base.specs.declared.order.Order.TheVariants.{ColumnMajor}
+use Rattle.nd_base.proofs.laws.Definitions.{flat_index, flat_index_in, index_of_flat, index_of_flat_in}
+use Rattle.nd_base.proofs.laws.IsIndex.{is_index-reverse}
+use Rattle.nd_base.proofs.laws.Lists.{reverse-replicate}
+use Rattle.nd_base.proofs.laws.Size.{size-reverse}
 use Rattle.nd_dim.proofs.next_index.step_by_rows.Goals as goal
 
-pub loop-axis-init : goal.loop-axis-init
-loop-axis-init c = row_start c.args.shape.now c.args.index.now c.requires
+-- both read from the back, the index has the flat index in row-major order
+flat_index-back : (shape index : List ℕ) → flat_index_in ColumnMajor (reverse shape) (reverse index) ≡ flat_index shape index
+flat_index-back shape index = ap₂ flat_index (reverse-reverse shape) (reverse-reverse index)
 
-pub bounds-index-axis : goal.bounds-index-axis
-bounds-index-axis c = omega (arith, length_of_index c.args.shape.now c.args.index.now c.requires)
+-- and so has the next one
+next-back : (shape old new : List ℕ) (more : Bool)
+    → reverse new ≡ cond more (index_of_flat_in ColumnMajor (reverse shape) (flat_index_in ColumnMajor (reverse shape) (reverse old) + 1))
+    (replicate (length (reverse shape)) 0)
+    → new ≡ cond more (index_of_flat shape (flat_index shape old + 1)) (replicate (length shape) 0)
+next-back shape old new true e =
+    sym (reverse-reverse new)
+    ∙ ap reverse e
+    ∙ reverse-reverse (index_of_flat (reverse (reverse shape)) (flat_index_in ColumnMajor (reverse shape) (reverse old) + 1))
+    ∙ ap₂ (λ s r. index_of_flat s (r + 1)) (reverse-reverse shape) (flat_index-back shape old)
+next-back shape old new false e =
+    sym (reverse-reverse new)
+    ∙ ap reverse e
+    ∙ reverse-replicate (length (reverse shape)) 0
+    ∙ ap (λ n. replicate n 0) (length-reverse shape)
 
-pub overflow_add-next : goal.overflow_add-next
-overflow_add-next c =
-    let entry = row_entry (omega arith) (omega arith) c.loop-axis.invariant in
-    omega (arith, (c.type_inv.shape (c.loop-axis.axis - 1)).fits)
-
-pub returns-then-next-shape-clause-more : goal.returns-then-next-shape-clause-more
-returns-then-next-shape-clause-more c =
-    (λ t. (row_step (omega arith) (omega arith) c.loop-axis.invariant (omega arith)).0, λ h. refl)
-
-pub returns-then-next-shape-clause-next : goal.returns-then-next-shape-clause-next
-returns-then-next-shape-clause-next c = (row_step (omega arith) (omega arith) c.loop-axis.invariant (omega arith)).1
-
-pub bounds-index-axis-in-loop-axis : goal.bounds-index-axis-in-loop-axis
-bounds-index-axis-in-loop-axis c = omega (arith, length_of_index c.args.shape.now c.args.index.now c.requires)
-
-pub bounds-index-axis-in-loop-axis-2 : goal.bounds-index-axis-in-loop-axis-2
-bounds-index-axis-in-loop-axis-2 c =
-    omega (arith, length-set {A = ℕ}, length_of_index c.args.shape.now c.args.index.now c.requires)
-
-pub loop-axis-preserved : goal.loop-axis-preserved
-loop-axis-preserved c =
-    rw (set-set c.loop-axis.index (c.loop-axis.axis - 1) (get_or c.loop-axis.index (c.loop-axis.axis - 1) 0 + 1) 0)
-    (row_turn (omega arith) (omega arith) c.loop-axis.invariant (omega arith))
+pub step-requires : goal.step-requires
+step-requires c = is_index-reverse c.args.shape.now c.args.index.now ∙ c.requires
 
 pub returns-clause-more : goal.returns-clause-more
 returns-clause-more c =
-    (λ t. absurd (cc), λ h. absurd (omega (arith, (row_end (omega arith) c.loop-axis.invariant).0)))
+    let shape = c.args.shape.now in
+    let flat = flat_index-back shape c.args.index.now in
+    let count = size-reverse shape in
+    let more = c.step.ensures.more in
+    (λ t. omega (arith, more.0 t), λ h. more.1 (omega arith))
 
 pub returns-clause-next : goal.returns-clause-next
-returns-clause-next c = (row_end (omega arith) c.loop-axis.invariant).1
+returns-clause-next c =
+    let shape = c.args.shape.now in
+    let old = c.args.index.now in
+    let new = c.step.new.index.0.now in
+    subst (λ xs. xs ≡ cond c.step.result (index_of_flat shape (flat_index shape old + 1)) (replicate (length shape) 0)) (sym (search rules))
+    (next-back shape old new c.step.result c.step.ensures.next)

@@ -107,6 +107,116 @@ impl Sequence for Reverse<&[usize]> {
     ghost index_is = { λ s k item h. h };
 }
 
+impl Index<usize> for Forward<&mut [usize]> {
+    type Output = usize;
+
+    ghost can_index = { λ s k. k < length s.0.now };
+
+    ghost index_gives = { λ s k item. slice_get s.0.now k ≡ Some item };
+
+    #[inline(always)]
+    fn index(&self, k: usize) -> &usize {
+        let items = &*self.0;
+        &items[k]
+    }
+}
+
+impl IndexMut<usize> for Forward<&mut [usize]> {
+    #[inline(always)]
+    fn index_mut(&mut self, k: usize) -> &mut usize
+        requires { k < length self.old.0.now }
+        ensures { slice_get self.old.0.now k ≡ Some result.now }
+    {
+        let items = &mut *self.0;
+        &mut items[k]
+    }
+}
+
+impl Sequence for Forward<&mut [usize]> {
+    ghost items = { λ s. s.0.now };
+
+    #[inline(always)]
+    fn len(&self) -> usize {
+        self.0.len()
+    }
+
+    ghost can_index_below = { λ s k h. h };
+
+    ghost index_is = { λ s k item h. h };
+}
+
+impl SequenceMut for Forward<&mut [usize]> {
+    ghost use Rattle.std.proofs.Common.{refl, ◌∙◌};
+
+    ghost same_target = { λ s t. s.0.ghost_name ≡ t.0.ghost_name };
+
+    ghost same_target_now = { λ s. refl };
+
+    ghost same_target_on = { λ s t u first next. first ∙ next };
+
+    #[inline(always)]
+    fn set(&mut self, k: usize, item: usize) {
+        self.0[k] = item;
+    }
+}
+
+impl Index<usize> for Reverse<&mut [usize]> {
+    type Output = usize;
+
+    ghost can_index = { λ s k. k < length s.0.now };
+
+    ghost index_gives = { λ s k item. slice_get (reverse s.0.now) k ≡ Some item };
+
+    #[inline(always)]
+    fn index(&self, k: usize) -> &usize {
+        let items = &*self.0;
+        &items[items.len() - 1 - k]
+    }
+}
+
+impl IndexMut<usize> for Reverse<&mut [usize]> {
+    #[inline(always)]
+    fn index_mut(&mut self, k: usize) -> &mut usize
+        requires { k < length self.old.0.now }
+        ensures { slice_get (reverse self.old.0.now) k ≡ Some result.now }
+    {
+        let items = &mut *self.0;
+        &mut items[items.len() - 1 - k]
+    }
+}
+
+impl Sequence for Reverse<&mut [usize]> {
+    ghost use Rattle.std.proofs.Common.{subst};
+    ghost use Rattle.std.proofs.lemmas.List.{length-reverse};
+
+    ghost items = { λ s. reverse s.0.now };
+
+    #[inline(always)]
+    fn len(&self) -> usize {
+        self.0.len()
+    }
+
+    ghost can_index_below = { λ s k h. subst (λ n. k < n) (length-reverse s.0.now) h };
+
+    ghost index_is = { λ s k item h. h };
+}
+
+impl SequenceMut for Reverse<&mut [usize]> {
+    ghost use Rattle.std.proofs.Common.{refl, ◌∙◌};
+
+    ghost same_target = { λ s t. s.0.ghost_name ≡ t.0.ghost_name };
+
+    ghost same_target_now = { λ s. refl };
+
+    ghost same_target_on = { λ s t u first next. first ∙ next };
+
+    #[inline(always)]
+    fn set(&mut self, k: usize, item: usize) {
+        let items = &mut *self.0;
+        items[items.len() - 1 - k] = item;
+    }
+}
+
 impl<D: Lengths> Index<usize> for Forward<&D> {
     type Output = usize;
 
