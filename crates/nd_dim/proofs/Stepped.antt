@@ -4,7 +4,8 @@ use Rattle.std.proofs.Common.{reverse, refl, sym, ap, ap₂, subst, ◌∙◌, a
 use Rattle.std.specs.Prelude.{nat_lt}
 use Rattle.std.proofs.lemmas.Bool.{and_from, and_parts, lt-ltb}
 use Rattle.std.proofs.lemmas.List.{append-nil, drop_all, drop_more, get_or-append-add, length-drop, length-replicate, length-reverse}
-use Rattle.std.proofs.lemmas.List.{length-take-le, replicate_more, reverse-append, reverse-reverse, set_at, take-append-drop, take_all, take_more}
+use Rattle.std.proofs.lemmas.List.{length-take-le, replicate_more, reverse-append, reverse-reverse, set_at, take-append-drop}
+use Rattle.std.proofs.lemmas.List.{take_all, take_more}
 use Rattle.nd_base.specs.declared.order.Order.TheVariants.{ColumnMajor}
 use Rattle.nd_base.proofs.laws.Definitions.{is_index, index_of_flat, index_of_flat_in, flat_index, flat_index_in, size}
 use Rattle.nd_base.proofs.laws.FlatIndex.{index_of_flat-flat_index, flat_index-lt-size, flat_index-zeros}

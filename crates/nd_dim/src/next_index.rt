@@ -7,9 +7,8 @@ ghost use Rattle.nd_base.specs.Size.{size};
 
 use crate::sequence::{Forward, Reverse, Sequence, SequenceMut};
 
-/// Moves an index of a shape to the next one, where both sequences begin with the axis that moves
-/// fastest, and returns whether there is one; the last index becomes the first, all 0, with
-/// `false`.
+/// Moves an index to the next one, where both sequences begin with the axis that moves fastest.
+/// Returns whether there is one; the last index becomes the first, all 0, with `false`.
 #[inline(always)]
 fn step<S: Sequence, I: SequenceMut>(shape: &S, index: &mut I) -> bool
     requires { is_index (S.items shape.now) (I.items index.old) ≡ true }

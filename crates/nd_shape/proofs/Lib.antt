@@ -6,5 +6,4 @@ pub mod MergedStride
 pub mod OrderRule
 pub mod OwnedRule
 pub mod SumLoop
-pub mod WalkOrder
 pub mod laws

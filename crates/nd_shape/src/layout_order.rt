@@ -1,50 +1,39 @@
 //! Whether the indices of a layout lie one after another.
-ghost use Rattle.std.specs.Prelude.{◌≡◌, ◌≤◌, ◌↔◌, IsTrue, length};
+ghost use Rattle.std.specs.Prelude.{◌≡◌, ◌<◌, ◌≤◌, ◌↔◌, IsTrue, false, length, slice_index};
 ghost use Rattle.nd_base.specs.declared.order.Order.TheVariants.{RowMajor, ColumnMajor};
 ghost use Rattle.nd_base.specs.Signed.{all_signed};
-ghost use Rattle.nd_base.specs.Size.{nonzero_size, limit};
+ghost use Rattle.nd_base.specs.Size.{is_empty, nonzero_size, limit};
 ghost use Rattle.nd_shape.specs.LayoutOrder.{LiesInOrder, MeetsOrderRule};
 
 use nd_base::Lengths;
+use nd_dim::{Forward, Reverse, Sequence};
 
-/// Whether there is no index, or each axis of another length than 1 has the stride by which the last
-/// axis moves fastest.
+/// The number at a position of a sequence.
 #[inline(always)]
-fn has_strides_by_rows(lens: &[usize], strides: &[usize]) -> bool
-    requires same_count { length lens.now ≡ length strides.now }
-    requires size_fits { nonzero_size lens.now ≤ limit }
-    ensures { IsTrue result ↔ MeetsOrderRule RowMajor lens.now (all_signed strides.now) }
+fn item<S: Sequence>(items: &S, k: usize) -> usize
+    requires { k < length (S.items items.now) }
+    ensures { result ≡ slice_index (S.items items.now) k }
 {
-    if lens.contains(&0) {
-        return true;
-    }
-    let mut size = 1usize;
-    for axis in (0..lens.len()).rev() {
-        if lens[axis] != 1 && strides[axis] != size {
-            return false;
-        }
-        size *= lens[axis];
-    }
-    true
+    items[k]
 }
 
-/// Whether there is no index, or each axis of another length than 1 has the stride by which the
-/// first axis moves fastest.
+/// Whether each axis of another length than 1 has the product of the lengths before it as its
+/// stride, where both sequences begin with the axis that moves fastest.
 #[inline(always)]
-fn has_strides_by_columns(lens: &[usize], strides: &[usize]) -> bool
-    requires same_count { length lens.now ≡ length strides.now }
-    requires size_fits { nonzero_size lens.now ≤ limit }
-    ensures { IsTrue result ↔ MeetsOrderRule ColumnMajor lens.now (all_signed strides.now) }
+fn has_strides<S: Sequence>(lens: &S, strides: &S) -> bool
+    requires same_count { length (S.items lens.now) ≡ length (S.items strides.now) }
+    requires some { is_empty (S.items lens.now) ≡ false }
+    requires size_fits { nonzero_size (S.items lens.now) ≤ limit }
+    ensures { IsTrue result ↔
+        MeetsOrderRule ColumnMajor (S.items lens.now) (all_signed (S.items strides.now)) }
 {
-    if lens.contains(&0) {
-        return true;
-    }
     let mut size = 1usize;
-    for axis in 0..lens.len() {
-        if lens[axis] != 1 && strides[axis] != size {
+    for k in 0..lens.len() {
+        let len = item(lens, k);
+        if len != 1 && item(strides, k) != size {
             return false;
         }
-        size *= lens[axis];
+        size *= len;
     }
     true
 }
@@ -66,7 +55,10 @@ pub fn is_layout_c<D: Lengths>(dim: &D, strides: &D) -> bool
     ensures rule { IsTrue result
         ↔ MeetsOrderRule RowMajor (D.list dim.now) (all_signed (D.list strides.now)) }
 {
-    has_strides_by_rows(dim.slice(), strides.slice())
+    if dim.slice().contains(&0) {
+        return true;
+    }
+    has_strides(&Reverse(dim.slice()), &Reverse(strides.slice()))
 }
 
 /// Whether the places of all indices, in column-major order, follow one another without a gap, or
@@ -86,5 +78,8 @@ pub fn is_layout_f<D: Lengths>(dim: &D, strides: &D) -> bool
     ensures rule { IsTrue result
         ↔ MeetsOrderRule ColumnMajor (D.list dim.now) (all_signed (D.list strides.now)) }
 {
-    has_strides_by_columns(dim.slice(), strides.slice())
+    if dim.slice().contains(&0) {
+        return true;
+    }
+    has_strides(&Forward(dim.slice()), &Forward(strides.slice()))
 }

@@ -1,7 +1,6 @@
 //! Whether two indices of a layout may share an element.
 ghost use Rattle.std.specs.Option.{IfSome};
 ghost use Rattle.std.specs.Prelude.{◌≡◌, ℕ, List, ◌<◌, ◌≤◌, ◌-◌, not, ◌&&◌, if◌then◌else◌, [], ◌∷◌, length, remove, ◌↔◌, ◌⊎◌, IsTrue, IsFalse};
-ghost use Rattle.nd_base.specs.declared.order.Order.TheVariants.{RowMajor, ColumnMajor};
 ghost use Rattle.nd_base.specs.Signed.{signed as signed_reading, all_signed};
 ghost use Rattle.nd_base.specs.Size.{is_empty, limit};
 ghost use Rattle.nd_base.specs.Span.{reach as reach_of_axis, span};
@@ -12,7 +11,8 @@ ghost use Rattle.nd_base.specs.DistinctOffsets.{HasDistinctOffsets};
 ghost use Rattle.nd_base.specs.ValidLayout.{IsValidLayout};
 
 use crate::limits::reach;
-use nd_base::{Lengths, Order, signed};
+use nd_base::{Lengths, signed};
+use nd_dim::{Forward, Reverse, Sequence};
 
 /// The distance in elements from the first to the last coordinate of an axis, or 0 where its stride is
 /// of a magnitude past `magnitude`.
@@ -77,34 +77,21 @@ fn some_overlaps_others(shape: &[usize], strides: &[usize]) -> bool
     false
 }
 
-/// The axis that a loop over `count` axes comes to after `place` others.
+/// Whether a loop along the axes, in the order of the sequences, comes to one of length greater than
+/// 1 whose stride is no longer than those before it span together. `None` where it comes to a stride
+/// that is shorter than one before it, since such a loop doesn't decide it.
 #[inline(always)]
-fn axis_on_walk(count: usize, place: usize, order: Order) -> usize
-    requires { place < count }
-    ensures by_rows { order ≡ RowMajor → result ≡ count - 1 - place }
-    ensures by_columns { order ≡ ColumnMajor → result ≡ place }
-{
-    match order {
-        Order::RowMajor => count - 1 - place,
-        Order::ColumnMajor => place,
-    }
-}
-
-/// Whether a loop along the axes, by rows from the last one on, by columns from the first, comes to one of length
-/// greater than 1 whose stride is no longer than those before it span together. `None` where it comes to
-/// a stride that is shorter than one before it, since such a loop doesn't decide it.
-#[inline(always)]
-fn overlap_on_walk(shape: &[usize], strides: &[usize], order: Order) -> Option<bool>
-    requires same_count { length shape.now ≡ length strides.now }
-    requires span_fits { span shape.now (all_signed strides.now) ≤ limit }
+fn overlap_on_walk<S: Sequence>(shape: &S, strides: &S) -> Option<bool>
+    requires same_count { length (S.items shape.now) ≡ length (S.items strides.now) }
+    requires span_fits { span (S.items shape.now) (all_signed (S.items strides.now)) ≤ limit }
     ensures { IfSome result
-        (λ overlaps. overlaps ≡ not (meets_owned_rule shape.now (all_signed strides.now))) }
+        (λ overlaps. overlaps ≡
+        not (meets_owned_rule (S.items shape.now) (all_signed (S.items strides.now)))) }
 {
     let mut reached = 0usize;
     let mut longest = 0usize;
     for place in 0..shape.len() {
-        let axis = axis_on_walk(shape.len(), place, order);
-        let (len, stride) = (shape[axis], signed(strides[axis]));
+        let (len, stride) = (shape[place], signed(strides[place]));
         let magnitude = stride.unsigned_abs();
         if len > 1 {
             if magnitude <= reached {
@@ -129,11 +116,10 @@ fn overlap_in_order(shape: &[usize], strides: &[usize]) -> Option<bool>
 {
     let first = signed(strides[0]).unsigned_abs();
     let last = signed(strides[strides.len() - 1]).unsigned_abs();
-    // (two calls, so that LLVM makes a loop for each order)
     if first < last {
-        overlap_on_walk(shape, strides, Order::ColumnMajor)
+        overlap_on_walk(&Forward(shape), &Forward(strides))
     } else {
-        overlap_on_walk(shape, strides, Order::RowMajor)
+        overlap_on_walk(&Reverse(shape), &Reverse(strides))
     }
 }
 

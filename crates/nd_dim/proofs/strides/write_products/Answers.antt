@@ -4,7 +4,14 @@ use Rattle.std.proofs.lemmas.Option.{get_or_from_slice_get}
 use Rattle.nd_base.specs.Size.{size}
 use Rattle.nd_dim.specs.Strides.{size_until}
 use Rattle.nd_base.proofs.laws.Size.{size_take_more}
+use Rattle.nd_dim.proofs.strides.write_products.Given.{Over}
 use Rattle.nd_dim.proofs.strides.write_products.Goals as goal
+use Rattle.nd_dim.proofs.strides.write_products.Goals.{After-index}
+
+-- the length of the axis
+len_is : (g : Over) (c : After-index g) → get_or (g.S.Sequence.items c.args.lens.now) c.loop-k.k 0 ≡ c.index.result.now
+len_is g c = get_or_from_slice_get (g.S.Sequence.items c.args.lens.now) c.loop-k.k c.index.result.now 0
+    (g.met.S.Sequence.index_is c.args.lens.now c.loop-k.k c.index.result.now c.index.ensures)
 
 -- the next product, as the code has it
 next : (lens : List ℕ) (k first : ℕ) {product len : ℕ} → k < length lens → product ≡ first * size_until lens k → get_or lens k 0 ≡ len
@@ -18,8 +25,7 @@ pub overflow_mul-product : goal.overflow_mul-product
 overflow_mul-product g c =
     let lens = g.S.Sequence.items c.args.lens.now in
     let k = c.loop-k.k in
-    let read = get_or_from_slice_get lens k c.index.result.now 0
-    (g.met.S.Sequence.index_is c.args.lens.now k c.index.result.now c.index.ensures) in
+    let read = len_is g (goal.at.overflow_mul-product g c).After-index in
     let more = next lens k c.args.first (omega arith) c.loop-k.invariant.product read in
     omega (arith, c.requires.fits (k + 1) (omega arith))
 
@@ -28,8 +34,7 @@ loop-k-preserved g c =
     let lens = g.S.Sequence.items c.args.lens.now in
     let k = c.loop-k.k in
     let out = g.O.Sequence.items c.loop-k.out in
-    let read = get_or_from_slice_get lens k c.index.result.now 0
-    (g.met.S.Sequence.index_is c.args.lens.now k c.index.result.now c.index.ensures) in
+    let read = len_is g (goal.at.loop-k-preserved g c).After-index in
     let known = c.loop-k.invariant in
     let made = c.set.ensures.items in
     record {

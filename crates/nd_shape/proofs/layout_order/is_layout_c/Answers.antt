@@ -1,14 +1,40 @@
-use Rattle.std.proofs.Common.{sym, ◌∙◌}
-use Rattle.std.proofs.lemmas.List.{length-map}
+use Rattle.std.specs.Prelude.{IsTrue}
+use Rattle.std.proofs.Common.{◌↔◌, true, inl, refl, sym, ap, ◌∙◌, arith}
 use Rattle.nd_base.specs.declared.order.Order.TheVariants.{RowMajor}
-use Rattle.nd_base.proofs.laws.Definitions.{all_signed, signed}
-use Rattle.nd_shape.proofs.laws.LayoutOrder.{in_order_exactly}
+use Rattle.nd_base.proofs.laws.Definitions.{all_signed, is_empty, nonzero_size}
+use Rattle.nd_base.proofs.laws.NonzeroSize.{nonzero_size-reverse}
+use Rattle.nd_base.proofs.laws.Size.{is_empty-reverse}
+use Rattle.nd_shape.specs.LayoutOrder.{MeetsOrderRule}
+use Rattle.nd_shape.proofs.OrderRule.{lies_by_rule, rule_back}
 use Rattle.nd_shape.proofs.layout_order.is_layout_c.Goals as goal
 
-pub returns-clause-places : goal.returns-clause-places
-returns-clause-places g c =
+pub returns-then-contains : goal.returns-then-contains
+returns-then-contains g c =
     let lens = g.D.Lengths.list c.args.dim.now in
     let strides = g.D.Lengths.list c.args.strides.now in
-    let by = in_order_exactly RowMajor lens (all_signed strides) (length-map strides signed ∙ sym c.requires.same_count) in
-    let rule = rw (c.slice.ensures.list, c.slice-2.ensures.list) at c.has_strides_by_rows.ensures in
-    (λ t. by.1 (rule.0 t), λ lies. rule.1 (by.0 lies))
+    let count = c.requires.same_count in
+    let none = ap is_empty (sym c.slice.ensures.list) ∙ sym c.contains.ensures.value ∙ c.if-contains.true in
+    let rule : IsTrue true ↔ MeetsOrderRule RowMajor lens (all_signed strides) = (λ t. inl none, λ r. refl) in
+    record { places = lies_by_rule RowMajor lens strides count rule; rule = rule }
+
+pub has_strides-requires-clause-some : goal.has_strides-requires-clause-some
+has_strides-requires-clause-some g c =
+    is_empty-reverse c.slice-2.result.now
+    ∙ ap is_empty (c.slice-2.ensures.list ∙ sym c.slice.ensures.list)
+    ∙ sym c.contains.ensures.value
+    ∙ c.if-contains.false
+
+pub has_strides-requires-clause-size_fits : goal.has_strides-requires-clause-size_fits
+has_strides-requires-clause-size_fits g c =
+    omega (arith, nonzero_size-reverse c.slice-2.result.now, ap nonzero_size c.slice-2.ensures.list, c.requires.size_fits)
+
+pub returns : goal.returns
+returns g c =
+    let lens = g.D.Lengths.list c.args.dim.now in
+    let strides = g.D.Lengths.list c.args.strides.now in
+    let count = c.requires.same_count in
+    let back = rw (c.slice-2.ensures.list, c.slice-3.ensures.list) at c.has_strides.ensures in
+    let turned = rule_back lens strides c.requires.same_count in
+    let rule : IsTrue c.has_strides.result ↔ MeetsOrderRule RowMajor lens (all_signed strides) =
+    (λ t. turned.0 (back.0 t), λ r. back.1 (turned.1 r)) in
+    record { places = lies_by_rule RowMajor lens strides count rule; rule = rule }

@@ -1,14 +1,24 @@
-use Rattle.std.proofs.Common.{sym, ◌∙◌}
-use Rattle.std.proofs.lemmas.List.{length-map}
+use Rattle.std.specs.Prelude.{IsTrue}
+use Rattle.std.proofs.Common.{◌↔◌, true, inl, refl, sym, ap, ◌∙◌}
 use Rattle.nd_base.specs.declared.order.Order.TheVariants.{ColumnMajor}
-use Rattle.nd_base.proofs.laws.Definitions.{all_signed, signed}
-use Rattle.nd_shape.proofs.laws.LayoutOrder.{in_order_exactly}
+use Rattle.nd_base.proofs.laws.Definitions.{all_signed, is_empty}
+use Rattle.nd_shape.specs.LayoutOrder.{MeetsOrderRule}
+use Rattle.nd_shape.proofs.OrderRule.{lies_by_rule}
 use Rattle.nd_shape.proofs.layout_order.is_layout_f.Goals as goal
 
-pub returns-clause-places : goal.returns-clause-places
-returns-clause-places g c =
+pub returns-then-contains : goal.returns-then-contains
+returns-then-contains g c =
     let lens = g.D.Lengths.list c.args.dim.now in
     let strides = g.D.Lengths.list c.args.strides.now in
-    let by = in_order_exactly ColumnMajor lens (all_signed strides) (length-map strides signed ∙ sym c.requires.same_count) in
-    let rule = rw (c.slice.ensures.list, c.slice-2.ensures.list) at c.has_strides_by_columns.ensures in
-    (λ t. by.1 (rule.0 t), λ lies. rule.1 (by.0 lies))
+    let count = c.requires.same_count in
+    let none = ap is_empty (sym c.slice.ensures.list) ∙ sym c.contains.ensures.value ∙ c.if-contains.true in
+    let rule : IsTrue true ↔ MeetsOrderRule ColumnMajor lens (all_signed strides) = (λ t. inl none, λ r. refl) in
+    record { places = lies_by_rule ColumnMajor lens strides count rule; rule = rule }
+
+pub returns : goal.returns
+returns g c =
+    let lens = g.D.Lengths.list c.args.dim.now in
+    let strides = g.D.Lengths.list c.args.strides.now in
+    let count = c.requires.same_count in
+    let rule = rw (c.slice-2.ensures.list, c.slice-3.ensures.list) at c.has_strides.ensures in
+    record { places = lies_by_rule ColumnMajor lens strides count rule; rule = rule }

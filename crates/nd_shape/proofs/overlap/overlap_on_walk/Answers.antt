@@ -1,63 +1,99 @@
-use Rattle.std.proofs.Common.{rules, ◌≡◌, ℕ, List, false, length, get_or, pos, to_z, of_z, w64, inl, inr, arith, sym, ap, ◌∙◌, below_more}
+use Rattle.std.proofs.Common.{rules, ◌≡◌, ◌<◌, ◌≤◌, ◌+◌, ℕ, List, false, length, get_or, take, pos, to_z, of_z, w64, inl, inr}
+use Rattle.std.proofs.Common.{arith, sym, ap, ap₂, ◌∙◌, below_more}
+use Rattle.std.specs.List.{sum_by}
 use Rattle.std.specs.List.Sorted.{IsPermutation}
 use Rattle.std.specs.Prelude.{unsigned_abs, FitsSigned, nat_le}
 use Rattle.std.proofs.lemmas.Bool.{cases_Bool, leb-true, not_from_true, not_from_false}
 use Rattle.std.proofs.lemmas.Int.{to_z-of_z}
 use Rattle.std.proofs.lemmas.List.{length-map}
+use Rattle.std.proofs.lemmas.List.FromFn.{length-range_with_len, get_or-range_with_len}
+use Rattle.std.proofs.lemmas.List.Sorted.{IsPermutation-refl}
 use Rattle.std.proofs.lemmas.List.Sums.{sum_by_more}
-use Rattle.nd_base.proofs.laws.Definitions.{below, all_signed, signed, reach}
+use Rattle.std.proofs.lemmas.Option.{get_or_from_slice_get}
+use Rattle.nd_base.proofs.laws.Definitions.{below, all_signed, signed, reach, span}
 use Rattle.nd_dim.specs.AxisOrder.{magnitude_at}
 use Rattle.nd_shape.specs.OwnedRule.{meets_owned_rule}
 use Rattle.nd_shape.specs.OwnedWalk.{reach_at}
 use Rattle.nd_shape.proofs.OwnedRule.{signed_at}
-use Rattle.nd_shape.proofs.WalkOrder.{walk_order, walk_order-each_once, length-walk_order, walk_order-at}
 use Rattle.nd_shape.proofs.laws.OwnedRule.{rule_tested}
 use Rattle.nd_shape.proofs.laws.OwnedWalk.{WalkHolds, reaches, reaches_nowhere, rule_from_walk, walk_stops, walked_le_span}
+use Rattle.nd_shape.proofs.overlap.overlap_on_walk.Given.{Over}
 use Rattle.nd_shape.proofs.overlap.overlap_on_walk.Goals as goal
 use Rattle.nd_shape.proofs.overlap.overlap_on_walk.Goals.{After-unsigned_abs-magnitude, then-len-gt1+else-magnitude-reached, else-len-gt1}
 
--- the order of the walk has each axis once
-each_once : (shape strides : List ℕ) (side : _) → length shape ≡ length strides
-    → IsPermutation (below (length (all_signed strides))) (walk_order (length shape) side)
-each_once shape strides side count =
+-- the walk has each axis once
+each_once : (shape strides : List ℕ) → length shape ≡ length strides
+    → IsPermutation (below (length (all_signed strides))) (below (length shape))
+each_once shape strides count =
     let same = length-map strides signed ∙ sym count in
-    rw same (walk_order-each_once (length shape) side)
+    rw same (IsPermutation-refl (below (length shape)))
+
+signed_count : (shape strides : List ℕ) → length shape ≡ length strides → length shape ≡ length (all_signed strides)
+signed_count shape strides count = count ∙ sym (length-map strides signed)
+
+-- what is reached before an axis and its own reach are within the span
+walked_within : (shape strides : List ℕ) (place : ℕ) → length shape ≡ length strides → place < length shape
+    → sum_by (reach_at shape (all_signed strides)) (take place (below (length shape)))
+    + reach_at shape (all_signed strides) (get_or (below (length shape)) place 0) ≤ span shape (all_signed strides)
+walked_within shape strides place count h = walked_le_span shape (all_signed strides) (below (length shape)) place (signed_count shape strides count)
+    (each_once shape strides count) (omega (arith, length-range_with_len 0 (length shape)))
 
 -- the axis that a turn comes to
-axis_is : (c : After-unsigned_abs-magnitude)
-    → get_or (walk_order (length c.args.shape.now) c.args.order) c.loop-place.place 0 ≡ c.axis_on_walk-axis.result
-axis_is c = walk_order-at (length c.args.shape.now) c.args.order c.loop-place.place c.axis_on_walk-axis.result c.loop-place-test.true
-    c.axis_on_walk-axis.ensures.by_rows c.axis_on_walk-axis.ensures.by_columns
+axis_is : (n place : ℕ) → place < n → get_or (below n) place 0 ≡ place
+axis_is n place h = get_or-range_with_len 0 n place 0 h ∙ omega arith
+
+-- its length
+len_is : (g : Over) (c : After-unsigned_abs-magnitude g)
+    → get_or (g.S.Sequence.items c.args.shape.now) (get_or (below (length (g.S.Sequence.items c.args.shape.now))) c.loop-place.place 0) 0
+    ≡ c.index.result.now
+len_is g c =
+    let shape = g.S.Sequence.items c.args.shape.now in
+    ap (λ k. get_or shape k 0) (axis_is (length shape) c.loop-place.place (omega arith))
+    ∙ get_or_from_slice_get shape c.loop-place.place c.index.result.now 0
+    (g.met.S.Sequence.index_is c.args.shape.now c.loop-place.place c.index.result.now c.index.ensures)
 
 -- its stride
-stride_is : (c : After-unsigned_abs-magnitude)
-    → to_z w64 (of_z w64 c.signed-stride.result) ≡ get_or (all_signed c.args.strides.now) c.axis_on_walk-axis.result (pos 0)
-stride_is c =
+stride_is : (g : Over) (c : After-unsigned_abs-magnitude g)
+    → to_z w64 (of_z w64 c.signed-stride.result)
+    ≡ get_or (all_signed (g.S.Sequence.items c.args.strides.now))
+    (get_or (below (length (g.S.Sequence.items c.args.shape.now))) c.loop-place.place 0) (pos 0)
+stride_is g c =
+    let strides = g.S.Sequence.items c.args.strides.now in
+    let place = c.loop-place.place in
+    let stride = c.index-in-loop-place.result.now in
     let fits : FitsSigned w64 c.signed-stride.result = search rules in
     let count = c.requires.same_count in
-    let at = signed_at c.args.strides.now c.axis_on_walk-axis.result (search rules) in
-    to_z-of_z w64 c.signed-stride.result fits ∙ c.signed-stride.ensures.same_bits ∙ sym at
+    let axis = axis_is (length (g.S.Sequence.items c.args.shape.now)) place (omega arith) in
+    let read = get_or_from_slice_get strides place stride 0 (g.met.S.Sequence.index_is c.args.strides.now place stride
+    c.index-in-loop-place.ensures) in
+    to_z-of_z w64 c.signed-stride.result fits
+    ∙ c.signed-stride.ensures.same_bits
+    ∙ ap signed (sym read)
+    ∙ sym (signed_at strides place (omega arith))
+    ∙ ap (λ k. get_or (all_signed strides) k (pos 0)) (sym axis)
 
-magnitude_is : (c : After-unsigned_abs-magnitude)
-    → c.unsigned_abs-magnitude.result ≡ magnitude_at (all_signed c.args.strides.now) c.axis_on_walk-axis.result
-magnitude_is c = c.unsigned_abs-magnitude.ensures.value ∙ ap unsigned_abs (stride_is c)
+magnitude_is : (g : Over) (c : After-unsigned_abs-magnitude g)
+    → c.unsigned_abs-magnitude.result ≡ magnitude_at (all_signed (g.S.Sequence.items c.args.strides.now))
+    (get_or (below (length (g.S.Sequence.items c.args.shape.now))) c.loop-place.place 0)
+magnitude_is g c = c.unsigned_abs-magnitude.ensures.value ∙ ap unsigned_abs (stride_is g c)
 
 pub returns-then-magnitude-reached : goal.returns-then-magnitude-reached
-returns-then-magnitude-reached c =
-    let at = (goal.at.returns-then-magnitude-reached c).After-unsigned_abs-magnitude in
-    let shape = c.args.shape.now in
-    let strides = all_signed c.args.strides.now in
-    let order = walk_order (length shape) c.args.order in
+returns-then-magnitude-reached g c =
+    let at = (goal.at.returns-then-magnitude-reached g c).After-unsigned_abs-magnitude in
+    let shape = g.S.Sequence.items c.args.shape.now in
+    let read = g.S.Sequence.items c.args.strides.now in
+    let strides = all_signed read in
+    let order = below (length shape) in
     let m = c.unsigned_abs-magnitude.result in
-    let count = c.requires.same_count ∙ sym (length-map c.args.strides.now signed) in
-    let axis = axis_is at in
-    let own = magnitude_is at ∙ ap (magnitude_at strides) (sym axis) in
+    let count = signed_count shape read c.requires.same_count in
+    let own = magnitude_is g at in
     elim (cases_Bool (nat_le c.loop-place.longest m)) [
       | inl far ↦
           let broken : meets_owned_rule shape strides ≡ false =
-          walk_stops shape strides order c.loop-place.place count (each_once shape c.args.strides.now c.args.order c.requires.same_count)
-          (omega (arith, c.loop-place-test.true, length-walk_order (length shape) c.args.order))
-          (rw axis c.if-len-gt1.true) (omega (arith, own, c.if-magnitude-reached.true, c.loop-place.invariant.reached))
+          walk_stops shape strides order c.loop-place.place count
+          (each_once shape read c.requires.same_count)
+          (omega (arith, length-range_with_len 0 (length shape)))
+          (rw (len_is g at) c.if-len-gt1.true) (omega (arith, own, c.if-magnitude-reached.true, c.loop-place.invariant.reached))
           (λ k before long. let earlier = c.loop-place.invariant.walk k before long in
           omega (arith, own, earlier, leb-true c.loop-place.longest m far)) in
           rw (c.then_some.ensures, far) (sym (not_from_false (meets_owned_rule shape strides) broken))
@@ -65,49 +101,41 @@ returns-then-magnitude-reached c =
     ]
 
 pub reach-reached-requires : goal.reach-reached-requires
-reach-reached-requires c =
-    let at = (goal.at.reach-reached-requires c).After-unsigned_abs-magnitude in
-    let shape = c.args.shape.now in
-    let strides = all_signed c.args.strides.now in
-    let order = walk_order (length shape) c.args.order in
-    let count = c.requires.same_count ∙ sym (length-map c.args.strides.now signed) in
-    let within = walked_le_span shape strides order c.loop-place.place count
-    (each_once shape c.args.strides.now c.args.order c.requires.same_count)
-    (omega (arith, c.loop-place-test.true, length-walk_order (length shape) c.args.order)) in
-    rw (stride_is at) (omega (arith, rw (axis_is at) at within))
+reach-reached-requires g c =
+    let at = (goal.at.reach-reached-requires g c).After-unsigned_abs-magnitude in
+    let shape = g.S.Sequence.items c.args.shape.now in
+    let read = g.S.Sequence.items c.args.strides.now in
+    let within = walked_within shape read c.loop-place.place c.requires.same_count (omega arith) in
+    rw (sym (len_is g at), stride_is g at) (omega (arith, within))
 
 pub overflow_add-reached : goal.overflow_add-reached
-overflow_add-reached c =
-    let at = (goal.at.overflow_add-reached c).After-unsigned_abs-magnitude in
-    let shape = c.args.shape.now in
-    let strides = all_signed c.args.strides.now in
-    let order = walk_order (length shape) c.args.order in
-    let count = c.requires.same_count ∙ sym (length-map c.args.strides.now signed) in
-    let within = walked_le_span shape strides order c.loop-place.place count
-    (each_once shape c.args.strides.now c.args.order c.requires.same_count)
-    (omega (arith, c.loop-place-test.true, length-walk_order (length shape) c.args.order)) in
-    let own : c.reach-reached.result ≡ reach_at shape strides (get_or order c.loop-place.place 0) =
-    rw (axis_is at) (c.reach-reached.ensures ∙ ap (reach (get_or shape c.axis_on_walk-axis.result 0)) (stride_is at)) in
+overflow_add-reached g c =
+    let at = (goal.at.overflow_add-reached g c).After-unsigned_abs-magnitude in
+    let shape = g.S.Sequence.items c.args.shape.now in
+    let read = g.S.Sequence.items c.args.strides.now in
+    let order = below (length shape) in
+    let within = walked_within shape read c.loop-place.place c.requires.same_count (omega arith) in
+    let own : c.reach-reached.result ≡ reach_at shape (all_signed read) (get_or order c.loop-place.place 0) =
+    c.reach-reached.ensures ∙ ap₂ reach (sym (len_is g at)) (stride_is g at) in
     omega (arith, own, within, c.loop-place.invariant.reached)
 
 pub loop-place-preserved : goal.loop-place-preserved
-loop-place-preserved c =
-    let at = (goal.at.loop-place-preserved c).After-unsigned_abs-magnitude in
-    let shape = c.args.shape.now in
-    let strides = all_signed c.args.strides.now in
-    let order = walk_order (length shape) c.args.order in
+loop-place-preserved g c =
+    let at = (goal.at.loop-place-preserved g c).After-unsigned_abs-magnitude in
+    let shape = g.S.Sequence.items c.args.shape.now in
+    let strides = all_signed (g.S.Sequence.items c.args.strides.now) in
+    let order = below (length shape) in
     let place = c.loop-place.place in
-    let axis = axis_is at in
+    let len = len_is g at in
     let known = c.loop-place.invariant in
-    let more = sum_by_more (reach_at shape strides) order place 0
-    (omega (arith, c.loop-place-test.true, length-walk_order (length shape) c.args.order)) in
+    let more = sum_by_more (reach_at shape strides) order place 0 (omega (arith, length-range_with_len 0 (length shape))) in
     elim c.if-len-gt1.branch [
       | then-len-gt1+else-magnitude-reached w ↦
-          let own = magnitude_is at ∙ ap (magnitude_at strides) (sym axis) in
+          let own = magnitude_is g at in
           let far : w.reach-reached.result ≡ reach_at shape strides (get_or order place 0) =
-          rw axis (w.reach-reached.ensures ∙ ap (reach (get_or shape c.axis_on_walk-axis.result 0)) (stride_is at)) in
+          w.reach-reached.ensures ∙ ap₂ reach (sym len) (stride_is g at) in
           let past = reaches (get_or shape (get_or order place 0) 0) (get_or strides (get_or order place 0) (pos 0))
-          (rw axis w.if-len-gt1.true) in
+          (rw len w.if-len-gt1.true) in
           record {
             reached = omega (arith, w.reached-is, far, more, known.reached);
             longest = omega (arith, w.reached-is, w.longest-is, far, own, past);
@@ -118,24 +146,24 @@ loop-place-preserved c =
           }
       | else-len-gt1 w ↦
           let nowhere = reaches_nowhere (get_or shape (get_or order place 0) 0) (get_or strides (get_or order place 0) (pos 0))
-          (rw axis w.if-len-gt1.false) in
+          (rw len w.if-len-gt1.false) in
           record {
             reached = omega (arith, w.reached-is, nowhere, more, known.reached);
             longest = omega (arith, w.reached-is, w.longest-is, known.longest);
             walk = below_more _ _
                 (λ k before long. let earlier = known.walk k before long in (earlier.0, omega (arith, earlier, w.longest-is)))
-                (λ long. let short = w.if-len-gt1.false in absurd (omega (arith, rw axis at long, short)));
+                (λ long. let short = w.if-len-gt1.false in absurd (omega (arith, rw len at long, short)));
           }
     ]
 
 pub returns : goal.returns
-returns c =
-    let shape = c.args.shape.now in
-    let strides = all_signed c.args.strides.now in
-    let order = walk_order (length shape) c.args.order in
-    let count = c.requires.same_count ∙ sym (length-map c.args.strides.now signed) in
-    let through : WalkHolds 0 shape strides order = λ place l long. let past =
-    c.loop-place.invariant.walk place (omega (arith, c.loop-place-test.false, length-walk_order (length shape) c.args.order)) long in
+returns g c =
+    let shape = g.S.Sequence.items c.args.shape.now in
+    let read = g.S.Sequence.items c.args.strides.now in
+    let order = below (length shape) in
+    let count = signed_count shape read c.requires.same_count in
+    let through : WalkHolds 0 shape (all_signed read) order = λ place l long. let past =
+    c.loop-place.invariant.walk place (omega (arith, length-range_with_len 0 (length shape))) long in
     omega (arith, past) in
-    let rule = rule_from_walk shape strides order count (each_once shape c.args.strides.now c.args.order c.requires.same_count) through in
-    sym (not_from_true (meets_owned_rule shape strides) (rule_tested shape strides rule))
+    let rule = rule_from_walk shape (all_signed read) order count (each_once shape read c.requires.same_count) through in
+    sym (not_from_true (meets_owned_rule shape (all_signed read)) (rule_tested shape (all_signed read) rule))
