@@ -5,8 +5,8 @@ use Rattle.std.proofs.Common.{inl, inr, ◌⊎◌, take, drop, sym, ap, subst, �
 use Rattle.std.specs.List.{All, AllZip, Contains}
 use Rattle.std.specs.Prelude.{IfSome, IsSomeAnd}
 use Rattle.std.proofs.lemmas.Grind.{get_or_default_zero}
-use Rattle.std.proofs.lemmas.List.{get_or-drop, length-drop, length-map, take_all, take_more}
-use Rattle.std.proofs.lemmas.List.Elements.{All-append, All-cons, All-contains, All-drop, All-weaker}
+use Rattle.std.proofs.lemmas.List.{get_or-drop, length-drop, length-map, take_more}
+use Rattle.std.proofs.lemmas.List.Elements.{All-append, All-cons, All-contains, All-drop}
 use Rattle.std.proofs.lemmas.List.Sorted.{IsNonDecreasingBy-push}
 use Rattle.ndarray_layout.specs.declared.Fit.TheVariants.{Strict}
 use Rattle.ndarray_layout.specs.declared.Slice.{Slice}
@@ -24,7 +24,6 @@ use Rattle.ndarray_layout.proofs.laws.SliceFault.{step_moves}
 use Rattle.nd_owned.specs.private.Ranges.{AreInOrder, HasRange, IsBetween, IsPast, elem_on, end_on, start_on}
 use Rattle.nd_owned.specs.Writes.{Write, slices_fault}
 use Rattle.nd_owned.proofs.Faults.{this}
-use Rattle.nd_owned.proofs.Placed.{other_default}
 use Rattle.nd_owned.proofs.Slices.{each_fits}
 
 -- what a slice that fits picks lies in its range

@@ -1,9 +1,7 @@
 -- The first axis has the places of the view.
 use Rattle.std.proofs.Common.{◌≡◌, ◌⊎◌, inl, inr, pos, length, get_or, sym, ap, ◌∙◌}
 use Rattle.std.proofs.lemmas.Bool.{eqb-true}
-use Rattle.ndarray_layout.specs.declared.Order.TheVariants.{RowMajor}
 use Rattle.ndarray_layout.specs.Signed.{all_signed, signed}
-use Rattle.ndarray_layout.specs.View.{view_places}
 use Rattle.nd_owned.specs.private.Rows.{row_places}
 use Rattle.nd_owned.proofs.BlockPlaces.{first_alone, first_signed}
 use Rattle.nd_owned.proofs.rows.first_axis_alone.Goals as goal

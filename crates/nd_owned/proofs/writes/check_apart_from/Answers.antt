@@ -1,5 +1,5 @@
 -- The first slice that shares an index with the one ends the check.
-use Rattle.std.proofs.Common.{◌≡◌, ◌+◌, Some, None, IsSomeAnd, map, drop, sym, ap, subst, ◌∙◌}
+use Rattle.std.proofs.Common.{IsSomeAnd, map, sym, ap, subst, ◌∙◌}
 use Rattle.std.proofs.lemmas.Bool.{false≢true}
 use Rattle.ndarray_layout.specs.declared.Fit.TheVariants.{Strict}
 use Rattle.ndarray_layout.specs.ArgumentFault.{argument_fault}

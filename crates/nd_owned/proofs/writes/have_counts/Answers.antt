@@ -1,5 +1,5 @@
 -- The first slice that doesn't fit ends the count with its error.
-use Rattle.std.proofs.Common.{rules, ◌≡◌, ◌+◌, ◌&&◌, false, true, Some, length, map, drop, sym, ap, ◌∙◌}
+use Rattle.std.proofs.Common.{rules, ◌≡◌, ◌+◌, ◌&&◌, Some, length, map, drop, sym, ap, ◌∙◌}
 use Rattle.std.proofs.lemmas.Bool.{eq-eqb, ne_eqb}
 use Rattle.std.specs.List.{list_all}
 use Rattle.std.specs.Option.{option_or}

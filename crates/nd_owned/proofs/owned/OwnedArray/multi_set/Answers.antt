@@ -3,7 +3,7 @@ use Rattle.std.proofs.Common.{◌≡◌, ◌++◌, None, [], ◌∷◌, length, 
 use Rattle.std.proofs.lemmas.Bool.{eq-eqb, false≢true}
 use Rattle.std.proofs.lemmas.List.{take_at}
 use Rattle.std.proofs.lemmas.List.Elements.{All-head}
-use Rattle.std.specs.List.{All, flat_map}
+use Rattle.std.specs.List.{All}
 use Rattle.ndarray_layout.specs.ShapeFault.{shape_fault}
 use Rattle.nd_owned.specs.declared.rows.Rows.{Rows}
 use Rattle.nd_owned.specs.private.Rows.{rows_places}

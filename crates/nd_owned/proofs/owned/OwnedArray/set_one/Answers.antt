@@ -4,7 +4,7 @@ use Rattle.std.proofs.lemmas.List.{take_at}
 use Rattle.std.specs.List.{AllPairs}
 use Rattle.ndarray_layout.specs.declared.Fit.TheVariants.{Strict}
 use Rattle.ndarray_layout.specs.ArgumentFault.{argument_fault}
-use Rattle.nd_owned.specs.private.Rows.{HasWritten, rows_places}
+use Rattle.nd_owned.specs.private.Rows.{HasWritten}
 use Rattle.nd_owned.specs.Writes.{write_of, write_places}
 use Rattle.nd_owned.proofs.Faults.{both_none, have_counts}
 use Rattle.nd_owned.proofs.Slices.{one_distinct}
