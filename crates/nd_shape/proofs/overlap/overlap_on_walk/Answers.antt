@@ -35,16 +35,20 @@ signed_count shape strides count = count ∙ sym (length-map strides signed)
 walked_within : (shape strides : List ℕ) (place : ℕ) → length shape ≡ length strides → place < length shape
     → sum_by (reach_at shape (all_signed strides)) (take place (below (length shape)))
     + reach_at shape (all_signed strides) (get_or (below (length shape)) place 0) ≤ span shape (all_signed strides)
-walked_within shape strides place count h = walked_le_span shape (all_signed strides) (below (length shape)) place (signed_count shape strides count)
-    (each_once shape strides count) (omega (arith, length-range_with_len 0 (length shape)))
+walked_within shape strides place count h =
+    walked_le_span shape (all_signed strides) (below (length shape)) place (signed_count shape strides count) (each_once shape strides count)
+    (omega (arith, length-range_with_len 0 (length shape)))
 
 -- the axis that a turn comes to
+abbrev axis_at : List ℕ → ℕ → ℕ
+axis_at shape place = get_or (below (length shape)) place 0
+
 axis_is : (n place : ℕ) → place < n → get_or (below n) place 0 ≡ place
 axis_is n place h = get_or-range_with_len 0 n place 0 h ∙ omega arith
 
 -- its length
 len_is : (g : Over) (c : After-unsigned_abs-magnitude g)
-    → get_or (g.S.Sequence.items c.args.shape.now) (get_or (below (length (g.S.Sequence.items c.args.shape.now))) c.loop-place.place 0) 0
+    → get_or (g.S.Sequence.items c.args.shape.now) (axis_at (g.S.Sequence.items c.args.shape.now) c.loop-place.place) 0
     ≡ c.index.result.now
 len_is g c =
     let shape = g.S.Sequence.items c.args.shape.now in
@@ -56,7 +60,7 @@ len_is g c =
 stride_is : (g : Over) (c : After-unsigned_abs-magnitude g)
     → to_z w64 (of_z w64 c.signed-stride.result)
     ≡ get_or (all_signed (g.S.Sequence.items c.args.strides.now))
-    (get_or (below (length (g.S.Sequence.items c.args.shape.now))) c.loop-place.place 0) (pos 0)
+    (axis_at (g.S.Sequence.items c.args.shape.now) c.loop-place.place) (pos 0)
 stride_is g c =
     let strides = g.S.Sequence.items c.args.strides.now in
     let place = c.loop-place.place in
@@ -74,7 +78,7 @@ stride_is g c =
 
 magnitude_is : (g : Over) (c : After-unsigned_abs-magnitude g)
     → c.unsigned_abs-magnitude.result ≡ magnitude_at (all_signed (g.S.Sequence.items c.args.strides.now))
-    (get_or (below (length (g.S.Sequence.items c.args.shape.now))) c.loop-place.place 0)
+    (axis_at (g.S.Sequence.items c.args.shape.now) c.loop-place.place)
 magnitude_is g c = c.unsigned_abs-magnitude.ensures.value ∙ ap unsigned_abs (stride_is g c)
 
 pub returns-then-magnitude-reached : goal.returns-then-magnitude-reached
