@@ -68,7 +68,7 @@ impl<T: Copy, D: Lengths> OwnedArray<T, D> {
     /// An iterator over copies of the items of all indices, in row-major order (the last axis moves fastest), which
     /// knows how many are left. Spare items aren't among them.
     ///
-    /// Takes no memory, and lists nothing. An item costs what its place costs (`Strided::iter_places`).
+    /// Takes no memory, and lists nothing. An item takes the time of its place (`Strided::iter_places`) and of a copy.
     ///
     /// `[2]` with the stride `[-1]` over 7 8 9: 8 7. ndarray's `iter`, which lends each item.
     pub fn iter(&self) -> Items<'_, T>
