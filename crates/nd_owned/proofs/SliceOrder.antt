@@ -51,8 +51,8 @@ record Covers (shape : List ℕ) (slice : List SliceInfoElem) (axis : ℕ) : Typ
   long : length slice ≡ length shape
 
 -- the same of those after the first
-after_first : {len : ℕ} {elem : SliceInfoElem} (shape : List ℕ) (elems : List SliceInfoElem) (axis : ℕ) → 1 + in_count elems ≡ 1 + length elems
-    → Covers (len ∷ shape) (elem ∷ elems) (suc axis) → Covers shape elems axis
+after_first : {len : ℕ} {elem : SliceInfoElem} (shape : List ℕ) (elems : List SliceInfoElem) (axis : ℕ)
+    → 1 + in_count elems ≡ 1 + length elems → Covers (len ∷ shape) (elem ∷ elems) (suc axis) → Covers shape elems axis
 after_first shape elems axis count covers = record {
   count = omega arith;
   there = omega (arith, covers.there);
