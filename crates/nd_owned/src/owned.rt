@@ -263,6 +263,7 @@ impl<T: Copy, D: Lengths> OwnedArray<T, D> {
         write_all(self.items.as_mut_slice(), rows.as_slice());
         Ok(())
     }
+
     /// Writes items at one slice, as `multi_set` does with a list of this write. Its rows are not listed.
     fn set_one(
         &mut self,

@@ -84,7 +84,6 @@ fn ranges_are_apart(
 }
 
 /// Whether the ranges of two slices that fit a shape are apart on some axis. Then they share no index.
-#[inline]
 fn have_ranges_apart(shape: &[usize], slice: &[SliceInfoElem], other: &[SliceInfoElem]) -> bool
     requires fits { argument_fault Strict shape.now slice.now ≡ None }
     requires other_fits { argument_fault Strict shape.now other.now ≡ None }
@@ -99,7 +98,6 @@ fn have_ranges_apart(shape: &[usize], slice: &[SliceInfoElem], other: &[SliceInf
 }
 
 /// Whether two slices that fit a shape share an index. The ranges of all axes are compared before any equation of steps.
-#[inline]
 pub(crate) fn share_an_index(
     shape: &[usize],
     slice: &[SliceInfoElem],
