@@ -1,1 +1,0 @@
--- A slice that leaves one axis or two has them at a type that fixes their count, and no error but its own.
