@@ -1,6 +1,6 @@
 -- What is written of the axes that are not of length 1, axis by axis.
 use Rattle.std.proofs.Common.{◌≡◌, ◌≢◌, ℕ, zero, suc, ◌+◌, ◌*◌, ◌^◌, ◌<◌, ◌≤◌, eqb, List, [], ◌∷◌, ◌++◌, length, get_or, take, drop, set}
-use Rattle.std.proofs.Common.{inl, inr, sym, ap, ◌∙◌, arith, add-one, append_assoc, mul-zero, pow-suc}
+use Rattle.std.proofs.Common.{cond, inl, inr, refl, sym, ap, ◌∙◌, arith, add-one, append_assoc, mul-zero, pow-suc}
 use Rattle.std.proofs.Math.Nat.{mul-le-mul_left, mul-le-mul_right, pow-le-pow_right}
 use Rattle.std.proofs.Math.Seq.{drop-cons, drop-length}
 use Rattle.std.proofs.lemmas.Bool.{cases_lt, cond-true, cond-false, eq-eqb, ne_eqb}
@@ -9,23 +9,26 @@ use Rattle.nd_base.specs.Size.{nonzero_size, size, limit}
 use Rattle.nd_base.proofs.laws.NonzeroSize.{nonzero_size_pos, nonzero_size_from_other}
 use Rattle.ndarray_layout.specs.private.LongerAxes.{of_longer}
 
--- an axis of length 1 is left out
+-- what is kept from an axis on, by its length
+of_longer_at : (shape items : List ℕ) (axis : ℕ) → axis < length shape → length shape ≡ length items
+    → of_longer (drop axis shape) (drop axis items) ≡ cond (eqb (get_or shape axis 0) 1)
+    (of_longer (drop (axis + 1) shape) (drop (axis + 1) items))
+    (get_or items axis 0 ∷ of_longer (drop (axis + 1) shape) (drop (axis + 1) items))
+of_longer_at shape items axis below counts =
+    rw (add-one, drop-cons shape axis 0 below, drop-cons items axis 0 (omega arith)) refl
+
+-- an axis of length 1 is left out, and any other is kept
 pub of_longer_at_one : (shape items : List ℕ) (axis : ℕ) → axis < length shape → length shape ≡ length items → get_or shape axis 0 ≡ 1
     → of_longer (drop axis shape) (drop axis items) ≡ of_longer (drop (axis + 1) shape) (drop (axis + 1) items)
 of_longer_at_one shape items axis below counts one =
-    let len = get_or shape axis 0 in
-    let rest = of_longer (drop (suc axis) shape) (drop (suc axis) items) in
-    rw (add-one, drop-cons shape axis 0 below, drop-cons items axis 0 (omega arith))
-    (cond-true (eqb len 1) rest (get_or items axis 0 ∷ rest) (eq-eqb len 1 one))
+    let rest = of_longer (drop (axis + 1) shape) (drop (axis + 1) items) in
+    of_longer_at shape items axis below counts ∙ cond-true (eqb (get_or shape axis 0) 1) rest (get_or items axis 0 ∷ rest) (eq-eqb _ 1 one)
 
--- any other is kept
 pub of_longer_at_other : (shape items : List ℕ) (axis : ℕ) → axis < length shape → length shape ≡ length items → get_or shape axis 0 ≢ 1
     → of_longer (drop axis shape) (drop axis items) ≡ get_or items axis 0 ∷ of_longer (drop (axis + 1) shape) (drop (axis + 1) items)
 of_longer_at_other shape items axis below counts other =
-    let len = get_or shape axis 0 in
-    let rest = of_longer (drop (suc axis) shape) (drop (suc axis) items) in
-    rw (add-one, drop-cons shape axis 0 below, drop-cons items axis 0 (omega arith))
-    (cond-false (eqb len 1) rest (get_or items axis 0 ∷ rest) (ne_eqb len 1 other))
+    let rest = of_longer (drop (axis + 1) shape) (drop (axis + 1) items) in
+    of_longer_at shape items axis below counts ∙ cond-false (eqb (get_or shape axis 0) 1) rest (get_or items axis 0 ∷ rest) (ne_eqb _ 1 other)
 
 -- one item more is written
 pub written_more : (written : List ℕ) (count : ℕ) {item : ℕ} {rest left whole : List ℕ} → count < length written → left ≡ item ∷ rest

@@ -1,6 +1,6 @@
 -- Slicing axis by axis: what is left by the elements so far, and the slice of the rest.
 use Rattle.std.proofs.Common.{◌≡◌, ℕ, ◌+◌, ◌*◌, ◌<◌, ◌≤◌, ℤ, pos, ◌+ℤ◌, ◌*ℤ◌, ◌≤ℤ◌, List, [], ◌∷◌, ◌++◌, length, get_or, take}
-use Rattle.std.proofs.Common.{drop, set, None, Some, arith, refl, ap, sym, ◌∙◌, append_assoc, subst, to_z, of_z, cond, eqb, Bool, true}
+use Rattle.std.proofs.Common.{drop, set, None, Some, arith, refl, ap, sym, ◌∙◌, append_assoc, to_z, of_z, cond, eqb, Bool, true}
 use Rattle.std.proofs.Common.{false, pos_of_ne-zero}
 use Rattle.std.specs.Prelude.{FitsSigned}
 use Rattle.std.specs.Int.{w64}
@@ -99,21 +99,13 @@ pub record AtAxis (fit : Fit) (elems : List SliceInfoElem) (shape strides : List
 module _ {fit : Fit} {elems : List SliceInfoElem} {shape strides : List ℕ} {k axis new : ℕ} {ns nt : List ℕ} {offset : ℤ} where
   pub all_sliced : length elems ≤ k → SlicedTo fit elems shape strides k axis new ns nt offset
       → AllSliced fit elems shape (all_signed strides) ns nt offset
-  all_sliced h s =
-      let lens = drop axis shape in
-      let steps = drop axis (all_signed strides) in
-      let P = λ (rest : List SliceInfoElem). SlicedSoFar fit elems shape (all_signed strides) rest lens steps new ns nt offset in
-      none_left lens steps new (subst P (drop_all k elems h) s.so_far)
+  all_sliced h s = none_left (drop axis shape) (drop axis (all_signed strides)) new (rw (drop_all k elems h) at s.so_far)
 
   pub at_elem : {one : SliceInfoElem} (other : SliceInfoElem) → k < length elems → get_or elems k other ≡ one
       → SlicedTo fit elems shape strides k axis new ns nt offset
       → SlicedSoFar fit elems shape (all_signed strides) (one ∷ drop (k + 1) elems) (drop axis shape) (drop axis (all_signed strides))
       new ns nt offset
-  at_elem other h e s =
-      let lens = drop axis shape in
-      let steps = drop axis (all_signed strides) in
-      let P = λ (rest : List SliceInfoElem). SlicedSoFar fit elems shape (all_signed strides) rest lens steps new ns nt offset in
-      subst P (drop_more elems k other h ∙ ap (λ x. x ∷ drop (k + 1) elems) e) s.so_far
+  at_elem other h e s = rw (drop_more elems k other h ∙ ap (λ x. x ∷ drop (k + 1) elems) e) at s.so_far
 
   -- an element that is for an axis has one, and one that leaves an axis has room for it
   pub axis_there : {one : SliceInfoElem} (other : SliceInfoElem) → IsValidLayout shape (all_signed strides) → k < length elems
@@ -135,19 +127,14 @@ module _ {fit : Fit} {elems : List SliceInfoElem} {shape strides : List ℕ} {k 
       → get_or elems k other ≡ one → 0 < in_count (one ∷ drop (k + 1) elems) → SlicedTo fit elems shape strides k axis new ns nt offset
       → AtAxis fit elems shape strides one k axis new ns nt offset
   at_both {one = one} other valid h e some s =
-      let rest = one ∷ drop (k + 1) elems in
-      let steps = drop axis (all_signed strides) in
       let left = drop (axis + 1) (all_signed strides) in
-      let lens = get_or shape axis 0 ∷ drop (axis + 1) shape in
       let here = at_elem other h e s in
       let below = (axis_there other valid h e some s).0 in
       let same : get_or (all_signed strides) axis (pos 0) ≡ signed (get_or strides axis 0) = get_or-map signed strides axis 0 in
-      let P = λ (lens : List ℕ). SlicedSoFar fit elems shape (all_signed strides) rest lens steps new ns nt offset in
-      let Q = λ (steps : List ℤ). SlicedSoFar fit elems shape (all_signed strides) rest lens steps new ns nt offset in
-      let next : steps ≡ signed (get_or strides axis 0) ∷ left =
+      let next : drop axis (all_signed strides) ≡ signed (get_or strides axis 0) ∷ left =
       drop_more (all_signed strides) axis (pos 0) (omega (arith, below, valid.same_count)) ∙ ap (λ z. z ∷ left) same in
       record {
-        so_far = subst Q next (subst P (drop_more shape axis 0 below) here);
+        so_far = rw (drop_more shape axis 0 below, next) at here;
         len_fits = omega (arith, length_le_nonzero_size shape axis, valid.size_fits);
         reach_fits = omega (
           arith,

@@ -74,15 +74,14 @@ some-longer (len ∷ lens) [] stride h l = absurd (cc)
 some-longer (len ∷ lens) (s ∷ strides) stride h l =
     let rest_some = size_of_nonempty lens (is_empty-rest len lens h) in
     let here = some-len len lens h in
+    let more : len * 1 ≤ len * size lens = mul-le-mul_left len rest_some in
     elim (cases_Bool (nat_lt 1 len)) [
       | inl long ↦
-          let more : len * 1 ≤ len * size lens = mul-le-mul_left len rest_some in
           let one = ltb-true 1 len long in
           omega arith
       | inr short ↦
           let rest = some-longer lens strides stride (is_empty-rest len lens h)
           (sym (ap (is_loose stride) (cond-false (nat_lt 1 len) (Some (len, s)) (first_longer lens strides) short)) ∙ l) in
-          let more : len * 1 ≤ len * size lens = mul-le-mul_left len rest_some in
           let most : size lens * 1 ≤ size lens * len = mul-le-mul_left (size lens) here in
           let turned = mul_comm (size lens) len in
           omega arith

@@ -27,8 +27,5 @@ kept g c =
 pub invariant_of-result : goal.invariant_of-result
 invariant_of-result g c = (kept g c).is_view
 
-pub returns-clause-broadcast : goal.returns-clause-broadcast
-returns-clause-broadcast g c = rw (← c.self.view_is) (broadcast g c)
-
 pub returns-clause-kept : goal.returns-clause-kept
 returns-clause-kept g c = rw (← c.self.view_is) (kept g c)

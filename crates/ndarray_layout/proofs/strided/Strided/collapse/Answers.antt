@@ -65,9 +65,6 @@ kept g c = rw (collapsed g c) (Descends-collapse_of c.args.axis.0 c.args.index (
 pub invariant_of-self : goal.invariant_of-self
 invariant_of-self g c = (kept g c.before).is_view
 
-pub returns-clause-collapsed : goal.returns-clause-collapsed
-returns-clause-collapsed g c = rw (← c.self.view_is) (collapsed g c.before)
-
 pub returns-clause-is_view : goal.returns-clause-is_view
 returns-clause-is_view g c = (kept g c.before).is_view
 

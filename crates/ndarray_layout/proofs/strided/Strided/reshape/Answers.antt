@@ -29,9 +29,6 @@ invariant_of-result g c = rw (reshaped g c) (Descends-reshape_of c.args.order (g
 pub returns-clause-complete : goal.returns-clause-complete
 returns-clause-complete g c = reshape_refusal-ReshapeFits c.args.order (g.E.Lengths.list c.args.shape.now) c.in_ok-strides.ensures.is_view
 
-pub returns-clause-reshaped : goal.returns-clause-reshaped
-returns-clause-reshaped g c = reshaped g c
-
 pub returns-clause-same_places : goal.returns-clause-same_places
 returns-clause-same_places g c = subst (λ view. view_places c.args.order view ≡ view_places c.args.order c.args.self.now)
     (sym (reshaped g c)) (view_places-reshape_of c.args.order (g.E.Lengths.list c.args.shape.now) c.in_ok-strides.ensures.is_view
