@@ -22,13 +22,15 @@ pub of_longer_at_one : (shape items : List ℕ) (axis : ℕ) → axis < length s
     → of_longer (drop axis shape) (drop axis items) ≡ of_longer (drop (axis + 1) shape) (drop (axis + 1) items)
 of_longer_at_one shape items axis below counts one =
     let rest = of_longer (drop (axis + 1) shape) (drop (axis + 1) items) in
-    of_longer_at shape items axis below counts ∙ cond-true (eqb (get_or shape axis 0) 1) rest (get_or items axis 0 ∷ rest) (eq-eqb _ 1 one)
+    of_longer_at shape items axis below counts
+    ∙ cond-true (eqb (get_or shape axis 0) 1) rest (get_or items axis 0 ∷ rest) (eq-eqb _ 1 one)
 
 pub of_longer_at_other : (shape items : List ℕ) (axis : ℕ) → axis < length shape → length shape ≡ length items → get_or shape axis 0 ≢ 1
     → of_longer (drop axis shape) (drop axis items) ≡ get_or items axis 0 ∷ of_longer (drop (axis + 1) shape) (drop (axis + 1) items)
 of_longer_at_other shape items axis below counts other =
     let rest = of_longer (drop (axis + 1) shape) (drop (axis + 1) items) in
-    of_longer_at shape items axis below counts ∙ cond-false (eqb (get_or shape axis 0) 1) rest (get_or items axis 0 ∷ rest) (ne_eqb _ 1 other)
+    of_longer_at shape items axis below counts
+    ∙ cond-false (eqb (get_or shape axis 0) 1) rest (get_or items axis 0 ∷ rest) (ne_eqb _ 1 other)
 
 -- one item more is written
 pub written_more : (written : List ℕ) (count : ℕ) {item : ℕ} {rest left whole : List ℕ} → count < length written → left ≡ item ∷ rest

@@ -196,7 +196,8 @@ module _ {shape : List ℕ} {strides : List ℤ} {taken into : ℕ} {stride : �
         let len1 : get_or shape1 taken 0 ≡ get_or shape taken 0 = get_or-set_other shape into taken m 0 two.apart in
         let stride1 : get_or strides1 taken (pos 0) ≡ ts = get_or-set_other strides into taken stride (pos 0) two.apart in
         let same1 : set strides1 taken ts ≡ strides1 = ap (set strides1 taken) (sym stride1) ∙ set-get_or strides1 taken (pos 0) in
-        let second : sum_over_axes f (set shape1 taken u) strides1 + f (get_or shape taken 0) ts ≡ sum_over_axes f shape1 strides1 + f u ts =
+        let second : sum_over_axes f (set shape1 taken u) strides1 + f (get_or shape taken 0) ts
+        ≡ sum_over_axes f shape1 strides1 + f u ts =
         rw (same1, len1, stride1) at (sum_replaced f shape1 strides1 taken (u, ts) there1 counts1) in
         let less : f m stride + f u ts ≤ f (get_or shape taken 0) ts + f (get_or shape into 0) (get_or strides into (pos 0)) =
         rw is (reach_merged reaches (get_or shape taken 0) ts (get_or shape into 0) (get_or strides into (pos 0)) on) in

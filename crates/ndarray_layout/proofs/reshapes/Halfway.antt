@@ -160,8 +160,8 @@ module _ {both : Layouts} {i k : ℕ} where
         joints = good-more both.from both.strides both.to from_end at.can_walk.some
             (λ m. absurd (no-joint (walk-has_index at.can_walk) l before.last more fits m)) at.joints;
         block = subst (IsBlock both.from both.strides i (from_end + 1)) (sym s) (block-longer at.can_walk.same_count l fits at.block);
-        between = λ apart. between-from at.can_walk.some l (to-ahead at less) (subst (LastLonger both.from both.strides (from_end + 1)) (sym s)
-            (longer-first from_end more)) before;
+        between = λ apart. between-from at.can_walk.some l (to-ahead at less)
+            (subst (LastLonger both.from both.strides (from_end + 1)) (sym s) (longer-first from_end more)) before;
       }
 
   -- both products are one

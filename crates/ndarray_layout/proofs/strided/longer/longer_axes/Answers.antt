@@ -4,12 +4,9 @@ use Rattle.std.proofs.Math.ListN.{length-set}
 use Rattle.nd_base.specs.Size.{nonzero_size}
 use Rattle.nd_base.proofs.laws.NonzeroSize.{nonzero_size_pos, nonzero_size_from_other}
 use Rattle.ndarray_layout.proofs.LongerSteps.{few_of_room, of_longer_at_one, of_longer_at_other, room_at, room_more, size_of_zero_at}
-use Rattle.ndarray_layout.proofs.LongerSteps.{whole_at_end, written_more}
+use Rattle.ndarray_layout.proofs.LongerSteps.{written_more}
 use Rattle.ndarray_layout.proofs.strided.longer.longer_axes.Goals as goal
 use Rattle.ndarray_layout.proofs.strided.longer.longer_axes.Goals.{then-len-gt1, else-len-gt1}
-
-pub loop-axis-init : goal.loop-axis-init
-loop-axis-init c = record { sizes = (refl, refl); lens = refl; strides = refl; room = omega arith }
 
 pub returns-then-len-eq0-clause-empty : goal.returns-then-len-eq0-clause-empty
 returns-then-len-eq0-clause-empty c = size_of_zero_at c.args.shape.now c.loop-axis.axis c.loop-axis-test.true c.if-len-eq0.true
@@ -79,13 +76,3 @@ invariant_of-result c =
       few = few_of_room c.loop-axis.count (nonzero_size (drop c.loop-axis.axis c.args.shape.now)) (nonzero_size c.args.shape.now)
           (nonzero_size_pos (drop c.loop-axis.axis c.args.shape.now)) c.loop-axis.invariant.room c.requires.fits;
     }
-
-pub returns-clause-lens : goal.returns-clause-lens
-returns-clause-lens c =
-    whole_at_end c.args.shape.now c.args.shape.now c.loop-axis.axis (omega (arith, c.loop-axis-test.false, c.loop-axis.auto.axis-end))
-    ∙ c.loop-axis.invariant.lens
-
-pub returns-clause-strides : goal.returns-clause-strides
-returns-clause-strides c =
-    whole_at_end c.args.shape.now c.args.strides.now c.loop-axis.axis (omega (arith, c.loop-axis-test.false, c.loop-axis.auto.axis-end))
-    ∙ c.loop-axis.invariant.strides

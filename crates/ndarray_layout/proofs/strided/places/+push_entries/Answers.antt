@@ -7,7 +7,7 @@ use Rattle.std.proofs.lemmas.Grind.{common_steps}
 use Rattle.nd_base.specs.declared.order.Order.TheVariants.{RowMajor}
 use Rattle.ndarray_layout.specs.View.{IsView, view_places}
 use Rattle.ndarray_layout.proofs.Walks.{IsEntry, SlowestAxis, slowest_axis, entry_of, as_read_signed, places_more, row_after, view_of_row}
-use Rattle.ndarray_layout.proofs.Walks.{size_of_row, walk_whole}
+use Rattle.ndarray_layout.proofs.Walks.{walk_whole}
 use Rattle.ndarray_layout.proofs.strided.places.+push_entries.Goals as goal
 
 slowest : (t : ℕ) (c : goal.In-loop-i t)
@@ -75,24 +75,17 @@ returns-after-loop-i-clause-items t c =
     c.loop-i.invariant.items ∙ ap (λ xs. map pos c.args.places.items ++ xs) (walk_whole slowest c.args.start all)
 
 -- where one axis is left the whole view is one row
-pub push_row-requires : goal.push_row-requires
-push_row-requires t c =
+pub push_row-requires-clause-view : goal.push_row-requires-clause-view
+push_row-requires-clause-view t c =
     let none : length c.in-Some-Some.lens.now ≡ 0 = grind (arith, common_steps) in
     let slowest = slowest_axis c.args.order c.args.shape.now c.args.strides.now c.in-Some-Some.lens.now c.in-Some-Some.rest.now
     c.in-Some-Some.ensures.0 c.in-Some-Some.ensures'.0 in
-    record {
-      view = subst IsView (view_of_row slowest c.args.start none c.requires.view) c.requires.view;
-      room = omega (arith, c.requires.room, size_of_row slowest none);
-    }
+    subst IsView (view_of_row slowest c.args.start none c.requires.view) c.requires.view
 
-pub returns-then-is_empty : goal.returns-then-is_empty
-returns-then-is_empty t c =
+pub returns-then-is_empty-clause-items : goal.returns-then-is_empty-clause-items
+returns-then-is_empty-clause-items t c =
     let none : length c.in-Some-Some.lens.now ≡ 0 = grind (arith, common_steps) in
     let slowest = slowest_axis c.args.order c.args.shape.now c.args.strides.now c.in-Some-Some.lens.now c.in-Some-Some.rest.now
     c.in-Some-Some.ensures.0 c.in-Some-Some.ensures'.0 in
     let row = view_of_row slowest c.args.start none c.requires.view in
-    record {
-      items = c.push_row.ensures.items ∙ ap (λ view. map pos c.args.places.items ++ view_places RowMajor view) (sym row);
-      len = omega (arith, c.push_row.ensures.len, size_of_row slowest none);
-      capacity = c.push_row.ensures.capacity;
-    }
+    c.push_row.ensures.items ∙ ap (λ view. map pos c.args.places.items ++ view_places RowMajor view) (sym row)

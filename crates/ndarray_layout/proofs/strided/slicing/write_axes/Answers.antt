@@ -2,8 +2,8 @@ use Rattle.std.proofs.Common.{rules, ◌≡◌, Some, FitsSigned, arith, sym, �
 use Rattle.std.specs.Int.{w64}
 use Rattle.std.specs.Result.{result_err}
 use Rattle.std.proofs.lemmas.Int.{to_z-of_z}
-use Rattle.ndarray_layout.proofs.SliceSteps.{none_sliced, all_sliced, axis_there, room_there, at_elem, at_both, slice_arm, slice_at_fault}
-use Rattle.ndarray_layout.proofs.SliceSteps.{index_arm, index_at_fault, index_within, new_axis_step}
+use Rattle.ndarray_layout.proofs.SliceSteps.{axis_there, room_there, at_elem, at_both, slice_arm, slice_at_fault}
+use Rattle.ndarray_layout.proofs.SliceSteps.{index_arm, index_within, new_axis_step}
 use Rattle.ndarray_layout.proofs.strided.slicing.write_axes.Goals as goal
 use Rattle.ndarray_layout.proofs.strided.slicing.write_axes.Goals.{in-Slice+in_ok-len-in-Slice, in-Index+in_ok-entry-in-Index, in-NewAxis}
 
@@ -30,14 +30,6 @@ returns-in_err-len-in-Slice-clause-fault c =
     let at = at_both _ c.requires.valid c.loop-elem-test.true c.in-Slice.is (omega arith) c.loop-elem.invariant in
     let same : result_err c.from_residual.result ≡ Some c.in_err-len-in-Slice.field-0.0 = search rules in
     same ∙ slice_at_fault known.fault at.so_far
-
-pub returns-in_err-entry-in-Index-clause-fault : goal.returns-in_err-entry-in-Index-clause-fault
-returns-in_err-entry-in-Index-clause-fault c =
-    let f : FitsSigned w64 c.in-Index.index = search rules in
-    let known = rw (to_z-of_z w64 c.in-Index.index f) at c.in_err-entry-in-Index.ensures in
-    let at = at_both _ c.requires.valid c.loop-elem-test.true c.in-Index.is (omega arith) c.loop-elem.invariant in
-    let same : result_err c.from_residual-in_err-entry-in-Index.result ≡ Some c.in_err-entry-in-Index.field-0.0 = search rules in
-    same ∙ index_at_fault _ known.fault at.so_far
 
 pub stride_offset-offset-requires : goal.stride_offset-offset-requires
 stride_offset-offset-requires c =
@@ -82,21 +74,6 @@ loop-elem-preserved c =
           let here = at_elem _ c.loop-elem-test.true w.in-NewAxis.is c.loop-elem.invariant in
           rw (w.old_axis-is, w.new_axis-is, w.new_shape-is, w.new_strides-is, w.offset-is) (record { so_far = new_axis_step here })
     ]
-
-pub loop-elem-init : goal.loop-elem-init
-loop-elem-init c = record { so_far = none_sliced c.requires.valid c.requires.counts c.requires.shape_room c.requires.strides_room }
-
-pub returns-clause-fault : goal.returns-clause-fault
-returns-clause-fault c = (all_sliced c.loop-elem-test.false c.loop-elem.invariant).fault
-
-pub returns-clause-shape : goal.returns-clause-shape
-returns-clause-shape c = (all_sliced c.loop-elem-test.false c.loop-elem.invariant).shape_is
-
-pub returns-clause-strides : goal.returns-clause-strides
-returns-clause-strides c = (all_sliced c.loop-elem-test.false c.loop-elem.invariant).strides_is
-
-pub returns-clause-offset : goal.returns-clause-offset
-returns-clause-offset c = (all_sliced c.loop-elem-test.false c.loop-elem.invariant).offset_is
 
 pub bounds-shape-old_axis : goal.bounds-shape-old_axis
 bounds-shape-old_axis c = (axis_there _ c.requires.valid c.loop-elem-test.true c.in-Slice.is (omega arith) c.loop-elem.invariant).0
