@@ -19,7 +19,8 @@ step c = sum_from_step (reach_up_to c.args.magnitude) c.args.shape.now c.args.st
 -- all axes reach no farther than the limit
 whole_fits : (c : In-loop-other) → span_up_to c.args.magnitude c.args.shape.now (all_signed c.args.strides.now)
     ≤ span c.args.shape.now (all_signed c.args.strides.now)
-whole_fits c = sum_le (reach_up_to c.args.magnitude) reach (reach_up_to_le c.args.magnitude) c.args.shape.now (all_signed c.args.strides.now)
+whole_fits c =
+    sum_le (reach_up_to c.args.magnitude) reach (reach_up_to_le c.args.magnitude) c.args.shape.now (all_signed c.args.strides.now)
 
 pub reach_up_to-far-requires : goal.reach_up_to-far-requires
 reach_up_to-far-requires c =
