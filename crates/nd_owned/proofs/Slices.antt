@@ -112,10 +112,10 @@ each_count view (write ∷ writes) all =
 
 -- ---- the places of all of them
 -- those of slices that share no index have none in common
-no_shared_place : {T : Type 0} {view : View} (one other : Write T) (place : ℤ) → IsView view → HasDistinctPlaces view
-    → argument_fault Strict view.shape one.slice ≡ None → argument_fault Strict view.shape other.slice ≡ None
-    → AreApart view.shape one other → Contains (write_places view one) place → Contains (write_places view other) place → ⊥
-no_shared_place {view} one other place v distinct fits also apart here there =
+no_shared_place : {T : Type 0} {view : View} (one other : Write T) {place : ℤ} → IsView view → HasDistinctPlaces view
+    → (argument_fault Strict view.shape one.slice ≡ None) × (argument_fault Strict view.shape other.slice ≡ None)
+    → AreApart view.shape one other → Contains (write_places view one) place × Contains (write_places view other) place → ⊥
+no_shared_place {view} one other {place} v distinct (fits, also) apart (here, there) =
     let first = listed RowMajor (slice_of Strict one.slice view) place here in
     let second = listed RowMajor (slice_of Strict other.slice view) place there in
     apart (meet_of_shared_place Strict one.slice other.slice v fits also distinct
@@ -144,9 +144,8 @@ all_distinct {T = T} view writes v distinct none apart = by writes (each_fits vi
         (one_distinct view write v distinct fits)
         (by writes others (pairs_tail (AreApart view.shape) write writes apart))
         (λ k d below. none_of_all (write_places view) writes (get_or (write_places view write) k d) (λ j other there here.
-        no_shared_place write (get_or writes j other) (get_or (write_places view write) k d) v distinct fits (others j other there)
-        (alone j other there)
-        (Contains-get_or (write_places view write) k d below) here))
+        no_shared_place write (get_or writes j other) v distinct (fits, others j other there) (alone j other there)
+        (Contains-get_or (write_places view write) k d below, here)))
 
 -- ---- what is left
 -- what is written at the places of parts, where these are the places of the writes
