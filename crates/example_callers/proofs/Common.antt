@@ -6,7 +6,7 @@ use Rattle.ndarray_layout.specs.declared.ErrorKind.{ErrorKind}
 use Rattle.ndarray_layout.specs.declared.ErrorKind.TheVariants.{IncompatibleShape}
 use Rattle.ndarray_layout.specs.declared.LayoutError.{LayoutError}
 use Rattle.ndarray_layout.specs.BroadcastView.{broadcast_fault, takes_in}
-use Rattle.ndarray_layout.specs.CommonShape.{common_shape, common_shape_fault}
+use Rattle.ndarray_layout.specs.CommonShape.{common_shape}
 use Rattle.ndarray_layout.specs.ShapeFault.{shape_fault}
 use Rattle.ndarray_layout.proofs.laws.BroadcastView.{takes_in-Decides}
 use Rattle.ndarray_layout.proofs.laws.CommonShape.{common_shape-associates, common_shape-commutes, common_shape-idempotent}
@@ -34,21 +34,6 @@ fault_of_both one other = option_map_or (λ common. broadcast_fault common one) 
 pub fault_in_common : (one other common : List ℕ) → common_shape one other ≡ Some common
     → broadcast_fault common one ≡ fault_of_both one other
 fault_in_common one other common found = rw found refl
-
-pub fault_of_none : (one other : List ℕ) (fault : Option ErrorKind) → fault ≡ common_shape_fault one other
-    → (common_shape_fault one other ≡ None → ⊥) → fault ≡ fault_of_both one other
-fault_of_none one other fault is refused = by (common_shape one other) refl
-  where
-    by : (common : Option (List ℕ)) → common_shape one other ≡ common → fault ≡ fault_of_both one other
-    by None found = is ∙ rw found refl
-    by (Some s) found = absurd (refused (rw found refl))
-
-pub fault_if_none : (one other : List ℕ) (kind : ErrorKind) → common_shape_fault one other ≡ Some kind → fault_of_both one other ≡ Some kind
-fault_if_none one other kind fault =
-    sym (fault_of_none one other (common_shape_fault one other) refl (λ none. cc)) ∙ fault
-
-pub fault_with_none : (one other : List ℕ) → common_shape one other ≡ None → common_shape_fault one other ≡ Some IncompatibleShape
-fault_with_none one other none = rw none refl
 
 -- an error that is handed on has the same fault
 pub handed_on : {X : Type 0} (Y : Type 0) (result : Result X LayoutError) (error : LayoutError) (fault : Option ErrorKind) → IsErrAnd
