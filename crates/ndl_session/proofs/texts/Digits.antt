@@ -1,6 +1,6 @@
 -- What `parse` reads, in the words of the grammar.
 use Rattle.std.proofs.Common.{◌≡◌, ◌≢◌, ℕ, ◌^◌, ◌<◌, ℤ, pos, Bool, true, false, cond, ◌&&◌, ltb, eqb, List, [], ◌∷◌, length, get_or, drop}
-use Rattle.std.proofs.Common.{Some, None, Result, Ok, Err, refl, sym, ap, ◌∙◌, inl, inr, arith, eqb-true, nat_eq, Bor, MatchResult}
+use Rattle.std.proofs.Common.{Some, None, Result, Ok, Err, refl, sym, ap, ◌∙◌, inl, inr, arith, nat_eq, Bor, MatchResult}
 use Rattle.std.specs.Result.{OkIff, result_ok}
 use Rattle.std.specs.Bool.{Decides}
 use Rattle.std.specs.Int.{w64}
@@ -15,7 +15,7 @@ use Rattle.std.specs.List.{starts_with}
 use Rattle.std.proofs.lemmas.Fmt.{IsAscii-from_digits}
 use Rattle.std.proofs.lemmas.Str.{IsUtf8-from_ascii}
 use Rattle.std.proofs.lemmas.Str.Ascii.{IsAscii-cons}
-use Rattle.std.proofs.lemmas.Str.Parse.{IsNumeralModel, numerals_by_value, tells_all_ascii_digits, not_in_digits, parse_plain}
+use Rattle.std.proofs.lemmas.Str.Parse.{IsNumeralModel, numerals_by_value, tells_all_ascii_digits, parse_plain}
 use Rattle.std.proofs.lemmas.Str.Parse.{parse_signed_minus, parse_signed_plain}
 use Rattle.ndl_session.specs.text.Numbers.{is_decimal, number_of, negative_of, signed_number_of}
 
@@ -40,10 +40,6 @@ not_decimal ds fits x e = rw (and_left (is_decimal ds) fits e) refl
 pub digits_of_decimal : (ds : List ℕ) → is_decimal ds ≡ true → all_ascii_digits ds ≡ true
 digits_of_decimal ds e = (and_parts _ _ e).1
 
-plus_is_not : (text : List ℕ) → get_or text 0 0 ≡ 43 → is_decimal text ≡ false
-plus_is_not text e =
-    false_from_ne_true _ (λ t. let p = and_parts _ _ t in not_in_digits own text 43 p.1 (λ r. omega arith) 0 (ltb-true _ _ p.0) e)
-
 digits_ascii : (ds : List ℕ) → all_ascii_digits ds ≡ true → IsAscii ds
 digits_ascii ds h = IsAscii-from_digits ds (own.to ds h)
 
@@ -60,9 +56,6 @@ pub number_parsed : {E : Type 0} (text : List ℕ) (r : Result ℕ E) → Parses
     → result_ok r ≡ number_of text
 number_parsed text r h ne =
     chosen r _ _ _ (parse_plain own 64 text r h ne) (in_range text _ _ (Decides-ltb (digits_value 10 text) (2 ^ 64)))
-
-pub number_with_plus : (text : List ℕ) → get_or text 0 0 ≡ 43 → number_of text ≡ None
-number_with_plus text e = not_decimal text _ _ (plus_is_not text e)
 
 pub number_not_utf8 : (text : List ℕ) → ¬ (IsUtf8 text) → number_of text ≡ None
 number_not_utf8 text bad = not_decimal text _ _ (not_utf8_is_not text bad)
@@ -85,9 +78,6 @@ signed_number_parsed text r h unsigned = elim (cases_eq (get_or text 0 0) 45) [
       (in_range text _ _ (Decides-ltb (digits_value 10 text) (2 ^ 63))) ∙ sym (without_minus text ne)
 ]
 
-pub signed_number_with_plus : (text : List ℕ) → get_or text 0 0 ≡ 43 → signed_number_of text ≡ None
-signed_number_with_plus text e = without_minus text (λ m. omega arith) ∙ not_decimal text _ _ (plus_is_not text e)
-
 pub signed_number_not_utf8 : (text : List ℕ) → ¬ (IsUtf8 text) → signed_number_of text ≡ None
 signed_number_not_utf8 text bad = elim (cases_eq (get_or text 0 0) 45) [
   | inl e ↦ with_minus text e
@@ -97,10 +87,6 @@ signed_number_not_utf8 text bad = elim (cases_eq (get_or text 0 0) 45) [
 ]
 
 -- ---- the calls' answers
-pub plus : (text : List ℕ) → starts_with nat_eq text (43 ∷ []) ≡ true → get_or text 0 0 ≡ 43
-plus [] e = absurd (cc)
-plus (b ∷ bs) e = sym (eqb-true 43 b (and_parts _ _ e).0)
-
 pub no_plus : (text : List ℕ) → starts_with nat_eq text (43 ∷ []) ≡ false → get_or text 0 0 ≢ 43
 no_plus [] e f = absurd (omega arith)
 no_plus (b ∷ bs) e f = eqb-false 43 b (sym (and-true (eqb 43 b)) ∙ e) (sym f)

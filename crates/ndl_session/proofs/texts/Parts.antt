@@ -1,7 +1,7 @@
 -- The parts of a text between separators: what the first cut leaves of it, and what a lone part is.
 use Rattle.std.proofs.Common.{◌≡◌, ◌≢◌, ℕ, suc, ◌+◌, ◌≤◌, Bool, true, false, not, cond, eqb, List, [], ◌∷◌, length, take, drop}
-use Rattle.std.proofs.Common.{drop_of_length-le, Some, None, refl, sym, ap, arith}
-use Rattle.std.specs.List.{after_first, slice_split, onto_first, position_or_len, prefix_len, position}
+use Rattle.std.proofs.Common.{Some, None, refl, ap, arith}
+use Rattle.std.specs.List.{slice_split, onto_first, position_or_len, prefix_len, position}
 use Rattle.std.proofs.lemmas.Bool.{ltb-true, ltb-false}
 use Rattle.std.proofs.lemmas.Option.{cond_some}
 use Rattle.std.proofs.lemmas.List.Splits.{slice_split_first, join_with_byte-slice_split, length-slice_split}
@@ -25,21 +25,11 @@ cond_none false x e = refl
 pub parts_without : (separator : ℕ) (text : List ℕ) → position (λ b. eqb b separator) text ≡ None → parts separator text ≡ text ∷ []
 parts_without separator text e = split_of_none _ text (ltb-false _ _ (cond_none _ _ e))
 
-pub rest_without : (separator : ℕ) (text : List ℕ) → position (λ b. eqb b separator) text ≡ None
-    → after_first (λ b. eqb b separator) text ≡ []
-rest_without separator text e =
-    let none = ltb-false _ _ (cond_none _ _ e) in
-    drop_of_length-le text (omega (arith, none))
-
 pub parts_at : (separator : ℕ) (text : List ℕ) (at : ℕ) → position (λ b. eqb b separator) text ≡ Some at
     → parts separator text ≡ take at text ∷ parts separator (drop (at + 1) text)
 parts_at separator text at e =
     let found = cond_some _ _ _ e in
     rw (← found.1) (slice_split_first (λ b. eqb b separator) text 0 (ltb-true _ _ found.0))
-
-pub rest_at : (separator : ℕ) (text : List ℕ) (at : ℕ) → position (λ b. eqb b separator) text ≡ Some at
-    → drop (at + 1) text ≡ after_first (λ b. eqb b separator) text
-rest_at separator text at e = ap (λ i. drop (i + 1) text) (sym (cond_some _ _ _ e).1)
 
 -- a lone part is the text
 pub lone_part : (separator : ℕ) (text part : List ℕ) → parts separator text ≡ part ∷ [] → part ≡ text

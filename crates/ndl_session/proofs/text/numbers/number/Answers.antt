@@ -1,10 +1,6 @@
 use Rattle.std.proofs.Common.{sym, ◌∙◌}
-use Rattle.ndl_session.proofs.texts.Digits.{number_parsed, number_with_plus, number_not_utf8, plus, no_plus, not_a_text, a_text}
+use Rattle.ndl_session.proofs.texts.Digits.{number_parsed, number_not_utf8, no_plus, not_a_text, a_text}
 use Rattle.ndl_session.proofs.text.numbers.number.Goals as goal
-
-pub returns-then-starts_with : goal.returns-then-starts_with
-returns-then-starts_with c =
-    sym (number_with_plus c.args.text.now (plus c.args.text.now (sym c.starts_with.ensures.value ∙ c.if-starts_with.true)))
 
 pub returns-in_err-ok : goal.returns-in_err-ok
 returns-in_err-ok c =

@@ -1,11 +1,7 @@
 use Rattle.std.proofs.Common.{sym, ◌∙◌}
-use Rattle.ndl_session.proofs.texts.Digits.{signed_number_parsed, signed_number_with_plus, signed_number_not_utf8, plus, no_plus}
+use Rattle.ndl_session.proofs.texts.Digits.{signed_number_parsed, signed_number_not_utf8, no_plus}
 use Rattle.ndl_session.proofs.texts.Digits.{not_a_text, a_text}
 use Rattle.ndl_session.proofs.text.numbers.signed_number.Goals as goal
-
-pub returns-then-starts_with : goal.returns-then-starts_with
-returns-then-starts_with c =
-    sym (signed_number_with_plus c.args.text.now (plus c.args.text.now (sym c.starts_with.ensures.value ∙ c.if-starts_with.true)))
 
 pub returns-in_err-ok : goal.returns-in_err-ok
 returns-in_err-ok c =

@@ -1,7 +1,7 @@
 -- The text falls into its parts at the first separator.
 use Rattle.std.proofs.Common.{sym, ◌∙◌}
 use Rattle.std.proofs.lemmas.List.{take_rest}
-use Rattle.ndl_session.proofs.texts.Parts.{parts_without, parts_at, rest_without, rest_at}
+use Rattle.ndl_session.proofs.texts.Parts.{parts_without, parts_at}
 use Rattle.ndl_session.proofs.text.words.split_once.Goals as goal
 
 pub returns-in_err-at-clause-parts : goal.returns-in_err-at-clause-parts
@@ -11,11 +11,3 @@ returns-in_err-at-clause-parts c =
 pub returns-clause-parts : goal.returns-clause-parts
 returns-clause-parts c =
     rw take_rest (parts_at c.args.separator c.args.text.now c.in_ok-at.at (sym c.position_of.ensures ∙ c.in_ok-at.was))
-
-pub returns-in_err-at-clause-rest : goal.returns-in_err-at-clause-rest
-returns-in_err-at-clause-rest c =
-    rw c.from_residual.ensures (rest_without c.args.separator c.args.text.now (sym c.position_of.ensures ∙ c.in_err-at.was))
-
-pub returns-clause-rest : goal.returns-clause-rest
-returns-clause-rest c =
-    rw take_rest (rest_at c.args.separator c.args.text.now c.in_ok-at.at (sym c.position_of.ensures ∙ c.in_ok-at.was))
