@@ -1,14 +1,17 @@
--- The text of a view from its three lines.
-use Rattle.std.proofs.Common.{◌≡◌, ℕ, pos, List, [], ◌∷◌, ◌++◌, map, codes, decimal, Option, refl, ap, ◌∙◌, sym}
+-- The text of a view from its three lines, and the statuses of replies.
+use Rattle.std.proofs.Common.{◌≡◌, ℕ, pos, ◌≤◌, List, [], ◌∷◌, ◌++◌, map, codes, decimal, Option, Some, None, refl, ap, ◌∙◌, sym, arith}
 use Rattle.std.specs.Fmt.{signed_decimal}
 use Rattle.std.specs.Iterator.{Drains}
 use Rattle.std.proofs.lemmas.Iterator.{YieldsList, items_from_drains}
 use Rattle.std.proofs.lemmas.List.{map-id}
 use Rattle.ndarray_layout.specs.Axes.{axes}
+use Rattle.ndarray_layout.specs.declared.ErrorKind.{ErrorKind}
 use Rattle.ndarray_layout.specs.declared.Order.TheVariants.{RowMajor}
 use Rattle.ndarray_layout.specs.View.{IsView, View, view_places}
+use Rattle.ndarray_layout.specs.Run.{Outcome}
 use Rattle.ndarray_layout.proofs.laws.Axes.{lens-axes_from, strides-axes_from}
-use Rattle.ndl_session.specs.Answer.{listing}
+use Rattle.ndl_session.specs.Answer.{Reply, listing, unless, reply_to_run, reply_to_script}
+use Rattle.ndl_session.specs.script.Script.{ScriptValue}
 use Rattle.ndl_session.specs.text.Printing.{line, listed}
 
 -- a place is not negative, so with a sign it prints as it does without
@@ -46,3 +49,14 @@ listing_text {view} {t0} {t1} {t2} places is_view same e0 e1 e2 e3 =
     (e2 ∙ ap (λ strides. t1 ++ line (codes "strides") (listed (codes ",") (map signed_decimal strides)))
     (strides-axes_from 0 view.shape view.strides count))
     (e3 ∙ ap (λ texts. t2 ++ line (codes "places") (listed (codes " ") texts)) (places_texts view places same))
+
+unless_small : (step : ℕ) (fault : Option ErrorKind) (reply : Reply) → reply.status ≤ 2 → (unless step fault reply).status ≤ 2
+unless_small step None reply small = small
+unless_small step (Some kind) reply small = omega arith
+
+reply_to_run_small : (fault : Option ErrorKind) (run : Outcome) → (reply_to_run fault run).status ≤ 2
+reply_to_run_small None run = omega arith
+reply_to_run_small (Some kind) run = omega arith
+
+pub reply_to_script_small : (script : ScriptValue) → (reply_to_script script).status ≤ 2
+reply_to_script_small script = unless_small 0 _ _ (reply_to_run_small _ _)
