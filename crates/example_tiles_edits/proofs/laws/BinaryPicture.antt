@@ -16,6 +16,7 @@ use Rattle.example_tiles_edits.specs.picture.Picture.{Image, pixel_count}
 use Rattle.example_tiles_edits.specs.picture.PictureWords.{magic_of}
 use Rattle.example_tiles_edits.proofs.Raster.{IsLeast, IsRaster, cut_off, is_above, pixels_there, too_white}
 use Rattle.example_tiles_edits.proofs.laws.FirstWords.{same_words_first}
+use Rattle.example_tiles_edits.proofs.laws.PictureWords.{cases_option}
 
 -- ---- one header
 -- a text has one header at most, and one rest after it
@@ -174,10 +175,6 @@ least_of count len = elim (cases_lt count len) [
   | inr all ↦ (len, record { of_count = all; of_len = omega arith; all = λ below. omega arith })
 ]
 
-cases_found : (o : Option ℕ) → ((at : ℕ) × (o ≡ Some at)) ⊎ (o ≡ None)
-cases_found None = inr refl
-cases_found (Some at) = inl (at, refl)
-
 abbrev pub OutcomeOfBytes : List ℕ → Type 0
 OutcomeOfBytes text = ((image : Image) × SpellBinary text image) ⊎ ((fault : Fault) × IsFaultOfBytes text fault)
 
@@ -186,7 +183,7 @@ raster_outcome : (text raster : List ℕ) (extent : Extent) (white space : ℕ) 
 raster_outcome text raster extent white space blank header =
     let least = least_of (pixel_count extent) (length raster) in
     let is : IsRaster (space ∷ raster) raster extent space least.0 = record { parts = refl; blank = blank; least = least.1 } in
-    elim (cases_found (position (is_above white) (take least.0 raster))) [
+    elim (cases_option (position (is_above white) (take least.0 raster))) [
       | inl found ↦ inr (TooWhite (found.0 + 1) white, too_white white is text found.0 found.1 header)
       | inr none ↦ elim (cases_lt (length (take least.0 raster)) (pixel_count extent)) [
         | inl fewer ↦ inr (Ended, cut_off white is text none fewer header)

@@ -4,7 +4,7 @@ use Rattle.std.proofs.Common.{◌≡◌, ℕ, suc, ◌+◌, ◌<◌, eqb, eqb-tr
 use Rattle.std.proofs.Common.{sym, ap, subst, ◌∙◌, append_assoc, arith}
 use Rattle.std.specs.Char.{is_ascii_whitespace}
 use Rattle.std.specs.List.{All, before_first, enumerate_from, flat_map}
-use Rattle.std.proofs.lemmas.Bool.{cases_Bool, or_parts}
+use Rattle.std.proofs.lemmas.Bool.{both_ways, cases_Bool, or_parts}
 use Rattle.std.proofs.Math.Bool.{or-false}
 use Rattle.std.proofs.lemmas.List.{append-nil}
 use Rattle.std.proofs.lemmas.List.Elements.{All-cons, All-head, All-tail, All-weaker}
@@ -156,7 +156,7 @@ PassesFirst p [] = Unit {0}
 PassesFirst p (b ∷ rest) = p b ≡ true
 
 fails_and_passes : {A : Type 0} (t : Bool) → t ≡ false → t ≡ true → A
-fails_and_passes t fails passes = absurd (let both : false ≡ true = sym fails ∙ passes in cc)
+fails_and_passes t fails passes = absurd (both_ways t fails passes)
 
 passes_now : (p : ℕ → Bool) (text rest : List ℕ) (b : ℕ) → PassesFirst p text → text ≡ b ∷ rest → p b ≡ true
 passes_now p text rest b passes is = subst (PassesFirst p) is passes

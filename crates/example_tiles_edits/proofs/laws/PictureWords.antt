@@ -111,7 +111,7 @@ module _ {format : Format} {all left right : List NumberedWord} {numbers others 
       ]
 
 -- ---- the first word
-abbrev first_text : List NumberedWord → List ℕ
+abbrev pub first_text : List NumberedWord → List ℕ
 first_text [] = []
 first_text (word ∷ rest) = word.1
 
@@ -326,7 +326,7 @@ pub record BeginBinary (words : List NumberedWord) : Type 0 where
 abbrev pub OutcomeOfWords : List NumberedWord → Type 0
 OutcomeOfWords words = ((image : Image) × SpellPicture words image) ⊎ ((fault : Fault) × IsFaultOfWords words fault) ⊎ BeginBinary words
 
-cases_option : {A : Type 0} (o : Option A) → ((x : A) × (o ≡ Some x)) ⊎ (o ≡ None)
+pub cases_option : {A : Type 0} (o : Option A) → ((x : A) × (o ≡ Some x)) ⊎ (o ≡ None)
 cases_option None = inr refl
 cases_option (Some x) = inl (x, refl)
 

@@ -31,8 +31,8 @@ use Rattle.example_tiles_edits.proofs.Gaps.{words_after_comment}
 use Rattle.example_tiles_edits.proofs.laws.BinaryPicture.{after_header, after_header_none, outcome_of_bytes, same_binary_picture}
 use Rattle.example_tiles_edits.proofs.laws.BinaryPicture.{same_fault_after}
 use Rattle.example_tiles_edits.proofs.laws.FirstWords.{words_of_first_word, words_of_first_words}
-use Rattle.example_tiles_edits.proofs.laws.PictureWords.{no_fault_of_header, no_fault_of_words, outcome_of_words, same_fault_of_words}
-use Rattle.example_tiles_edits.proofs.laws.PictureWords.{same_format, same_picture_of_words, spelled_is_picture}
+use Rattle.example_tiles_edits.proofs.laws.PictureWords.{first_text, no_fault_of_header, no_fault_of_words, outcome_of_words}
+use Rattle.example_tiles_edits.proofs.laws.PictureWords.{same_fault_of_words, same_format, same_picture_of_words, spelled_is_picture}
 
 -- ---- the words of a header
 below_limit : (word : List ℕ) (n : ℕ) → number_of word ≡ Some n → n ≤ 2 ^ 32 - 1
@@ -289,10 +289,6 @@ first_in (suc fuel) number (b ∷ text) enough = elim (cases_Bool (is_ascii_whit
 ]
 
 -- ---- the header of a text, by its words
-abbrev first_text : List NumberedWord → List ℕ
-first_text [] = []
-first_text (word ∷ rest) = word.1
-
 -- the words that a text begins with stand first in it
 stand : (number : ℕ) (text : List ℕ) (words left : List NumberedWord) → words_from number text ≡ words ++ left
     → (rest : List ℕ) × StandFirst text (map (λ word. word.1) words) rest

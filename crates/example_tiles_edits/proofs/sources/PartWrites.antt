@@ -12,7 +12,7 @@ use Rattle.std.proofs.lemmas.List.Elements.{All-head, All-tail}
 use Rattle.std.proofs.lemmas.List.FromFn.{get_or-range_with_len, length-map-range_with_len, length-range_with_len, map-range_with_len_more}
 use Rattle.std.proofs.lemmas.List.Sums.{list_all-from_AllPass}
 use Rattle.std.proofs.lemmas.Nat.{div-add-mod', div-mul-add, div_below, mod-mul-add, mod_below, mul-add-lt}
-use Rattle.std.proofs.lemmas.Option.{slice_get-get_or, slice_get-map, slice_get_within}
+use Rattle.std.proofs.lemmas.Option.{same_Some, slice_get-get_or, slice_get-map, slice_get_within}
 use Rattle.std.proofs.lemmas.Slice.Zip.{AllZip-left, AllZip-long, all_zipped_more}
 use Rattle.ndarray_layout.specs.declared.ErrorKind.{ErrorKind}
 use Rattle.ndarray_layout.specs.declared.ErrorKind.TheVariants.{IncompatibleShape}
@@ -143,9 +143,6 @@ item_of : (stored : List ℕ) (places : List ℤ) (k place : ℕ) → slice_get 
 item_of stored places k place at = slice_get-map (item_at_place stored) places k ∙ ap (option_map (item_at_place stored)) at
 
 -- ---- the write of a number
-same_some : (one other : Option ℕ) → Some one ≡ Some other → one ≡ other
-same_some one other e = cc
-
 number_at : (n k : ℕ) → k < n → slice_get (range_with_len 0 n) k ≡ Some k
 number_at n k below =
     let here : 0 + k ≡ k = omega arith in
@@ -288,7 +285,7 @@ module _ (extent : Extent) (count : ℕ) (items : List ℕ) (can : CanCut extent
         (array_of extent items) (mirrored_elements (part_of extent count k)) =
         ap (λ elements. map (item_at_place new) (view_places RowMajor (slice_of Strict elements (whole_view extent)))) (sym is.slice)
         ∙ written ∙ is.pixels in
-        same_some _ _
+        same_Some _ _
         (sym (item_of new _ there _ (picked_at extent part is_view pick.rows pick.columns at within))
         ∙ ap (λ (xs : List (Option ℕ)). slice_get xs there) same
         ∙ item_of items _ there _ (picked_at extent part is_view pick.rows pick.turned at within))

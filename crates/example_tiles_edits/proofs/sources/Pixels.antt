@@ -6,7 +6,7 @@ use Rattle.std.specs.Option.{option_map}
 use Rattle.std.specs.Prelude.{slice_get}
 use Rattle.std.proofs.lemmas.Bool.{lt-ltb}
 use Rattle.std.proofs.lemmas.List.{length-map}
-use Rattle.std.proofs.lemmas.Option.{slice_get-map}
+use Rattle.std.proofs.lemmas.Option.{none-some, slice_get-map}
 use Rattle.ndarray_layout.specs.declared.ErrorKind.{ErrorKind}
 use Rattle.ndarray_layout.specs.declared.LayoutError.{LayoutError}
 use Rattle.ndarray_layout.specs.declared.LayoutError.TheVariants.{Shape, Memory}
@@ -28,9 +28,6 @@ use Rattle.example_tiles_edits.specs.declared.edits.edit.Edit.{Edit}
 use Rattle.example_tiles_edits.specs.Edits.{extent_of, first_misfit, source_of}
 use Rattle.example_tiles_edits.specs.Slices.{ArePlaces, index_of, shape_of, step_of, whole_view}
 use Rattle.example_tiles_edits.proofs.sources.EditSteps.{IsRun, run_of_edits, source_of_within}
-
-none_is_not_some : {A : Type 0} (x : A) → None ≡ Some x → ⊥
-none_is_not_some x e = cc
 
 -- ---- the pixel at a position
 pub pixel_within : (image : Image) (at : Position) → IsWithin image.extent at
@@ -105,7 +102,7 @@ module _ {edits : List Edit} {extent : Extent} {steps : List StepValue} {start :
 
   -- it ends for no fault of its own
   pub not_refused : (kind : ErrorKind) → (run_of steps start).fault ≡ Some kind → ⊥
-  not_refused kind ended = none_is_not_some kind (sym ran.fault ∙ ended)
+  not_refused kind ended = none-some kind (sym ran.fault ∙ ended)
 
   module _ {view : View} (leaves : AreLeft extent steps start view) where
     shape_left : view.shape ≡ shape_of (extent_of edits extent)
