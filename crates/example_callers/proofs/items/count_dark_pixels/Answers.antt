@@ -44,8 +44,12 @@ overflow_add-count g c =
 
 pub loop-pixel-preserved-then-pixel-bound : goal.loop-pixel-preserved-then-pixel-bound
 loop-pixel-preserved-then-pixel-bound g c =
-    let here = first_counts c.args.bound c.in-Some.pixel c.in-Some.ensures.steps (lt-ltb _ _ c.if-pixel-bound.true) in
-    omega (arith, here, c.loop-pixel.invariant)
+    omega (
+      arith,
+      c.loop-pixel.invariant,
+      first_counts c.args.bound c.in-Some.pixel c.in-Some.ensures.steps
+          (lt-ltb _ _ c.if-pixel-bound.true),
+    )
 
 pub loop-pixel-preserved : goal.loop-pixel-preserved
 loop-pixel-preserved g c =

@@ -15,15 +15,19 @@ use Rattle.nd_owned.proofs.owned.OwnedArray.iter.Goals as goal
 are_inside : {len : ℕ} {view : View} {places : List ℤ} → IsOwned len view → places ≡ view_places RowMajor view → All (IsInside len) places
 are_inside {len} {view} owned are = subst (All (IsInside len)) (sym are) (places_lie_within len RowMajor view owned.within)
 
+-- the places of a view are those of one that is equal
+all_places : {view other : View} {places : List ℤ} → places ≡ view_places RowMajor view → view ≡ other → places ≡ view_places RowMajor other
+all_places are same = are ∙ ap (view_places RowMajor) same
+
 pub invariant_of-result : goal.invariant_of-result
 invariant_of-result g c =
-    let all = c.iter_places.ensures.items ∙ ap (view_places RowMajor) c.view.ensures.view in
-    rw c.stored.ensures.items (are_inside c.stored.ensures.owned all)
+    rw c.stored.ensures.items (are_inside c.stored.ensures.owned (all_places c.iter_places.ensures.items c.view.ensures.view))
 
 pub returns-clause-count : goal.returns-clause-count
 returns-clause-count g c =
-    let all = c.iter_places.ensures.items ∙ ap (view_places RowMajor) c.view.ensures.view in
-    length-map c.iter_places.result (item_at_place c.stored.result.now) ∙ ap length all ∙ length-view_places RowMajor c.args.self.now.view
+    length-map c.iter_places.result (item_at_place c.stored.result.now)
+    ∙ ap length (all_places c.iter_places.ensures.items c.view.ensures.view)
+    ∙ length-view_places RowMajor c.args.self.now.view
 
 pub returns-clause-in_order : goal.returns-clause-in_order
 returns-clause-in_order g c =
