@@ -13,8 +13,8 @@ use ndarray_layout::{Lengths, Order, Places};
 use std::iter::FusedIterator;
 use std::marker::Model;
 
-/// Copies of the items of an array that are still to come, in row-major order of their indices. A contract sees the list
-/// of them.
+/// Copies of the items of an array that are still to come, in row-major order of their indices. A contract sees the
+/// list of them.
 #[derive(Drop)]
 pub struct Items<'a, T: Copy> {
     stored: &'a [T],

@@ -46,8 +46,8 @@ fn arrays_at_many_types(rt: HostRuntime) {
     hold(&rt, rt.alloc(), OTHER_COUNTS, &Calls);
 }
 
-/// Items one after another: none, of no axes, from the last to the first, with spare ones between and after them, stored
-/// by columns, and of more axes than a list has.
+/// Items one after another: none, of no axes, from the last to the first, with spare ones between and after them,
+/// stored by columns, and of more axes than a list has.
 const IN_TURN: &str = "\
 iter Ix1 0 C 0 => -
 iter Ix2 2,0 C 3 => -

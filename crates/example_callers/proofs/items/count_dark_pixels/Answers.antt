@@ -23,8 +23,8 @@ first_counts bound pixel {rest = rest} first is =
     ∙ ap (λ t. cond t 1 0 + count_by (is_dark bound) rest) is
 
 -- no more are counted than there are indices
-count_fits : (bound : ℕ) {view : View} {items all : List (Option ℕ)} {count : ℕ} → IsView view → items ≡ all → length items ≡ size view.shape
-    → count ≡ count_by (is_dark bound) all → count < 2 ^ 64
+count_fits : (bound : ℕ) {view : View} {items all : List (Option ℕ)} {count : ℕ} → IsView view → items ≡ all
+    → length items ≡ size view.shape → count ≡ count_by (is_dark bound) all → count < 2 ^ 64
 count_fits bound {all = all} v same whole is = omega (arith, ap length same, count_by-le-length (is_dark bound) all, size_fits v)
 
 -- at first all items are left

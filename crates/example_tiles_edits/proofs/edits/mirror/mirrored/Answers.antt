@@ -27,9 +27,9 @@ returns c =
     (IsEdited-written before c.in_ok-array.array c.args.count (map write_of c.in_ok-writes.writes.items) c.multi_set.new.self.items
     (can_cut_parts before.extent c.args.count c.requires.fits)
     c.in_ok-array.ensures.is_view c.in_ok-array.ensures.array c.in_ok-writes.ensures written) in
-    let complete =
-    ap length c.into_stored.ensures ∙ c.multi_set.ensures.count ∙ ap length c.in_ok-array.ensures.array.items ∙ c.requires.picture.complete in
+    let same_count = ap length c.into_stored.ensures ∙ c.multi_set.ensures.count ∙ ap length c.in_ok-array.ensures.array.items in
+    let complete = same_count ∙ c.requires.picture.complete in
     record {
       edited = edited;
-      picture = IsPicture-edited (Mirror c.args.count ∷ []) before (with_pixels before c.into_stored.result.items) edited complete c.requires.picture;
+      picture = IsPicture-edited (Mirror c.args.count ∷ []) before _ edited complete c.requires.picture;
     }
