@@ -36,8 +36,8 @@ walked_within : (shape strides : List ℕ) (place : ℕ) → length shape ≡ le
     → sum_by (reach_at shape (all_signed strides)) (take place (below (length shape)))
     + reach_at shape (all_signed strides) (get_or (below (length shape)) place 0) ≤ span shape (all_signed strides)
 walked_within shape strides place count h =
-    walked_le_span shape (all_signed strides) (below (length shape)) place (signed_count shape strides count) (each_once shape strides count)
-    (omega (arith, length-range_with_len 0 (length shape)))
+    walked_le_span shape (all_signed strides) (below (length shape)) place (signed_count shape strides count)
+    (each_once shape strides count) (omega (arith, length-range_with_len 0 (length shape)))
 
 -- the axis that a turn comes to
 abbrev axis_at : List ℕ → ℕ → ℕ
