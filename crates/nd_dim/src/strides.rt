@@ -21,37 +21,38 @@ fn has_zero<S: Sequence>(lens: &S) -> bool
     false
 }
 
-/// Writes over each length the product of the lengths before it, times `first`.
+/// Writes for each axis the product of the lengths before it, times `first`.
 #[inline(always)]
-fn write_products<S: SequenceMut>(items: &mut S, first: usize)
-    requires fits { (k : ℕ) → k ≤ length (S.items items.old) →
-        first * size_until (S.items items.old) k < 2 ^ 64 }
-    ensures written { (k : ℕ) → k < length (S.items items.old) →
-        slice_index (S.items items.new) k ≡ first * size_until (S.items items.old) k }
-    ensures same_count { length (S.items items.new) ≡ length (S.items items.old) }
-    ensures target { S.same_target items.old items.new }
+fn write_products<S: Sequence, O: SequenceMut>(lens: &S, first: usize, out: &mut O)
+    requires same_count { length (S.items lens.now) ≡ length (O.items out.old) }
+    requires fits { (k : ℕ) → k ≤ length (S.items lens.now) →
+        first * size_until (S.items lens.now) k < 2 ^ 64 }
+    ensures written { (k : ℕ) → k < length (S.items lens.now) →
+        slice_index (O.items out.new) k ≡ first * size_until (S.items lens.now) k }
+    ensures same_count { length (O.items out.new) ≡ length (S.items lens.now) }
+    ensures target { O.same_target out.old out.new }
 {
     let mut product = first;
-    for k in 0..items.len() {
-        let len = items[k];
-        items.set(k, product);
-        product *= len;
+    for k in 0..lens.len() {
+        out.set(k, product);
+        product *= lens[k];
     }
 }
 
-/// Writes over the lengths of a shape, that of the axis that moves fastest first, the strides that it
-/// has by itself: each the product of the lengths before it, and all 0 where some length is 0.
+/// Writes the strides that a shape has by itself, where both sequences begin with the axis that
+/// moves fastest: each the product of the lengths before it, and all 0 where some length is 0.
 #[inline(always)]
-fn write_strides<S: SequenceMut>(items: &mut S)
-    requires size_fits { size (S.items items.old) < 2 ^ 64 }
-    ensures strides { S.items items.new ≡ fortran_strides_of (S.items items.old) }
-    ensures target { S.same_target items.old items.new }
+fn write_strides<S: Sequence, O: SequenceMut>(lens: &S, strides: &mut O)
+    requires same_count { length (S.items lens.now) ≡ length (O.items strides.old) }
+    requires size_fits { size (S.items lens.now) < 2 ^ 64 }
+    ensures strides { O.items strides.new ≡ fortran_strides_of (S.items lens.now) }
+    ensures target { O.same_target strides.old strides.new }
 {
     // (two calls, so that LLVM knows each time which number comes first)
-    if has_zero(items) {
-        write_products(items, 0);
+    if has_zero(lens) {
+        write_products(lens, 0, strides);
     } else {
-        write_products(items, 1);
+        write_products(lens, 1, strides);
     }
 }
 
@@ -74,9 +75,10 @@ pub fn default_strides<D: Lengths>(alloc: Global, dim: &D) -> Result<D, AllocErr
     ensures list { IfOk result (λ strides. D.list strides ≡ default_strides_of (D.list dim.now)) }
     ensures memory { NeedsNoMemory D.NDIM (length (D.list dim.now)) → IsOk result }
 {
+    // (a copy to write over is made faster than as many zeros)
     let mut strides = dim.duplicate(alloc)?;
     let items = strides.slice_mut();
-    write_strides(&mut Reverse(items));
+    write_strides(&Reverse(dim.slice()), &mut Reverse(items));
     Ok(strides)
 }
 
@@ -99,9 +101,10 @@ pub fn fortran_strides<D: Lengths>(alloc: Global, dim: &D) -> Result<D, AllocErr
     ensures list { IfOk result (λ strides. D.list strides ≡ fortran_strides_of (D.list dim.now)) }
     ensures memory { NeedsNoMemory D.NDIM (length (D.list dim.now)) → IsOk result }
 {
+    // (a copy to write over is made faster than as many zeros)
     let mut strides = dim.duplicate(alloc)?;
     let items = strides.slice_mut();
-    write_strides(&mut Forward(items));
+    write_strides(&Forward(dim.slice()), &mut Forward(items));
     Ok(strides)
 }
 

@@ -6,20 +6,19 @@ use Rattle.nd_dim.specs.Strides.{default_strides, fortran_strides}
 use Rattle.nd_dim.proofs.laws.Strides.{default_by_fortran, default_count}
 use Rattle.nd_dim.proofs.strides.default_strides.Goals as goal
 
-pub write_strides-requires : goal.write_strides-requires
-write_strides-requires g c =
-    let lens = c.slice_mut-items.ensures.list ∙ c.in_ok-strides.ensures.list in
-    omega (arith, size-reverse c.slice_mut-items.result.now, ap size lens, c.requires)
+pub write_strides-requires-clause-size_fits : goal.write_strides-requires-clause-size_fits
+write_strides-requires-clause-size_fits g c =
+    omega (arith, size-reverse c.slice.result.now, ap size c.slice.ensures.list, c.requires)
 
 pub returns-clause-list : goal.returns-clause-list
 returns-clause-list g c =
     let made = c.in_ok-strides.strides in
-    let new = c.write_strides.new.items.0.now in
+    let new = c.write_strides.new.strides.0.now in
     let lens = g.D.Lengths.list c.args.dim.now in
     let is =
     sym (reverse-reverse new)
     ∙ ap reverse c.write_strides.ensures.strides
-    ∙ ap (λ xs. reverse (fortran_strides (reverse xs))) (c.slice_mut-items.ensures.list ∙ c.in_ok-strides.ensures.list)
+    ∙ ap (λ xs. reverse (fortran_strides (reverse xs))) c.slice.ensures.list
     ∙ sym (default_by_fortran lens) in
     let count = ap length is ∙ default_count lens ∙ sym (ap length c.in_ok-strides.ensures.list) in
     subst (λ xs. g.D.Lengths.list (g.D.Lengths.with_list made xs) ≡ default_strides lens) (sym (search rules))
