@@ -38,7 +38,7 @@ fn stepped_stride(count: usize, stride: usize, step: isize) -> usize
 ///
 /// # Errors
 ///
-/// `OutOfBounds` where a bound means no number from 0 to the length (never with `Fit::Clamped`);
+/// `OutOfBounds` where a bound means no number from 0 to the length (never with `Fit::Clamp`);
 /// then `Unsupported` for the step 0. The length and the stride are unchanged after an error.
 ///
 /// Length 4, stride 1, `1..;-2`: the offset 3, length 2, stride -2. ndarray's `do_slice`.

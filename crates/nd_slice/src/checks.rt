@@ -53,7 +53,7 @@ pub fn out_ndim_of(list: &[SliceInfoElem]) -> usize
 /// `IncompatibleShape` where the elements are for more axes than the shape has, or for fewer.
 /// Otherwise the error of the first element that doesn't fit: `OutOfBounds` for an index that is no
 /// coordinate of its axis, or for a bound that means no number from 0 to the length (never with
-/// `Fit::Clamped`); then `Unsupported` for the step 0.
+/// `Fit::Clamp`); then `Unsupported` for the step 0.
 ///
 /// Takes time in proportion to the count of elements.
 ///

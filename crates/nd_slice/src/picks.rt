@@ -74,7 +74,7 @@ fn abs_bound(len: usize, bound: isize, fit: Fit) -> Result<usize, ShapeError>
 ///
 /// # Errors
 ///
-/// `OutOfBounds` where a bound means no number from 0 to `len` (never with `Fit::Clamped`); then
+/// `OutOfBounds` where a bound means no number from 0 to `len` (never with `Fit::Clamp`); then
 /// `Unsupported` for the step 0.
 ///
 /// `-3..;-2` on an axis of 4: (1, 4, -2). ndarray's `to_abs_slice`.

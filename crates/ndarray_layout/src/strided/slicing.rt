@@ -195,7 +195,7 @@ impl<D: Lengths> Strided<D> {
     /// `IncompatibleShape` where the argument is for more axes than there are or for fewer, or
     /// leaves more or fewer than the type `E` fixes; then that of the first element with one:
     /// `OutOfBounds` for an index that is no coordinate of its axis, or for a bound that means no
-    /// number from 0 to the length (never with `Fit::Clamped`), `Unsupported` for the step 0; then
+    /// number from 0 to the length (never with `Fit::Clamp`), `Unsupported` for the step 0; then
     /// out of memory, never where `E` fixes the count of axes or at most 4 are left.
     ///
     /// Takes time in proportion to the count of elements.
