@@ -1,0 +1,3 @@
+//! The crates of tests, over the package.
+
+include!(concat!(env!("OUT_DIR"), "/tests.rs"));
