@@ -62,8 +62,11 @@ class ShapeError(ValueError):
     __module__ = "ndarray_layout"
 
     def __init__(self, kind: str, text: str) -> None:
-        super().__init__(f"{kind}: {text}")
+        super().__init__(kind, text)  # `pickle` and `copy` call the class with these
         self.kind = kind
+
+    def __str__(self) -> str:
+        return ": ".join(self.args)
 
 
 class SliceElem(ctypes.Structure):
