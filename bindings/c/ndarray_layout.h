@@ -19,7 +19,9 @@
  *   - no pointer is null, and each is aligned as its type asks; for an empty list pass the address of anything of the type;
  *   - each count is true: so many entries can be read, and written where the list is written;
  *   - what a call writes overlaps nothing else that it is given, and no other thread uses it meanwhile;
- *   - `malloc`, `realloc` and `free` are those of one allocator, and no call is made from a signal handler.
+ *   - `malloc`, `realloc` and `free` are those of one allocator, which aligns a block to each power of two up to 16 that divides
+ *     its size;
+ *   - no call is made from a signal handler, or from the forked child of a process with threads.
  * Calls keep nothing: any threads may call at once.
  */
 #ifndef NDARRAY_LAYOUT_H
