@@ -2,6 +2,7 @@
 //! an error, and never passed through (`rust/ERASURE.md`).
 
 use crate::docs::Contract;
+use crate::errors;
 use crate::names::{ATTRIBUTES, DERIVES, DROPPED, FALLIBLE, KIT, MACROS, MODULES, MOVED, REFUSED, UNKNOWN_FALLIBLE};
 use crate::tokens::{Fault, Group, Kind, Token, Tree, fault};
 
@@ -35,10 +36,11 @@ struct Eraser<'a> {
 type Form<'a> = fn(&mut Eraser<'a>, &[Tree]) -> Result<Option<usize>, Fault>;
 
 impl<'a> Eraser<'a> {
-    const FORMS: [Form<'a>; 15] = [
+    const FORMS: [Form<'a>; 16] = [
         Self::doc,
         Self::clause,
         Self::ghost,
+        Self::error,
         Self::attribute,
         Self::model,
         Self::finality,
@@ -138,7 +140,7 @@ impl<'a> Eraser<'a> {
         let name = group.trees.first().and_then(Tree::word).unwrap_or_default();
         match name {
             "tactic" => {}
-            "derive" => self.derive(trees[0].first(), &group.trees)?,
+            "derive" if !derived(group).is_empty() => self.derive(trees[0].first(), &derived(group))?,
             _ if ATTRIBUTES.contains(&name) => {
                 let lead = trees[0].first().lead;
                 self.put(lead, &text_of(&trees[..=at])[lead.len()..]);
@@ -148,19 +150,33 @@ impl<'a> Eraser<'a> {
         Ok(Some(at + 1))
     }
 
-    fn derive(&mut self, start: &Token, trees: &[Tree]) -> Result<(), Fault> {
-        let Some(list) = trees.get(1).and_then(|tree| tree.group("(")) else {
-            return Err(fault(start, "derives nothing"));
-        };
-        let names: Vec<&str> = list.trees.iter().filter_map(Tree::word).collect();
+    fn derive(&mut self, start: &Token, names: &[&str]) -> Result<(), Fault> {
         if let Some(other) = names.iter().find(|name| **name != "Drop" && !DERIVES.contains(name)) {
             return Err(fault(start, &format!("derives {other}, which isn't known")));
         }
-        let kept: Vec<&str> = names.into_iter().filter(|name| *name != "Drop").collect();
+        let kept: Vec<&str> = names.iter().copied().filter(|name| *name != "Drop").collect();
         if !kept.is_empty() {
             self.put(start.lead, &format!("#[derive({})]", kept.join(", ")));
         }
         Ok(())
+    }
+
+    /// `#[derive(.., Error)] pub enum NAME { .. }`: what the derive stands for follows the enum.
+    fn error(&mut self, trees: &[Tree]) -> Result<Option<usize>, Fault> {
+        let [start, Tree::Group(attribute), visibility, kind, name, Tree::Group(body), ..] = trees else {
+            return Ok(None);
+        };
+        let names = derived(attribute);
+        if !names.contains(&"Error") || !visibility.is("pub") || !kind.is("enum") {
+            return Ok(None);
+        }
+        let names: Vec<&str> = names.into_iter().filter(|name| *name != "Error").collect();
+        self.derive(start.first(), &names)?;
+        let (variants, impls) = errors::derived(name.first(), body)?;
+        let body = Group { open: body.open, trees: variants, close: body.close };
+        self.all(&[visibility.clone(), kind.clone(), name.clone(), Tree::Group(body)])?;
+        self.out.push_str(&impls);
+        Ok(Some(6))
     }
 
     /// `impl Model for T { .. }`, which has ghost members alone.
@@ -240,8 +256,12 @@ impl<'a> Eraser<'a> {
         Ok(None)
     }
 
-    /// `use std::..;`: from `core`, from `std`, or from this package.
+    /// `use std::..;`: from `core`, from `std`, or from this package. `use thiserror::Error;` goes with the derive.
     fn import(&mut self, trees: &[Tree]) -> Result<Option<usize>, Fault> {
+        let derive = ["use", "thiserror", ":", ":", "Error", ";"];
+        if begins_with(trees, &derive) {
+            return Ok(Some(derive.len()));
+        }
         if !begins_with(trees, &["use", "std", ":", ":"]) {
             return Ok(None);
         }
@@ -437,6 +457,14 @@ fn is_of_memory(item: &[Tree]) -> bool {
 /// Whether a call is given the allocator.
 fn takes_memory(arguments: &Group) -> bool {
     arguments.trees.split(|tree| tree.is(",")).any(is_of_memory)
+}
+
+/// The names in `derive(..)`; none in another attribute.
+fn derived<'a>(attribute: &Group<'a>) -> Vec<&'a str> {
+    match &attribute.trees[..] {
+        [derive, Tree::Group(list)] if derive.is("derive") => list.trees.iter().filter_map(Tree::word).collect(),
+        _ => Vec::new(),
+    }
 }
 
 /// Trees as they stand in the source.

@@ -2,6 +2,7 @@
 
 mod docs;
 mod erase;
+mod errors;
 mod names;
 mod tokens;
 
@@ -13,8 +14,8 @@ use std::{env, fs};
 /// The crates that are modules of the package, lowest first.
 const LIBRARY: [&str; 6] = ["nd_base", "nd_dim", "nd_shape", "nd_slice", "ndarray_layout", "nd_owned"];
 
-/// The library under `program`, of the feature `std`.
-const PROGRAMS: [&str; 1] = ["ndl_session"];
+/// The libraries under the programs, of the feature `std`.
+const PROGRAMS: [&str; 2] = ["ndl_session", "example_tiles_edits"];
 
 /// The crates of tests, and what they share.
 const TESTS: [&str; 5] = ["test_tables", "nd_shape_tests", "nd_slice_tests", "ndarray_layout_tests", "ndl_tests"];
