@@ -26,13 +26,16 @@ impl Contract {
         };
         let name: String = head[1..].iter().filter_map(Tree::word).collect();
         let text = fact.group("{").map_or(String::new(), |group| text_of(&group.trees));
-        let text: Vec<&str> = text.split_whitespace().collect();
-        let line = if name.is_empty() { text.join(" ") } else { format!("{name}: {}", text.join(" ")) };
+        let lines: Vec<&str> = text.lines().map(str::trim).filter(|line| !line.is_empty()).collect();
+        let title = if name.is_empty() { String::new() } else { format!("{name}: ") };
         let clauses = if clause[0].is("requires") { &mut self.requires } else { &mut self.ensures };
-        clauses.push(line);
+        clauses.extend(lines.iter().enumerate().map(|(number, line)| match number {
+            0 => format!("{title}{line}"),
+            _ => format!("    {line}"),
+        }));
     }
 
-    /// Writes the clauses to the end of the documentation.
+    /// Writes the clauses to the end of the documentation, if there is one.
     pub fn write_to(&self, out: &mut String) {
         let Some(end) = self.end else {
             return;

@@ -1,20 +1,21 @@
-//! What is left of a source of contracts in plain Rust: a list of forms, each with what it becomes. What no form knows is
-//! an error, and never passed through (`rust/ERASURE.md`).
+//! What is left of a source with contracts in plain Rust: a list of forms, each with what it becomes. What no form knows is
+//! an error, and never passed through. `rust/ERASURE.md` says why the meaning stays.
 
 use crate::docs::Contract;
 use crate::errors;
-use crate::names::{ATTRIBUTES, DERIVES, DROPPED, FALLIBLE, KIT, MACROS, MODULES, MOVED, REFUSED, UNKNOWN_FALLIBLE};
+use crate::library::without_memory;
+use crate::names::{ATTRIBUTES, DERIVES, REFUSED};
 use crate::tokens::{Fault, Group, Kind, Token, Tree, fault};
 
 /// Where the names of a source lead in plain Rust.
 pub struct Names<'a> {
     /// The crate of the source, which is a module now.
     pub own: &'a str,
-    /// Crates that are modules of the same crate root.
+    /// Crates that are modules beside it.
     pub beside: &'a [&'a str],
     /// Crates that are modules of the package.
     pub library: &'a [&'a str],
-    /// The path of the package from the crate root: `crate` or `::ndarray_layout`.
+    /// The path of the package: `crate` or `::ndarray_layout`.
     pub package: &'a str,
 }
 
@@ -25,18 +26,18 @@ pub fn erase(trees: &[Tree], names: &Names) -> Result<String, Fault> {
     Ok(eraser.out)
 }
 
-struct Eraser<'a> {
-    names: &'a Names<'a>,
-    out: String,
+pub(crate) struct Eraser<'a> {
+    pub(crate) names: &'a Names<'a>,
+    pub(crate) out: String,
     /// The clauses of the function at hand.
     contract: Contract,
 }
 
-/// A form: how many trees it takes, if it is this one that comes first.
+/// A form: how many trees it takes, where it is the one that comes first.
 type Form<'a> = fn(&mut Eraser<'a>, &[Tree]) -> Result<Option<usize>, Fault>;
 
 impl<'a> Eraser<'a> {
-    const FORMS: [Form<'a>; 16] = [
+    const FORMS: [Form<'a>; 17] = [
         Self::doc,
         Self::clause,
         Self::ghost,
@@ -49,6 +50,7 @@ impl<'a> Eraser<'a> {
         Self::formatter,
         Self::import,
         Self::allocator,
+        Self::difference,
         Self::path,
         Self::call,
         Self::macro_call,
@@ -83,12 +85,12 @@ impl<'a> Eraser<'a> {
         }
         self.put(token.lead, token.text);
         if token.text == ";" {
-            self.contract = Contract::default();
+            std::mem::take(&mut self.contract).write_to(&mut self.out);
         }
         Ok(())
     }
 
-    fn put(&mut self, lead: &str, text: &str) {
+    pub(crate) fn put(&mut self, lead: &str, text: &str) {
         self.out.push_str(lead);
         self.out.push_str(text);
     }
@@ -104,59 +106,54 @@ impl<'a> Eraser<'a> {
         Ok(Some(1))
     }
 
-    /// `requires NAME { .. }` and `ensures* NAME { .. }`: documentation.
+    /// `requires NAME { .. }` and `ensures* NAME { .. }` become documentation.
     fn clause(&mut self, trees: &[Tree]) -> Result<Option<usize>, Fault> {
         if !trees[0].is("requires") && !trees[0].is("ensures") {
             return Ok(None);
         }
-        let Some(body) = trees.iter().position(|tree| tree.group("{").is_some()).filter(|at| *at <= 4) else {
-            return Err(fault(trees[0].first(), "is a clause without a fact"));
-        };
+        let body = trees.iter().take(4).position(|tree| tree.group("{").is_some());
+        let body = body.ok_or_else(|| fault(trees[0].first(), "is a clause without a fact"))?;
         self.contract.add(&trees[..=body]);
         Ok(Some(body + 1))
     }
 
-    /// `ghost NAME ..`, up to the semicolon or the comma, is for the proof alone.
+    /// `ghost NAME ..`, up to the semicolon or the comma, goes.
     fn ghost(&mut self, trees: &[Tree]) -> Result<Option<usize>, Fault> {
         if !trees[0].is("ghost") {
             return Ok(None);
         }
         if trees.get(1).and_then(Tree::word).is_none() {
-            return Err(fault(trees[0].first(), "is no form that can be erased"));
+            return Err(fault(trees[0].first(), "names nothing"));
         }
         let end = trees.iter().position(|tree| tree.is(";") || tree.is(","));
         Ok(Some(end.map_or(trees.len(), |end| end + 1)))
     }
 
-    /// `#![tactic(..)]` goes, and `Drop` of a `derive`.
+    /// `#![tactic(..)]` and `#[tactic(..)]` go, and `Drop` of a `derive`.
     fn attribute(&mut self, trees: &[Tree]) -> Result<Option<usize>, Fault> {
         if !trees[0].is("#") {
             return Ok(None);
         }
         let at = if trees.get(1).is_some_and(|tree| tree.is("!")) { 2 } else { 1 };
-        let Some(group) = trees.get(at).and_then(|tree| tree.group("[")) else {
-            return Err(fault(trees[0].first(), "is no attribute"));
-        };
+        let group = trees.get(at).and_then(|tree| tree.group("["));
+        let group = group.ok_or_else(|| fault(trees[0].first(), "is no attribute"))?;
         let name = group.trees.first().and_then(Tree::word).unwrap_or_default();
         match name {
             "tactic" => {}
-            "derive" if !derived(group).is_empty() => self.derive(trees[0].first(), &derived(group))?,
-            _ if ATTRIBUTES.contains(&name) => {
-                let lead = trees[0].first().lead;
-                self.put(lead, &text_of(&trees[..=at])[lead.len()..]);
-            }
+            "derive" => self.derive(trees[0].first(), &derived(group))?,
+            _ if ATTRIBUTES.contains(&name) => self.out.push_str(&text_of(&trees[..=at])),
             _ => return Err(fault(&group.open, &format!("opens an attribute that isn't known: {name}"))),
         }
         Ok(Some(at + 1))
     }
 
     fn derive(&mut self, start: &Token, names: &[&str]) -> Result<(), Fault> {
-        if let Some(other) = names.iter().find(|name| **name != "Drop" && !DERIVES.contains(name)) {
+        let names: Vec<&str> = names.iter().copied().filter(|name| *name != "Drop").collect();
+        if let Some(other) = names.iter().find(|name| !DERIVES.contains(name)) {
             return Err(fault(start, &format!("derives {other}, which isn't known")));
         }
-        let kept: Vec<&str> = names.iter().copied().filter(|name| *name != "Drop").collect();
-        if !kept.is_empty() {
-            self.put(start.lead, &format!("#[derive({})]", kept.join(", ")));
+        if !names.is_empty() {
+            self.put(start.lead, &format!("#[derive({})]", names.join(", ")));
         }
         Ok(())
     }
@@ -179,7 +176,7 @@ impl<'a> Eraser<'a> {
         Ok(Some(6))
     }
 
-    /// `impl Model for T { .. }`, which has ghost members alone.
+    /// `impl Model for T { .. }`, which has ghost members alone, goes.
     fn model(&mut self, trees: &[Tree]) -> Result<Option<usize>, Fault> {
         if !trees[0].is("impl") {
             return Ok(None);
@@ -187,35 +184,30 @@ impl<'a> Eraser<'a> {
         let Some(body) = trees.iter().position(|tree| tree.group("{").is_some()) else {
             return Ok(None);
         };
-        let is_model = trees[..body].windows(2).any(|pair| pair[0].is("Model") && pair[1].is("for"));
-        if !is_model {
+        if !trees[..body].windows(2).any(|pair| pair[0].is("Model") && pair[1].is("for")) {
             return Ok(None);
         }
-        let mut members = trees[body].group("{").map_or(&[][..], |group| &group.trees[..]);
+        let mut members = trees[body].group("{").map_or(&[][..], |group| &group.trees);
         while let Some(first) = members.first() {
-            let Some(taken) = self.ghost(members)? else {
-                return Err(fault(first.first(), "is no ghost member of a model"));
-            };
+            let taken = self.ghost(members)?;
+            let taken = taken.ok_or_else(|| fault(first.first(), "is no ghost member of a model"))?;
             members = &members[taken..];
         }
         Ok(Some(body + 1))
     }
 
-    /// `final fn`: a method that no impl replaces.
+    /// `final fn`, a method that no impl replaces, becomes `fn`.
     fn finality(&mut self, trees: &[Tree]) -> Result<Option<usize>, Fault> {
-        let is_final = trees[0].is("final") && trees.get(1).is_some_and(|tree| tree.is("fn"));
+        let is_final = begins_with(trees, &["final", "fn"]);
         if is_final {
             self.put(trees[0].first().lead, "fn");
         }
         Ok(is_final.then_some(2))
     }
 
-    /// `: Drop` and `+ Drop`: each value may be dropped in plain Rust, but not each has a size that is known.
+    /// `: Drop` and `+ Drop` become `Sized`: any value may be dropped, but not any has a size that is known.
     fn drop_bound(&mut self, trees: &[Tree]) -> Result<Option<usize>, Fault> {
-        if !trees.get(1).is_some_and(|tree| tree.is("Drop")) {
-            return Ok(None);
-        }
-        let is_bound = trees[0].is(":") || trees[0].is("+");
+        let is_bound = begins_with(trees, &[":", "Drop"]) || begins_with(trees, &["+", "Drop"]);
         if is_bound {
             let bound = trees[0].first();
             self.put(bound.lead, &format!("{} Sized", bound.text));
@@ -223,240 +215,96 @@ impl<'a> Eraser<'a> {
         Ok(is_bound.then_some(2))
     }
 
-    /// `fn clone(&self) -> Result<Self, AllocError> { Ok(..) }` of a value that owns no memory.
+    /// `fn clone(&self) -> Result<Self, AllocError> { Ok(..) }`, a copy that needs no memory, becomes Rust's own.
     fn clone_method(&mut self, trees: &[Tree]) -> Result<Option<usize>, Fault> {
-        if !(trees[0].is("fn") && trees.get(1).is_some_and(|tree| tree.is("clone"))) {
+        if !begins_with(trees, &["fn", "clone"]) {
             return Ok(None);
         }
-        let head = ["-", ">", "Result", "<", "Self", ",", "AllocError", ">"];
-        let is_known = trees.len() > 11 && trees[3..11].iter().zip(head).all(|(tree, text)| tree.is(text));
+        let result = ["-", ">", "Result", "<", "Self", ",", "AllocError", ">"];
         let body = trees.get(11).and_then(|tree| tree.group("{")).map_or(&[][..], |group| &group.trees);
         match body {
-            [ok, value] if is_known && ok.is("Ok") && value.group("(").is_some() => {
+            [ok, Tree::Group(value)] if begins_with(&trees[3..], &result) && ok.is("Ok") => {
                 self.put(trees[0].first().lead, "fn clone(&self) -> Self {");
-                self.all(value.group("(").map_or(&[][..], |group| &group.trees))?;
+                self.all(&value.trees)?;
                 self.out.push('}');
                 Ok(Some(12))
             }
-            _ => Err(fault(trees[1].first(), "is more than a copy")),
+            _ => Err(fault(trees[1].first(), "does more than to copy")),
         }
     }
 
-    /// `fn fmt<W: fmt::Write>(.., f: &mut fmt::Formatter<W>)`: plain Rust's writer behind a formatter has no type.
+    /// `fmt<W: fmt::Write>(.., f: &mut fmt::Formatter<W>)`: the type of the writer goes.
     fn formatter(&mut self, trees: &[Tree]) -> Result<Option<usize>, Fault> {
         let writer = ["<", "W", ":", "fmt", ":", ":", "Write", ">"];
+        let formatter = ["Formatter", "<", "W", ">"];
         if begins_with(trees, &writer) {
             return Ok(Some(writer.len()));
         }
-        let formatter = ["Formatter", "<", "W", ">"];
-        if begins_with(trees, &formatter) {
+        let is_formatter = begins_with(trees, &formatter);
+        if is_formatter {
             self.put(trees[0].first().lead, "Formatter<'_>");
-            return Ok(Some(formatter.len()));
         }
-        Ok(None)
+        Ok(is_formatter.then_some(formatter.len()))
     }
 
-    /// `use std::..;`: from `core`, from `std`, or from this package. `use thiserror::Error;` goes with the derive.
-    fn import(&mut self, trees: &[Tree]) -> Result<Option<usize>, Fault> {
-        let derive = ["use", "thiserror", ":", ":", "Error", ";"];
-        if begins_with(trees, &derive) {
-            return Ok(Some(derive.len()));
-        }
-        if !begins_with(trees, &["use", "std", ":", ":"]) {
-            return Ok(None);
-        }
-        let Some(end) = trees.iter().position(|tree| tree.is(";")) else {
-            return Err(fault(trees[0].first(), "has no end"));
-        };
-        let lead = trees[0].first().lead;
-        match &trees[4..end] {
-            [Tree::Group(modules)] => {
-                for module in modules.trees.split(|tree| tree.is(",")).filter(|module| !module.is_empty()) {
-                    self.import_of(lead, module)?;
-                }
+    /// What both languages take, and mean otherwise, is refused.
+    fn difference(&mut self, trees: &[Tree]) -> Result<Option<usize>, Fault> {
+        // (after a name such brackets are the arguments of a call)
+        let is_value = !self.out.ends_with(|last: char| last.is_alphanumeric() || last == '_' || last == '>');
+        let is_endless = |range: &[Tree]| matches!(range, [_, .., dot, end] if dot.is(".") && end.is("."));
+        let what = match trees {
+            [Tree::Group(range), dot, ..]
+                if is_value && range.open.text == "(" && dot.is(".") && is_endless(&range.trees) =>
+            {
+                "iterates a range with no end"
             }
-            path => self.import_of(lead, path)?,
-        }
-        Ok(Some(end + 1))
-    }
-
-    /// The import of a module of the kit's `std`, or of items of one.
-    fn import_of(&mut self, lead: &str, path: &[Tree]) -> Result<(), Fault> {
-        let module = path[0].first();
-        let root = self.root_of(module)?;
-        let items = match path.get(3) {
-            None => return Ok(self.put(lead, &format!("use {root}{};", module.text))),
-            Some(Tree::Group(list)) => list.trees.iter().filter_map(Tree::word).collect(),
-            Some(item) => vec![item.first().text],
-        };
-        for item in items.into_iter().filter(|item| !DROPPED.contains(item)) {
-            let moved = MOVED.iter().find(|(name, _)| *name == item);
-            let path = moved.map_or(format!("{root}{}::{item}", module.text), |(_, path)| path.to_string());
-            self.put(lead, &format!("use {};", path.replace("MEMORY::alloc", "memory")));
-        }
-        Ok(())
-    }
-
-    /// The crate in which a module of the kit's `std` stands, with `::` after it.
-    fn root_of(&self, module: &Token) -> Result<String, Fault> {
-        match MODULES.iter().find(|(name, _)| *name == module.text) {
-            Some((_, "MEMORY")) => Ok(format!("{}::MEMORY::", self.names.package)),
-            Some((_, root)) => Ok(format!("{root}::")),
-            None => Err(fault(module, "is a module of std that isn't known")),
-        }
-    }
-
-    /// `let alloc = rt.alloc();`.
-    fn allocator(&mut self, trees: &[Tree]) -> Result<Option<usize>, Fault> {
-        let call = ["let", "alloc", "=", "rt", ".", "alloc"];
-        Ok(begins_with(trees, &call).then_some(call.len() + 2))
-    }
-
-    /// A path that begins at `std`, at the crate's root or at another crate.
-    fn path(&mut self, trees: &[Tree]) -> Result<Option<usize>, Fault> {
-        let [first, colon, second, ..] = trees else {
-            return Ok(None);
-        };
-        if self.out.ends_with("::") || !colon.is(":") || !second.is(":") {
-            return Ok(None);
-        }
-        let Some(root) = first.word() else {
-            return Ok(None);
-        };
-        let path = match root {
-            "crate" => format!("crate::{}", self.names.own),
-            "std" => {
-                let root = self.root_of(trees[3].first())?;
-                self.put(first.first().lead, &root);
-                return Ok(Some(3));
+            [dot, end, body, ..] if dot.is(".") && end.is(".") && body.group("{").is_some() => {
+                "iterates a range with no end"
             }
-            _ if self.names.beside.contains(&root) => format!("crate::{root}"),
-            _ if self.names.library.contains(&root) || KIT.contains(&root) => format!("{}::{root}", self.names.package),
+            [word, amp, name, ..] if word.is("for") && amp.is("&") && is_parameter(name) => {
+                "is an impl for references to any type"
+            }
+            [dot, second, name, Tree::Group(index), ..]
+                if dot.is(".") && second.is(".") && name.word().is_some() && index.open.text == "[" =>
+            {
+                "takes the other fields from an element"
+            }
             _ => return Ok(None),
         };
-        self.put(first.first().lead, &format!("{path}::"));
-        Ok(Some(3))
+        Err(fault(trees[0].first(), what))
     }
 
-    /// A call that may fail for memory, by its name in this package.
-    fn call(&mut self, trees: &[Tree]) -> Result<Option<usize>, Fault> {
-        let [name, arguments, ..] = trees else {
-            return Ok(None);
-        };
-        let (Some(word), Some(group)) = (name.word(), arguments.group("(")) else {
-            return Ok(None);
-        };
-        let is_called = self.out.ends_with('.') || self.out.ends_with("::");
-        let is_std = self.out.ends_with('.') || self.out.ends_with("Vec::") || self.out.ends_with("String::");
-        if is_called && UNKNOWN_FALLIBLE.contains(&word) && !takes_memory(group) {
-            return Err(fault(name.first(), "may fail for memory, and nothing stands for it in plain Rust"));
-        }
-        let new = match word {
-            "push_reserved" if is_std => "push".to_string(),
-            // without an allocator these are calls of something else
-            "collect" | "replace" | "to_string" if !takes_memory(group) => return Ok(None),
-            _ if (is_std || self.out.ends_with("fn")) && FALLIBLE.contains(&word) => format!("fallible_{word}"),
-            _ => return Ok(None),
-        };
-        self.put(name.first().lead, &new);
-        Ok(Some(1))
-    }
-
-    /// A macro, without the runtime or the allocator that it is given.
-    fn macro_call(&mut self, trees: &[Tree]) -> Result<Option<usize>, Fault> {
-        let [name, mark, Tree::Group(group), ..] = trees else {
-            return Ok(None);
-        };
-        let Some(word) = name.word().filter(|_| mark.is("!")) else {
-            return Ok(None);
-        };
-        if !MACROS.contains(&word) {
-            return Err(fault(name.first(), "is a macro that isn't known"));
-        }
-        let end = group.trees.iter().position(|tree| tree.is(";")).map_or(0, |end| end + 1);
-        let is_fallible = group.trees.first().is_some_and(|tree| tree.is("in"));
-        if end > 0 && !is_fallible && !group.trees[0].is("rt") {
-            return Err(fault(name.first(), "is given something that isn't known"));
-        }
-        if is_fallible || word == "write" {
-            self.put(name.first().lead, &format!("{}::fallible_{word}!", self.names.package));
-        } else {
-            self.put(name.first().lead, &format!("{word}!"));
-        }
-        self.put(group.open.lead, group.open.text);
-        self.nested(|eraser| eraser.all(&group.trees[end..]))?;
-        self.put(group.close.lead, group.close.text);
-        Ok(Some(3))
-    }
-
-    /// What stands in brackets; after a body comes the next item.
+    /// What stands in brackets goes without the allocator and the runtime; after a body comes the next item.
     fn group(&mut self, trees: &[Tree]) -> Result<Option<usize>, Fault> {
         let Tree::Group(group) = &trees[0] else {
             return Ok(None);
         };
-        let contract = std::mem::take(&mut self.contract);
         if group.open.text == "{" {
-            contract.write_to(&mut self.out);
+            std::mem::take(&mut self.contract).write_to(&mut self.out);
         }
-        self.put(group.open.lead, group.open.text);
-        self.nested(|eraser| eraser.all(&without_memory(&group.trees)))?;
-        self.put(group.close.lead, group.close.text);
-        if group.open.text != "{" {
-            self.contract = contract;
-        }
+        self.brackets(group, &without_memory(&group.trees))?;
         Ok(Some(1))
     }
 
-    /// Erases what stands in brackets, whose items have contracts of their own.
-    fn nested(&mut self, erase: impl FnOnce(&mut Self) -> Result<(), Fault>) -> Result<(), Fault> {
+    /// Brackets, and what is left in them, whose items have contracts of their own.
+    pub(crate) fn brackets(&mut self, group: &Group, trees: &[Tree]) -> Result<(), Fault> {
         let contract = std::mem::take(&mut self.contract);
-        erase(self)?;
+        self.put(group.open.lead, group.open.text);
+        self.all(trees)?;
+        self.put(group.close.lead, group.close.text);
         self.contract = contract;
         Ok(())
     }
 }
 
 /// Whether trees begin with tokens of these texts.
-fn begins_with(trees: &[Tree], texts: &[&str]) -> bool {
+pub(crate) fn begins_with(trees: &[Tree], texts: &[&str]) -> bool {
     trees.len() >= texts.len() && trees.iter().zip(texts).all(|(tree, text)| tree.is(text))
 }
 
-/// What stands in brackets without the allocator and the runtime: as a parameter, as an argument, and as a field.
-fn without_memory<'a>(trees: &[Tree<'a>]) -> Vec<Tree<'a>> {
-    let mut kept = Vec::new();
-    for item in trees.split_inclusive(|tree| tree.is(",")) {
-        let (last, before) = item.split_last().map_or((None, item), |(last, before)| (Some(last), before));
-        let inner = if last.is_some_and(|last| last.is(",")) { before } else { item };
-        if !is_of_memory(inner) {
-            kept.extend_from_slice(item);
-        }
-    }
-    kept
-}
-
-/// Whether an argument, a parameter or a field is the allocator, or the runtime that it comes from.
-fn is_of_memory(item: &[Tree]) -> bool {
-    const FORMS: [&[&str]; 8] = [
-        &["alloc"],
-        &["_alloc"],
-        &["alloc", ":", "Global"],
-        &["_alloc", ":", "Global"],
-        &["rt"],
-        &["&", "rt"],
-        &["rt", ":", "HostRuntime"],
-        &["rt", ":", "&", "impl", "Abort"],
-    ];
-    match item {
-        [runtime, dot, call, Tree::Group(_)] => runtime.is("rt") && dot.is(".") && call.is("alloc"),
-        [name, colon, value @ ..] if name.is("alloc") && colon.is(":") && value.len() == 3 => is_of_memory(value),
-        [value, dot, field] if dot.is(".") && field.is("alloc") => value.word().is_some(),
-        _ => FORMS.iter().any(|form| form.len() == item.len() && begins_with(item, form)),
-    }
-}
-
-/// Whether a call is given the allocator.
-fn takes_memory(arguments: &Group) -> bool {
-    arguments.trees.split(|tree| tree.is(",")).any(is_of_memory)
+/// Whether a name is one of a type parameter: a capital letter alone.
+fn is_parameter(name: &Tree) -> bool {
+    name.word().is_some_and(|word| word.len() == 1 && word.starts_with(|letter: char| letter.is_ascii_uppercase()))
 }
 
 /// The names in `derive(..)`; none in another attribute.

@@ -1,8 +1,10 @@
-//! Makes plain Rust of the sources of `crates/`, before the package is built.
+//! Makes plain Rust of the sources in `crates/` before the package is built: one file for the library, one for the
+//! libraries of its programs and one for the tests.
 
 mod docs;
 mod erase;
 mod errors;
+mod library;
 mod names;
 mod tokens;
 
@@ -11,61 +13,91 @@ use std::error::Error;
 use std::path::{Path, PathBuf};
 use std::{env, fs};
 
-/// The crates that are modules of the package, lowest first.
-const LIBRARY: [&str; 6] = ["nd_base", "nd_dim", "nd_shape", "nd_slice", "ndarray_layout", "nd_owned"];
+/// The crates of the layer, lowest first.
+const LAYER: &[&str] = &["nd_base", "nd_dim", "nd_shape", "nd_slice", "ndarray_layout", "nd_owned"];
 
-/// The libraries under the programs, of the feature `std`.
-const PROGRAMS: [&str; 2] = ["ndl_session", "example_tiles_edits"];
+/// The libraries of programs.
+const PROGRAMS: &[&str] = &["ndl_session", "example_tiles_edits"];
 
-/// The crates of tests, and what they share.
-const TESTS: [&str; 5] = ["test_tables", "nd_shape_tests", "nd_slice_tests", "ndarray_layout_tests", "ndl_tests"];
+/// What crates of tests share, and these crates.
+const TESTS: &[&str] = &["test_tables", "nd_shape_tests", "nd_slice_tests", "ndarray_layout_tests", "ndl_tests"];
 
-fn main() -> Result<(), Box<dyn Error>> {
+/// Lints that the sources don't keep to, and why.
+const ALLOWED: &[(&str, &[&str])] = &[
+    ("a name that only clauses use, or only the kit's prelude lacks", &["unused_imports"]),
+    ("a pair of which the allocator was one half", &["unused_parens"]),
+    ("proofs name a loop by its label", &["unused_labels"]),
+    (
+        "a form that is proved with less",
+        &[
+            "clippy::explicit_auto_deref",
+            "clippy::manual_find",
+            "clippy::manual_is_multiple_of",
+            "clippy::manual_map",
+            "clippy::needless_lifetimes",
+            "clippy::needless_range_loop",
+            "clippy::non_canonical_clone_impl",
+            "clippy::question_mark",
+            "clippy::redundant_pattern_matching",
+        ],
+    ),
+    (
+        "what the kit has no form for",
+        &["clippy::comparison_to_empty", "clippy::partialeq_to_none", "clippy::unused_unit"],
+    ),
+    ("a sequence is never asked whether it is empty", &["clippy::len_without_is_empty"]),
+    (
+        "what a test is about",
+        &["clippy::len_zero", "clippy::reversed_empty_ranges", "clippy::unit_cmp", "mismatched_lifetime_syntaxes"],
+    ),
+];
+
+type Fallible<T> = Result<T, Box<dyn Error>>;
+
+fn main() -> Fallible<()> {
     let top = PathBuf::from(env::var("CARGO_MANIFEST_DIR")?);
     let out = PathBuf::from(env::var("OUT_DIR")?);
     println!("cargo::rerun-if-changed=rust/build");
-    let all: Vec<&str> = LIBRARY.into_iter().chain(PROGRAMS).collect();
-    for (file, crates, package) in [
-        ("layer.rs", &LIBRARY[..], "crate"),
-        ("programs.rs", &PROGRAMS, "crate"),
-        ("tests.rs", &TESTS, "::ndarray_layout"),
-    ] {
-        let mut text = String::new();
-        for own in crates {
-            let source = top.join("crates").join(own).join("src");
-            if !source.exists() {
-                continue;
-            }
-            println!("cargo::rerun-if-changed=crates/{own}/src");
-            let beside = if package == "crate" { &[][..] } else { crates };
-            let names = Names { own, beside, library: &all, package };
-            let body = module_of(&source.join("lib.rt"), &source, &names)?;
-            text += &format!("pub mod {own} {{\n{body}\n}}\n");
-        }
-        fs::write(out.join(file), text)?;
-    }
+    fs::write(out.join("layer.rs"), crates_of(&top, LAYER, &[], "crate")?)?;
+    fs::write(out.join("programs.rs"), crates_of(&top, PROGRAMS, &[], "crate")?)?;
+    fs::write(out.join("tests.rs"), crates_of(&top, TESTS, TESTS, "::ndarray_layout")?)?;
     Ok(())
 }
 
+/// Crates as modules. What a package leaves out is no module.
+fn crates_of(top: &Path, crates: &[&str], beside: &[&str], package: &str) -> Fallible<String> {
+    let library: Vec<&str> = [LAYER, PROGRAMS].concat();
+    let allowed: Vec<&str> = ALLOWED.iter().flat_map(|(_, lints)| lints.iter().copied()).collect();
+    let mut text = String::new();
+    for own in crates {
+        let source = top.join("crates").join(own).join("src");
+        println!("cargo::rerun-if-changed={}", source.display());
+        if source.exists() {
+            let names = Names { own, beside, library: &library, package };
+            let body = module_of(&source.join("lib.rt"), &source, &names)?;
+            text += &format!("#[allow({})]\npub mod {own} {{\n{body}\n}}\n", allowed.join(", "));
+        }
+    }
+    Ok(text)
+}
+
 /// A file as plain Rust, with the files of its modules in place of their names.
-fn module_of(file: &Path, folder: &Path, names: &Names) -> Result<String, Box<dyn Error>> {
+fn module_of(file: &Path, folder: &Path, names: &Names) -> Fallible<String> {
     let source = fs::read_to_string(file).map_err(|error| format!("{}: {error}", file.display()))?;
     let erased = tokens::trees_of(&source).and_then(|(trees, rest)| Ok(erase(&trees, names)? + rest));
     let erased = erased.map_err(|fault| format!("{}:{fault}", file.display()))?;
+    let prelude = format!("use {}::memory::prelude::*;\n", names.package);
     let mut text = String::new();
-    let mut has_prelude = false;
-    for line in erased.lines() {
-        if !has_prelude && !line.starts_with("//!") {
-            text += &format!("#[allow(unused_imports)]\nuse {}::memory::prelude::*;\n", names.package);
-            has_prelude = true;
-        }
+    let (docs, items): (Vec<&str>, Vec<&str>) = erased.lines().partition(|line| line.starts_with("//!"));
+    text.extend(docs.iter().flat_map(|line| [*line, "\n"]));
+    text += &prelude;
+    for line in items {
         match line.strip_suffix(';').map(|line| line.rsplit(' ').collect::<Vec<_>>()).as_deref() {
             Some([name, "mod", ..]) => {
-                let below = folder.join(name);
-                let body = module_of(&folder.join(format!("{name}.rt")), &below, names)?;
+                let body = module_of(&folder.join(format!("{name}.rt")), &folder.join(name), names)?;
                 text += &format!("{} {{\n{body}\n}}\n", line.trim_end_matches(';'));
             }
-            _ => text += &format!("{line}\n"),
+            _ => text.extend([line, "\n"]),
         }
     }
     Ok(text)

@@ -1,34 +1,53 @@
-//! The names that the eraser knows: what stands in plain Rust for an item of the kit's library, and what may not be left.
+//! The names that the eraser knows: what stands in plain Rust for what the kit's library has, and what may not be left.
 
-/// Where a module of the kit's `std` stands in plain Rust: in `core`, in `std`, or in this package.
-pub const MODULES: [(&str, &str); 14] = [
-    ("alloc", "MEMORY"),
-    ("cmp", "core"),
-    ("env", "std"),
-    ("error", "core"),
-    ("fmt", "core"),
-    ("hash", "core"),
-    ("io", "std"),
-    ("iter", "core"),
-    ("marker", "core"),
-    ("mem", "core"),
-    ("ops", "core"),
-    ("process", "std"),
-    ("slice", "core"),
-    ("str", "core"),
+/// A module of the kit's `std`, the root under which it stands in plain Rust, and which of its items may be imported.
+/// `MEMORY` is this package's own module of that name.
+pub const MODULES: &[(&str, &str, &[&str])] = &[
+    ("alloc", "MEMORY", &["AllocError", "AllocFailed"]),
+    ("cmp", "core", &["Ordering"]),
+    ("error", "core", &["Error"]),
+    ("fmt", "core", &["Debug", "Display", "Write"]),
+    ("hash", "core", &["DefaultHasher", "Hash", "Hasher"]),
+    ("io", "std", &["ErrorKind", "Read", "Write"]),
+    ("iter", "core", &["FusedIterator"]),
+    ("marker", "core", &["PhantomData"]),
+    ("ops", "core", OPERATORS),
+    ("slice", "core", &[]),
+    ("str", "core", &["SplitWhitespace"]),
 ];
 
+const OPERATORS: &[&str] = &[
+    "Add",
+    "AddAssign",
+    "Index",
+    "IndexMut",
+    "Mul",
+    "MulAssign",
+    "Range",
+    "RangeFrom",
+    "RangeFull",
+    "RangeInclusive",
+    "RangeTo",
+    "RangeToInclusive",
+    "Sub",
+    "SubAssign",
+];
+
+/// Items of these modules that are in another crate of plain Rust.
+pub const MOVED: &[(&str, &str)] = &[("DefaultHasher", "std::hash::DefaultHasher")];
+
+/// Items that only a proof, the kit's memory or its tests need: an import of one goes.
+pub const DROPPED: &[&str] = &["Abort", "Global", "Model"];
+
+/// Modules of which nothing else is imported.
+pub const DROPPED_MODULES: &[&str] = &["process"];
+
 /// Libraries of the kit for which this package has a module of that name.
-pub const KIT: [&str; 2] = ["num_traits", "smallvec"];
+pub const KIT: &[&str] = &["num_traits", "smallvec"];
 
-/// Items of these modules that stand elsewhere in plain Rust.
-pub const MOVED: [(&str, &str); 1] = [("DefaultHasher", "std::hash::DefaultHasher")];
-
-/// Items that only a proof or the kit's memory needs: an import of one goes.
-pub const DROPPED: [&str; 4] = ["Abort", "Global", "Model", "Drop"];
-
-/// Calls that may fail for memory, and are infallible or missing in plain Rust: each is one of `Fallible`.
-pub const FALLIBLE: [&str; 10] = [
+/// Calls of lists, texts, slices and iterators that may fail for memory in the kit, and can't in plain Rust. Each is a
+/// call of this package under the name `fallible_..`.
+pub const FALLIBLE: &[&str] = &[
     "clone",
     "collect",
     "extend_from_slice",
@@ -41,8 +60,11 @@ pub const FALLIBLE: [&str; 10] = [
     "with_capacity",
 ];
 
-/// Calls that may fail for memory, and for which nothing stands yet: a source that makes one is refused.
-pub const UNKNOWN_FALLIBLE: [&str; 16] = [
+/// Those of them that may fail only where they are handed the allocator.
+pub const FALLIBLE_WITH_MEMORY: &[&str] = &["collect", "replace", "to_string"];
+
+/// Calls that may fail for memory, and for which this package has nothing.
+pub const UNKNOWN_FALLIBLE: &[&str] = &[
     "append",
     "cloned",
     "concat",
@@ -58,27 +80,29 @@ pub const UNKNOWN_FALLIBLE: [&str; 16] = [
     "resize",
     "sort",
     "sort_by",
+    "sort_by_key",
     "to_owned",
 ];
 
 /// Macros that mean the same in both languages.
-pub const MACROS: [&str; 9] =
-    ["assert", "eprintln", "format", "matches", "panic", "println", "unreachable", "vec", "write"];
+pub const MACROS: &[&str] = &["assert", "format", "matches", "panic", "unreachable", "vec", "write"];
 
-/// What a `derive` may name; `Drop` goes.
-pub const DERIVES: [&str; 9] = ["Clone", "Copy", "Debug", "Default", "Eq", "Hash", "Ord", "PartialEq", "PartialOrd"];
+/// What a `derive` may name beside `Drop`.
+pub const DERIVES: &[&str] = &["Clone", "Copy", "Debug", "Default", "Eq", "Hash", "Ord", "PartialEq", "PartialOrd"];
 
 /// Attributes that stay.
-pub const ATTRIBUTES: [&str; 3] = ["cfg", "inline", "test"];
+pub const ATTRIBUTES: &[&str] = &["cfg", "inline", "test"];
 
-/// Words of the kit's language that may not be left.
-pub const REFUSED: [&str; 19] = [
+/// Words that may not be left: those of contracts, of the kit's memory and runtime, and those whose meaning differs.
+pub const REFUSED: &[&str] = &[
     "Abort",
     "AllocGlobal",
     "Drop",
     "Global",
     "HostRuntime",
+    "Infallible",
     "Model",
+    "TryFromIntError",
     "_alloc",
     "alloc",
     "async",
@@ -90,6 +114,8 @@ pub const REFUSED: [&str; 19] = [
     "prove",
     "requires",
     "rt",
+    "size_of",
+    "size_of_val",
     "thread",
     "unsafe",
 ];

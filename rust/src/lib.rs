@@ -1,6 +1,27 @@
-//! The layout layer.
+//! Shapes, signed strides and slices as buffer indices: the layout layer under n-dimensional arrays, proved.
+//!
+//! A [`Strided`] view is a shape, a stride for each axis and a start. It is made of an accepted layout, so that each
+//! index lies in the data; slices, broadcasts, permutations and reshapes of it are views of the same data.
+//!
+//! ```
+//! use ndarray_layout::{CanIndexCheckMode, Strided, new_ix2};
+//!
+//! // 2 rows of 3 items in 6, row-major: the strides are 3 and 1
+//! let view = Strided::new(new_ix2(2, 3), new_ix2(3, 1), 1, 6, CanIndexCheckMode::OwnedMutable)?;
+//! assert_eq!(view.place(&(1, 2)), Some(5));
+//! assert_eq!(view.place(&(2, 0)), None);
+//! # Ok::<(), ndarray_layout::ShapeError>(())
+//! ```
+//!
+//! The sources of the modules [`nd_base`] to [`nd_owned`] have contracts, which are proved; this package is what is left
+//! of them without the contracts, made before it is built. The section `Contract` of an item has its clauses, and
+//! `Conditions` what a caller ensures. Where a condition is broken, a call panics or returns an unspecified number; no
+//! behaviour is undefined, as the package has no `unsafe`.
 #![no_std]
 #![forbid(unsafe_code)]
+
+#[cfg(not(target_pointer_width = "64"))]
+compile_error!("the proofs are about a usize of 64 bits");
 
 extern crate alloc;
 #[cfg(feature = "std")]
@@ -14,5 +35,6 @@ include!(concat!(env!("OUT_DIR"), "/layer.rs"));
 #[cfg(feature = "std")]
 include!(concat!(env!("OUT_DIR"), "/programs.rs"));
 
-pub use crate::nd_owned::OwnedArray;
+pub use crate::memory::AllocError;
+pub use crate::nd_owned::{Items, OwnedArray};
 pub use crate::ndarray_layout::*;

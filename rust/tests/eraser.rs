@@ -1,0 +1,140 @@
+//! The eraser: what each form becomes, and that what it doesn't know is an error.
+#![allow(dead_code)]
+
+#[path = "../build/docs.rs"]
+mod docs;
+#[path = "../build/erase.rs"]
+mod erase;
+#[path = "../build/errors.rs"]
+mod errors;
+#[path = "../build/library.rs"]
+mod library;
+#[path = "../build/names.rs"]
+mod names;
+#[path = "../build/tokens.rs"]
+mod tokens;
+
+use erase::{Names, erase};
+use tokens::trees_of;
+
+const NAMES: Names = Names { own: "upper", beside: &["tables"], library: &["lower"], package: "crate" };
+
+/// What is left of a source, or what is said of it.
+fn erased(source: &str) -> String {
+    match trees_of(source).and_then(|(trees, rest)| Ok(erase(&trees, &NAMES)? + rest)) {
+        Ok(text) => text,
+        Err(fault) => fault.to_string(),
+    }
+}
+
+/// What is left of a source in one line.
+fn line(source: &str) -> String {
+    erased(source).split_whitespace().collect::<Vec<_>>().join(" ")
+}
+
+#[test]
+fn each_form_becomes_plain_rust() {
+    const ROWS: &[(&str, &str)] = &[
+        ("ghost use Rattle.a.{◌≡◌}; use crate::dim::Dim;", "use crate::upper::dim::Dim;"),
+        ("struct S { a: usize, ghost inside: { 0 < a }, }", "struct S { a: usize, }"),
+        ("trait T { ghost list: { Self → List ℕ }; fn f(&self); }", "trait T { fn f(&self); }"),
+        ("fn f(x: u8) -> u8 requires { x ≡ 1 } ensures* same { result ≡ x } { x }", "fn f(x: u8) -> u8 { x }"),
+        ("fn f() -> u8 ensures { result ≡ 1 };", "fn f() -> u8;"),
+        ("#![tactic(auto)] mod a;", "mod a;"),
+        ("#[tactic(auto, using(a))] #[inline] fn f() {}", "#[inline] fn f() {}"),
+        ("#[derive(Debug, Drop)] struct S;", "#[derive(Debug)] struct S;"),
+        ("#[derive(Drop)] struct S;", "struct S;"),
+        ("impl<D> Model for S<D> { ghost use A.{b}; ghost view = { λ s. s }; } struct T;", "struct T;"),
+        ("final fn f(&self) {}", "fn f(&self) {}"),
+        ("impl<T: Drop> A for B<T> {}", "impl<T: Sized> A for B<T> {}"),
+        ("trait T: Eq + Drop {}", "trait T: Eq + Sized {}"),
+        ("fn clone(&self) -> Result<Self, AllocError> { Ok(*self) }", "fn clone(&self) -> Self {*self}"),
+        (
+            "fn fmt<W: fmt::Write>(&self, f: &mut fmt::Formatter<W>) -> fmt::Result {}",
+            "fn fmt(&self, f: &mut fmt::Formatter<'_>) -> fmt::Result {}",
+        ),
+        ("use std::alloc::{AllocError, Global};", "use crate::memory::AllocError;"),
+        ("use std::{fmt, io};", "use core::fmt;use std::io;"),
+        ("use std::ops::{Add, Range};", "use core::ops::Add;use core::ops::Range;"),
+        ("use std::marker::Model;", ""),
+        ("use std::process::Abort;", ""),
+        ("fn f(alloc: Global, x: u8) {}", "fn f( x: u8) {}"),
+        ("fn f(_alloc: Global) {}", "fn f() {}"),
+        ("let y = f(alloc, x)?;", "let y = f( x)?;"),
+        ("let y = f(rt.alloc(), &rt, x);", "let y = f( x);"),
+        ("let (alloc, x) = (rt.alloc(), 1);", "let ( x) = ( 1);"),
+        ("struct S { alloc: Global, n: usize }", "struct S { n: usize }"),
+        ("S { alloc: before.alloc, n: 1 }", "S { n: 1 }"),
+        ("lower::f(std::slice::from_ref(x))", "crate::lower::f(core::slice::from_ref(x))"),
+        ("tables::g(smallvec::h())", "crate::tables::g(crate::smallvec::h())"),
+        ("v.push(1)?; w.push_reserved(2);", "v.fallible_push(1)?; w.push(2);"),
+        ("x.to_vec(alloc)?; Vec::new(alloc)", "x.fallible_to_vec()?; Vec::new()"),
+        ("text.replace(a, b)", "text.replace(a, b)"),
+        ("text.replace(alloc, a, b)?", "text.fallible_replace( a, b)?"),
+        ("write!(f, \"{x}\")?", "crate::fallible_write!(f, \"{x}\")?"),
+        ("format!(in alloc; \"{x}\")?", "crate::fallible_format!( \"{x}\")?"),
+        ("assert!(rt; x == 1, \"x\");", "assert!( x == 1, \"x\");"),
+        ("matches!(x, Some(_))", "matches!(x, Some(_))"),
+        ("let c = 'a'; let s = \"ghost { requires\"; // ghost", "let c = 'a'; let s = \"ghost { requires\"; // ghost"),
+    ];
+    for (source, due) in ROWS {
+        assert_eq!(line(source), *due, "{source}");
+    }
+}
+
+#[test]
+fn a_contract_is_documentation() {
+    let source = "/// One more.\n#[inline]\nfn f(x: u8) -> u8\n    requires small { x < 255 }\n    ensures { result ≡\n        x + 1 }\n{\n    x + 1\n}\n\nfn g() ensures { 1 ≡ 1 } {}\n";
+    let due = "/// One more.\n///\n/// # Conditions\n///\n/// ```text\n/// small: x < 255\n/// ```\n///\n/// # Contract\n///\n/// ```text\n/// result ≡\n///     x + 1\n/// ```\n#[inline]\nfn f(x: u8) -> u8\n{\n    x + 1\n}\n\nfn g() {}\n";
+    assert_eq!(erased(source), due);
+}
+
+#[test]
+fn a_derived_error_is_written_out() {
+    let source = "use thiserror::Error; #[derive(Debug, Drop, Error)] pub enum E { #[error(\"line {line}\")] At { line: usize }, #[error(transparent)] Of(A), }";
+    let head = "fn fmt(&self, f: &mut ::core::fmt::Formatter<'_>) -> ::core::fmt::Result";
+    let arms = "Self::At{ line } => ::core::write!(f, \"line {line}\"), Self::Of(value) => ::core::fmt::Display::fmt(value, f),";
+    let due = format!(
+        "#[derive(Debug)] pub enum E {{ At {{ line: usize }}, Of(A), }} impl ::core::fmt::Display for E {{ {head} {{ match self {{ {arms} }} }} }} impl ::core::error::Error for E {{}}"
+    );
+    assert_eq!(line(source), due);
+}
+
+#[test]
+fn what_is_not_known_is_an_error_with_its_line() {
+    const ROWS: &[(&str, &str)] = &[
+        ("fn f() {}\nghost;", "2: `ghost` names nothing"),
+        ("fn f() requires g();", "1: `requires` is a clause without a fact"),
+        ("let a = x ≡ y;", "1: `≡` is no form that can be erased"),
+        ("fn f(a: Global) {}", "1: `Global` is no form that can be erased"),
+        ("g(&alloc)", "1: `alloc` is no form that can be erased"),
+        ("impl Drop for S { fn drop(self) {} }", "1: `Drop` is no form that can be erased"),
+        ("unsafe { f() }", "1: `unsafe` is no form that can be erased"),
+        ("fn f(x: &dyn T) {}", "1: `dyn` is no form that can be erased"),
+        ("std::mem::size_of::<u8>()", "1: `mem` is a module of std that isn't known"),
+        ("use std::iter::once;", "1: `once` is an item of std that isn't known"),
+        ("use std::sync::Arc;", "1: `sync` is a module of std that isn't known"),
+        ("#[derive(Serialize)] struct S;", "1: `#` derives Serialize, which isn't known"),
+        ("#[repr(C)] struct S;", "1: `[` opens an attribute that isn't known: repr"),
+        ("prove!(x < 1);", "1: `prove` is a macro that isn't known"),
+        ("vec![1, 2]", "1: `vec` is given no allocator"),
+        ("assert!(host; x)", "1: `assert` is given something that isn't known"),
+        ("v.reserve(2)?;", "1: `reserve` may fail for memory, and nothing stands for it in plain Rust"),
+        ("fn clone(&self) -> Result<Self, AllocError> { self.copy() }", "1: `clone` does more than to copy"),
+        ("impl Model for S { fn f() {} }", "1: `fn` is no ghost member of a model"),
+        ("(250u8..).take(9)", "1: `(` iterates a range with no end"),
+        ("for x in 0.. { f(x) }", "1: `.` iterates a range with no end"),
+        ("impl<T> W for &T {}", "1: `for` is an impl for references to any type"),
+        ("S { a: 1, ..v[i] }", "1: `.` takes the other fields from an element"),
+        ("#[derive(Error)] pub enum E { A }", "1: `E` derives Error, and a variant has no text"),
+        ("#[derive(Error)] pub enum E { #[source] A }", "1: `[` opens no text of an error that is known"),
+        ("#[derive(Error)] pub enum E { #[error(\"{0}{1}\")] A(u8, u8) }", "1: `(` opens more than one field"),
+        ("f(]", "1: `]` closes another bracket"),
+        ("f(\n", "1: `(` is never closed"),
+        ("}", "1: `}` closes nothing"),
+        ("let s = \"a", "1: `\"` begins a token that never ends"),
+    ];
+    for (source, due) in ROWS {
+        assert_eq!(erased(source), *due, "{source}");
+    }
+}
