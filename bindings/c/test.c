@@ -286,6 +286,23 @@ static void test_status_text(void) {
     CHECK(strcmp(text, "ShapeError/OutOfBounds: out of bounds indexing") == 0);
 }
 
+/* What the library names inside is its own: functions of the same names in a program are not what it calls. */
+static int calls;
+
+void *rattle_alloc(void) {
+    calls++;
+    return NULL;
+}
+
+void *rattle_realloc(void) {
+    calls++;
+    return NULL;
+}
+
+void rattle_dealloc(void) {
+    calls++;
+}
+
 int main(void) {
     test_layout_start();
     test_check_layout();
@@ -301,6 +318,7 @@ int main(void) {
     test_reshape();
     test_permute();
     test_status_text();
+    CHECK(calls == 0);
     printf("%d checked, %d failed\n", checked, failed);
     return failed != 0;
 }
