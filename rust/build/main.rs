@@ -20,7 +20,15 @@ const LAYER: &[&str] = &["nd_base", "nd_dim", "nd_shape", "nd_slice", "ndarray_l
 const PROGRAMS: &[&str] = &["ndl_session", "example_tiles_edits"];
 
 /// What crates of tests share, and these crates.
-const TESTS: &[&str] = &["test_tables", "nd_shape_tests", "nd_slice_tests", "ndarray_layout_tests", "ndl_tests"];
+const TESTS: &[&str] = &[
+    "test_tables",
+    "nd_shape_tests",
+    "nd_slice_tests",
+    "ndarray_layout_tests",
+    "ndl_tests",
+    "example_callers",
+    "example_tests",
+];
 
 /// Lints that the sources don't keep to, and why.
 const ALLOWED: &[(&str, &[&str])] = &[
@@ -39,6 +47,7 @@ const ALLOWED: &[(&str, &[&str])] = &[
             "clippy::non_canonical_clone_impl",
             "clippy::question_mark",
             "clippy::redundant_pattern_matching",
+            "clippy::type_complexity",
         ],
     ),
     (

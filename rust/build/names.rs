@@ -54,6 +54,7 @@ pub const FALLIBLE: &[&str] = &[
     "from_slice",
     "push",
     "push_str",
+    "repeat",
     "replace",
     "to_string",
     "to_vec",
@@ -61,7 +62,7 @@ pub const FALLIBLE: &[&str] = &[
 ];
 
 /// Those of them that may fail only where they are handed the allocator.
-pub const FALLIBLE_WITH_MEMORY: &[&str] = &["collect", "replace", "to_string"];
+pub const FALLIBLE_WITH_MEMORY: &[&str] = &["collect", "repeat", "replace", "to_string"];
 
 /// Calls that may fail for memory, and for which this package has nothing.
 pub const UNKNOWN_FALLIBLE: &[&str] = &[
@@ -73,7 +74,6 @@ pub const UNKNOWN_FALLIBLE: &[&str] = &[
     "into_owned",
     "join",
     "make_mut",
-    "repeat",
     "replace_range",
     "reserve",
     "reserve_exact",

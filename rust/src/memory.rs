@@ -153,13 +153,24 @@ impl FallibleString for String {
     }
 }
 
-/// The call of a text that allocates.
+/// The calls of a text that allocate.
 pub trait FallibleStr {
+    /// The text, so many times.
+    fn fallible_repeat(&self, count: usize) -> Result<String, AllocError>;
+
     /// The text with each occurrence of one text replaced by another.
     fn fallible_replace(&self, from: &str, to: &str) -> Result<String, AllocError>;
 }
 
 impl FallibleStr for str {
+    fn fallible_repeat(&self, count: usize) -> Result<String, AllocError> {
+        let mut text = String::new();
+        for _ in 0..count {
+            text.fallible_push_str(self)?;
+        }
+        Ok(text)
+    }
+
     fn fallible_replace(&self, from: &str, to: &str) -> Result<String, AllocError> {
         let mut text = String::new();
         for (number, part) in self.split(from).enumerate() {
