@@ -27,6 +27,7 @@ extern crate alloc;
 #[cfg(feature = "std")]
 extern crate std;
 
+mod convenience;
 pub mod memory;
 mod num_traits;
 mod smallvec;
@@ -35,6 +36,7 @@ include!(concat!(env!("OUT_DIR"), "/layer.rs"));
 #[cfg(feature = "std")]
 include!(concat!(env!("OUT_DIR"), "/programs.rs"));
 
+pub use crate::convenience::*;
 pub use crate::memory::AllocError;
 pub use crate::nd_owned::{Items, OwnedArray};
 pub use crate::ndarray_layout::*;

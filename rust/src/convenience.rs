@@ -1,0 +1,21 @@
+//! What ndarray's users type: the names, conversions, traits and the macro `s!` that the layer's sources leave out.
+//!
+//! Nothing here is proved: each item calls the layer, and tests compare it with ndarray's. A copy that needs memory, as
+//! of an `IxDyn` of more than 4 axes, panics where an allocation fails; the layer's own calls return the error instead.
+
+mod arrays;
+mod dimension_types;
+mod dimensions;
+mod errors;
+mod iterators;
+mod ranges;
+mod slice_arguments;
+mod views;
+
+pub use dimension_types::{DimAdd, DimMax};
+pub use dimensions::{Dim, DimensionExt, Ix, Ix0, Ix1, Ix2, Ix3, Ix4, Ix5, Ix6, IxDyn, Ixs};
+pub use iterators::IndexCopies;
+pub use slice_arguments::{SliceBuilder, SliceNextDim};
+
+/// What an infallible call says where an allocation fails.
+const OUT_OF_MEMORY: &str = "out of memory";

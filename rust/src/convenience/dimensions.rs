@@ -1,0 +1,272 @@
+//! Dimensions by the names of their types, and from all that lengths are written as.
+
+use super::OUT_OF_MEMORY;
+use crate::nd_base::{
+    Axis, Dim, Ix0, Ix1, Ix2, Ix3, Ix4, Ix5, Ix6, IxDyn, IxDynImpl, Lengths, axis_of, new_ix0, new_ix1, new_ix2,
+    new_ix3, new_ix4, new_ix5, new_ix6, set_axis_of,
+};
+use crate::nd_dim::{IntoDimension, new_dim};
+use alloc::vec::Vec;
+use core::ops::{
+    Deref, DerefMut, Index, IndexMut, Range, RangeFrom, RangeFull, RangeInclusive, RangeTo, RangeToInclusive,
+};
+
+/// A length or a coordinate. ndarray's `Ix`.
+pub type Ix = usize;
+
+/// A stride, with its sign. ndarray's `Ixs`.
+pub type Ixs = isize;
+
+/// The shape or the index of no axes. ndarray's `Ix0()`.
+///
+/// ```
+/// use ndarray_layout::{Dimension, Ix0};
+///
+/// assert_eq!(Ix0().size(), 1);
+/// ```
+#[allow(non_snake_case)]
+#[inline]
+pub const fn Ix0() -> Ix0 {
+    new_ix0()
+}
+
+/// A shape or an index of one axis. ndarray's `Ix1(..)`.
+///
+/// ```
+/// use ndarray_layout::Ix1;
+///
+/// assert_eq!(Ix1(4)[0], 4);
+/// ```
+#[allow(non_snake_case)]
+#[inline]
+pub const fn Ix1(i0: Ix) -> Ix1 {
+    new_ix1(i0)
+}
+
+/// A shape or an index of two axes. ndarray's `Ix2(..)`.
+///
+/// ```
+/// use ndarray_layout::{Dimension, Ix2};
+///
+/// assert_eq!(Ix2(3, 5).size(), 15);
+/// ```
+#[allow(non_snake_case)]
+#[inline]
+pub const fn Ix2(i0: Ix, i1: Ix) -> Ix2 {
+    new_ix2(i0, i1)
+}
+
+/// A shape or an index of three axes. ndarray's `Ix3(..)`.
+///
+/// ```
+/// use ndarray_layout::{Ix3, default_strides};
+///
+/// assert_eq!(default_strides(&Ix3(2, 3, 4)), Ok(Ix3(12, 4, 1)));
+/// ```
+#[allow(non_snake_case)]
+#[inline]
+pub const fn Ix3(i0: Ix, i1: Ix, i2: Ix) -> Ix3 {
+    new_ix3(i0, i1, i2)
+}
+
+/// A shape or an index of four axes. ndarray's `Ix4(..)`.
+///
+/// ```
+/// use ndarray_layout::{Ix4, Lengths};
+///
+/// assert_eq!(Ix4(2, 3, 4, 5).slice(), [2, 3, 4, 5]);
+/// ```
+#[allow(non_snake_case)]
+#[inline]
+pub const fn Ix4(i0: Ix, i1: Ix, i2: Ix, i3: Ix) -> Ix4 {
+    new_ix4(i0, i1, i2, i3)
+}
+
+/// A shape or an index of five axes. ndarray's `Ix5(..)`.
+///
+/// ```
+/// use ndarray_layout::{Ix5, Lengths};
+///
+/// assert_eq!(Ix5(2, 3, 4, 5, 6).slice(), [2, 3, 4, 5, 6]);
+/// ```
+#[allow(non_snake_case)]
+#[inline]
+pub const fn Ix5(i0: Ix, i1: Ix, i2: Ix, i3: Ix, i4: Ix) -> Ix5 {
+    new_ix5(i0, i1, i2, i3, i4)
+}
+
+/// A shape or an index of six axes. ndarray's `Ix6(..)`.
+///
+/// ```
+/// use ndarray_layout::{Ix6, Lengths};
+///
+/// assert_eq!(Ix6(2, 3, 4, 5, 6, 7).slice(), [2, 3, 4, 5, 6, 7]);
+/// ```
+#[allow(non_snake_case)]
+#[inline]
+pub const fn Ix6(i0: Ix, i1: Ix, i2: Ix, i3: Ix, i4: Ix, i5: Ix) -> Ix6 {
+    new_ix6(i0, i1, i2, i3, i4, i5)
+}
+
+/// A shape or an index of any number of axes. ndarray's `IxDyn(..)`.
+///
+/// Takes time in proportion to the count of axes. `new_ixdyn` returns the error where this panics.
+///
+/// # Panics
+///
+/// Where an allocation fails; never for at most 4 axes.
+///
+/// ```
+/// use ndarray_layout::{Dimension, IxDyn};
+///
+/// assert_eq!(IxDyn(&[5, 6, 3, 4]).size(), 360);
+/// ```
+#[allow(non_snake_case)]
+#[inline]
+pub fn IxDyn(lens: &[Ix]) -> IxDyn {
+    Dim(lens)
+}
+
+/// The dimension of a list of lengths: a number, a tuple, an array, a slice, a vector or a dimension. ndarray's `Dim(..)`.
+///
+/// The type of the list fixes the count of axes, but a slice, a vector and an `IxDynImpl` become an `IxDyn`. Of those
+/// only a slice of more than 4 lengths is copied into new memory. `new_dim` returns the error where this panics.
+///
+/// # Panics
+///
+/// Where an allocation fails.
+///
+/// ```
+/// use ndarray_layout::{Dim, Ix2, IxDyn};
+///
+/// assert_eq!(Dim((3, 2)), Ix2(3, 2));
+/// assert_eq!(Dim([3, 2]), Ix2(3, 2));
+/// assert_eq!(Dim(vec![3, 2]), IxDyn(&[3, 2]));
+/// ```
+#[allow(non_snake_case)]
+#[inline]
+pub fn Dim<T: IntoDimension>(lens: T) -> T::Dim {
+    new_dim(lens).expect(OUT_OF_MEMORY)
+}
+
+/// The length of an axis by the axis. ndarray's `DimensionExt`.
+///
+/// ```
+/// use ndarray_layout::{Axis, DimensionExt, Ix2};
+///
+/// let mut shape = Ix2(3, 5);
+/// shape.set_axis(Axis(0), 4);
+/// assert_eq!((shape.axis(Axis(0)), shape.axis(Axis(1))), (4, 5));
+/// ```
+pub trait DimensionExt {
+    /// The length of an axis.
+    ///
+    /// # Panics
+    ///
+    /// Where there is no such axis.
+    fn axis(&self, axis: Axis) -> Ix;
+
+    /// Replaces the length of an axis.
+    ///
+    /// # Panics
+    ///
+    /// Where there is no such axis.
+    fn set_axis(&mut self, axis: Axis, value: Ix);
+}
+
+impl<D: Lengths> DimensionExt for D {
+    fn axis(&self, axis: Axis) -> Ix {
+        axis_of(self.slice(), axis)
+    }
+
+    fn set_axis(&mut self, axis: Axis, value: Ix) {
+        set_axis_of(self.slice_mut(), axis, value);
+    }
+}
+
+impl DimensionExt for [Ix] {
+    fn axis(&self, axis: Axis) -> Ix {
+        axis_of(self, axis)
+    }
+
+    fn set_axis(&mut self, axis: Axis, value: Ix) {
+        set_axis_of(self, axis, value);
+    }
+}
+
+/// Whether a dimension has the lengths of an array, or of an `IxDynImpl`.
+impl<I: PartialEq> PartialEq<I> for Dim<I> {
+    fn eq(&self, other: &I) -> bool {
+        self.index == *other
+    }
+}
+
+/// One axis of length 0.
+impl Default for Dim<IxDynImpl> {
+    fn default() -> Self {
+        Dim::<IxDynImpl>::new(IxDynImpl::default())
+    }
+}
+
+/// One length, 0.
+impl Default for IxDynImpl {
+    fn default() -> Self {
+        IxDynImpl::from(&[0][..])
+    }
+}
+
+/// A copy in memory of its own. Panics where an allocation fails, never for at most 4 lengths.
+impl Clone for IxDynImpl {
+    fn clone(&self) -> Self {
+        IxDynImpl::from(self.as_slice())
+    }
+}
+
+/// A copy of the lengths. Panics where an allocation fails, never for at most 4 lengths.
+impl From<&[Ix]> for IxDynImpl {
+    fn from(lens: &[Ix]) -> Self {
+        IxDynImpl::copy_from(lens).expect(OUT_OF_MEMORY)
+    }
+}
+
+/// The lengths of a vector, in its memory.
+impl From<Vec<Ix>> for IxDynImpl {
+    fn from(lens: Vec<Ix>) -> Self {
+        IxDynImpl::from_vec(lens).expect(OUT_OF_MEMORY)
+    }
+}
+
+impl Deref for IxDynImpl {
+    type Target = [Ix];
+
+    fn deref(&self) -> &[Ix] {
+        self.as_slice()
+    }
+}
+
+impl DerefMut for IxDynImpl {
+    fn deref_mut(&mut self) -> &mut [Ix] {
+        self.as_mut_slice()
+    }
+}
+
+/// Indexing by ranges. The layer's sources have that by a number.
+macro_rules! index_by {
+    ($($range:ty),*) => {$(
+        impl Index<$range> for IxDynImpl {
+            type Output = [Ix];
+
+            fn index(&self, range: $range) -> &[Ix] {
+                &self.as_slice()[range]
+            }
+        }
+
+        impl IndexMut<$range> for IxDynImpl {
+            fn index_mut(&mut self, range: $range) -> &mut [Ix] {
+                &mut self.as_mut_slice()[range]
+            }
+        }
+    )*};
+}
+
+index_by!(Range<Ix>, RangeFrom<Ix>, RangeFull, RangeInclusive<Ix>, RangeTo<Ix>, RangeToInclusive<Ix>);

@@ -1,0 +1,64 @@
+//! Errors as Rust's own traits know them.
+
+use crate::memory::AllocFailed;
+use crate::nd_base::LayoutError;
+use crate::ndarray_layout::Stopped;
+use alloc::vec::Vec;
+use core::error::Error;
+use core::fmt;
+
+/// Prints what the error inside prints.
+impl fmt::Display for LayoutError {
+    fn fmt(&self, f: &mut fmt::Formatter<'_>) -> fmt::Result {
+        match self {
+            LayoutError::Shape(error) => error.fmt(f),
+            LayoutError::Memory(error) => error.fmt(f),
+        }
+    }
+}
+
+impl Error for LayoutError {}
+
+impl Clone for LayoutError {
+    fn clone(&self) -> Self {
+        match self {
+            LayoutError::Shape(error) => LayoutError::Shape(error.clone()),
+            LayoutError::Memory(error) => LayoutError::Memory(*error),
+        }
+    }
+}
+
+impl PartialEq for LayoutError {
+    fn eq(&self, other: &Self) -> bool {
+        match (self, other) {
+            (LayoutError::Shape(own), LayoutError::Shape(other)) => own == other,
+            (LayoutError::Memory(own), LayoutError::Memory(other)) => own == other,
+            _ => false,
+        }
+    }
+}
+
+/// Prints the number of the step that was not taken, and why.
+impl fmt::Display for Stopped {
+    fn fmt(&self, f: &mut fmt::Formatter<'_>) -> fmt::Result {
+        write!(f, "step {}: {}", self.at, self.fault)
+    }
+}
+
+impl Error for Stopped {}
+
+/// Prints that memory ran out.
+impl<T> fmt::Display for AllocFailed<T> {
+    fn fmt(&self, f: &mut fmt::Formatter<'_>) -> fmt::Result {
+        f.write_str(super::OUT_OF_MEMORY)
+    }
+}
+
+impl<T: fmt::Debug> Error for AllocFailed<T> {}
+
+/// So that `OwnedArray::from_shape_vec(..)?` stands beside the calls of the layer. The list of items is dropped.
+impl<T> From<(LayoutError, Vec<T>)> for LayoutError {
+    fn from((error, _items): (LayoutError, Vec<T>)) -> Self {
+        error
+    }
+}
