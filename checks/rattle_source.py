@@ -144,11 +144,14 @@ def items_of(lines, indent=""):
 
 
 def modules_of(folder, path="", name="lib"):
-    """The modules of a crate, each before those inside it: (path, doc, items)."""
-    with open(os.path.join(folder, f"{name if not path else path}.rt"), encoding="utf-8") as file:
+    """The modules of a crate, each before those inside it: (path, doc, items). Ends the check where one has no items."""
+    source = os.path.join(folder, f"{name if not path else path}.rt")
+    with open(source, encoding="utf-8") as file:
         lines = file.read().split("\n")
     doc = [line[3:].strip() for line in lines if line.startswith("//!")]
     items = list(items_of(lines))
+    if not items:
+        sys.exit(f"{source}: no item is found")
     yield path, doc, items
     for inner in items:
         if inner.kind == "mod":
@@ -156,7 +159,7 @@ def modules_of(folder, path="", name="lib"):
 
 
 def public_names(folder):
-    """The names that the `pub use` lines of a crate's root file make public: module or crate → names."""
+    """The names that the `pub use` lines of a crate's root file make public: module or crate → names. Ends the check where it has none."""
     with open(os.path.join(folder, "lib.rt"), encoding="utf-8") as file:
         code = re.sub(r"//.*", "", file.read())
     found = {}
@@ -164,6 +167,8 @@ def public_names(folder):
         group = re.search(r"\{(.*)\}", path, re.S)
         names = {re.split(r"::|\bas\b", one)[-1].strip() for one in (group[1] if group else path).split(",") if one.strip()}
         found.setdefault(path.split("::")[0].strip(), set()).update(names)
+    if not found:
+        sys.exit(f"{folder}: no public name is found")
     return found
 
 
