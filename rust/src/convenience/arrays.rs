@@ -72,6 +72,7 @@ const OUT_OF_BOUNDS: &str = "the index is out of bounds";
 impl<T: Copy, D: Lengths, I: NdIndex<D>> Index<I> for OwnedArray<T, D> {
     type Output = T;
 
+    #[track_caller]
     fn index(&self, index: I) -> &T {
         let place = self.view().place(&index).expect(OUT_OF_BOUNDS);
         &self.stored()[place]
@@ -80,6 +81,7 @@ impl<T: Copy, D: Lengths, I: NdIndex<D>> Index<I> for OwnedArray<T, D> {
 
 /// The item of an index, to be written. Panics where it is no index of the shape; `set` returns `false`.
 impl<T: Copy, D: Lengths, I: NdIndex<D>> IndexMut<I> for OwnedArray<T, D> {
+    #[track_caller]
     fn index_mut(&mut self, index: I) -> &mut T {
         let place = self.view().place(&index).expect(OUT_OF_BOUNDS);
         &mut self.stored_mut()[place]

@@ -19,9 +19,16 @@ use core::ops::{Deref, Range, RangeFrom, RangeFull, RangeInclusive, RangeTo, Ran
 /// - `NewAxis`, which adds an axis of length 1.
 ///
 /// A negative number counts from the end of the axis. A negative step picks from the last coordinate of the range to the
-/// first. A step of 0 is an error where the slice is taken, and here ndarray panics.
+/// first. The types before and after have as many axes as the elements take and leave, or are `IxDyn` past six.
+///
+/// # Errors
+///
+/// None here. The call that takes the slice returns `OutOfBounds` for a bound past its axis and `Unsupported` for a step
+/// of 0, where ndarray panics.
 ///
 /// Takes no memory, and time in proportion to the count of elements.
+///
+/// `1, ..;-1` of `[3,4]` over 0, 1, .. 11 picks 7 6 5 4.
 ///
 /// ```
 /// use ndarray_layout::{CanIndexCheckMode, Ix1, Ix2, LayoutError, Order, Strided, s};
@@ -32,6 +39,12 @@ use core::ops::{Deref, Range, RangeFrom, RangeFull, RangeInclusive, RangeTo, Ran
 /// assert_eq!(row.iter_places(Order::RowMajor).collect::<Vec<_>>(), [7, 6, 5, 4]);
 /// # Ok(())
 /// # }
+/// ```
+///
+/// An index has no step, so this doesn't compile:
+///
+/// ```compile_fail,E0277
+/// let slices = ndarray_layout::s![0;2];
 /// ```
 #[macro_export]
 macro_rules! s {
@@ -198,6 +211,16 @@ impl<D: Lengths> Strided<D> {
     /// assert_eq!((part.start(), part.dim()[0], signed(part.strides()[0])), (14, 2, -6));
     /// # Ok(())
     /// # }
+    /// ```
+    ///
+    /// Two elements are no slice of three axes, so this doesn't compile:
+    ///
+    /// ```compile_fail,E0271
+    /// use ndarray_layout::{Ix3, LayoutError, Strided, s};
+    ///
+    /// fn part(view: &Strided<Ix3>) -> Result<usize, LayoutError> {
+    ///     Ok(view.sliced(s![.., 1])?.start())
+    /// }
     /// ```
     #[inline]
     pub fn sliced<I: SliceArg<D>>(&self, slices: I) -> Result<Strided<I::OutDim>, LayoutError> {
