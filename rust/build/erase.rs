@@ -37,13 +37,14 @@ pub(crate) struct Eraser<'a> {
 type Form<'a> = fn(&mut Eraser<'a>, &[Tree]) -> Result<Option<usize>, Fault>;
 
 impl<'a> Eraser<'a> {
-    const FORMS: [Form<'a>; 17] = [
+    const FORMS: [Form<'a>; 18] = [
         Self::doc,
         Self::clause,
         Self::ghost,
         Self::error,
         Self::attribute,
         Self::model,
+        Self::export,
         Self::finality,
         Self::drop_bound,
         Self::clone_method,
@@ -129,7 +130,7 @@ impl<'a> Eraser<'a> {
         Ok(Some(end.map_or(trees.len(), |end| end + 1)))
     }
 
-    /// `#![tactic(..)]` and `#[tactic(..)]` go, and `Drop` of a `derive`.
+    /// `#![tactic(..)]` and `#[tactic(..)]` go, `#[unsafe(no_mangle)]`, and `Drop` of a `derive`.
     fn attribute(&mut self, trees: &[Tree]) -> Result<Option<usize>, Fault> {
         if !trees[0].is("#") {
             return Ok(None);
@@ -140,6 +141,7 @@ impl<'a> Eraser<'a> {
         let name = group.trees.first().and_then(Tree::word).unwrap_or_default();
         match name {
             "tactic" => {}
+            "unsafe" if is_no_mangle(group) => {}
             "derive" => self.derive(trees[0].first(), &derived(group))?,
             _ if ATTRIBUTES.contains(&name) => self.out.push_str(&text_of(&trees[..=at])),
             _ => return Err(fault(&group.open, &format!("opens an attribute that isn't known: {name}"))),
@@ -194,6 +196,16 @@ impl<'a> Eraser<'a> {
             members = &members[taken..];
         }
         Ok(Some(body + 1))
+    }
+
+    /// `extern "C" fn`, which may take slices in the kit's language, becomes `fn`.
+    fn export(&mut self, trees: &[Tree]) -> Result<Option<usize>, Fault> {
+        let is_export =
+            matches!(trees, [word, abi, name, ..] if word.is("extern") && abi.first().text == "\"C\"" && name.is("fn"));
+        if is_export {
+            self.put(trees[0].first().lead, "fn");
+        }
+        Ok(is_export.then_some(3))
     }
 
     /// `final fn`, a method that no impl replaces, becomes `fn`.
@@ -305,6 +317,11 @@ pub(crate) fn begins_with(trees: &[Tree], texts: &[&str]) -> bool {
 /// Whether a name is one of a type parameter: a capital letter alone.
 fn is_parameter(name: &Tree) -> bool {
     name.word().is_some_and(|word| word.len() == 1 && word.starts_with(|letter: char| letter.is_ascii_uppercase()))
+}
+
+/// Whether an attribute is `unsafe(no_mangle)`.
+fn is_no_mangle(attribute: &Group) -> bool {
+    matches!(&attribute.trees[..], [_, Tree::Group(name)] if matches!(&name.trees[..], [word] if word.is("no_mangle")))
 }
 
 /// The names in `derive(..)`; none in another attribute.

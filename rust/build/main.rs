@@ -28,6 +28,7 @@ const TESTS: &[&str] = &[
     "ndl_tests",
     "example_callers",
     "example_tests",
+    "ndarray_layout_c",
 ];
 
 /// Lints that the sources don't keep to, and why.

@@ -91,7 +91,7 @@ pub const MACROS: &[&str] = &["assert", "format", "matches", "panic", "unreachab
 pub const DERIVES: &[&str] = &["Clone", "Copy", "Debug", "Default", "Eq", "Hash", "Ord", "PartialEq", "PartialOrd"];
 
 /// Attributes that stay.
-pub const ATTRIBUTES: &[&str] = &["cfg", "inline", "test"];
+pub const ATTRIBUTES: &[&str] = &["cfg", "inline", "repr", "test"];
 
 /// Words that may not be left: those of contracts, of the kit's memory and runtime, and those whose meaning differs.
 pub const REFUSED: &[&str] = &[

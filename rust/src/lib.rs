@@ -36,6 +36,11 @@ include!(concat!(env!("OUT_DIR"), "/layer.rs"));
 #[cfg(feature = "std")]
 include!(concat!(env!("OUT_DIR"), "/programs.rs"));
 
+/// The page of the package, whose examples are tests.
+#[cfg(doctest)]
+#[doc = include_str!("../README.md")]
+struct Readme;
+
 pub use crate::convenience::*;
 pub use crate::memory::AllocError;
 pub use crate::nd_owned::{Items, OwnedArray};
