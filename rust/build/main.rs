@@ -1,5 +1,5 @@
-//! Makes plain Rust of the sources in `crates/` before the package is built: one file for the library, one for the
-//! libraries of its programs and one for the tests.
+//! Makes plain Rust of the sources in `crates/` before the package is built: one file for the library, and one each for the
+//! libraries of its programs, the tests and the exports for C.
 
 mod docs;
 mod erase;
@@ -28,8 +28,10 @@ const TESTS: &[&str] = &[
     "ndl_tests",
     "example_callers",
     "example_tests",
-    "ndarray_layout_c",
 ];
+
+/// The exports for C.
+const EXPORTS: &[&str] = &["ndarray_layout_c"];
 
 /// Lints that the sources don't keep to, and why.
 const ALLOWED: &[(&str, &[&str])] = &[
@@ -71,6 +73,7 @@ fn main() -> Fallible<()> {
     fs::write(out.join("layer.rs"), crates_of(&top, LAYER, &[], "crate")?)?;
     fs::write(out.join("programs.rs"), crates_of(&top, PROGRAMS, &[], "crate")?)?;
     fs::write(out.join("tests.rs"), crates_of(&top, TESTS, TESTS, "::ndarray_layout")?)?;
+    fs::write(out.join("exports.rs"), crates_of(&top, EXPORTS, EXPORTS, "::ndarray_layout")?)?;
     Ok(())
 }
 
