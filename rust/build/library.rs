@@ -156,7 +156,7 @@ impl Eraser<'_> {
 }
 
 /// What stands between commas.
-fn items_of<'t, 'a>(trees: &'t [Tree<'a>]) -> impl Iterator<Item = &'t [Tree<'a>]> {
+pub(crate) fn items_of<'t, 'a>(trees: &'t [Tree<'a>]) -> impl Iterator<Item = &'t [Tree<'a>]> {
     trees.split(|tree| tree.is(",")).filter(|item| !item.is_empty())
 }
 

@@ -4,6 +4,7 @@
 mod docs;
 mod erase;
 mod errors;
+mod exports;
 mod library;
 mod names;
 mod tokens;
@@ -66,7 +67,14 @@ const ALLOWED: &[(&str, &[&str])] = &[
 
 type Fallible<T> = Result<T, Box<dyn Error>>;
 
+/// Writes what the package includes. With a crate as argument, one above the layer with exports for C, and the folder of its
+/// sources, prints that crate instead, and its exports as C calls them.
 fn main() -> Fallible<()> {
+    let arguments: Vec<String> = env::args().skip(1).collect();
+    if let [name, folder] = &arguments[..] {
+        println!("{}", exporting(name, Path::new(folder))?);
+        return Ok(());
+    }
     let top = PathBuf::from(env::var("CARGO_MANIFEST_DIR")?);
     let out = PathBuf::from(env::var("OUT_DIR")?);
     println!("cargo::rerun-if-changed=rust/build");
@@ -77,37 +85,51 @@ fn main() -> Fallible<()> {
     Ok(())
 }
 
+/// A crate above the package, and its exports.
+fn exporting(name: &str, folder: &Path) -> Fallible<String> {
+    let library: Vec<&str> = [LAYER, PROGRAMS].concat();
+    let names = Names { own: name, beside: &[], library: &library, package: "::ndarray_layout" };
+    let body = module_of(&folder.join("lib.rt"), folder, &names, true)?;
+    Ok(format!("#[allow({})]\npub mod {name} {{\n{body}\n}}\n", allowed()))
+}
+
+/// The lints that the sources don't keep to, as an attribute lists them.
+fn allowed() -> String {
+    let lints: Vec<&str> = ALLOWED.iter().flat_map(|(_, lints)| lints.iter().copied()).collect();
+    lints.join(", ")
+}
+
 /// Crates as modules. What a package leaves out is no module.
 fn crates_of(top: &Path, crates: &[&str], beside: &[&str], package: &str) -> Fallible<String> {
     let library: Vec<&str> = [LAYER, PROGRAMS].concat();
-    let allowed: Vec<&str> = ALLOWED.iter().flat_map(|(_, lints)| lints.iter().copied()).collect();
     let mut text = String::new();
     for own in crates {
         let source = top.join("crates").join(own).join("src");
         println!("cargo::rerun-if-changed={}", source.display());
         if source.exists() {
             let names = Names { own, beside, library: &library, package };
-            let body = module_of(&source.join("lib.rt"), &source, &names)?;
-            text += &format!("#[allow({})]\npub mod {own} {{\n{body}\n}}\n", allowed.join(", "));
+            let body = module_of(&source.join("lib.rt"), &source, &names, false)?;
+            text += &format!("#[allow({})]\npub mod {own} {{\n{body}\n}}\n", allowed());
         }
     }
     Ok(text)
 }
 
-/// A file as plain Rust, with the files of its modules in place of their names.
-fn module_of(file: &Path, folder: &Path, names: &Names) -> Fallible<String> {
+/// A file as plain Rust, with the files of its modules in place of their names, and with its exports as C calls them.
+fn module_of(file: &Path, folder: &Path, names: &Names, exported: bool) -> Fallible<String> {
     let source = fs::read_to_string(file).map_err(|error| format!("{}: {error}", file.display()))?;
-    let erased = tokens::trees_of(&source).and_then(|(trees, rest)| Ok(erase(&trees, names)? + rest));
+    let erased = tokens::trees_of(&source).and_then(|(trees, rest)| {
+        let exports = if exported { exports::flat(&trees)? } else { String::new() };
+        Ok(erase(&trees, names)? + rest + &exports)
+    });
     let erased = erased.map_err(|fault| format!("{}:{fault}", file.display()))?;
-    let prelude = format!("use {}::memory::prelude::*;\n", names.package);
-    let mut text = String::new();
     let (docs, items): (Vec<&str>, Vec<&str>) = erased.lines().partition(|line| line.starts_with("//!"));
-    text.extend(docs.iter().flat_map(|line| [*line, "\n"]));
-    text += &prelude;
-    for line in items {
+    let prelude = format!("use {}::memory::prelude::*;", names.package);
+    let mut text = String::new();
+    for line in docs.into_iter().chain([prelude.as_str()]).chain(items) {
         match line.strip_suffix(';').map(|line| line.rsplit(' ').collect::<Vec<_>>()).as_deref() {
             Some([name, "mod", ..]) => {
-                let body = module_of(&folder.join(format!("{name}.rt")), &folder.join(name), names)?;
+                let body = module_of(&folder.join(format!("{name}.rt")), &folder.join(name), names, exported)?;
                 text += &format!("{} {{\n{body}\n}}\n", line.trim_end_matches(';'));
             }
             _ => text.extend([line, "\n"]),

@@ -7,6 +7,8 @@ mod docs;
 mod erase;
 #[path = "../build/errors.rs"]
 mod errors;
+#[path = "../build/exports.rs"]
+mod exports;
 #[path = "../build/library.rs"]
 mod library;
 #[path = "../build/names.rs"]
@@ -99,6 +101,28 @@ fn a_derived_error_is_written_out() {
         "#[derive(Debug)] pub enum E {{ At {{ line: usize }}, Of(A), }} impl ::core::fmt::Display for E {{ {head} {{ match self {{ {arms} }} }} }} impl ::core::error::Error for E {{}}"
     );
     assert_eq!(line(source), due);
+}
+
+#[test]
+fn an_export_takes_what_c_passes() {
+    let of = |source: &str| match trees_of(source).and_then(|(trees, _)| exports::flat(&trees)) {
+        Ok(text) => text,
+        Err(fault) => fault.to_string(),
+    };
+    let text = of(
+        "#[unsafe(no_mangle)] pub extern \"C\" fn f(alloc: Global, n: usize, a: &[u8], b: &mut [i32], c: &mut usize) -> i32 { 0 }",
+    );
+    assert!(
+        text.contains(
+            "fn f(n: usize, a: *const u8, a_count: usize, b: *mut i32, b_count: usize, c: *mut usize) -> i32"
+        )
+    );
+    assert!(text.contains(
+        "super::f(n, ::core::slice::from_raw_parts(a, a_count), ::core::slice::from_raw_parts_mut(b, b_count), &mut *c)"
+    ));
+    assert_eq!(of("pub fn f() -> i32 { 0 }"), "");
+    assert_eq!(of("extern \"C\" fn f(a: &u8) -> i32 {}"), "1: `a` is a parameter that C can't pass");
+    assert_eq!(of("extern \"C\" fn f() {}"), "1: `)` is followed by no result");
 }
 
 #[test]

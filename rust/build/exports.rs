@@ -1,0 +1,63 @@
+//! The exports of a crate as C calls them: a list is a pointer and a count.
+
+use crate::erase::text_of;
+use crate::library::{items_of, without_memory};
+use crate::tokens::{Fault, Group, Kind, Tree, fault};
+
+/// A module of functions that take what C passes: one for each `extern "C" fn` of a source, in whose module it stands.
+pub fn flat(trees: &[Tree]) -> Result<String, Fault> {
+    let mut text = String::new();
+    for at in 0..trees.len() {
+        let [word, abi, keyword, name, Tree::Group(parameters), result @ ..] = &trees[at..] else {
+            continue;
+        };
+        if word.is("extern") && abi.first().kind == Kind::Literal && keyword.is("fn") {
+            text += &function(name.first().text, parameters, result)?;
+        }
+    }
+    Ok(if text.is_empty() { text } else { format!("\npub mod exported {{\nuse super::*;\n\n{text}}}\n") })
+}
+
+fn function(name: &str, parameters: &Group, result: &[Tree]) -> Result<String, Fault> {
+    let [minus, arrow, result, ..] = result else {
+        return Err(fault(&parameters.close, "is followed by no result"));
+    };
+    let (true, true, Some(result)) = (minus.is("-"), arrow.is(">"), result.word()) else {
+        return Err(fault(&parameters.close, "is followed by a result that isn't known"));
+    };
+    let (mut taken, mut passed) = (Vec::new(), Vec::new());
+    let kept = without_memory(&parameters.trees);
+    for parameter in items_of(&kept) {
+        let (declared, value) = passed_by_c(parameter)?;
+        taken.push(declared);
+        passed.push(value);
+    }
+    let (taken, passed) = (taken.join(", "), passed.join(", "));
+    Ok(format!(
+        "/// # Safety\n///\n/// Each pointer is aligned and leads to as many items as its count says.\n#[unsafe(no_mangle)]\npub unsafe extern \"C\" fn {name}({taken}) -> {result} {{\n    unsafe {{ super::{name}({passed}) }}\n}}\n\n"
+    ))
+}
+
+/// A parameter as C passes it, and the value that is made of it.
+fn passed_by_c(parameter: &[Tree]) -> Result<(String, String), Fault> {
+    let name = parameter[0].first().text;
+    let unknown = || fault(parameter[0].first(), "is a parameter that C can't pass");
+    let is_written = |ty: &[Tree]| ty.first().is_some_and(|word| word.is("mut"));
+    match &parameter[1..] {
+        [colon, amp, ty @ ..] if colon.is(":") && amp.is("&") => {
+            let (kind, call) = if is_written(ty) { ("mut", "from_raw_parts_mut") } else { ("const", "from_raw_parts") };
+            match ty.last() {
+                Some(Tree::Group(item)) if item.open.text == "[" => Ok((
+                    format!("{name}: *{kind} {}, {name}_count: usize", text_of(&item.trees)),
+                    format!("::core::slice::{call}({name}, {name}_count)"),
+                )),
+                Some(item) if is_written(ty) => {
+                    Ok((format!("{name}: *mut {}", item.first().text), format!("&mut *{name}")))
+                }
+                _ => Err(unknown()),
+            }
+        }
+        [colon, Tree::Leaf(ty)] if colon.is(":") => Ok((format!("{name}: {}", ty.text), name.to_string())),
+        _ => Err(unknown()),
+    }
+}
