@@ -46,15 +46,23 @@ fn shapes_and_steps_have_clones() -> Result<(), LayoutError> {
 }
 
 #[test]
-fn views_are_copied_and_compared() -> Result<(), LayoutError> {
+fn a_copy_of_a_view_is_its_own() -> Result<(), LayoutError> {
     let view = view_of(IxDyn(&[1, 2, 1, 3, 1]))?;
     let mut copy = view.clone();
     assert_eq!(copy, view);
     copy.collapse(Axis(1), 1)?;
     assert_ne!(copy, view);
     assert_eq!((view.start(), view.dim().slice()), (0, &[1, 2, 1, 3, 1][..]));
-    let [a, b] = [Ix2(2, 1), Ix2(4, 1)].map(|strides| Strided::new(Ix2(2, 1), strides, 1, 5, ReadOnly));
-    assert_ne!(a?, b?);
+    Ok(())
+}
+
+#[test]
+fn views_are_equal_by_start_shape_and_strides() -> Result<(), LayoutError> {
+    let view = |start, len, stride| Strided::from_parts(start, Ix1(len), Ix1(stride), 1, 9, ReadOnly);
+    assert_eq!(view(1, 2, 3)?, view(1, 2, 3)?);
+    assert_ne!(view(1, 2, 3)?, view(2, 2, 3)?);
+    assert_ne!(view(1, 2, 3)?, view(1, 1, 3)?);
+    assert_ne!(view(1, 2, 3)?, view(1, 2, 2)?);
     Ok(())
 }
 
@@ -70,7 +78,9 @@ fn arrays_are_equal_by_shape_and_items() -> Result<(), LayoutError> {
     assert_eq!(a, b);
     assert_eq!(hash_of(&a), hash_of(&b));
     assert_eq!(HashSet::from([a.clone(), b]).len(), 1);
-    assert_ne!(a, OwnedArray::from_shape_vec(Ix1(2).into(), vec![8, 9])?);
+    let other = OwnedArray::from_shape_vec(Ix1(2).into(), vec![8, 9])?;
+    assert_ne!(a, other);
+    assert_ne!(hash_of(&a), hash_of(&other));
     assert_ne!(a, OwnedArray::from_shape_vec(Ix1(1).into(), vec![8])?);
     let (tall, wide) = (counted(Ix2(3, 2))?, counted(Ix2(2, 3))?);
     assert_ne!(tall, wide);
