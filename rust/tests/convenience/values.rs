@@ -201,8 +201,8 @@ fn every_type_prints() -> Result<(), LayoutError> {
     let view = view_of(Ix1(2))?;
     assert!(format!("{view:?}").starts_with("Strided { start: 0"));
     assert_eq!(format!("{:?}", view.iter_places(Order::C)), "Places { left: 2, .. }");
-    let array = counted(Ix1(2))?;
-    assert_eq!(format!("{array:?}"), format!("OwnedArray {{ view: {view:?}, items: [0, 1] }}"));
+    let [array, _] = equal_arrays()?;
+    assert_eq!(format!("{array:?}"), format!("OwnedArray {{ view: {:?}, items: [8, 7] }}", array.view()));
     assert_eq!(format!("{:?}", array.iter()), "Items { left: 2, .. }");
     assert_eq!(format!("{:?}", all_indices(Ix2(2, 3))?.into_iter()), "IndicesIter { left: 6, .. }");
     assert_eq!(format!("{:?}", indices_iter_f(Ix2(2, 3))?), "IndicesIterF { left: 6, .. }");
