@@ -1,7 +1,8 @@
 """Builds what the benchmark runs, in a folder of its own; this repository is only read.
 
 The crate in ffi/ is a static library in Rattle above this repository's crates. Its sources are kept as texts, since the gate reads no
-`.rt` or `.antt` file outside of crates. It is proved, with each crate below it that isn't built yet.
+`.rt` or `.antt` file outside of crates. Where the kit is there it is proved, with each crate below it that isn't built yet. Everywhere it is
+compiled by rustc without its contracts, on the Rust package.
 """
 import argparse, contextlib, os, shutil, subprocess, sys, tempfile, time
 
@@ -12,7 +13,7 @@ from crate_list import crates_below, read_list
 
 from ndarray_layer import cut_layer
 
-CRATE = "bench_ffi"
+CRATE, BY_RUSTC = "bench_ffi", "bench_by_rustc"
 LINE = f"{CRATE} staticlib: ndarray_layout nd_base nd_owned"
 PARTS = ("src", "specs", "proofs")
 # As a user of ndarray builds it: optimized, nothing checked, for any x86-64 processor. It is one unit, so that nothing depends on
@@ -77,7 +78,7 @@ def copy_crate(crate, to):
         shutil.copytree(f"{crate}/out/rlib", f"{to}/out/rlib")
 
 
-def copy_own_crate(to):
+def copy_own_crate(to, changed=lambda text: text):
     """Copies the sources of the crate in ffi/ under their real names."""
     for part in PARTS:
         shutil.rmtree(f"{to}/{part}", ignore_errors=True)
@@ -85,7 +86,22 @@ def copy_own_crate(to):
         target = os.path.normpath(f"{to}/{os.path.relpath(folder, f'{HERE}/ffi')}")
         os.makedirs(target, exist_ok=True)
         for name in names:
-            shutil.copy(f"{folder}/{name}", f"{target}/{name.removesuffix('.txt')}")
+            with open(f"{folder}/{name}", encoding="utf-8") as source, open(f"{target}/{name.removesuffix('.txt')}", "w", encoding="utf-8") as file:
+                file.write(changed(source.read()))
+
+
+def copy_programs(room):
+    """Copies src/, with a second module of our calls, which calls what rustc compiled."""
+    to = f"{room.folder}/src"
+    shutil.rmtree(to, ignore_errors=True)
+    shutil.copytree(f"{HERE}/src", to)
+    with open(f"{to}/ours.rs", encoding="utf-8") as file:
+        text = file.read()
+    for side, crate in (("proved", CRATE), ("by_rustc", BY_RUSTC)):
+        os.makedirs(f"{to}/{side}", exist_ok=True)
+        with open(f"{to}/{side}/ours.rs", "w", encoding="utf-8") as file:
+            file.write(text.replace(CRATE, crate).replace("use super::tables", "use crate::tables"))
+    return to
 
 
 def copy_repository(room, *crates):
@@ -101,18 +117,41 @@ def copy_repository(room, *crates):
     return copy
 
 
+def has_kit():
+    return shutil.which("rt") is not None
+
+
 def kit_folder():
     told = subprocess.run(["rt", "doc"], stdin=subprocess.DEVNULL, capture_output=True, text=True, check=True)
     return os.path.dirname(told.stdout.strip())
 
 
-def link_words(room):
+def link_proved(room):
     """Proves and builds the crate in ffi/, and returns how a Rust program is linked with it."""
     copy = copy_repository(room, "ndarray_layout", "nd_owned")
     room.say(f"proving and building ours, some minutes where nothing is built yet; log: {room.folder}/ours.log")
     room.must(["rt", "lib"], f"{copy}/crates/{CRATE}", "ours.log")
     archives = [f"{copy}/crates/{CRATE}/out/lib{CRATE}.a", f"{kit_folder()}/c/liblibc_c.a"]
-    return [word for archive in archives for word in ("-C", f"link-arg={archive}")]
+    return ["--cfg", "proved", *(word for archive in archives for word in ("-C", f"link-arg={archive}"))]
+
+
+def link_by_rustc(room):
+    """Compiles the Rust package, and on it the crate in ffi/ without its contracts, under other names; returns how a program is linked."""
+    out, source = f"{room.folder}/package", f"{room.folder}/{BY_RUSTC}"
+    os.makedirs(out, exist_ok=True)
+    copy_own_crate(source, lambda text: text.replace(CRATE, BY_RUSTC))
+    eraser, libraries = f"{room.folder}/erase", [f"{room.folder}/lib{name}.rlib" for name in ("ndarray_layout", BY_RUSTC)]
+    room.must([*RUSTC, f"{TOP}/rust/build/main.rs", "-o", eraser], room.folder, "package.log")
+    env = {**os.environ, "CARGO_MANIFEST_DIR": TOP, "OUT_DIR": out}
+    room.must([eraser], room.folder, "package.log", env=env)
+    text = subprocess.run([eraser, BY_RUSTC, f"{source}/src"], capture_output=True, text=True, check=True).stdout
+    with open(f"{room.folder}/{BY_RUSTC}.rs", "w", encoding="utf-8") as file:
+        file.write(text)
+    rlib, std = ["--crate-type", "rlib", "--cap-lints", "allow", "--crate-name"], ["--cfg", 'feature="std"']
+    room.must([*RUSTC, *rlib, "ndarray_layout", *std, f"{TOP}/rust/src/lib.rs", "-o", libraries[0]], room.folder, "package.log", env=env)
+    words = ["--extern", f"ndarray_layout={libraries[0]}", "-o", libraries[1]]
+    room.must([*RUSTC, *rlib, BY_RUSTC, f"{room.folder}/{BY_RUSTC}.rs", *words], room.folder, "package.log")
+    return ["-L", room.folder, "--extern", f"{BY_RUSTC}={libraries[1]}"]
 
 
 def build_layer(room, source):
@@ -129,7 +168,7 @@ def build_program(room, name, *words, shift=0):
     """Compiles a program of src/, and returns its file. Another shift moves its code, so that it is another build."""
     program = f"{room.folder}/{name}-{shift}"
     env = {**os.environ, "SHIFT": str(shift)}
-    room.must([*RUSTC, f"{HERE}/src/{name}.rs", "-o", program, *words], room.folder, f"{name}.log", env=env)
+    room.must([*RUSTC, f"{copy_programs(room)}/{name}.rs", "-o", program, *words], room.folder, f"{name}.log", env=env)
     return program
 
 

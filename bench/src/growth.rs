@@ -3,8 +3,12 @@
 //! usage: growth time CALL SIZE     nanoseconds of a call, least of some rounds, less what making its arguments takes
 //!        growth peak CALL SIZE N   the greatest memory of this process in KiB, where the call is made N times
 
+#[path = "by_rustc/ours.rs"]
 mod ours;
 mod tables;
+
+// (linked for its exports)
+use bench_by_rustc as _;
 
 use std::hint::black_box;
 use std::time::Instant;

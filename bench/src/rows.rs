@@ -1,7 +1,8 @@
 //! The calls that are timed. Each works on the tables of numbers that it is given.
+use super::ours;
 use crate::tables::{self, Lists, Parts, RawElem, SETS, Sharing};
+use crate::theirs;
 use crate::timing::{Row, row};
-use crate::{ours, theirs};
 
 /// How many places, or indices, the greatest shapes have.
 const PLACES: usize = 1_000_000;

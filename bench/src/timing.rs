@@ -5,13 +5,13 @@ use std::time::Instant;
 /// A call over a whole table, so many times; the sum over the results.
 pub type Call = Box<dyn Fn(usize) -> usize>;
 
-/// One call of both sides.
+/// One call of all sides.
 pub struct Row {
     pub name: String,
     /// How many calls, indices or items a pass is.
     pub items: usize,
     /// ndarray's and ours.
-    pub sides: [Call; 2],
+    pub sides: Vec<Call>,
 }
 
 pub fn row(
@@ -20,14 +20,14 @@ pub fn row(
     theirs: impl Fn(usize) -> usize + 'static,
     ours: impl Fn(usize) -> usize + 'static,
 ) -> Row {
-    Row { name: name.into(), items, sides: [Box::new(theirs), Box::new(ours)] }
+    Row { name: name.into(), items, sides: vec![Box::new(theirs), Box::new(ours)] }
 }
 
 /// A row with the passes of a round, and for each side the least of all rounds, without a pass and with them.
 struct Timed<'a> {
     row: &'a Row,
     passes: usize,
-    least_ns: [[f64; 2]; 2],
+    least_ns: Vec<[f64; 2]>,
 }
 
 fn time_ns(call: &Call, passes: usize) -> f64 {
@@ -40,14 +40,15 @@ fn time_ns(call: &Call, passes: usize) -> f64 {
 fn passes_of(row: &Row, round_ns: f64) -> usize {
     let least = |call: &Call, passes| (0..8).map(|_| time_ns(call, passes)).fold(f64::INFINITY, f64::min);
     let some = if row.items > 100_000 { 1 } else { 32 };
-    let each = row.sides.each_ref().map(|call| (least(call, some) - least(call, 0)) / some as f64);
-    ((round_ns / each[0].max(each[1]).max(100.0)) as usize).max(1)
+    let each = row.sides.iter().map(|call| (least(call, some) - least(call, 0)) / some as f64);
+    ((round_ns / each.fold(100.0, f64::max)) as usize).max(1)
 }
 
-/// The two sides take turns, so that both have the good moments of a busy machine.
+/// The sides take turns, so that all have the good moments of a busy machine.
 fn time_round(timed: &mut Timed, round: usize) {
-    for turn in 0..2 {
-        let side = (turn + round) % 2;
+    let sides = timed.row.sides.len();
+    for turn in 0..sides {
+        let side = (turn + round) % sides;
         for (at, passes) in [0, timed.passes].into_iter().enumerate() {
             let ns = time_ns(&timed.row.sides[side], passes);
             timed.least_ns[side][at] = timed.least_ns[side][at].min(ns);
@@ -55,16 +56,19 @@ fn time_round(timed: &mut Timed, round: usize) {
     }
 }
 
-/// The nanoseconds that an item of each row takes, on either side.
-pub fn times(rows: &[Row], rounds: usize, round_ns: f64) -> Vec<[f64; 2]> {
-    let begin = |row| Timed { row, passes: passes_of(row, round_ns), least_ns: [[f64::INFINITY; 2]; 2] };
-    let mut all: Vec<Timed> = rows.iter().map(begin).collect();
+/// The nanoseconds that an item of each row takes, on each side.
+pub fn times(rows: &[Row], rounds: usize, round_ns: f64) -> Vec<Vec<f64>> {
+    let mut all: Vec<Timed> = vec![];
+    for row in rows {
+        let least_ns = vec![[f64::INFINITY; 2]; row.sides.len()];
+        all.push(Timed { row, passes: passes_of(row, round_ns), least_ns });
+    }
     for round in 0..rounds {
         all.iter_mut().for_each(|timed| time_round(timed, round));
     }
     let per_item = |timed: &Timed| {
         let items = (timed.passes * timed.row.items) as f64;
-        timed.least_ns.map(|[without, with]| (with - without) / items)
+        timed.least_ns.iter().map(|[without, with]| (with - without) / items).collect()
     };
     all.iter().map(per_item).collect()
 }
