@@ -58,6 +58,20 @@ macro_rules! s {
 }
 
 /// What an element of `s!` does to the count of axes. ndarray's `SliceNextDim`.
+///
+/// ```
+/// use ndarray_layout::{Ix0, Ix1, Ix2, SliceInfo, SliceInfoElem, SliceNextDim, s};
+///
+/// /// A row, by a number of any type that `s!` takes.
+/// fn row<I>(row: I) -> SliceInfo<[SliceInfoElem; 2], Ix2, Ix1>
+/// where
+///     I: SliceNextDim<InDim = Ix1, OutDim = Ix0> + Into<SliceInfoElem>,
+/// {
+///     s![row, ..]
+/// }
+///
+/// assert_eq!(row(1_usize).indices(), row(1_i32).indices());
+/// ```
 pub trait SliceNextDim {
     /// As many axes as the element takes of the shape before: one, or none for `NewAxis`.
     type InDim: Dimension;

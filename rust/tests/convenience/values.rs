@@ -181,6 +181,8 @@ fn errors_print_and_convert() -> Result<(), Box<dyn Error>> {
     assert_eq!(Box::<dyn Error>::from(failed).to_string(), "out of memory");
     let boxed = Box::<dyn Error + Send + Sync>::from(shape.clone());
     assert_eq!(boxed.downcast_ref(), Some(&shape));
+    let refused = OwnedArray::from_shape_vec(Ix2(2, 3).into(), vec![1]).map_err(LayoutError::from);
+    assert_eq!(refused.err(), Some(from_kind(ErrorKind::OutOfBounds).into()));
     Ok(())
 }
 
