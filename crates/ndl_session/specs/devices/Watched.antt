@@ -1,4 +1,5 @@
--- What a clause reads of a watched device, which writes fail, which reads find the end, and which calls come late.
+-- What a clause reads of a watched device, which writes fail, which reads find the end, which calls come late, and whether what
+-- it gave has found no room.
 use Rattle.std.specs.Prelude.{◌≡◌, ℕ, Bool, true, false, not, ◌==◌, ◌&&◌, ◌||◌, List, [], length, Ok, Err, Result, codes, refl}
 use Rattle.ndl_session.specs.declared.devices.watched.Watched.{Watched}
 
@@ -17,6 +18,14 @@ has_ended w = w.ended
 -- whether a call of the device came late so far
 abbrev pub was_used_late : {T : Type 0} → Watched T → Bool
 was_used_late w = w.used_late
+
+-- whether an allocation for bytes that the device gave has failed so far
+abbrev pub lacks_room : {T : Type 0} → Watched T → Bool
+lacks_room w = w.lacks_room
+
+-- whether a read of the device came after such a failed allocation so far
+abbrev pub was_read_without_room : {T : Type 0} → Watched T → Bool
+was_read_without_room w = w.read_without_room
 
 -- a read comes late after a failure, and after the end of the input
 abbrev pub is_late_read : {T : Type 0} → Watched T → Bool
@@ -38,10 +47,14 @@ is_failed_write (Err e) piece = true
 
 -- examples, where a number stands for a device and for an error
 abbrev after_failure : Watched ℕ
-after_failure = record { inner = 7; failed = true; ended = false; used_late = false }
+after_failure = record { inner = 7; failed = true; ended = false; used_late = false; lacks_room = false; read_without_room = false }
 
 abbrev after_end : Watched ℕ
-after_end = record { inner = 7; failed = false; ended = true; used_late = false }
+after_end = record { inner = 7; failed = false; ended = true; used_late = false; lacks_room = false; read_without_room = false }
+
+abbrev after_failed_allocation : Watched ℕ
+after_failed_allocation =
+    record { inner = 7; failed = false; ended = false; used_late = false; lacks_room = true; read_without_room = false }
 
 device_seven : device after_failure ≡ 7
 device_seven = refl
@@ -54,6 +67,15 @@ end_is_kept = refl
 
 not_used_late_yet : was_used_late after_end ≡ false
 not_used_late_yet = refl
+
+room_is_lacked : lacks_room after_failed_allocation ≡ true
+room_is_lacked = refl
+
+room_after_end : lacks_room after_end ≡ false
+room_after_end = refl
+
+not_read_without_room_yet : was_read_without_room after_failed_allocation ≡ false
+not_read_without_room_yet = refl
 
 read_after_failure : is_late_read after_failure ≡ true
 read_after_failure = refl

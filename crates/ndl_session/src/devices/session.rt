@@ -9,6 +9,7 @@ ghost use Rattle.ndl_session.specs.devices.Whole.{AppendsBeginning};
 ghost use Rattle.ndl_session.specs.devices.Session.{AppendsAnswer, AppendsAnswerBeginning, IsInput};
 ghost use Rattle.ndl_session.specs.devices.Session.{input_failed_text, out_of_memory_text};
 ghost use Rattle.ndl_session.specs.devices.Watched.{device, has_ended, has_failed, was_used_late};
+ghost use Rattle.ndl_session.specs.devices.Watched.{lacks_room, was_read_without_room};
 
 use crate::answer::{Answer, answer_to};
 use crate::devices::watched::Watched;
@@ -38,8 +39,8 @@ const DEVICE_FAILED: u8 = 4;
 /// status is 3. Where a write fails or takes no byte, a beginning of that text has gone out, nothing more is written,
 /// and the status is 4.
 ///
-/// Nothing is read after a failed read or after the end of the input, and nothing is written or flushed after a failed
-/// write. Of a reader that tells no bytes, the answer is that to some input.
+/// Nothing is read after a failed read, after the end of the input, or after an allocation for bytes of the input has failed.
+/// Nothing is written or flushed after a failed write. Of a reader that tells no bytes, the answer is that to some input.
 ///
 /// Takes time and memory in proportion to the lengths of the input and of the text.
 ///
@@ -62,6 +63,14 @@ pub fn session<R: io::Read, W: io::Write>(
     ensures reader_late { has_ended reader.old ≡ false
         → was_used_late reader.new ≡ was_used_late reader.old }
     ensures writer_late { was_used_late writer.new ≡ was_used_late writer.old }
+
+    // A failed allocation for bytes of the input ends the reading.
+    ensures reader_room { lacks_room reader.old ≡ false
+        → was_read_without_room reader.new ≡ was_read_without_room reader.old }
+    ensures room { result ≡ 3
+        → (IsTrue (has_ended reader.new) ⊎ IsTrue (lacks_room reader.new)) }
+    ensures no_room { lacks_room reader.old ≡ false → lacks_room reader.new ≡ true
+        → has_failed writer.new ≡ false → result ≡ 3 }
 
     // Where nothing fails.
     ensures answered { result ≢ 3 → result ≢ 4
@@ -115,6 +124,12 @@ fn answer_input<R: io::Read>(alloc: Global, reader: &mut Watched<R>) -> Result<A
     ensures ended { OnOk result (has_ended reader.new ≡ true) }
     ensures late { has_ended reader.old ≡ false
         → was_used_late reader.new ≡ was_used_late reader.old }
+    ensures reader_room { lacks_room reader.old ≡ false
+        → was_read_without_room reader.new ≡ was_read_without_room reader.old }
+    ensures room { result ≡ Err InputError.OutOfMemory
+        → (IsTrue (has_ended reader.new) ⊎ IsTrue (lacks_room reader.new)) }
+    ensures no_room { lacks_room reader.old ≡ false → lacks_room reader.new ≡ true
+        → result ≡ Err InputError.OutOfMemory }
 {
     let input = read_whole(alloc, reader)?;
     Ok(answer_to(alloc, &input)?)

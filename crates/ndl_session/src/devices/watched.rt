@@ -1,8 +1,10 @@
-//! A reader or a writer that remembers whether one of its calls has failed, found the end, or came late.
-ghost use Rattle.std.specs.Prelude.{◌≡◌, ◌||◌, false, is_err};
+//! A reader or a writer that remembers whether one of its calls has failed, found the end, or came late, and whether
+//! what it gave has found no room.
+ghost use Rattle.std.specs.Prelude.{◌≡◌, ◌++◌, ◌||◌, false, is_err, OnOk};
 ghost use Rattle.std.specs.Io.{ReadsAtMost, WritesAtMost};
 ghost use Rattle.std.specs.Io.KnownBytes.{Keeps, ReadConsumes, WriteAppends};
 
+use std::alloc::AllocError;
 use std::io;
 use std::io::{Read, Write};
 
@@ -14,29 +16,39 @@ use std::io::{Read, Write};
 ///
 /// Its input has ended from the first `read` that gave 0 bytes to a buffer that has room. It was used late
 /// where it was read after a failure or after that end, or written or flushed after a failure.
+///
+/// It lacks room from the first bytes that it gave for which an allocation failed. It was read without room where it was
+/// read after that.
 #[derive(Debug, Drop)]
 pub struct Watched<T> {
     inner: T,
     failed: bool,
     ended: bool,
     used_late: bool,
+    lacks_room: bool,
+    read_without_room: bool,
 }
 
 impl<T> Watched<T> {
     ghost use Rattle.ndl_session.specs.devices.Watched.{device, has_failed, has_ended, was_used_late};
+    ghost use Rattle.ndl_session.specs.devices.Watched.{lacks_room, was_read_without_room};
 
-    /// The device, none of whose calls counts as failed yet, as the end of the input, or as late.
+    /// The device, none of whose calls counts as failed yet, as the end of the input, or as late. It lacks no room.
     pub fn new(inner: T) -> Self
         ensures device { device result ≡ inner }
         ensures failed { has_failed result ≡ false }
         ensures ended { has_ended result ≡ false }
         ensures late { was_used_late result ≡ false }
+        ensures room { lacks_room result ≡ false }
+        ensures no_room { was_read_without_room result ≡ false }
     {
         Watched {
             inner,
             failed: false,
             ended: false,
             used_late: false,
+            lacks_room: false,
+            read_without_room: false,
         }
     }
 
@@ -62,6 +74,37 @@ impl<T> Watched<T> {
         self.used_late
     }
 
+    /// Whether an allocation for bytes that it gave has failed.
+    pub fn lacks_room(&self) -> bool
+        ensures { result ≡ lacks_room self.now }
+    {
+        self.lacks_room
+    }
+
+    /// Whether one of the reads so far came after an allocation for bytes that it gave had failed.
+    pub fn read_without_room(&self) -> bool
+        ensures { result ≡ was_read_without_room self.now }
+    {
+        self.read_without_room
+    }
+
+    /// Appends bytes that the device gave to those kept so far.
+    ///
+    /// Errors: out of memory; the device lacks room then.
+    pub(super) fn keep(&mut self, kept: &mut Vec<u8>, given: &[u8]) -> Result<(), AllocError>
+        ensures kept { OnOk result (kept.new.items ≡ kept.old.items ++ given.now) }
+        ensures device { device self.new ≡ device self.old }
+        ensures failed { has_failed self.new ≡ has_failed self.old }
+        ensures ended { has_ended self.new ≡ has_ended self.old }
+        ensures late { was_used_late self.new ≡ was_used_late self.old }
+        ensures room { lacks_room self.new ≡ (lacks_room self.old || is_err result) }
+        ensures no_room { was_read_without_room self.new ≡ was_read_without_room self.old }
+    {
+        let outcome = kept.extend_from_slice(given);
+        self.lacks_room = self.lacks_room || outcome.is_err();
+        outcome
+    }
+
     /// The device, as its last call left it.
     pub fn into_inner(self) -> T
         ensures { result ≡ device self }
@@ -72,6 +115,7 @@ impl<T> Watched<T> {
 
 impl<R: Read> Watched<R> {
     ghost use Rattle.ndl_session.specs.devices.Watched.{device, has_failed, has_ended, is_end, was_used_late};
+    ghost use Rattle.ndl_session.specs.devices.Watched.{lacks_room, was_read_without_room};
 
     /// Reads as the device does. The caller ensures that no read or write of it has failed before.
     ///
@@ -85,6 +129,9 @@ impl<R: Read> Watched<R> {
         ensures ended { has_ended self.new ≡ (has_ended self.old || is_end result buf.new) }
         ensures late { has_ended self.old ≡ false → was_used_late self.new ≡
             was_used_late self.old }
+        ensures room { lacks_room self.new ≡ lacks_room self.old }
+        ensures no_room { lacks_room self.old ≡ false →
+            was_read_without_room self.new ≡ was_read_without_room self.old }
     {
         self.read(buf)
     }
@@ -111,7 +158,7 @@ impl<W: Write> Watched<W> {
 
 impl<R: Read> Read for Watched<R> {
     ghost use Rattle.ndl_session.specs.devices.Watched.{device, has_failed, has_ended, was_used_late};
-    ghost use Rattle.ndl_session.specs.devices.Watched.{is_end, is_late_read};
+    ghost use Rattle.ndl_session.specs.devices.Watched.{is_end, is_late_read, lacks_room, was_read_without_room};
 
     ghost remaining = { λ w. R.remaining (device w) };
 
@@ -122,8 +169,12 @@ impl<R: Read> Read for Watched<R> {
         ensures failed { has_failed self.new ≡ (has_failed self.old || is_err result) }
         ensures ended { has_ended self.new ≡ (has_ended self.old || is_end result buf.new) }
         ensures late { was_used_late self.new ≡ (was_used_late self.old || is_late_read self.old) }
+        ensures room { lacks_room self.new ≡ lacks_room self.old }
+        ensures no_room { was_read_without_room self.new
+            ≡ (was_read_without_room self.old || lacks_room self.old) }
     {
         self.used_late = self.used_late || self.failed || self.ended;
+        self.read_without_room = self.read_without_room || self.lacks_room;
         let outcome = self.inner.read(buf);
         let is_end = match &outcome {
             Ok(given) => *given == 0 && !buf.is_empty(),

@@ -6,6 +6,7 @@ ghost use Rattle.std.specs.Prelude.{◌≡◌, ◌↔◌, true, false, Err, IfOk
 ghost use Rattle.std.specs.Io.KnownBytes.{Appends, IsAtEnd};
 ghost use Rattle.ndl_session.specs.devices.Whole.{AppendsBeginning};
 ghost use Rattle.ndl_session.specs.devices.Watched.{device, has_ended, has_failed, was_used_late};
+ghost use Rattle.ndl_session.specs.devices.Watched.{lacks_room, was_read_without_room};
 ghost use Rattle.ndl_session.specs.declared.devices.whole.InputError.TheVariants.{ReadFailed, OutOfMemory};
 
 use crate::devices::watched::Watched;
@@ -58,6 +59,11 @@ pub(super) fn read_whole<R: io::Read>(
     ensures ended { OnOk result (has_ended reader.new ≡ true) }
     ensures late { has_ended reader.old ≡ false
         → was_used_late reader.new ≡ was_used_late reader.old }
+    ensures room { result ≡ Err InputError.OutOfMemory → lacks_room reader.new ≡ true }
+    ensures memory { lacks_room reader.old ≡ false → lacks_room reader.new ≡ true
+        → result ≡ Err InputError.OutOfMemory }
+    ensures no_room { lacks_room reader.old ≡ false
+        → was_read_without_room reader.new ≡ was_read_without_room reader.old }
 {
     let mut bytes = Vec::new(alloc);
     let mut piece = [0u8; PIECE_LEN];
@@ -66,7 +72,7 @@ pub(super) fn read_whole<R: io::Read>(
         if count == 0 {
             return Ok(bytes);
         }
-        bytes.extend_from_slice(&piece[..count])?;
+        reader.keep(&mut bytes, &piece[..count])?;
     }
 }
 
