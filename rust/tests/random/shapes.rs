@@ -1,0 +1,288 @@
+//! Other shapes: broadcasting, merging, reshaping, permuting.
+
+use crate::compare::{CALLS, ORDERS, compare};
+use crate::model::{layouts, shapes as model};
+use crate::numbers::Numbers;
+use crate::types::{axes_of, dimension, lists_of, lowest, of_types, signed_list, strides_of};
+use ndarray_layout::{Axis, ErrorKind, IxDyn, LayoutError, Lengths, Order, ShapeError, co_broadcast, reshape_dim};
+use std::cell::Cell;
+
+/// A shape that is mostly one that a shape can be broadcast to.
+fn target(numbers: &mut Numbers, shape: &[usize]) -> Vec<usize> {
+    let mut target = shape.to_vec();
+    for len in &mut target {
+        if *len == 1 || numbers.once_in(20) {
+            *len = numbers.pick(&[0, 1, 2, 3, 4, 7]);
+        }
+    }
+    for _ in 0..numbers.pick(&[0, 0, 1, 2]) {
+        target.insert(0, numbers.pick(&[0, 1, 2, 3, 1 << 31]));
+    }
+    if numbers.once_in(20) && !target.is_empty() {
+        target.remove(0);
+    }
+    if numbers.once_in(20) {
+        target.insert(0, numbers.extreme_len());
+    }
+    target
+}
+
+/// The common shape of two, whose types fix the count of axes or don't.
+fn common<A: Lengths, B: Lengths>(first: &[usize], second: &[usize]) -> Result<Vec<usize>, LayoutError> {
+    let common: B = co_broadcast(&dimension::<A>(first), &dimension::<IxDyn>(second))?;
+    Ok(common.slice().to_vec())
+}
+
+#[test]
+fn common_shapes_are_the_models() {
+    let arguments = |numbers: &mut Numbers| {
+        let first = numbers.shape();
+        let mut second = target(numbers, &first);
+        for len in &mut second {
+            if numbers.once_in(4) {
+                *len = 1;
+            }
+        }
+        if numbers.once_in(2) { (second, first) } else { (first, second) }
+    };
+    compare(
+        "co_broadcast",
+        &["Ok", "IncompatibleShape"],
+        arguments,
+        |(first, second)| {
+            let mut results = of_types!(Some(first.len()), D => common::<D, IxDyn>(first, second));
+            results.extend(of_types!(Some(first.len().max(second.len())), D => common::<IxDyn, D>(first, second)));
+            results
+        },
+        |(first, second)| model::co_broadcast(first, second),
+    );
+}
+
+/// The strides of a layout that is read as one of a shape.
+fn broadcast<A: Lengths, B: Lengths>(
+    shape: &[usize],
+    strides: &[isize],
+    target: &[usize],
+) -> Result<Vec<isize>, LayoutError> {
+    let view = lowest::<A>(shape, strides)?;
+    let wide = view.broadcast(&dimension::<B>(target))?;
+    assert_eq!((wide.start(), wide.dim().slice()), (view.start(), target));
+    Ok(signed_list(wide.strides()))
+}
+
+#[test]
+fn strides_of_broadcasts_are_the_models() {
+    let arguments = |numbers: &mut Numbers| {
+        let (shape, strides) = numbers.layout();
+        let target = target(numbers, &shape);
+        (shape, strides, target)
+    };
+    compare(
+        "broadcast_strides",
+        &["Ok", "IncompatibleLayout", "Overflow", "IncompatibleShape"],
+        arguments,
+        |(shape, strides, target)| {
+            let mut results = of_types!(axes_of(shape, strides), D => broadcast::<D, IxDyn>(shape, strides, target));
+            results.extend(of_types!(Some(target.len()), D => broadcast::<IxDyn, D>(shape, strides, target)));
+            results
+        },
+        |(shape, strides, target)| {
+            layouts::check_valid(shape, strides)?;
+            model::broadcast_strides(shape, strides, target)
+        },
+    );
+}
+
+type Merged = (bool, Vec<usize>, Vec<isize>);
+
+/// Whether axis `take` was merged into axis `into`, and what the layout is then; an error changes nothing.
+fn merged<D: Lengths>(shape: &[usize], strides: &[isize], take: usize, into: usize) -> Result<Merged, ShapeError> {
+    let mut view = lowest::<D>(shape, strides)?;
+    let before = lists_of(&view);
+    let merged = view.merge(Axis(take), Axis(into));
+    let after = lists_of(&view);
+    assert!(merged == Ok(true) || after == before, "changed without a merge: {before:?}");
+    assert_eq!(after.start, before.start);
+    Ok((merged?, after.shape, after.strides))
+}
+
+#[test]
+fn merged_axes_are_the_models() {
+    let arguments = |numbers: &mut Numbers| {
+        let (shape, strides) = numbers.layout();
+        let axis = |numbers: &mut Numbers| match numbers.below(30) {
+            0 => numbers.extreme_len(),
+            1 => shape.len(),
+            _ => numbers.below(shape.len().max(1)),
+        };
+        let (take, into) = (axis(numbers), axis(numbers));
+        (shape, strides, take, into)
+    };
+    let merges = Cell::new(0);
+    compare(
+        "merge_axes",
+        &["Ok", "IncompatibleLayout", "Overflow", "OutOfBounds", "Unsupported"],
+        arguments,
+        |(shape, strides, take, into)| of_types!(axes_of(shape, strides), D => merged::<D>(shape, strides, *take, *into)),
+        |(shape, strides, take, into)| {
+            layouts::check_valid(shape, strides)?;
+            let (mut new_shape, mut new_strides) = (shape.clone(), strides.clone());
+            let answer = model::merge_axes(&mut new_shape, &mut new_strides, *take, *into)?;
+            merges.set(merges.get() + usize::from(answer));
+            Ok((answer, new_shape, new_strides))
+        },
+    );
+    println!("merge_axes: {} merged", merges.get());
+    assert!(merges.get() > 10_000, "{} merged", merges.get());
+}
+
+/// A shape made of the factors of another one, seldom of another size.
+fn other_shape(numbers: &mut Numbers, shape: &[usize]) -> Vec<usize> {
+    let mut factors = split_lengths(numbers, shape);
+    let mut k = 0;
+    while k + 1 < factors.len() {
+        if numbers.once_in(3) {
+            factors[k] = factors[k].saturating_mul(factors.remove(k + 1));
+        }
+        k += 1;
+    }
+    for _ in 0..numbers.pick(&[0, 0, 1, 2]) {
+        let at = numbers.below(factors.len() + 1);
+        factors.insert(at, 1);
+    }
+    if numbers.once_in(4) {
+        factors.retain(|len| *len != 1);
+    }
+    if numbers.once_in(8) && !factors.is_empty() {
+        let at = numbers.below(factors.len());
+        factors[at] = if numbers.once_in(4) { numbers.extreme_len() } else { numbers.below(6) };
+    }
+    factors
+}
+
+/// Lengths of which some stand as two factors.
+fn split_lengths(numbers: &mut Numbers, shape: &[usize]) -> Vec<usize> {
+    let mut factors = shape.to_vec();
+    for k in 0..shape.len() {
+        let divisor = numbers.pick(&[2, 2, 3, 5, 1 << 16]);
+        let rest = factors[k] / divisor;
+        if rest * divisor == factors[k] && numbers.once_in(2) {
+            factors[k] = rest;
+            factors.insert(k, divisor);
+        }
+    }
+    factors
+}
+
+/// The strides of a layout of another shape. By a call on the view, and by ndarray's function where it may be called.
+fn reshaped<A: Lengths, B: Lengths>(
+    shape: &[usize],
+    strides: &[isize],
+    to: &[usize],
+    order: Order,
+) -> Result<Vec<isize>, LayoutError> {
+    let view = lowest::<A>(shape, strides)?;
+    let to_dim = dimension::<B>(to);
+    let other = view.reshape(&to_dim, order);
+    if layouts::check_size(to).is_ok() && !layouts::is_empty(shape) && !layouts::is_empty(to) {
+        let direct = reshape_dim(&dimension::<A>(shape), &strides_of::<A>(strides), &to_dim, order);
+        assert_eq!(
+            direct.as_ref().map_err(LayoutError::clone),
+            other.as_ref().map(|view| view.strides()).map_err(LayoutError::clone)
+        );
+    }
+    let other = other?;
+    assert_eq!((other.start(), other.dim().slice()), (view.start(), to));
+    Ok(signed_list(other.strides()))
+}
+
+#[test]
+fn strides_of_reshapes_are_the_models() {
+    let arguments = |numbers: &mut Numbers| {
+        let (shape, strides) = numbers.layout();
+        let to = other_shape(numbers, &shape);
+        (shape, strides, to, numbers.pick(&ORDERS))
+    };
+    compare(
+        "reshape_dim",
+        &["Ok", "IncompatibleLayout", "Overflow", "IncompatibleShape"],
+        arguments,
+        |(shape, strides, to, order)| {
+            let mut results = of_types!(axes_of(shape, strides), D => reshaped::<D, IxDyn>(shape, strides, to, *order));
+            results.extend(of_types!(Some(to.len()), D => reshaped::<IxDyn, D>(shape, strides, to, *order)));
+            results
+        },
+        |(shape, strides, to, order)| {
+            layouts::check_valid(shape, strides)?;
+            let new_strides = model::reshape(shape, strides, *order, to)?;
+            if layouts::size(shape) <= 1_000 {
+                let old = layouts::places(0, shape, strides, *order);
+                assert_eq!(layouts::places(0, to, &new_strides, *order), old, "other places: {shape:?} {strides:?}");
+            }
+            Ok(new_strides)
+        },
+    );
+}
+
+/// Where a reshape is an error for its strides, the only ones that could do give other places.
+#[test]
+fn reshapes_without_strides_have_none() {
+    let mut numbers = Numbers::new(11);
+    let mut refused = 0;
+    for _ in 0..CALLS {
+        let (shape, strides) = numbers.layout();
+        let (to, order) = (other_shape(&mut numbers, &shape), numbers.pick(&ORDERS));
+        let size = layouts::size(&shape);
+        if layouts::check_valid(&shape, &strides).is_err() || size != layouts::size(&to) || size > 1_000 {
+            continue;
+        }
+        let result = reshaped::<IxDyn, IxDyn>(&shape, &strides, &to, order);
+        if matches!(result, Err(LayoutError::Shape(error)) if error.kind() == ErrorKind::IncompatibleLayout) {
+            refused += 1;
+            let old = layouts::places(0, &shape, &strides, order);
+            let forced = model::forced_strides(&old, &to, order);
+            assert_ne!(layouts::places_of_wide(&to, &forced, order), old, "{shape:?} {strides:?} to {to:?} {order:?}");
+        }
+    }
+    println!("reshapes_without_strides_have_none: {refused} refused");
+    assert!(refused > 5_000, "{refused} refused");
+}
+
+/// The shape and the strides with the axes in another order.
+fn permuted<D: Lengths>(
+    shape: &[usize],
+    strides: &[isize],
+    axes: &[usize],
+) -> Result<(Vec<usize>, Vec<isize>), LayoutError> {
+    let view = lowest::<D>(shape, strides)?;
+    let axes: Vec<Axis> = axes.iter().map(|axis| Axis(*axis)).collect();
+    let turned = view.permuted_axes(&axes)?;
+    assert_eq!(turned.start(), view.start());
+    let turned = lists_of(&turned);
+    Ok((turned.shape, turned.strides))
+}
+
+#[test]
+fn permuted_axes_are_the_models() {
+    let arguments = |numbers: &mut Numbers| {
+        let (shape, strides) = numbers.layout();
+        let mut axes = numbers.axis_order(shape.len());
+        match numbers.below(15) {
+            0 => axes.push(numbers.below(8)),
+            1 => drop(axes.pop()),
+            2 if !axes.is_empty() => axes[0] = numbers.extreme_len(),
+            _ => {}
+        }
+        (shape, strides, axes)
+    };
+    compare(
+        "permuted_axes",
+        &["Ok", "IncompatibleLayout", "Overflow", "IncompatibleShape"],
+        arguments,
+        |(shape, strides, axes)| of_types!(axes_of(shape, strides), D => permuted::<D>(shape, strides, axes)),
+        |(shape, strides, axes)| {
+            layouts::check_valid(shape, strides)?;
+            model::permuted_axes(shape, strides, axes)
+        },
+    );
+}

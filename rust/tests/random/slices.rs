@@ -1,0 +1,126 @@
+//! Slices, and what two of them share.
+
+use crate::compare::{CALLS, FITS, compare, view};
+use crate::model::{View, layouts, slices as model};
+use crate::numbers::Numbers;
+use crate::types::{axes_of, dimension, lists_of, of_types, strided};
+use ndarray_layout::CanIndexCheckMode::ReadOnly;
+use ndarray_layout::{
+    Fit, IxDyn, LayoutError, Lengths, SliceInfoElem, StrideShape, Strided, Strides, check_slice, slices_intersect,
+};
+use std::cell::Cell;
+
+const SLICE: [&str; 5] = ["Ok", "Overflow", "IncompatibleShape", "OutOfBounds", "Unsupported"];
+
+/// A slice of a view of one type as a view of another.
+fn sliced<A: Lengths, B: Lengths>(view: &View, elems: &[SliceInfoElem], fit: Fit) -> Result<View, LayoutError> {
+    let part = strided::<A>(view)?.slice::<B, _>(&elems, fit)?;
+    Ok(lists_of(&part))
+}
+
+/// How many axes a slice leaves.
+fn axes_left(elems: &[SliceInfoElem]) -> usize {
+    elems.iter().filter(|elem| !elem.is_index()).count()
+}
+
+#[test]
+fn slices_are_the_models() {
+    let arguments = |numbers: &mut Numbers| {
+        let view = view(numbers);
+        let elems = numbers.elems(&view.shape);
+        (view, elems, numbers.pick(&FITS))
+    };
+    let outcomes = [&SLICE[..], &["IncompatibleLayout"]].concat();
+    compare(
+        "slice",
+        &outcomes,
+        arguments,
+        |(view, elems, fit)| {
+            let axes = axes_of(&view.shape, &view.strides);
+            let mut results = of_types!(axes, D => sliced::<D, IxDyn>(view, elems, *fit));
+            results.extend(of_types!(Some(axes_left(elems)), D => sliced::<IxDyn, D>(view, elems, *fit)));
+            results
+        },
+        |(view, elems, fit)| {
+            layouts::check_view(view)?;
+            model::slice(view, elems, *fit)
+        },
+    );
+}
+
+/// The view of a shape in row-major order.
+fn of_shape<D: Lengths>(shape: &[usize]) -> Result<Strided<D>, LayoutError> {
+    Strided::from_shape(StrideShape { dim: dimension(shape), strides: Strides::C }, 1, usize::MAX, ReadOnly)
+}
+
+/// How many indices a slice leaves of a shape.
+fn count_of<D: Lengths>(shape: &[usize], elems: &[SliceInfoElem], fit: Fit) -> Result<i128, LayoutError> {
+    let view = of_shape::<D>(shape)?;
+    check_slice(view.dim(), &elems, fit)?;
+    Ok(view.picked(&elems, fit)? as i128)
+}
+
+#[test]
+fn counts_of_slices_are_the_models() {
+    let arguments = |numbers: &mut Numbers| {
+        let shape = numbers.shape();
+        let elems = numbers.elems(&shape);
+        (shape, elems, numbers.pick(&FITS))
+    };
+    compare(
+        "picked",
+        &SLICE,
+        arguments,
+        |(shape, elems, fit)| of_types!(Some(shape.len()), D => count_of::<D>(shape, elems, *fit)),
+        |(shape, elems, fit)| {
+            layouts::check_size(shape)?;
+            model::picked(shape, elems, *fit)
+        },
+    );
+}
+
+/// Whether two slices of a shape share an index, by the view and by ndarray's function.
+fn intersect<D: Lengths>(
+    shape: &[usize],
+    first: &[SliceInfoElem],
+    second: &[SliceInfoElem],
+    fit: Fit,
+) -> Result<bool, LayoutError> {
+    let view = of_shape::<D>(shape)?;
+    let result = view.meets(&first, &second, fit);
+    assert_eq!(slices_intersect(view.dim(), &first, &second, fit), result);
+    Ok(result?)
+}
+
+#[test]
+fn intersections_are_the_models() {
+    let long = [1_000, 99_991, 1 << 40, isize::MAX as usize];
+    let arguments = |numbers: &mut Numbers| loop {
+        let mut shape = numbers.shape();
+        if numbers.once_in(3) {
+            shape = vec![numbers.pick(&long)];
+        }
+        let (first, second) = (numbers.elems(&shape), numbers.elems(&shape));
+        let fit = numbers.pick(&FITS);
+        let expected = match layouts::check_size(&shape) {
+            Err(kind) => Some(Err(kind)),
+            Ok(()) => model::slices_intersect(&shape, &first, &second, fit),
+        };
+        if let Some(expected) = expected {
+            return (shape, first, second, fit, expected);
+        }
+    };
+    let yes = Cell::new(0);
+    compare(
+        "slices_intersect",
+        &SLICE,
+        arguments,
+        |(shape, first, second, fit, _)| of_types!(Some(shape.len()), D => intersect::<D>(shape, first, second, *fit)),
+        |(.., expected)| {
+            yes.set(yes.get() + usize::from(*expected == Ok(true)));
+            *expected
+        },
+    );
+    println!("slices_intersect: {} yes", yes.get());
+    assert!((10_000..CALLS - 10_000).contains(&yes.get()), "{} yes", yes.get());
+}
