@@ -62,13 +62,13 @@ def source_files(top, name):
             yield from (f"{folder}/{file}" for file in sorted(files) if file.endswith(SOURCES))
 
 
-def stamp_of(top, name):
-    """A short word for what a program is made of: the sources of its crate and of those below, and their lines of crates.txt."""
-    digest = hashlib.sha256()
-    for line in crates_below(read_list(top), name):
-        digest.update(f"{line.text()}\n".encode())
-        for path in source_files(top, line.name):
-            with open(path, "rb") as file:
-                text = file.read()
-            digest.update(f"{os.path.relpath(path, top)} {len(text)}\n".encode() + text)
-    return digest.hexdigest()[:16]
+def sum_of(top, path):
+    """The checksum of a file, as `sha256sum` prints it in the folder `top`."""
+    with open(path, "rb") as file:
+        return f"{hashlib.sha256(file.read()).hexdigest()}  {os.path.relpath(path, top)}\n"
+
+
+def sums_of(top, name):
+    """The checksums of crates.txt, and of the sources of a crate and of those below it."""
+    paths = [path for line in crates_below(read_list(top), name) for path in source_files(top, line.name)]
+    return "".join(sum_of(top, path) for path in (f"{top}/crates.txt", *paths))
