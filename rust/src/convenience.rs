@@ -8,6 +8,7 @@ mod dimension_types;
 mod dimensions;
 mod errors;
 mod iterators;
+pub mod prelude;
 mod ranges;
 mod slice_arguments;
 mod views;

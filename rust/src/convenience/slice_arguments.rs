@@ -208,6 +208,9 @@ impl<D: FixedCount, T: SliceArg<D>> SliceArg<D> for &T {
 impl<D: Lengths> Strided<D> {
     /// The view of the same data that a slice argument leaves, of the type that the argument says.
     ///
+    /// Where an index is a bare number, as the 1 of `s![1, ..]`, a call on `dim` of the result may need its type said:
+    /// `let row: Strided<Ix1> = view.sliced(s![1, ..])?`. ndarray asks for the same.
+    ///
     /// # Errors
     ///
     /// Those of `slice` with `Fit::Strict`; no count of axes is wrong where `D` fixes one.

@@ -17,3 +17,20 @@ fn counted<D: Dimension>(shape: D) -> Result<OwnedArray<i32, D>, LayoutError> {
     let items = (0..shape.size() as i32).collect();
     Ok(OwnedArray::from_shape_vec(StrideShape { dim: shape, strides: Strides::C }, items)?)
 }
+
+/// The names that most programs need, and nothing else in scope.
+mod prelude {
+    use ndarray_layout::prelude::*;
+
+    #[test]
+    fn the_prelude_is_enough_for_a_view() -> Result<(), LayoutError> {
+        let shape = Ix3(2, 3, 4);
+        let view = Strided::new(shape, shape.default_strides()?, 8, 24, CanIndexCheckMode::ReadOnly)?;
+        let part: Strided<Ix3> = view.sliced(s![1, NewAxis, .., 1..;-1])?;
+        assert_eq!((part.start(), part.dim().slice()), (15, &[1, 3, 3][..]));
+        assert_eq!(part.iter_places(Order::RowMajor).len(), part.dim().size());
+        let array = OwnedArray::from_shape_vec(Dim((2, 2)).f()?.into(), vec![1, 2, 3, 4])?;
+        assert_eq!((array[[0, 1]], array[(1, 0)]), (3, 2));
+        Ok(())
+    }
+}
