@@ -1,6 +1,5 @@
 //! Calls with random arguments beside the model.
 
-use crate::model::{View, layouts};
 use crate::numbers::Numbers;
 use ndarray_layout::{CanIndexCheckMode, ErrorKind, Fit, LayoutError, Order};
 use std::collections::BTreeMap;
@@ -56,11 +55,4 @@ fn kind_of(error: impl Into<LayoutError>) -> ErrorKind {
         LayoutError::Shape(error) => error.kind(),
         LayoutError::Memory(error) => panic!("{error}"),
     }
-}
-
-/// A layout with a start, most often such that all places lie from 0 to the limit.
-pub fn view(numbers: &mut Numbers) -> View {
-    let (shape, strides) = numbers.layout();
-    let (low, high) = layouts::low_and_high(&shape, &strides);
-    View { start: numbers.start(low, high), shape, strides }
 }

@@ -1,6 +1,7 @@
 //! Which layouts are accepted, what they are like, and where their indices lie.
 
-use crate::compare::{CALLS, MODES, ORDERS, compare, view};
+use crate::arguments;
+use crate::compare::{CALLS, MODES, ORDERS, compare};
 use crate::model::layouts as model;
 use crate::model::{View, layouts};
 use crate::numbers::Numbers;
@@ -13,17 +14,6 @@ use ndarray_layout::{
     size_of_shape_checked, span_of_lengths, step_by_columns, step_by_rows,
 };
 use std::cell::Cell;
-
-/// The limit as a length of a buffer, lengths near the span, and any.
-fn buffer_len(numbers: &mut Numbers, shape: &[usize], strides: &[isize]) -> usize {
-    let span = layouts::span(shape, strides).min(isize::MAX as i128) as usize;
-    match numbers.below(8) {
-        0 => numbers.extreme_len(),
-        1 => span,
-        2 => span.saturating_sub(numbers.below(3)),
-        _ => span + 1 + numbers.below(4),
-    }
-}
 
 const LAYOUT: [&str; 3] = ["Ok", "IncompatibleLayout", "Overflow"];
 const ACCEPTED: [&str; 5] = ["Ok", "IncompatibleLayout", "Overflow", "OutOfBounds", "Unsupported"];
@@ -46,7 +36,7 @@ fn starts_of_layouts_are_the_models() {
     let arguments = |numbers: &mut Numbers| {
         let (shape, strides) = numbers.layout();
         let elem_size = numbers.pick(&[0, 1, 1, 2, 4, 8, 1 << 40, usize::MAX]);
-        let len = buffer_len(numbers, &shape, &strides);
+        let len = arguments::buffer_len(numbers, &shape, &strides);
         (shape, strides, elem_size, len, numbers.pick(&MODES))
     };
     compare(
@@ -70,8 +60,8 @@ fn starts_of_layouts_are_the_models() {
 #[test]
 fn accepted_starts_are_the_models() {
     let arguments = |numbers: &mut Numbers| {
-        let view = view(numbers);
-        let len = buffer_len(numbers, &view.shape, &view.strides).saturating_add(numbers.below(20));
+        let view = arguments::view(numbers);
+        let len = arguments::buffer_len(numbers, &view.shape, &view.strides).saturating_add(numbers.below(20));
         (view, numbers.pick(&[1, 1, 2, 8, 1 << 62]), len, numbers.pick(&MODES))
     };
     compare(
@@ -198,21 +188,6 @@ fn strides_of_shapes_are_the_models() {
     }
 }
 
-/// An index of a shape, or what nearly is one.
-fn index(numbers: &mut Numbers, shape: &[usize]) -> Vec<usize> {
-    let mut index: Vec<usize> = shape.iter().map(|len| numbers.below((*len).clamp(1, 1 << 40))).collect();
-    match numbers.below(12) {
-        0 => index.push(0),
-        1 => drop(index.pop()),
-        2 if !index.is_empty() => {
-            let axis = numbers.below(index.len());
-            index[axis] = numbers.pick(&[shape[axis], shape[axis].wrapping_sub(1), usize::MAX]);
-        }
-        _ => {}
-    }
-    index
-}
-
 fn place_of<D: Lengths>(view: &View, index: &[usize]) -> Result<usize, LayoutError> {
     let place = strided::<D>(view)?.place(&dimension::<D>(index));
     place.ok_or(from_kind(ErrorKind::OutOfBounds).into())
@@ -221,8 +196,8 @@ fn place_of<D: Lengths>(view: &View, index: &[usize]) -> Result<usize, LayoutErr
 #[test]
 fn places_of_indices_are_the_models() {
     let arguments = |numbers: &mut Numbers| {
-        let view = view(numbers);
-        let index = index(numbers, &view.shape);
+        let view = arguments::view(numbers);
+        let index = arguments::index(numbers, &view.shape);
         (view, index)
     };
     compare(
@@ -263,7 +238,7 @@ fn next_in_list(shape: &[usize], index: &[usize], order: Order) -> (bool, Vec<us
 fn next_indices_are_the_models() {
     let arguments = |numbers: &mut Numbers| {
         let shape = numbers.shape();
-        let mut index = index(numbers, &shape);
+        let mut index = arguments::index(numbers, &shape);
         if numbers.once_in(4) && index.len() == shape.len() {
             index = shape.iter().map(|len| len.saturating_sub(1)).collect();
         }
@@ -330,9 +305,9 @@ fn places_of<D: Lengths>(view: &View, order: Order) -> Result<Vec<usize>, Layout
 #[test]
 fn places_are_the_models() {
     let arguments = |numbers: &mut Numbers| {
-        let mut view = view(numbers);
+        let mut view = arguments::view(numbers);
         while (1_001..=layouts::LIMIT).contains(&layouts::size(&view.shape)) {
-            view = crate::compare::view(numbers);
+            view = arguments::view(numbers);
         }
         (view, numbers.pick(&ORDERS))
     };

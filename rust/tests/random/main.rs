@@ -2,6 +2,7 @@
 //!
 //! The model is the rules of `docs/RULES.md` once more, in plain Rust over `i128`.
 
+mod arguments;
 mod compare;
 mod layouts;
 mod model;

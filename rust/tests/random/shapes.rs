@@ -1,31 +1,12 @@
 //! Other shapes: broadcasting, merging, reshaping, permuting.
 
+use crate::arguments;
 use crate::compare::{CALLS, ORDERS, compare};
 use crate::model::{layouts, shapes as model};
 use crate::numbers::Numbers;
 use crate::types::{axes_of, dimension, lists_of, lowest, of_types, signed_list, strides_of};
 use ndarray_layout::{Axis, ErrorKind, IxDyn, LayoutError, Lengths, Order, ShapeError, co_broadcast, reshape_dim};
 use std::cell::Cell;
-
-/// A shape that is mostly one that a shape can be broadcast to.
-fn target(numbers: &mut Numbers, shape: &[usize]) -> Vec<usize> {
-    let mut target = shape.to_vec();
-    for len in &mut target {
-        if *len == 1 || numbers.once_in(20) {
-            *len = numbers.pick(&[0, 1, 2, 3, 4, 7]);
-        }
-    }
-    for _ in 0..numbers.pick(&[0, 0, 1, 2]) {
-        target.insert(0, numbers.pick(&[0, 1, 2, 3, 1 << 31]));
-    }
-    if numbers.once_in(20) && !target.is_empty() {
-        target.remove(0);
-    }
-    if numbers.once_in(20) {
-        target.insert(0, numbers.extreme_len());
-    }
-    target
-}
 
 /// The common shape of two, whose types fix the count of axes or don't.
 fn common<A: Lengths, B: Lengths>(first: &[usize], second: &[usize]) -> Result<Vec<usize>, LayoutError> {
@@ -37,7 +18,7 @@ fn common<A: Lengths, B: Lengths>(first: &[usize], second: &[usize]) -> Result<V
 fn common_shapes_are_the_models() {
     let arguments = |numbers: &mut Numbers| {
         let first = numbers.shape();
-        let mut second = target(numbers, &first);
+        let mut second = arguments::target(numbers, &first);
         for len in &mut second {
             if numbers.once_in(4) {
                 *len = 1;
@@ -74,7 +55,7 @@ fn broadcast<A: Lengths, B: Lengths>(
 fn strides_of_broadcasts_are_the_models() {
     let arguments = |numbers: &mut Numbers| {
         let (shape, strides) = numbers.layout();
-        let target = target(numbers, &shape);
+        let target = arguments::target(numbers, &shape);
         (shape, strides, target)
     };
     compare(
@@ -110,12 +91,7 @@ fn merged<D: Lengths>(shape: &[usize], strides: &[isize], take: usize, into: usi
 fn merged_axes_are_the_models() {
     let arguments = |numbers: &mut Numbers| {
         let (shape, strides) = numbers.layout();
-        let axis = |numbers: &mut Numbers| match numbers.below(30) {
-            0 => numbers.extreme_len(),
-            1 => shape.len(),
-            _ => numbers.below(shape.len().max(1)),
-        };
-        let (take, into) = (axis(numbers), axis(numbers));
+        let (take, into) = (arguments::axis(numbers, &shape), arguments::axis(numbers, &shape));
         (shape, strides, take, into)
     };
     let merges = Cell::new(0);
@@ -134,44 +110,6 @@ fn merged_axes_are_the_models() {
     );
     println!("merge_axes: {} merged", merges.get());
     assert!(merges.get() > 10_000, "{} merged", merges.get());
-}
-
-/// A shape made of the factors of another one, seldom of another size.
-fn other_shape(numbers: &mut Numbers, shape: &[usize]) -> Vec<usize> {
-    let mut factors = split_lengths(numbers, shape);
-    let mut k = 0;
-    while k + 1 < factors.len() {
-        if numbers.once_in(3) {
-            factors[k] = factors[k].saturating_mul(factors.remove(k + 1));
-        }
-        k += 1;
-    }
-    for _ in 0..numbers.pick(&[0, 0, 1, 2]) {
-        let at = numbers.below(factors.len() + 1);
-        factors.insert(at, 1);
-    }
-    if numbers.once_in(4) {
-        factors.retain(|len| *len != 1);
-    }
-    if numbers.once_in(8) && !factors.is_empty() {
-        let at = numbers.below(factors.len());
-        factors[at] = if numbers.once_in(4) { numbers.extreme_len() } else { numbers.below(6) };
-    }
-    factors
-}
-
-/// Lengths of which some stand as two factors.
-fn split_lengths(numbers: &mut Numbers, shape: &[usize]) -> Vec<usize> {
-    let mut factors = shape.to_vec();
-    for k in 0..shape.len() {
-        let divisor = numbers.pick(&[2, 2, 3, 5, 1 << 16]);
-        let rest = factors[k] / divisor;
-        if rest * divisor == factors[k] && numbers.once_in(2) {
-            factors[k] = rest;
-            factors.insert(k, divisor);
-        }
-    }
-    factors
 }
 
 /// The strides of a layout of another shape. By a call on the view, and by ndarray's function where it may be called.
@@ -200,7 +138,7 @@ fn reshaped<A: Lengths, B: Lengths>(
 fn strides_of_reshapes_are_the_models() {
     let arguments = |numbers: &mut Numbers| {
         let (shape, strides) = numbers.layout();
-        let to = other_shape(numbers, &shape);
+        let to = arguments::other_shape(numbers, &shape);
         (shape, strides, to, numbers.pick(&ORDERS))
     };
     compare(
@@ -231,7 +169,7 @@ fn reshapes_without_strides_have_none() {
     let mut refused = 0;
     for _ in 0..CALLS {
         let (shape, strides) = numbers.layout();
-        let (to, order) = (other_shape(&mut numbers, &shape), numbers.pick(&ORDERS));
+        let (to, order) = (arguments::other_shape(&mut numbers, &shape), numbers.pick(&ORDERS));
         let size = layouts::size(&shape);
         if layouts::check_valid(&shape, &strides).is_err() || size != layouts::size(&to) || size > 1_000 {
             continue;
@@ -266,13 +204,7 @@ fn permuted<D: Lengths>(
 fn permuted_axes_are_the_models() {
     let arguments = |numbers: &mut Numbers| {
         let (shape, strides) = numbers.layout();
-        let mut axes = numbers.axis_order(shape.len());
-        match numbers.below(15) {
-            0 => axes.push(numbers.below(8)),
-            1 => drop(axes.pop()),
-            2 if !axes.is_empty() => axes[0] = numbers.extreme_len(),
-            _ => {}
-        }
+        let axes = arguments::axes(numbers, &shape);
         (shape, strides, axes)
     };
     compare(

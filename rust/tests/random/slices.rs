@@ -1,6 +1,7 @@
 //! Slices, and what two of them share.
 
-use crate::compare::{CALLS, FITS, compare, view};
+use crate::arguments;
+use crate::compare::{CALLS, FITS, compare};
 use crate::model::{View, layouts, slices as model};
 use crate::numbers::Numbers;
 use crate::types::{axes_of, dimension, lists_of, of_types, strided};
@@ -26,7 +27,7 @@ fn axes_left(elems: &[SliceInfoElem]) -> usize {
 #[test]
 fn slices_are_the_models() {
     let arguments = |numbers: &mut Numbers| {
-        let view = view(numbers);
+        let view = arguments::view(numbers);
         let elems = numbers.elems(&view.shape);
         (view, elems, numbers.pick(&FITS))
     };

@@ -1,0 +1,50 @@
+//! Indices, and where they lie.
+
+use crate::arguments::index;
+use crate::compare::*;
+use crate::model::layouts;
+use crate::numbers::Numbers;
+
+#[test]
+fn place() {
+    let arguments = |numbers: &mut Numbers| {
+        let view = view(numbers);
+        let index = index(numbers, &view.shape);
+        (view.start, view.shape, kept(&view.strides), index)
+    };
+    let statuses = [OK, INCOMPATIBLE_LAYOUT, OUT_OF_BOUNDS, OVERFLOW];
+    compare!("nd_place", statuses, arguments, |(start, shape, strides, index)| {
+        let mut place = UNWRITTEN;
+        (nd_place(*start, shape, strides, index, &mut place), place)
+    });
+}
+
+#[test]
+fn next_index() {
+    let arguments = |numbers: &mut Numbers| {
+        let shape = shape(numbers);
+        let mut index = index(numbers, &shape);
+        if numbers.once_in(4) && index.len() == shape.len() {
+            index = shape.iter().map(|len| len.saturating_sub(1)).collect();
+        }
+        (shape, index, choice(numbers))
+    };
+    compare!("nd_next_index", [OK, OUT_OF_BOUNDS, BAD_ARGUMENT], arguments, |(shape, index, order)| {
+        let (mut next, mut has_next) = (index.clone(), NO_ANSWER);
+        (nd_next_index(shape, &mut next, *order, &mut has_next), (next, has_next))
+    });
+}
+
+#[test]
+fn places() {
+    let arguments = |numbers: &mut Numbers| {
+        let view = view(numbers);
+        let room = room(numbers, layouts::size(&view.shape).min(1_000) as usize);
+        (view.start, view.shape, kept(&view.strides), choice(numbers), room)
+    };
+    let statuses = [OK, INCOMPATIBLE_LAYOUT, OUT_OF_BOUNDS, OVERFLOW, BAD_ARGUMENT];
+    compare!("nd_places", statuses, arguments, |(start, shape, strides, order, room)| {
+        let mut places = room.clone();
+        (nd_places(*start, shape, strides, *order, &mut places), places)
+    });
+}

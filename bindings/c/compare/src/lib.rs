@@ -1,0 +1,38 @@
+//! 100,000 random calls of each export, of the proved library and of the package: the status is the same, and so is all
+//! that is written, or unchanged after an error.
+#![cfg(test)]
+
+#[allow(dead_code)]
+#[path = "../../../../rust/tests/random/arguments.rs"]
+mod arguments;
+mod compare;
+mod indices;
+mod layouts;
+#[allow(dead_code)]
+#[path = "../../../../rust/tests/random/model/mod.rs"]
+mod model;
+#[path = "../../../../rust/tests/random/numbers.rs"]
+mod numbers;
+#[deny(dead_code)]
+mod proved;
+mod shapes;
+mod slices;
+mod texts;
+
+use std::collections::BTreeSet;
+
+include!(concat!(env!("OUT_DIR"), "/exports.rs"));
+
+/// The exports of the package.
+mod erased {
+    pub use crate::ndarray_layout_c::elements::RawElem;
+    pub use crate::ndarray_layout_c::{indices::*, layouts::*, shapes::*, slices::*, texts::*};
+}
+
+/// (a call of `proved` that no test makes is dead code, which is an error)
+#[test]
+fn each_call_of_the_header_is_compared() {
+    let header = include_str!("../../ndarray_layout.h");
+    let calls = header.lines().filter_map(|line| line.strip_prefix("int32_t ")?.split('(').next());
+    assert_eq!(calls.collect::<BTreeSet<_>>(), BTreeSet::from_iter(proved::CALLS.iter().copied()));
+}

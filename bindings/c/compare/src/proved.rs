@@ -1,0 +1,62 @@
+//! The exports of the proved library, each in a function with the parameters of the package's.
+
+use crate::erased::RawElem;
+
+/// Functions over lists, each of which calls C's function of its name: a list is a pointer and a count there.
+macro_rules! exports {
+    (@$name:ident [$($taken:tt)*] [$($declared:tt)*] [$($passed:tt)*] $list:ident: &[$item:ty], $($rest:tt)*) => {
+        exports!(@$name [$($taken)* $list: &[$item],] [$($declared)* _: *const $item, _: usize,]
+            [$($passed)* $list.as_ptr(), $list.len(),] $($rest)*);
+    };
+    (@$name:ident [$($taken:tt)*] [$($declared:tt)*] [$($passed:tt)*] $list:ident: &mut [$item:ty], $($rest:tt)*) => {
+        exports!(@$name [$($taken)* $list: &mut [$item],] [$($declared)* _: *mut $item, _: usize,]
+            [$($passed)* $list.as_mut_ptr(), $list.len(),] $($rest)*);
+    };
+    (@$name:ident [$($taken:tt)*] [$($declared:tt)*] [$($passed:tt)*] $place:ident: &mut $item:ty, $($rest:tt)*) => {
+        exports!(@$name [$($taken)* $place: &mut $item,] [$($declared)* _: *mut $item,] [$($passed)* $place,] $($rest)*);
+    };
+    (@$name:ident [$($taken:tt)*] [$($declared:tt)*] [$($passed:tt)*] $number:ident: $type:ty, $($rest:tt)*) => {
+        exports!(@$name [$($taken)* $number: $type,] [$($declared)* _: $type,] [$($passed)* $number,] $($rest)*);
+    };
+    (@$name:ident [$($taken:tt)*] [$($declared:tt)*] [$($passed:tt)*]) => {
+        #[allow(clippy::too_many_arguments)]
+        pub fn $name($($taken)*) -> i32 {
+            #[link(name = "ndarray_layout", kind = "static")]
+            unsafe extern "C" {
+                fn $name($($declared)*) -> i32;
+            }
+            // SAFETY: each list is a slice with its own count; what is written is borrowed for the call alone.
+            unsafe { $name($($passed)*) }
+        }
+    };
+    ($($name:ident($($parameters:tt)*);)*) => {
+        /// The name of each.
+        pub const CALLS: &[&str] = &[$(stringify!($name)),*];
+
+        $(exports!(@$name [] [] [] $($parameters)*,);)*
+    };
+}
+
+exports! {
+    nd_layout_start(elem_size: usize, len: usize, shape: &[usize], strides: &[usize], mode: i32, start: &mut usize);
+    nd_check_layout(start: usize, elem_size: usize, len: usize, shape: &[usize], strides: &[usize], mode: i32);
+    nd_has_overlap(shape: &[usize], strides: &[usize], answer: &mut i32);
+    nd_default_strides(shape: &[usize], strides: &mut [usize]);
+    nd_fortran_strides(shape: &[usize], strides: &mut [usize]);
+    nd_is_contiguous(shape: &[usize], strides: &[usize], answer: &mut i32);
+    nd_is_layout_c(shape: &[usize], strides: &[usize], answer: &mut i32);
+    nd_is_layout_f(shape: &[usize], strides: &[usize], answer: &mut i32);
+    nd_place(start: usize, shape: &[usize], strides: &[usize], index: &[usize], place: &mut usize);
+    nd_next_index(shape: &[usize], index: &mut [usize], order: i32, has_next: &mut i32);
+    nd_places(start: usize, shape: &[usize], strides: &[usize], order: i32, places: &mut [usize]);
+    nd_slice(start: usize, shape: &[usize], strides: &[usize], elems: &[RawElem], fit: i32, new_start: &mut usize,
+        new_shape: &mut [usize], new_strides: &mut [usize]);
+    nd_slices_intersect(shape: &[usize], first: &[RawElem], second: &[RawElem], fit: i32, answer: &mut i32);
+    nd_picked(shape: &[usize], elems: &[RawElem], fit: i32, count: &mut usize);
+    nd_common_shape(first: &[usize], second: &[usize], common: &mut [usize]);
+    nd_broadcast_strides(shape: &[usize], strides: &[usize], target: &[usize], new_strides: &mut [usize]);
+    nd_merge_axes(shape: &mut [usize], strides: &mut [usize], take: usize, into: usize, merged: &mut i32);
+    nd_reshape(shape: &[usize], strides: &[usize], order: i32, new_shape: &[usize], new_strides: &mut [usize]);
+    nd_permute_axes(shape: &[usize], strides: &[usize], axes: &[usize], new_shape: &mut [usize], new_strides: &mut [usize]);
+    nd_status_text(status: i32, text: &mut [u8], used: &mut usize);
+}
