@@ -1,5 +1,5 @@
-"""Reads what a crate of Rattle offers from its sources, as `rt fmt` lays them out: items with their docs, signatures and
-clauses, and the names that it makes public. And what the checks of texts share: files of the repository, and what was found.
+"""Reads what a crate of Rattle offers from its sources, as `rt fmt` lays them out: items with their signatures and clauses, the
+names that it makes public, and its public calls. And what the checks of texts share: files of the repository, and what was found.
 """
 import dataclasses, os, re, sys
 
@@ -25,12 +25,6 @@ def read(path):
         return file.read()
 
 
-def write(path, text):
-    """Writes a file of the repository."""
-    with open(f"{TOP}/{path}", "w", encoding="utf-8") as file:
-        file.write(text)
-
-
 def status_of(found):
     """Prints what a check has found, and returns its exit status: 1 where that is anything."""
     print(*found, sep="\n", end="\n" if found else "")
@@ -45,9 +39,6 @@ class Item:
     name: str
     is_public: bool
     head: str
-    doc: list
-    comment: str
-    derives: str
     clauses: list
     members: list
 
@@ -107,7 +98,7 @@ def clauses_of(rest):
     return clauses
 
 
-def item_of(lines, doc, comment, derives, indent):
+def item_of(lines, indent):
     """The item of these lines."""
     text = "\n".join(lines)
     found = KIND.match(text.strip()) or FIELD.match(text.strip())
@@ -118,41 +109,31 @@ def item_of(lines, doc, comment, derives, indent):
     head, rest = (joined(text).rstrip(";,"), "") if kind in WHOLE else head_and_rest(text)
     if kind in ("struct", "enum", "trait", "impl") and rest.startswith("{"):
         members = list(items_of(rest[1 : rest.rindex("}")].split("\n"), indent + "    "))
-    return Item(kind, found["name"], bool(found["pub"]), head, doc, comment, derives, clauses_of(rest), members)
+    return Item(kind, found["name"], bool(found["pub"]), head, clauses_of(rest), members)
 
 
 def items_of(lines, indent=""):
     """The items at an indentation, in order."""
-    doc, comment, derives, number = [], [], "", 0
+    number = 0
     while number < len(lines):
         line = lines[number]
-        text = line.strip()
-        if not text:
-            comment = []
-        elif text.startswith("///"):
-            doc.append(text[3:].strip())
-        elif text.startswith("//"):
-            comment.append(text.strip("/! "))
-        elif text.startswith("#"):
-            found = re.match(r"#\[derive\((.*)\)\]", text)
-            derives = found[1] if found else derives
-        elif line.startswith(indent) and not line.startswith(indent + " "):
+        is_code = line.strip() and not line.strip().startswith(("//", "#"))
+        if is_code and line.startswith(indent) and not line.startswith(indent + " "):
             end = end_of_item(lines, number, indent)
-            yield item_of(lines[number:end], doc, " ".join(comment), derives, indent)
-            doc, comment, derives, number = [], [], "", end - 1
+            yield item_of(lines[number:end], indent)
+            number = end - 1
         number += 1
 
 
 def modules_of(folder, path="", name="lib"):
-    """The modules of a crate, each before those inside it: (path, doc, items). Ends the check where one has no items."""
+    """The modules of a crate, each before those inside it: (path, items). Ends the check where one has no items."""
     source = os.path.join(folder, f"{name if not path else path}.rt")
     with open(source, encoding="utf-8") as file:
         lines = file.read().split("\n")
-    doc = [line[3:].strip() for line in lines if line.startswith("//!")]
     items = list(items_of(lines))
     if not items:
         sys.exit(f"{source}: no item is found")
-    yield path, doc, items
+    yield path, items
     for inner in items:
         if inner.kind == "mod":
             yield from modules_of(folder, os.path.join(path, inner.name))
@@ -209,20 +190,23 @@ def for_place(text):
     return None
 
 
-def sentences_of(doc):
-    """The sentences of the first paragraph of a doc, and of the others."""
-    text = "\n".join(doc)
-    found = []
-    for paragraph in text.split("\n\n"):
-        start, line = 0, joined_doc(paragraph)
-        for stop in re.finditer(r"\.\s", line):
-            if line[start : stop.start()].count("`") % 2 == 0:
-                found.append(line[start : stop.start() + 1].strip())
-                start = stop.end()
-        found.append(line[start:].strip())
-    return [sentence for sentence in found if sentence]
+def public_words(folder, items):
+    """The names that a crate makes public, and those of the types that these stand for."""
+    public = set().union(*public_names(folder).values())
+    aliased = [item.head.partition("=")[2].partition("<")[0] for item in items if item.kind == "type" and item.name in public]
+    return public.union(*(re.findall(r"\w+", path) for path in aliased))
 
 
-def joined_doc(text):
-    """A paragraph as one line."""
-    return re.sub(r"\s+", " ", text).strip()
+def public_items(crate):
+    """What a crate offers beside its impls, as (path, item): its public functions, types, traits and constants, the public functions and
+    constants of public types, and the functions of public traits."""
+    folder = f"{TOP}/crates/{crate}/src"
+    modules = list(modules_of(folder))
+    public = public_words(folder, [item for _, items in modules for item in items])
+    for path, items in modules[1:]:
+        for item in items:
+            if item.kind == "impl" and self_type(item.head)[1] is None and self_type(item.head)[0] in public:
+                yield from ((path, member) for member in item.members if member.kind in ("fn", "const") and member.is_public)
+            elif item.kind in ("fn", "struct", "enum", "trait", "type", "const") and item.is_public and item.name in public:
+                yield path, item
+                yield from ((path, member) for member in item.members if item.kind == "trait" and member.kind == "fn")

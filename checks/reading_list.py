@@ -32,7 +32,7 @@ def items():
     return [
         (f"crates/{crate}/src/{module or 'lib'}.rt", item)
         for crate in CRATES
-        for module, _, found in modules_of(f"{TOP}/crates/{crate}/src")
+        for module, found in modules_of(f"{TOP}/crates/{crate}/src")
         for item in found
     ]
 
@@ -107,15 +107,18 @@ def ghosts_of(call, function):
     return [one for name in dict.fromkeys(MEMBER.findall(text) + TYPE.findall(text)) for one in ghost_members().get(name, [])]
 
 
+def named_by(call, path, function):
+    """The words that a call's types and clauses name, and the ghost members there."""
+    found = words_in(path, text_of(call, function))
+    for place, member in ghosts_of(call, function):
+        found += words_in(place, member.head)
+    return found
+
+
 def named_by_the_promise():
-    """The words that the clauses of the promise's calls name, or the ghost members there, those of the first call first."""
-    found = []
-    for call in calls_of_the_promise():
-        path, function = source_of(call)
-        found += words_in(path, text_of(call, function))
-        for place, member in ghosts_of(call, function):
-            found += words_in(place, member.head)
-    return list(dict.fromkeys(found))
+    """The words that the calls of the promise name, those of the first call first."""
+    calls = calls_of_the_promise()
+    return list(dict.fromkeys(word for call in calls for word in named_by(call, *source_of(call))))
 
 
 def all_words():
