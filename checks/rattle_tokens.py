@@ -3,7 +3,8 @@ import dataclasses, re
 
 TOKEN = re.compile(
     r"(?P<space>\s+|//[^\n]*|/\*.*?\*/)"
-    r"|(?P<text>[bc]?\"(?:\\.|[^\"\\])*\"|[bc]?r(?P<hashes>#*)\".*?\"(?P=hashes)|b?'(?:\\.[^']*|[^'\\])')"
+    r"|(?P<text>[bc]?\"(?:\\.|[^\"\\])*\"|[bc]?r(?P<hashes>#*)\".*?\"(?P=hashes))"
+    r"|(?P<letter>b?'(?:\\.[^']*|[^'\\])')"
     r"|(?P<lifetime>'\w+)"
     r"|(?P<number>\d\w*)"
     r"|(?P<word>\w+)"
@@ -15,7 +16,7 @@ CLOSING = {"(": ")", "[": "]", "{": "}"}
 
 @dataclasses.dataclass
 class Token:
-    """A word, a number, a sign, a lifetime, or the quotes of a text, and its line."""
+    """A word, a number, a sign, a letter, a lifetime, or the quotes of a text, and its line."""
 
     text: str
     line: int
