@@ -95,6 +95,8 @@ impl Eraser<'_> {
                 return Ok(Some(4));
             }
             _ if self.names.beside.contains(&root) => format!("crate::{root}"),
+            // (the package itself has all that this crate has for callers)
+            "ndarray_layout" if self.names.package != "crate" => self.names.package.to_string(),
             _ if self.names.library.contains(&root) || KIT.contains(&root) => {
                 format!("{}::{root}", self.names.package)
             }

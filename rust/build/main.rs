@@ -99,7 +99,8 @@ fn allowed() -> String {
     lints.join(", ")
 }
 
-/// Crates as modules. What a package leaves out is no module.
+/// Crates as modules. What a package leaves out is no module. `ndarray_layout` is none for users: the root has its items, and a
+/// module of the package's name would stand in the way of `use ndarray_layout::*`.
 fn crates_of(top: &Path, crates: &[&str], beside: &[&str], package: &str) -> Fallible<String> {
     let library: Vec<&str> = [LAYER, PROGRAMS].concat();
     let mut text = String::new();
@@ -109,7 +110,8 @@ fn crates_of(top: &Path, crates: &[&str], beside: &[&str], package: &str) -> Fal
         if source.exists() {
             let names = Names { own, beside, library: &library, package };
             let body = module_of(&source.join("lib.rt"), &source, &names, false)?;
-            text += &format!("#[allow({})]\npub mod {own} {{\n{body}\n}}\n", allowed());
+            let visible = if *own == "ndarray_layout" { "" } else { "pub " };
+            text += &format!("#[allow({})]\n{visible}mod {own} {{\n{body}\n}}\n", allowed());
         }
     }
     Ok(text)

@@ -34,3 +34,14 @@ mod prelude {
         Ok(())
     }
 }
+
+/// All names at once, beside the package's own.
+mod all_names {
+    use ndarray_layout::*;
+
+    #[test]
+    fn a_glob_brings_types_and_functions() {
+        let axis: ndarray_layout::Axis = Axis(1);
+        assert_eq!((Ix2(2, 3)[axis.index()], new_ix2(2, 3)), (3, Ix2(2, 3)));
+    }
+}
