@@ -42,6 +42,7 @@ const ALLOWED: &[(&str, &[&str])] = &[
     (
         "a form that is proved with less",
         &[
+            "clippy::collapsible_if",
             "clippy::explicit_auto_deref",
             "clippy::manual_find",
             "clippy::manual_is_multiple_of",
