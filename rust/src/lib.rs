@@ -13,6 +13,8 @@
 //! # Ok::<(), ndarray_layout::ShapeError>(())
 //! ```
 //!
+//! [`guide`] has an example for each task.
+//!
 //! The sources of the modules [`nd_base`] to [`nd_owned`] have contracts, which are proved; this package is what is left
 //! of them without the contracts, made before it is built. The section `Contract` of an item has its clauses, and
 //! `Conditions` what a caller ensures. Where a condition is broken, a call panics or returns an unspecified number; no
@@ -35,6 +37,9 @@ mod smallvec;
 include!(concat!(env!("OUT_DIR"), "/layer.rs"));
 #[cfg(feature = "std")]
 include!(concat!(env!("OUT_DIR"), "/programs.rs"));
+
+#[doc = include_str!("../GUIDE.md")]
+pub mod guide {}
 
 /// The page of the package, whose examples are tests.
 #[cfg(doctest)]
