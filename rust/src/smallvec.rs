@@ -3,58 +3,79 @@
 use crate::memory::{AllocError, FallibleVec};
 use alloc::vec::Vec;
 
-/// The items of a list: up to `N` of them in the value itself, more of them in memory.
-pub(crate) enum SmallVec<T, const N: usize> {
-    Inline { items: [T; N], len: usize },
+/// How many items lie in the value itself: a type of five values, so that rustc tests no bound of them, and keeps in the
+/// same byte that there are more.
+#[derive(Clone, Copy)]
+enum Count {
+    Zero,
+    One,
+    Two,
+    Three,
+    Four,
+}
+
+impl Count {
+    /// The count of a number up to four.
+    #[inline]
+    fn of(len: usize) -> Self {
+        [Count::Zero, Count::One, Count::Two, Count::Three, Count::Four][len]
+    }
+}
+
+/// The items of a list: up to four of them in the value itself, more of them in memory.
+pub(crate) struct SmallVec<T, const N: usize>(Items<T>);
+
+enum Items<T> {
+    Inline([T; 4], Count),
     Heap(Vec<T>),
 }
 
-impl<T: Copy + Default, const N: usize> SmallVec<T, N> {
+impl<T: Copy + Default> SmallVec<T, 4> {
     /// No items.
     #[inline]
     pub(crate) fn new() -> Self {
-        SmallVec::Inline { items: [T::default(); N], len: 0 }
+        Self::from_buf_and_len([T::default(); 4], 0)
     }
 
     /// The first `len` items of an array.
     #[inline]
-    pub(crate) fn from_buf_and_len(items: [T; N], len: usize) -> Self {
-        SmallVec::Inline { items, len }
+    pub(crate) fn from_buf_and_len(items: [T; 4], len: usize) -> Self {
+        SmallVec(Items::Inline(items, Count::of(len)))
     }
 
     /// The items of an array.
     #[inline]
-    pub(crate) fn from_buf(items: [T; N]) -> Self {
-        SmallVec::Inline { items, len: N }
+    pub(crate) fn from_buf(items: [T; 4]) -> Self {
+        SmallVec(Items::Inline(items, Count::Four))
     }
 
     /// The items of a vector, whose memory is kept.
     pub(crate) fn from_vec(items: Vec<T>) -> Self {
-        SmallVec::Heap(items)
+        SmallVec(Items::Heap(items))
     }
 
     /// One item, so many times.
     pub(crate) fn from_elem(item: T, len: usize) -> Result<Self, AllocError> {
         let mut items = Vec::fallible_with_capacity(len)?;
         items.resize(len, item);
-        Ok(SmallVec::Heap(items))
+        Ok(SmallVec(Items::Heap(items)))
     }
 
     /// The items, in order.
     #[inline]
     pub(crate) fn as_slice(&self) -> &[T] {
-        match self {
-            SmallVec::Inline { items, len } => &items[..*len],
-            SmallVec::Heap(items) => items,
+        match &self.0 {
+            Items::Inline(items, count) => &items[..*count as usize],
+            Items::Heap(items) => items,
         }
     }
 
     /// The items, to be written.
     #[inline]
     pub(crate) fn as_mut_slice(&mut self) -> &mut [T] {
-        match self {
-            SmallVec::Inline { items, len } => &mut items[..*len],
-            SmallVec::Heap(items) => items,
+        match &mut self.0 {
+            Items::Inline(items, count) => &mut items[..*count as usize],
+            Items::Heap(items) => items,
         }
     }
 
@@ -65,10 +86,10 @@ impl<T: Copy + Default, const N: usize> SmallVec<T, N> {
 
     /// No items, with room for so many.
     pub(crate) fn fallible_with_capacity(capacity: usize) -> Result<Self, AllocError> {
-        if capacity <= N {
+        if capacity <= 4 {
             return Ok(Self::new());
         }
-        Vec::fallible_with_capacity(capacity).map(SmallVec::Heap)
+        Ok(SmallVec(Items::Heap(Vec::fallible_with_capacity(capacity)?)))
     }
 
     /// The items of a slice.
@@ -85,21 +106,21 @@ impl<T: Copy + Default, const N: usize> SmallVec<T, N> {
 
     /// The items of a slice after the own ones.
     pub(crate) fn fallible_extend_from_slice(&mut self, others: &[T]) -> Result<(), AllocError> {
-        match self {
-            SmallVec::Heap(items) => items.fallible_extend_from_slice(others),
-            SmallVec::Inline { items, len } => {
-                let whole = *len + others.len();
-                if let Some(room) = items.get_mut(*len..whole) {
+        match &mut self.0 {
+            Items::Heap(items) => return items.fallible_extend_from_slice(others),
+            Items::Inline(items, count) => {
+                let (len, whole) = (*count as usize, *count as usize + others.len());
+                if let Some(room) = items.get_mut(len..whole) {
                     room.copy_from_slice(others);
-                    *len = whole;
-                } else {
-                    let mut moved = Vec::fallible_with_capacity(whole)?;
-                    moved.extend_from_slice(&items[..*len]);
-                    moved.extend_from_slice(others);
-                    *self = SmallVec::Heap(moved);
+                    *count = Count::of(whole);
+                    return Ok(());
                 }
-                Ok(())
+                let mut moved = Vec::fallible_with_capacity(whole)?;
+                moved.extend_from_slice(&items[..len]);
+                moved.extend_from_slice(others);
+                self.0 = Items::Heap(moved);
             }
         }
+        Ok(())
     }
 }
