@@ -11,9 +11,9 @@
  *
  * Statuses. Each call returns one of ND_OK to ND_OUT_OF_MEMORY. After any status but ND_OK nothing has been written.
  * ND_BAD_ARGUMENT is a number that has no meaning (an order, a mode, a fit, a kind of element), or a list to be written of
- * another count than is due. It comes before everything else, but for the counts of what nd_places, nd_slice and
- * nd_permute_axes write, which come after everything else. ND_OUT_OF_MEMORY may come before other statuses than
- * ND_BAD_ARGUMENT, of lists of more than four entries alone.
+ * another count than is due. It comes before every other status, ND_OUT_OF_MEMORY too. Only the counts of what nd_places and
+ * nd_slice write are tested last. ND_OUT_OF_MEMORY may come where a list that is read has more than four entries, in place of
+ * every status but a ND_BAD_ARGUMENT that comes first.
  *
  * What the caller ensures. Nothing else can make a call misbehave:
  *   - no pointer is null, and each is aligned as its type asks; for an empty list pass the address of anything of the type;
@@ -177,7 +177,7 @@ int32_t nd_places(size_t start, const size_t *shape, size_t shape_len, const ptr
  *
  * Those of nd_place for the layout; then ND_INCOMPATIBLE_SHAPE where the elements are for more axes than there are or for
  * fewer; then that of the first element with one: ND_OUT_OF_BOUNDS for an index that is not on its axis, or a bound that is
- * not and is not to be clamped, ND_UNSUPPORTED for a step of 0.
+ * not and is not to be clamped, ND_UNSUPPORTED for a step of 0; then ND_BAD_ARGUMENT for another count of what is written.
  *
  * From 5, (4), strides (3), by `1..` with a step of -2: from 14, (2), strides (-6).
  */

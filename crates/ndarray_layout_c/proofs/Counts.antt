@@ -1,11 +1,16 @@
 -- How long lists are, and the strides of views that are one.
-use Rattle.std.proofs.Common.{◌≡◌, ◌≤◌, ℕ, List, length, ap}
+use Rattle.std.proofs.Common.{◌≡◌, ◌≤◌, ℕ, Bool, true, false, cond, Some, None, List, length, refl, ap, ◌∙◌}
+use Rattle.std.specs.Prelude.{slice_index_or}
 use Rattle.std.proofs.lemmas.List.{length-map}
+use Rattle.ndarray_layout.specs.declared.ErrorKind.TheVariants.{IncompatibleShape}
 use Rattle.ndarray_layout.specs.declared.Order.{Order}
 use Rattle.ndarray_layout.specs.declared.Order.TheVariants.{RowMajor, ColumnMajor}
+use Rattle.ndarray_layout.specs.AxesInOrder.{is_axis_order}
+use Rattle.ndarray_layout.specs.PermutedView.{permute_fault, permuted_of}
 use Rattle.ndarray_layout.specs.Signed.{signed, all_signed}
 use Rattle.ndarray_layout.specs.Size.{nonzero_size, size}
 use Rattle.ndarray_layout.specs.View.{View}
+use Rattle.ndarray_layout.proofs.laws.AxesInOrder.{length_of_order}
 use Rattle.ndarray_layout.proofs.laws.NonzeroSize.{size_le_nonzero_size}
 use Rattle.ndarray_layout.proofs.laws.Strides.{default_count, fortran_count}
 use Rattle.ndarray_layout_c.specs.OwnStrides.{own_strides}
@@ -26,3 +31,12 @@ size_le shape = size_le_nonzero_size shape
 -- views that are one have the same strides
 pub strides_of_view : (v w : View) → v ≡ w → v.strides ≡ w.strides
 strides_of_view v w same = ap View.strides same
+
+-- a view with its axes in another order has as many axes
+pub length_permuted : (axes : List ℕ) (view : View) → permute_fault view.shape axes ≡ None → length (permuted_of axes view).shape ≡ length view.shape
+length_permuted axes view none =
+    length-map axes (λ axis. slice_index_or view.shape axis 0) ∙ length_of_order (length view.shape) axes (order_of (is_axis_order (length view.shape) axes) none)
+  where
+    order_of : (fits : Bool) → cond fits None (Some IncompatibleShape) ≡ None → fits ≡ true
+    order_of true none = refl
+    order_of false none = absurd (cc)

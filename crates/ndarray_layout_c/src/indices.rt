@@ -1,6 +1,6 @@
 //! Indices, and where they lie.
 ghost use Rattle.std.specs.Option.{option_or};
-ghost use Rattle.std.specs.Prelude.{◌≡◌, ◌≢◌, ◌==◌, pos, not, true, None, Some, length, map, if◌then◌else◌, IfOk, IsOk, OnOk};
+ghost use Rattle.std.specs.Prelude.{◌≡◌, ◌≢◌, ◌==◌, pos, not, true, false, None, Some, length, map, if◌then◌else◌, IfOk, IsOk, OnOk};
 ghost use Rattle.ndarray_layout.specs.declared.ErrorKind.{ErrorKind};
 ghost use Rattle.ndarray_layout.specs.Indices.{is_index};
 ghost use Rattle.ndarray_layout.specs.Lengths.{NeedsNoMemory};
@@ -12,7 +12,7 @@ ghost use Rattle.ndarray_layout_c.specs.LayoutFault.{layout_fault_from};
 ghost use Rattle.ndarray_layout_c.specs.Codes.{is_choice, order_named};
 ghost use Rattle.ndarray_layout_c.specs.IndexFault.{index_fault};
 ghost use Rattle.ndarray_layout_c.specs.IndexAfter.{has_index_after, index_after};
-ghost use Rattle.ndarray_layout_c.specs.Status.{ok, out_of_memory, status_of, status_until, status_where};
+ghost use Rattle.ndarray_layout_c.specs.Status.{bad_argument, ok, out_of_memory, status_of, status_until, status_where};
 
 use crate::arguments::{answer_of, is_choice, order_named};
 use crate::lists::view_from;
@@ -159,6 +159,7 @@ pub extern "C" fn nd_places(
     ensures status { result ≢ out_of_memory → result ≡ status_until (not (is_choice order))
         (layout_fault_from start shape.now (all_signed strides.now))
         (not (length places.old == size shape.now)) }
+    ensures bad { is_choice order ≡ false → result ≡ bad_argument }
     ensures memory { NeedsNoMemory None (length shape.now) →
         NeedsNoMemory None (length strides.now) → result ≢ out_of_memory }
     ensures places { result ≡ ok → map pos places.new ≡

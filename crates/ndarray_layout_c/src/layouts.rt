@@ -1,5 +1,5 @@
 //! Layouts: which are accepted, and what they are like.
-ghost use Rattle.std.specs.Prelude.{◌≡◌, ◌≢◌, ◌↔◌, ◌==◌, IsTrue, true, not, ◌&&◌, pos, None, Some, length, if◌then◌else◌, IfOk, IsOk, OnOk};
+ghost use Rattle.std.specs.Prelude.{◌≡◌, ◌≢◌, ◌↔◌, ◌==◌, IsTrue, true, false, not, ◌&&◌, pos, None, Some, length, if◌then◌else◌, IfOk, IsOk, OnOk};
 ghost use Rattle.ndarray_layout.specs.declared.Order.TheVariants.{ColumnMajor, RowMajor};
 ghost use Rattle.ndarray_layout.specs.declared.ErrorKind.{ErrorKind};
 ghost use Rattle.ndarray_layout.specs.Acceptance.{acceptance, size_fault};
@@ -16,7 +16,7 @@ ghost use Rattle.ndarray_layout.specs.Span.{low_span};
 ghost use Rattle.ndarray_layout.specs.ValidLayout.{IsValidLayout};
 ghost use Rattle.ndarray_layout_c.specs.OwnStrides.{own_strides, own_strides_fault};
 ghost use Rattle.ndarray_layout_c.specs.Codes.{is_choice, mode_named};
-ghost use Rattle.ndarray_layout_c.specs.Status.{ok, out_of_memory, status_of, status_where};
+ghost use Rattle.ndarray_layout_c.specs.Status.{bad_argument, ok, out_of_memory, status_of, status_where};
 
 use crate::arguments::{answer_of, is_choice, mode_named};
 use crate::lists::layout;
@@ -90,6 +90,7 @@ pub extern "C" fn nd_check_layout(
     ensures status { result ≢ out_of_memory → result ≡ status_where (not (is_choice mode))
         (acceptance_from start elem_size len (mode_named mode) shape.now
         (all_signed strides.now)) }
+    ensures bad { is_choice mode ≡ false → result ≡ bad_argument }
     ensures memory { NeedsNoMemory None (length shape.now) →
         NeedsNoMemory None (length strides.now) → result ≢ out_of_memory }
 {
@@ -144,6 +145,7 @@ fn own_strides(alloc: Global, shape: &[usize], order: Order) -> Result<IxDyn, La
 fn write_own_strides(alloc: Global, shape: &[usize], strides: &mut [usize], order: Order) -> i32
     ensures status { result ≢ out_of_memory → result ≡ status_where
         (not (length strides.old == length shape.now)) (own_strides_fault shape.now) }
+    ensures bad { length strides.old ≢ length shape.now → result ≡ bad_argument }
     ensures memory { NeedsNoMemory None (length shape.now) → result ≢ out_of_memory }
     ensures strides { result ≡ ok → strides.new ≡ own_strides order shape.now }
     ensures unchanged { result ≢ ok → strides.new ≡ strides.old }
@@ -166,6 +168,7 @@ fn write_own_strides(alloc: Global, shape: &[usize], strides: &mut [usize], orde
 pub extern "C" fn nd_default_strides(alloc: Global, shape: &[usize], strides: &mut [usize]) -> i32
     ensures status { result ≢ out_of_memory → result ≡ status_where
         (not (length strides.old == length shape.now)) (own_strides_fault shape.now) }
+    ensures bad { length strides.old ≢ length shape.now → result ≡ bad_argument }
     ensures memory { NeedsNoMemory None (length shape.now) → result ≢ out_of_memory }
     ensures strides { result ≡ ok → strides.new ≡ own_strides RowMajor shape.now }
     ensures unchanged { result ≢ ok → strides.new ≡ strides.old }
@@ -178,6 +181,7 @@ pub extern "C" fn nd_default_strides(alloc: Global, shape: &[usize], strides: &m
 pub extern "C" fn nd_fortran_strides(alloc: Global, shape: &[usize], strides: &mut [usize]) -> i32
     ensures status { result ≢ out_of_memory → result ≡ status_where
         (not (length strides.old == length shape.now)) (own_strides_fault shape.now) }
+    ensures bad { length strides.old ≢ length shape.now → result ≡ bad_argument }
     ensures memory { NeedsNoMemory None (length shape.now) → result ≢ out_of_memory }
     ensures strides { result ≡ ok → strides.new ≡ own_strides ColumnMajor shape.now }
     ensures unchanged { result ≢ ok → strides.new ≡ strides.old }

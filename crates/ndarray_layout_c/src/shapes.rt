@@ -1,5 +1,5 @@
 //! Shapes in common, axes merged, and layouts along other shapes.
-ghost use Rattle.std.specs.Prelude.{◌≡◌, ◌≢◌, ◌≤◌, ◌==◌, ◌↔◌, ◌&&◌, ◌||◌, not, false, max, take, length, pos, None, Some, if◌then◌else◌, IfOk, IsOk, OnOk, slice_index, true};
+ghost use Rattle.std.specs.Prelude.{◌≡◌, ◌≢◌, ◌≤◌, ◌==◌, ◌↔◌, ◌&&◌, not, false, max, take, length, pos, None, Some, if◌then◌else◌, IfOk, IsOk, OnOk, slice_index, true};
 ghost use Rattle.std.specs.Option.{option_or};
 ghost use Rattle.ndarray_layout.specs.declared.ErrorKind.{ErrorKind};
 ghost use Rattle.ndarray_layout.specs.Acceptance.{size_fault};
@@ -15,7 +15,7 @@ ghost use Rattle.ndarray_layout.specs.ShapeFault.{shape_fault};
 ghost use Rattle.ndarray_layout.specs.Signed.{all_signed, signed};
 ghost use Rattle.ndarray_layout_c.specs.Codes.{is_choice, order_named};
 ghost use Rattle.ndarray_layout_c.specs.LayoutFault.{layout_fault, lowest_view};
-ghost use Rattle.ndarray_layout_c.specs.Status.{ok, out_of_memory, status_of, status_until, status_where};
+ghost use Rattle.ndarray_layout_c.specs.Status.{bad_argument, ok, out_of_memory, status_of, status_where};
 
 use crate::arguments::{answer_of, is_choice, order_named};
 use crate::elements::FEW;
@@ -141,6 +141,7 @@ pub extern "C" fn nd_broadcast_strides(
         (not (length new_strides.old == length target.now))
         (option_or (layout_fault shape.now (all_signed strides.now))
         (broadcast_fault target.now shape.now)) }
+    ensures bad { length new_strides.old ≢ length target.now → result ≡ bad_argument }
     ensures memory { NeedsNoMemory None (length shape.now) →
         NeedsNoMemory None (length strides.now) → NeedsNoMemory None (length target.now) →
         result ≢ out_of_memory }
@@ -205,6 +206,8 @@ pub extern "C" fn nd_reshape(
         (not (is_choice order && length new_strides.old == length new_shape.now))
         (option_or (layout_fault shape.now (all_signed strides.now))
         (reshape_refusal (order_named order) new_shape.now (lowest_view shape.now strides.now))) }
+    ensures bad { (is_choice order && length new_strides.old == length new_shape.now) ≡ false →
+        result ≡ bad_argument }
     ensures memory { NeedsNoMemory None (length shape.now) →
         NeedsNoMemory None (length strides.now) → NeedsNoMemory None (length new_shape.now) →
         result ≢ out_of_memory }
@@ -248,6 +251,7 @@ fn many_axes(alloc: Global, numbers: &[usize]) -> Result<Vec<Axis>, AllocError>
 /// A layout with its axes in another order.
 ///
 /// Errors: those of `view`, then those of `Strided::permuted_axes`; out of memory, never for at most four entries.
+#[tactic(auto, using(crate::proofs::Counts::length_permuted))]
 fn permuted(
     alloc: Global,
     shape: &[usize],
@@ -264,6 +268,7 @@ fn permuted(
         shape_fault result ≡ None → IsOk result }
     ensures permuted { IfOk result (λ v. v ≡
         permuted_of numbers.now (lowest_view shape.now strides.now)) }
+    ensures count { IfOk result (λ v. length v.shape ≡ length shape.now) }
 {
     let view = view(alloc, shape, strides)?;
     if numbers.len() <= FEW {
@@ -283,13 +288,13 @@ pub extern "C" fn nd_permute_axes(
     new_shape: &mut [usize],
     new_strides: &mut [usize],
 ) -> i32
-    ensures status { result ≢ out_of_memory → result ≡ status_until false
+    ensures status { result ≢ out_of_memory → result ≡ status_where
+        (not (length new_shape.old == length shape.now
+        && length new_strides.old == length shape.now))
         (option_or (layout_fault shape.now (all_signed strides.now))
-        (permute_fault shape.now axes.now))
-        (not (length new_shape.old
-        == length (permuted_of axes.now (lowest_view shape.now strides.now)).shape)
-        || not (length new_strides.old
-        == length (permuted_of axes.now (lowest_view shape.now strides.now)).shape)) }
+        (permute_fault shape.now axes.now)) }
+    ensures bad { (length new_shape.old == length shape.now
+        && length new_strides.old == length shape.now) ≡ false → result ≡ bad_argument }
     ensures memory { NeedsNoMemory None (length shape.now) →
         NeedsNoMemory None (length strides.now) → length axes.now ≤ 4 → result ≢ out_of_memory }
     ensures shape { result ≡ ok → new_shape.new ≡
@@ -299,6 +304,9 @@ pub extern "C" fn nd_permute_axes(
     ensures unchanged { result ≢ ok →
         (new_shape.new ≡ new_shape.old) × (new_strides.new ≡ new_strides.old) }
 {
+    if new_shape.len() != shape.len() || new_strides.len() != shape.len() {
+        return BAD_ARGUMENT;
+    }
     match permuted(alloc, shape, strides, axes) {
         Ok(view) => write_axes(&view, new_shape, new_strides),
         Err(LayoutError::Shape(error)) => status_of(error.kind()),

@@ -14,7 +14,7 @@ ghost use Rattle.ndarray_layout.specs.View.{view_of};
 ghost use Rattle.ndarray_layout_c.specs.Codes.{fit_named, is_choice};
 ghost use Rattle.ndarray_layout_c.specs.Elements.{are_elems, elems_named, sliced_view};
 ghost use Rattle.ndarray_layout_c.specs.LayoutFault.{layout_fault_from, own_layout_fault};
-ghost use Rattle.ndarray_layout_c.specs.Status.{ok, out_of_memory, status_until, status_where};
+ghost use Rattle.ndarray_layout_c.specs.Status.{bad_argument, ok, out_of_memory, status_until, status_where};
 
 use crate::arguments::{answer_of, fit_named, is_choice};
 use crate::elements::{FEW, RawElem, are_elems, few_elems, many_elems};
@@ -58,6 +58,7 @@ pub extern "C" fn nd_picked(
         (not (is_choice fit && are_elems elems.now))
         (option_or (own_layout_fault shape.now)
         (argument_fault (fit_named fit) shape.now (elems_named elems.now))) }
+    ensures bad { (is_choice fit && are_elems elems.now) ≡ false → result ≡ bad_argument }
     ensures memory { NeedsNoMemory None (length shape.now) → length elems.now ≤ 4 →
         result ≢ out_of_memory }
     ensures count { result ≡ ok → count.new ≡
@@ -162,6 +163,7 @@ pub extern "C" fn nd_slice(
         == length (sliced_view fit elems.now start shape.now strides.now).shape)
         || not (length new_strides.old
         == length (sliced_view fit elems.now start shape.now strides.now).shape)) }
+    ensures bad { (is_choice fit && are_elems elems.now) ≡ false → result ≡ bad_argument }
     ensures memory { NeedsNoMemory None (length shape.now) →
         NeedsNoMemory None (length strides.now) → length elems.now ≤ 4 →
         NeedsNoMemory None (out_count (elems_named elems.now)) → result ≢ out_of_memory }
@@ -260,6 +262,8 @@ pub extern "C" fn nd_slices_intersect(
         (option_or (own_layout_fault shape.now)
         (option_or (argument_fault (fit_named fit) shape.now (elems_named first.now))
         (argument_fault (fit_named fit) shape.now (elems_named second.now)))) }
+    ensures bad { (is_choice fit && are_elems first.now && are_elems second.now) ≡ false →
+        result ≡ bad_argument }
     ensures memory { NeedsNoMemory None (length shape.now) → length first.now ≤ 4 →
         length second.now ≤ 4 → result ≢ out_of_memory }
     ensures answer { result ≡ ok → is_choice answer.new ≡ true }
