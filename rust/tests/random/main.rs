@@ -7,6 +7,7 @@ mod compare;
 mod layouts;
 mod model;
 mod numbers;
+mod owned;
 mod shapes;
 mod slices;
 mod types;

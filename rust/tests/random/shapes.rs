@@ -5,13 +5,26 @@ use crate::compare::{CALLS, ORDERS, compare};
 use crate::model::{layouts, shapes as model};
 use crate::numbers::Numbers;
 use crate::types::{axes_of, dimension, lists_of, lowest, of_types, signed_list, strides_of};
-use ndarray_layout::{Axis, ErrorKind, IxDyn, LayoutError, Lengths, Order, ShapeError, co_broadcast, reshape_dim};
+use ndarray_layout::{
+    Axis, ErrorKind, IxDyn, LayoutError, Lengths, Order, ShapeError, co_broadcast, fill_common_shape, from_kind,
+    have_common_shape, reshape_dim,
+};
 use std::cell::Cell;
 
 /// The common shape of two, whose types fix the count of axes or don't.
 fn common<A: Lengths, B: Lengths>(first: &[usize], second: &[usize]) -> Result<Vec<usize>, LayoutError> {
     let common: B = co_broadcast(&dimension::<A>(first), &dimension::<IxDyn>(second))?;
     Ok(common.slice().to_vec())
+}
+
+/// The common shape of two lists, of which the first is no shorter.
+fn common_list(longer: &[usize], shorter: &[usize]) -> Result<Vec<usize>, LayoutError> {
+    if !have_common_shape(longer, shorter) {
+        return Err(from_kind(ErrorKind::IncompatibleShape).into());
+    }
+    let mut common = vec![9; longer.len()];
+    fill_common_shape(longer, shorter, &mut common);
+    Ok(common)
 }
 
 #[test]
@@ -33,6 +46,8 @@ fn common_shapes_are_the_models() {
         |(first, second)| {
             let mut results = of_types!(Some(first.len()), D => common::<D, IxDyn>(first, second));
             results.extend(of_types!(Some(first.len().max(second.len())), D => common::<IxDyn, D>(first, second)));
+            let is_longer = first.len() >= second.len();
+            results.push(if is_longer { common_list(first, second) } else { common_list(second, first) });
             results
         },
         |(first, second)| model::co_broadcast(first, second),

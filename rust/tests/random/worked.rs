@@ -1,10 +1,10 @@
-//! Rows with values by hand, of more axes or more calls than those of the tables.
+//! Rows with values by hand, of more axes or more calls than those of the tables, and of calls that no table makes.
 
 use crate::model::View;
 use crate::types::{lists_of, signed_list, strided};
 use ndarray_layout::{
-    Axis, Fit, Ix2, Ix3, IxDyn, LayoutError, Lengths, NewAxis, Order, Strided, co_broadcast, default_strides,
-    new_ixdyn, s,
+    Axis, Fit, Forward, Ix2, Ix3, IxDyn, LayoutError, Lengths, NewAxis, Order, Reverse, Sequence, Slice, SliceInfoElem,
+    Strided, co_broadcast, default_strides, new_ixdyn, s,
 };
 
 fn dynamic(start: usize, shape: &[usize], strides: &[isize]) -> Strided<IxDyn> {
@@ -62,4 +62,50 @@ fn a_hundred_axes_and_thousands_of_places() -> Result<(), LayoutError> {
     assert!(rows.iter_places(Order::RowMajor).eq(0..2560));
     assert!(rows.iter_places(Order::ColumnMajor).eq((0..2560).map(|flat| flat % 40 * 64 + flat / 40)));
     Ok(())
+}
+
+#[test]
+fn slices_of_usize_bounds() {
+    let slices = [Slice::of_usize(1, 3), Slice::from_usize(2), Slice::to_usize(3)];
+    assert_eq!(slices, [Slice::new(1, Some(3), 1), Slice::new(2, None, 1), Slice::new(0, Some(3), 1)]);
+    assert_eq!(Slice::inclusive_usize(1, 3), Slice::new(1, Some(4), 1));
+    assert_eq!(Slice::to_inclusive_usize(3), Slice::new(0, Some(4), 1));
+}
+
+#[test]
+fn kinds_of_elements() {
+    let elems = [SliceInfoElem::index_usize(3), SliceInfoElem::from(1..), SliceInfoElem::NewAxis];
+    assert_eq!(elems[0], SliceInfoElem::Index(3));
+    assert_eq!(elems.map(|elem| elem.is_index()), [true, false, false]);
+    assert_eq!(elems.map(|elem| elem.is_slice()), [false, true, false]);
+    assert_eq!(elems.map(|elem| elem.is_new_axis()), [false, false, true]);
+}
+
+/// A list that is written from its last item back, or from its first one.
+#[test]
+fn sequences_that_are_written() {
+    let mut list = [1, 2, 3];
+    let mut backward = Reverse(&mut list[..]);
+    assert_eq!((Sequence::len(&backward), backward[0]), (3, 3));
+    backward[0] = 7;
+    let mut forward = Forward(&mut list[..]);
+    assert_eq!((Sequence::len(&forward), forward[2]), (3, 7));
+    forward[0] = 5;
+    assert_eq!(list, [5, 2, 7]);
+}
+
+#[test]
+fn a_length_of_any_count_of_axes_by_its_number() -> Result<(), LayoutError> {
+    let mut dim = new_ixdyn(&[2, 3, 1, 4, 2])?;
+    dim[3] = 9;
+    assert_eq!((dim[0], dim[3], dim[4]), (2, 9, 2));
+    Ok(())
+}
+
+#[test]
+fn orders_by_a_condition() {
+    for (is_by_rows, order) in [(true, Order::RowMajor), (false, Order::ColumnMajor)] {
+        assert_eq!((Order::row_major(is_by_rows), Order::column_major(!is_by_rows)), (order, order));
+        assert_eq!((order.is_row_major(), order.transpose().is_column_major()), (is_by_rows, is_by_rows));
+    }
 }
