@@ -1,6 +1,8 @@
 //! 100,000 random calls of each export, of the proved library and of the package: the status is the same, and so is all
 //! that is written, or unchanged after an error.
 #![cfg(test)]
+// (the exports are what C calls, and one is proved with a closure where a path would do)
+#![allow(clippy::too_many_arguments, clippy::redundant_closure)]
 
 #[allow(dead_code)]
 #[path = "../../../../rust/tests/random/arguments.rs"]

@@ -19,7 +19,6 @@ macro_rules! exports {
         exports!(@$name [$($taken)* $number: $type,] [$($declared)* _: $type,] [$($passed)* $number,] $($rest)*);
     };
     (@$name:ident [$($taken:tt)*] [$($declared:tt)*] [$($passed:tt)*]) => {
-        #[allow(clippy::too_many_arguments)]
         pub fn $name($($taken)*) -> i32 {
             #[link(name = "ndarray_layout", kind = "static")]
             unsafe extern "C" {
