@@ -1,22 +1,30 @@
-//! The contract of a function as text in its documentation.
+//! What is written before a function once its head is read: its contract, as text in its documentation, and `#[inline]`.
 
 use crate::erase::text_of;
 use crate::tokens::{Token, Tree};
 
-/// The clauses of a function, and where its documentation ends.
+/// The clauses of an item, and where in the output it begins: after its documentation, if it has some.
 #[derive(Default)]
 pub struct Contract {
-    end: Option<usize>,
+    start: usize,
+    is_documented: bool,
     indent: String,
     requires: Vec<String>,
     ensures: Vec<String>,
+    /// Whether the item is a function.
+    pub is_function: bool,
 }
 
 impl Contract {
-    /// No clause yet, after a line of documentation that ends at a byte of the output.
-    pub fn after(end: usize, line: &Token) -> Self {
+    /// No clause yet of an item without documentation that begins at a byte of the output.
+    pub fn at(start: usize) -> Self {
+        Contract { start, ..Contract::default() }
+    }
+
+    /// No clause yet of an item after a line of documentation that ends at a byte of the output.
+    pub fn after(start: usize, line: &Token) -> Self {
         let indent = line.lead.rsplit('\n').next().unwrap_or_default();
-        Contract { end: Some(end), indent: indent.to_string(), ..Contract::default() }
+        Contract { start, is_documented: true, indent: indent.to_string(), ..Contract::default() }
     }
 
     /// Adds a clause, from its keyword to its fact.
@@ -35,14 +43,24 @@ impl Contract {
         }));
     }
 
+    /// Writes `#[inline]` before a function that says nothing of that.
+    pub fn inline(&self, out: &mut String) {
+        let item = &out[self.start..];
+        if self.is_function && !item.contains("#[inline") {
+            let space = &item[..item.len() - item.trim_start().len()];
+            let indent = space.rsplit('\n').next().unwrap_or_default();
+            let attribute = format!("#[inline]\n{indent}");
+            out.insert_str(self.start + space.len(), &attribute);
+        }
+    }
+
     /// Writes the clauses to the end of the documentation, if there is one.
     pub fn write_to(&self, out: &mut String) {
-        let Some(end) = self.end else {
-            return;
-        };
-        let conditions = self.section("Conditions", &self.requires);
-        let contract = self.section("Contract", &self.ensures);
-        out.insert_str(end, &(conditions + &contract));
+        if self.is_documented {
+            let conditions = self.section("Conditions", &self.requires);
+            let contract = self.section("Contract", &self.ensures);
+            out.insert_str(self.start, &(conditions + &contract));
+        }
     }
 
     fn section(&self, title: &str, clauses: &[String]) -> String {

@@ -17,6 +17,8 @@ pub struct Names<'a> {
     pub library: &'a [&'a str],
     /// The path of the package: `crate` or `::ndarray_layout`.
     pub package: &'a str,
+    /// Whether each function is made `#[inline]`: the kit compiles a program whole, and rustc crate by crate.
+    pub inlined: bool,
 }
 
 /// The trees of a source as plain Rust.
@@ -62,6 +64,7 @@ impl<'a> Eraser<'a> {
     fn all(&mut self, trees: &[Tree]) -> Result<(), Fault> {
         let mut rest = trees;
         'trees: while let Some(tree) = rest.first() {
+            self.contract.is_function |= tree.is("fn") && rest.get(1).and_then(Tree::word).is_some();
             for form in Self::FORMS {
                 if let Some(taken) = form(self, rest)? {
                     rest = &rest[taken..];
@@ -87,6 +90,7 @@ impl<'a> Eraser<'a> {
         self.put(token.lead, token.text);
         if token.text == ";" {
             std::mem::take(&mut self.contract).write_to(&mut self.out);
+            self.contract = Contract::at(self.out.len());
         }
         Ok(())
     }
@@ -203,6 +207,7 @@ impl<'a> Eraser<'a> {
         let is_export =
             matches!(trees, [word, abi, name, ..] if word.is("extern") && abi.first().text == "\"C\"" && name.is("fn"));
         if is_export {
+            self.contract.is_function = true;
             self.put(trees[0].first().lead, "fn");
         }
         Ok(is_export.then_some(3))
@@ -212,6 +217,7 @@ impl<'a> Eraser<'a> {
     fn finality(&mut self, trees: &[Tree]) -> Result<Option<usize>, Fault> {
         let is_final = begins_with(trees, &["final", "fn"]);
         if is_final {
+            self.contract.is_function = true;
             self.put(trees[0].first().lead, "fn");
         }
         Ok(is_final.then_some(2))
@@ -291,10 +297,18 @@ impl<'a> Eraser<'a> {
         let Tree::Group(group) = &trees[0] else {
             return Ok(None);
         };
-        if group.open.text == "{" {
-            std::mem::take(&mut self.contract).write_to(&mut self.out);
+        let is_body = group.open.text == "{";
+        if is_body {
+            let contract = std::mem::take(&mut self.contract);
+            if self.names.inlined {
+                contract.inline(&mut self.out);
+            }
+            contract.write_to(&mut self.out);
         }
         self.brackets(group, &without_memory(&group.trees))?;
+        if is_body {
+            self.contract = Contract::at(self.out.len());
+        }
         Ok(Some(1))
     }
 
@@ -302,6 +316,7 @@ impl<'a> Eraser<'a> {
     pub(crate) fn brackets(&mut self, group: &Group, trees: &[Tree]) -> Result<(), Fault> {
         let contract = std::mem::take(&mut self.contract);
         self.put(group.open.lead, group.open.text);
+        self.contract = Contract::at(self.out.len());
         self.all(trees)?;
         self.put(group.close.lead, group.close.text);
         self.contract = contract;

@@ -89,7 +89,7 @@ fn main() -> Fallible<()> {
 /// A crate above the package, and its exports.
 fn exporting(name: &str, folder: &Path) -> Fallible<String> {
     let library: Vec<&str> = [LAYER, PROGRAMS].concat();
-    let names = Names { own: name, beside: &[], library: &library, package: "::ndarray_layout" };
+    let names = Names { own: name, beside: &[], library: &library, package: "::ndarray_layout", inlined: false };
     let body = module_of(&folder.join("lib.rt"), folder, &names, true)?;
     Ok(format!("#[allow({})]\npub mod {name} {{\n{body}\n}}\n", allowed()))
 }
@@ -109,7 +109,7 @@ fn crates_of(top: &Path, crates: &[&str], beside: &[&str], package: &str) -> Fal
         let source = top.join("crates").join(own).join("src");
         println!("cargo::rerun-if-changed={}", source.display());
         if source.exists() {
-            let names = Names { own, beside, library: &library, package };
+            let names = Names { own, beside, library: &library, package, inlined: crates == LAYER };
             let body = module_of(&source.join("lib.rt"), &source, &names, false)?;
             let visible = if *own == "ndarray_layout" { "" } else { "pub " };
             text += &format!("#[allow({})]\n{visible}mod {own} {{\n{body}\n}}\n", allowed());

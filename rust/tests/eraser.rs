@@ -19,7 +19,7 @@ mod tokens;
 use erase::{Names, erase};
 use tokens::trees_of;
 
-const NAMES: Names = Names { own: "upper", beside: &["tables"], library: &["lower"], package: "crate" };
+const NAMES: Names = Names { own: "upper", beside: &["tables"], library: &["lower"], package: "crate", inlined: false };
 
 /// What is left of a source, or what is said of it.
 fn erased(source: &str) -> String {
@@ -90,6 +90,29 @@ fn a_contract_is_documentation() {
     let source = "/// One more.\n#[inline]\nfn f(x: u8) -> u8\n    requires small { x < 255 }\n    ensures { result ≡\n        x + 1 }\n{\n    x + 1\n}\n\nfn g() ensures { 1 ≡ 1 } {}\n";
     let due = "/// One more.\n///\n/// # Conditions\n///\n/// ```text\n/// small: x < 255\n/// ```\n///\n/// # Contract\n///\n/// ```text\n/// result ≡\n///     x + 1\n/// ```\n#[inline]\nfn f(x: u8) -> u8\n{\n    x + 1\n}\n\nfn g() {}\n";
     assert_eq!(erased(source), due);
+}
+
+#[test]
+fn a_function_of_the_layer_is_inlined() {
+    const ROWS: &[(&str, &str)] = &[
+        ("use a::b; fn f() {} struct S {}", "use a::b; #[inline] fn f() {} struct S {}"),
+        ("#[inline(always)] fn f() {}", "#[inline(always)] fn f() {}"),
+        (
+            "impl T for S { type A = B; final fn f() { g() } const N: u8 = 1; fn h() {} }",
+            "impl T for S { type A = B; #[inline] fn f() { g() } const N: u8 = 1; #[inline] fn h() {} }",
+        ),
+        ("trait T { fn f(); fn g() {} }", "trait T { fn f(); #[inline] fn g() {} }"),
+        ("static F: fn(u8) = g; mod m { fn f() {} }", "static F: fn(u8) = g; mod m { #[inline] fn f() {} }"),
+        (
+            "/// A.\npub fn f() -> u8 ensures { x } { 1 }",
+            "/// A. /// /// # Contract /// /// ```text /// x /// ``` #[inline] pub fn f() -> u8 { 1 }",
+        ),
+    ];
+    for (source, due) in ROWS {
+        let names = Names { inlined: true, ..NAMES };
+        let text = trees_of(source).and_then(|(trees, _)| erase(&trees, &names)).expect("known forms");
+        assert_eq!(text.split_whitespace().collect::<Vec<_>>().join(" "), *due, "{source}");
+    }
 }
 
 #[test]
