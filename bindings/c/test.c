@@ -255,6 +255,7 @@ static void test_permute(void) {
     CHECK(PERMUTE(two_three) == ND_INCOMPATIBLE_SHAPE);
     CHECK(nd_permute_axes(LIST(shape), LIST(strides), LIST(axes), new_shape, 2, LIST(new_strides)) == ND_BAD_ARGUMENT);
     CHECK(nd_permute_axes(LIST(shape), LIST(strides), LIST(axes), LIST(new_shape), new_strides, 2) == ND_BAD_ARGUMENT);
+    CHECK(nd_permute_axes(LIST(shape), LIST(strides), LIST(twice), LIST(new_shape), new_strides, 2) == ND_BAD_ARGUMENT);
     SAME(new_shape, 7, 7, 7);
     SAME(new_strides, 7, 7, 7);
     CHECK(PERMUTE(axes) == ND_OK);
