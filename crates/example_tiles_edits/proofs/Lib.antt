@@ -1,8 +1,4 @@
-pub mod Begun
-pub mod Digits
-pub mod FirstByte
-pub mod Gaps
-pub mod Raster
-pub mod Spelled
-pub mod laws
-pub mod sources
+pub mod Axes
+pub mod Leaving
+pub mod Misfits
+pub mod Pixels

@@ -1,9 +1,9 @@
 -- The edit by which a call is refused.
 use Rattle.std.specs.Prelude.{◌≡◌, ℕ, Option, Some, None, Result, Ok, Err, refl}
-use Rattle.example_tiles_edits.specs.declared.edits.edit.Edit.TheVariants.{FlipRows}
-use Rattle.example_tiles_edits.specs.declared.edits.edit.Misfit.{Misfit}
-use Rattle.example_tiles_edits.specs.declared.edits.EditError.{EditError}
-use Rattle.example_tiles_edits.specs.declared.edits.EditError.TheVariants as error
+use Rattle.example_tiles_edits.specs.declared.edit.Edit.TheVariants.{FlipRows}
+use Rattle.example_tiles_edits.specs.declared.edit.Misfit.{Misfit}
+use Rattle.example_tiles_edits.specs.declared.editing.EditError.{EditError}
+use Rattle.example_tiles_edits.specs.declared.editing.EditError.TheVariants as error
 
 -- the edit that doesn't fit; none where memory is refused
 abbrev pub misfit_of : {A : Type 0} → Result A EditError → Option Misfit

@@ -1,30 +1,21 @@
 -- What edits make of a picture: whether they fit, what extent they leave, and where in the source each pixel of the result comes from.
-use Rattle.std.specs.Prelude.{◌≡◌, ℕ, zero, suc, ◌+◌, ◌-◌, ◌*◌, ◌/◌, ◌%◌, ◌<◌, ◌==◌, Bool, true, false, ◌&&◌, nat_eq, nat_le, nat_lt}
-use Rattle.std.specs.Prelude.{if◌then◌else◌, Option, Some, None, unwrap_or, List, [], ◌∷◌, ◌++◌, length, map, refl}
+use Rattle.std.specs.Prelude.{◌≡◌, ℕ, zero, suc, ◌+◌, ◌-◌, ◌*◌, ◌<◌, Bool, true, false, ◌&&◌, nat_eq, nat_le, nat_lt}
+use Rattle.std.specs.Prelude.{if◌then◌else◌, Option, Some, None, unwrap_or, List, [], ◌∷◌, refl}
 use Rattle.std.proofs.Common.{ap, eq-eqb, lit<}
 use Rattle.std.proofs.Math.Nat.{not-suc-le-zero, le_of_suc-le-suc}
 use Rattle.std.proofs.lemmas.Bool.{both_ways}
 use Rattle.std.specs.Int.{div_ceil}
 use Rattle.std.specs.Option.{option_map}
 use Rattle.example_tiles_edits.specs.declared.picture.Extent.{Extent}
-use Rattle.example_tiles_edits.specs.picture.Picture.{Image, IsWithin, Position, pixel_at}
-use Rattle.example_tiles_edits.specs.declared.edits.edit.Edit.{Edit}
-use Rattle.example_tiles_edits.specs.declared.edits.edit.Edit.TheVariants.{Crop, FlipRows, FlipColumns, Every, Mirror}
-use Rattle.example_tiles_edits.specs.declared.edits.edit.Misfit.{Misfit}
-use Rattle.example_tiles_edits.specs.declared.edits.edit.Span.{Span}
-use Rattle.example_tiles_edits.specs.declared.edits.edit.TheConstants.{MOST_PARTS}
+use Rattle.example_tiles_edits.specs.Picture.{Image, IsWithin, Position, pixel_at}
+use Rattle.example_tiles_edits.specs.declared.edit.Edit.{Edit}
+use Rattle.example_tiles_edits.specs.declared.edit.Edit.TheVariants.{Crop, FlipRows, FlipColumns, Every}
+use Rattle.example_tiles_edits.specs.declared.edit.Misfit.{Misfit}
+use Rattle.example_tiles_edits.specs.declared.edit.Span.{Span}
 
 -- no bound of a span is past so many rows or columns
 abbrev pub is_span : ℕ → Span → Bool
 is_span count span = nat_le span.start count && nat_le span.end count
-
--- a number of rows or columns is a multiple of a count
-abbrev pub divides : ℕ → ℕ → Bool
-divides count len = len % count == 0
-
--- a picture of an extent can be cut into so many by so many parts of one extent, at most as many as there may be
-abbrev pub can_cut : Extent → ℕ → Bool
-can_cut extent count = (nat_lt 0 count && nat_le count MOST_PARTS) && (divides count extent.rows && divides count extent.columns)
 
 -- whether an edit fits a picture of an extent
 abbrev pub fits : Extent → Edit → Bool
@@ -32,7 +23,6 @@ fits extent (Crop rows columns) = is_span extent.rows rows && is_span extent.col
 fits extent FlipRows = true
 fits extent FlipColumns = true
 fits extent (Every count) = nat_lt 0 count
-fits extent (Mirror count) = can_cut extent count
 
 -- the extent that an edit which fits leaves
 abbrev pub extent_after : Extent → Edit → Extent
@@ -40,11 +30,6 @@ extent_after extent (Crop rows columns) = record { rows = rows.end - rows.start;
 extent_after extent FlipRows = extent
 extent_after extent FlipColumns = extent
 extent_after extent (Every count) = record { rows = div_ceil extent.rows count; columns = div_ceil extent.columns count }
-extent_after extent (Mirror count) = extent
-
--- the column that mirrors one where each so many columns from the first on are turned round
-abbrev pub mirrored : ℕ → ℕ → ℕ
-mirrored width column = column / width * width + (width - 1 - column % width)
 
 -- where in a picture of an extent the pixel of a position comes from that an edit leaves
 abbrev pub source : Extent → Edit → Position → Position
@@ -52,7 +37,6 @@ source extent (Crop rows columns) at = record { row = rows.start + at.row; colum
 source extent FlipRows at = record { row = extent.rows - 1 - at.row; column = at.column }
 source extent FlipColumns at = record { row = at.row; column = extent.columns - 1 - at.column }
 source extent (Every count) at = record { row = at.row * count; column = at.column * count }
-source extent (Mirror count) at = record { row = at.row; column = mirrored (extent.columns / count) at.column }
 
 -- a misfit among the edits after one, as it is counted with that one
 abbrev pub one_later : Misfit → Misfit
@@ -79,15 +63,8 @@ source_of (edit ∷ edits) extent at = source extent edit (source_of edits (exte
 -- of the position in the source where the edits say that it comes from
 pub record IsEdited (edits : List Edit) (before after : Image) : Type 0 where
   pub extent : after.extent ≡ extent_of edits before.extent
-  pub greatest : after.greatest ≡ before.greatest
+  pub white : after.white ≡ before.white
   pub pixels : (at : Position) → IsWithin after.extent at → pixel_at after at ≡ pixel_at before (source_of edits before.extent at)
-
--- the first of some edits, one at least, make a picture of another, and the others are left
-pub record AreBegun (edits : List Edit) (before after : Image) (left : List Edit) : Type 0 where
-  pub made : List Edit
-  pub whole : edits ≡ made ++ left
-  pub fewer : length left < length edits
-  pub edited : IsEdited made before after
 
 -- examples
 abbrev four_by_six : Extent
@@ -96,44 +73,29 @@ four_by_six = record { rows = 4; columns = 6 }
 abbrev span : ℕ → ℕ → Span
 span start end = record { start = start; end = end }
 
+past_the_bound : is_span 4 (span 1 5) ≡ false
+past_the_bound = refl
+
 crop_fits : fits four_by_six (Crop (span 1 4) (span 6 6)) ≡ true
 crop_fits = refl
-
-crop_past_the_end : fits four_by_six (Crop (span 1 5) (span 0 2)) ≡ false
-crop_past_the_end = refl
 
 every_none : fits four_by_six (Every 0) ≡ false
 every_none = refl
 
-in_halves : fits four_by_six (Mirror 2) ≡ true
-in_halves = refl
-
-no_thirds_of_four_rows : fits four_by_six (Mirror 3) ≡ false
-no_thirds_of_four_rows = refl
-
-no_quarters_of_six_columns : fits four_by_six (Mirror 4) ≡ false
-no_quarters_of_six_columns = refl
-
-in_no_parts : fits four_by_six (Mirror 0) ≡ false
-in_no_parts = refl
-
-in_too_many_parts : fits (record { rows = 65; columns = 65 }) (Mirror 65) ≡ false
-in_too_many_parts = refl
-
-in_most_parts : fits (record { rows = 64; columns = 0 }) (Mirror 64) ≡ true
-in_most_parts = refl
-
 every_fourth : extent_after four_by_six (Every 4) ≡ record { rows = 1; columns = 2 }
 every_fourth = refl
+
+end_before_start : extent_after four_by_six (Crop (span 3 1) (span 0 2)) ≡ record { rows = 0; columns = 2 }
+end_before_start = refl
 
 last_row_first : source four_by_six FlipRows (record { row = 0; column = 2 }) ≡ record { row = 3; column = 2 }
 last_row_first = refl
 
-threes_turned_round : map (mirrored 3) (0 ∷ 1 ∷ 2 ∷ 3 ∷ 4 ∷ 5 ∷ []) ≡ 2 ∷ 1 ∷ 0 ∷ 5 ∷ 4 ∷ 3 ∷ []
-threes_turned_round = refl
+last_column_first : source four_by_six FlipColumns (record { row = 2; column = 0 }) ≡ record { row = 2; column = 5 }
+last_column_first = refl
 
-first_of_the_second_part : source four_by_six (Mirror 2) (record { row = 3; column = 3 }) ≡ record { row = 3; column = 5 }
-first_of_the_second_part = refl
+third_of_every_second : source four_by_six (Every 2) (record { row = 1; column = 2 }) ≡ record { row = 2; column = 4 }
+third_of_every_second = refl
 
 of_a_flipped_crop : source_of (Crop (span 1 4) (span 2 4) ∷ FlipColumns ∷ []) four_by_six (record { row = 0; column = 0 })
     ≡ record { row = 1; column = 3 }
@@ -142,52 +104,37 @@ of_a_flipped_crop = refl
 left_of_both : extent_of (Crop (span 1 4) (span 2 4) ∷ Every 2 ∷ []) four_by_six ≡ record { rows = 2; columns = 1 }
 left_of_both = refl
 
-second_misfit : first_misfit (Crop (span 1 4) (span 2 4) ∷ Mirror 2 ∷ Every 0 ∷ []) four_by_six
-    ≡ Some (record { number = 2; edit = Mirror 2; extent = record { rows = 3; columns = 2 } })
+abbrev too_wide : Misfit
+too_wide = record { number = 1; edit = Crop (span 0 0) (span 0 3); extent = record { rows = 3; columns = 2 } }
+
+as_the_second : one_later too_wide ≡ record too_wide { number = 2 }
+as_the_second = refl
+
+second_misfit : first_misfit (Crop (span 1 4) (span 2 4) ∷ Crop (span 0 0) (span 0 3) ∷ Every 0 ∷ []) four_by_six
+    ≡ Some (record too_wide { number = 2 })
 second_misfit = refl
 
-no_misfit : first_misfit (Mirror 2 ∷ Crop (span 1 4) (span 2 4) ∷ []) four_by_six ≡ None
-no_misfit = refl
-
-third_of_every_second : source four_by_six (Every 2) (record { row = 1; column = 2 }) ≡ record { row = 2; column = 4 }
-third_of_every_second = refl
-
-last_column_first : source four_by_six FlipColumns (record { row = 2; column = 0 }) ≡ record { row = 2; column = 5 }
-last_column_first = refl
-
-end_before_start : extent_after four_by_six (Crop (span 3 1) (span 0 2)) ≡ record { rows = 0; columns = 2 }
-end_before_start = refl
-
-rounded_up : extent_after (record { rows = 5; columns = 7 }) (Every 2) ≡ record { rows = 3; columns = 4 }
-rounded_up = refl
-
 abbrev pair : ℕ → ℕ → Image
-pair left right = record { extent = record { rows = 1; columns = 2 }; greatest = 9; pixels = left ∷ right ∷ [] }
+pair left right = record { extent = record { rows = 1; columns = 2 }; white = 9; pixels = left ∷ right ∷ [] }
 
 swapped : (row column : ℕ) → row < 1 → column < 2
-    → pixel_at (pair 4 7) (record { row = row; column = column }) ≡ pixel_at (pair 7 4) (record { row = row; column = mirrored 2 column })
+    → pixel_at (pair 4 7) (record { row = row; column = column }) ≡ pixel_at (pair 7 4) (record { row = row; column = 1 - column })
 swapped zero zero below left = refl
 swapped zero (suc zero) below left = refl
 swapped zero (suc (suc column)) below left = absurd (not-suc-le-zero (le_of_suc-le-suc (le_of_suc-le-suc left)))
 swapped (suc row) column below left = absurd (not-suc-le-zero (le_of_suc-le-suc below))
 
-pair_mirrored : IsEdited (Mirror 1 ∷ []) (pair 7 4) (pair 4 7)
-pair_mirrored = record {
+pair_flipped : IsEdited (FlipColumns ∷ []) (pair 7 4) (pair 4 7)
+pair_flipped = record {
   extent = refl;
-  greatest = refl;
+  white = refl;
   pixels = λ at within. swapped at.row at.column within.row_below within.column_below;
 }
 
-pair_as_it_was : IsEdited (Mirror 1 ∷ []) (pair 7 4) (pair 7 4) → ⊥
+pair_as_it_was : IsEdited (FlipColumns ∷ []) (pair 7 4) (pair 7 4) → ⊥
 pair_as_it_was is =
     let first = is.pixels (record { row = 0; column = 0 }) (record { row_below = lit< tt; column_below = lit< tt }) in
     both_ways (nat_eq 7 4) refl (eq-eqb 7 4 (ap (λ pixel. unwrap_or pixel 0) first))
 
-pair_cut_off : IsEdited [] (pair 7 4) (record { extent = record { rows = 1; columns = 1 }; greatest = 9; pixels = 7 ∷ [] }) → ⊥
+pair_cut_off : IsEdited [] (pair 7 4) (record { extent = record { rows = 1; columns = 1 }; white = 9; pixels = 7 ∷ [] }) → ⊥
 pair_cut_off is = both_ways (nat_eq 1 2) refl (eq-eqb 1 2 (ap (λ (extent : Extent). extent.columns) is.extent))
-
-first_of_two : AreBegun (Mirror 1 ∷ FlipRows ∷ []) (pair 7 4) (pair 4 7) (FlipRows ∷ [])
-first_of_two = record { made = Mirror 1 ∷ []; whole = refl; fewer = lit< tt; edited = pair_mirrored }
-
-none_begun : AreBegun [] (pair 7 4) (pair 7 4) [] → ⊥
-none_begun are = not-suc-le-zero are.fewer

@@ -1,9 +1,4 @@
 pub mod EditError
-pub mod EditWords
 pub mod Edits
-pub mod FirstWords
-pub mod Numbers
-pub mod Parts
-pub mod Slices
-pub mod Words
-pub mod picture
+pub mod Picture
+pub mod Views

@@ -1,15 +1,16 @@
-//! Pictures in grey, the texts that spell them in the formats PGM (P2 and P5), edits of them, and the words that spell edits.
+//! Pictures in grey in the binary format PGM (`P5`), edits of them, and the words that spell edits.
 #![tactic(auto)]
 
-mod edits;
+mod edit;
+mod editing;
 mod picture;
-mod text;
+mod printing;
+mod reading;
 mod words;
 
-pub use edits::edit::{Edit, MOST_PARTS, Misfit, Span};
-pub use edits::{EditError, edited};
-pub use picture::fault::{Fault, ReadError};
-pub use picture::printing::text_of_picture;
-pub use picture::reading::read_picture;
+pub use edit::{Edit, Misfit, Span};
+pub use editing::{EditError, edited};
 pub use picture::{Extent, Picture};
+pub use printing::print_picture;
+pub use reading::{ReadError, read_picture};
 pub use words::{WordsError, read_edits};

@@ -1,10 +1,5 @@
 //! Pictures in grey.
-mod binary;
-pub(crate) mod fault;
-mod header;
-mod plain;
-pub(crate) mod printing;
-pub(crate) mod reading;
+use std::marker::Model;
 
 /// How many rows and columns a picture has.
 #[derive(Clone, Copy, Debug, PartialEq, Eq)]
@@ -16,8 +11,8 @@ pub struct Extent {
 }
 
 impl Extent {
-    ghost use Rattle.std.specs.Prelude.{◌≡◌, ◌*◌};
-    ghost use Rattle.example_tiles_edits.specs.picture.Picture.{pixel_count};
+    ghost use Rattle.std.specs.Prelude.{◌≡◌};
+    ghost use Rattle.example_tiles_edits.specs.Picture.{pixel_count};
 
     /// How many pixels a picture of this extent has.
     pub(crate) fn pixel_count(self) -> usize
@@ -27,13 +22,21 @@ impl Extent {
     }
 }
 
-/// A picture: its pixels, row by row, from 0 for black up to the greatest value for white.
+/// A picture: its pixels row by row, from 0 for black up to a value for white.
 #[derive(Debug, Drop)]
 pub struct Picture {
-    /// How many rows and columns it has.
-    pub extent: Extent,
-    /// The value of white.
-    pub greatest: u16,
-    /// The pixels of the first row, then those of the next one, and so on.
-    pub pixels: Vec<u16>,
+    pub(crate) extent: Extent,
+    pub(crate) white: u8,
+    pub(crate) pixels: Vec<u8>,
+}
+
+impl Model for Picture {
+    ghost use Rattle.std.specs.Prelude.{◌≡◌, length};
+    ghost use Rattle.example_tiles_edits.specs.Picture.{Image, pixel_count};
+
+    ghost Value = { Image };
+
+    ghost view = { λ p. record { extent = p.extent; white = p.white; pixels = p.pixels.items } };
+
+    ghost invariant = { λ p. length p.pixels.items ≡ pixel_count p.extent };
 }
