@@ -9,6 +9,7 @@ use std::process::ExitCode;
 
 fn edit_picture() -> Result<(), Box<dyn Error>> {
     let arguments: Vec<_> = std::env::args_os().skip(1).collect();
+    // (an argument that isn't UTF-8 is a word that no edit begins with)
     let words: Vec<&str> = arguments.iter().map(|argument| argument.to_str().unwrap_or_default()).collect();
     let edits = read_edits(&words)?;
     let mut text = Vec::new();
