@@ -24,6 +24,7 @@ fn main(rt: HostRuntime) -> Result<()> {
     rt.stdin().read_to_end(&mut text)?;
     let picture = read_picture(rt.alloc(), text.as_slice())?;
     let picture = edited(rt.alloc(), &picture, edits.as_slice())?;
-    rt.stdout().write_all(print_picture(rt.alloc(), &picture)?.as_slice())?;
+    rt.stdout()
+        .write_all(print_picture(rt.alloc(), &picture)?.as_slice())?;
     Ok(())
 }
