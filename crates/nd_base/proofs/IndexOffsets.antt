@@ -1,11 +1,11 @@
 -- Facts about the offsets of indices: which lists are indices, how far they lie, and a sum of offsets from an axis on.
-use Rattle.std.proofs.Common.{inl, inr, min, ◌≡◌, ℕ, suc, ◌+◌, ◌-◌, ◌*◌, ◌<◌, ◌≤◌, ℤ, pos, negsuc, neg_ℤ, ◌+ℤ◌, ◌*ℤ◌, ◌≤ℤ◌, false}
+use Rattle.std.proofs.Common.{inl, inr, min, ◌≡◌, ℕ, suc, ◌+◌, ◌-◌, ◌*◌, ◌<◌, ◌≤◌, ℤ, pos, negsuc, neg_ℤ, ◌+ℤ◌, ◌*ℤ◌, ◌≤ℤ◌, false, w64}
 use Rattle.std.proofs.Common.{List, [], ◌∷◌, length, drop, get_or, refl, ap, ◌∙◌, arith, add-one, drop-cons}
-use Rattle.std.specs.Prelude.{nat_lt}
+use Rattle.std.specs.Prelude.{nat_lt, FitsSigned}
 use Rattle.std.proofs.lemmas.Bool.{and_right, cases_Bool, cases_lt}
 use Rattle.std.proofs.lemmas.Int.{ints}
 use Rattle.std.proofs.lemmas.List.{drop_all}
-use Rattle.nd_base.proofs.laws.Definitions.{is_index, offset_of, all_signed, magnitude, signed, reach}
+use Rattle.nd_base.proofs.laws.Definitions.{is_index, offset_of, all_signed, limit, magnitude, signed, reach}
 use Rattle.nd_base.proofs.laws.IsIndex.{entry_of_index}
 use Rattle.std.proofs.lemmas.Nat.{mul-le}
 
@@ -38,6 +38,30 @@ entry_offset_bounds entry (negsuc s) = (omega (arith, ints), omega (arith, ints)
 -- an entry below the length lies no farther than the axis reaches
 pub entry_offset_le : (len entry : ℕ) (stride : ℤ) → entry < len → entry_offset entry stride ≤ reach len stride
 entry_offset_le len entry stride h = mul-le entry (magnitude stride) (len - 1) (magnitude stride) (omega arith) (omega arith)
+
+-- a sum of offsets so far, and an entry to be added to it: the entry and what comes after it lie no farther than `whole`
+pub record IsNextPart (sum : ℤ) (entry : ℕ) (stride : ℤ) (rest whole : ℕ) : Type 0 where
+  pub far : entry_offset entry stride + rest ≤ whole
+  pub low : pos whole ≤ℤ (sum +ℤ pos limit)
+  pub high : (sum +ℤ pos whole) ≤ℤ pos limit
+
+-- so that offset fits, and so does the sum with it, which leaves room for the rest
+pub record IsAdded (sum own : ℤ) (rest : ℕ) : Type 0 where
+  pub part : FitsSigned w64 own
+  pub whole : FitsSigned w64 (sum +ℤ own)
+  pub low : pos rest ≤ℤ ((sum +ℤ own) +ℤ pos limit)
+  pub high : ((sum +ℤ own) +ℤ pos rest) ≤ℤ pos limit
+
+pub added : {sum : ℤ} {entry : ℕ} {stride : ℤ} {rest whole : ℕ} → IsNextPart sum entry stride rest whole
+    → IsAdded sum (pos entry *ℤ stride) rest
+added {entry = entry} {stride = stride} next =
+    let bounds = entry_offset_bounds entry stride in
+    record {
+      part = omega (arith, ints, bounds, next.far, next.low, next.high);
+      whole = omega (arith, ints, bounds, next.far, next.low, next.high);
+      low = omega (arith, ints, bounds, next.far, next.low);
+      high = omega (arith, ints, bounds, next.far, next.high);
+    }
 
 -- the offset from axis k on
 abbrev pub offset_from : List ℕ → List ℕ → ℕ → ℤ

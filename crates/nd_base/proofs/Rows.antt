@@ -1,8 +1,11 @@
 -- Facts about rows laid end to end: for each entry of the first axis, the indices that begin with it.
-use Rattle.std.proofs.Common.{◌≡◌, ℕ, zero, suc, ◌+◌, ◌*◌, ◌<◌, List, [], ◌∷◌, ◌++◌, length, map, refl, ap, ◌∙◌, arith}
-use Rattle.std.specs.List.{flat_map, range_with_len, slice_get}
-use Rattle.std.proofs.lemmas.List.{length-append, length-map}
-use Rattle.nd_base.proofs.laws.Definitions.{indices, size}
+use Rattle.std.proofs.Common.{◌≡◌, ℕ, zero, suc, ◌+◌, ◌*◌, ◌<◌, List, [], ◌∷◌, length, get_or, map, take, refl, sym, ap, ◌∙◌, arith}
+use Rattle.std.specs.List.{flat_map, range_with_len}
+use Rattle.std.proofs.lemmas.List.{get_or-map, length-append, length-map, map-id}
+use Rattle.std.proofs.lemmas.List.Concat.{get_or-flat_map}
+use Rattle.std.proofs.lemmas.List.FromFn.{take-map-range_with_len}
+use Rattle.nd_base.proofs.laws.Definitions.{below, indices, size}
+use Rattle.nd_base.proofs.laws.Below.{get_or-below, length-below}
 
 -- the indices that begin with i
 abbrev pub row : List (List ℕ) → ℕ → List (List ℕ)
@@ -22,30 +25,17 @@ pub length_indices : (shape : List ℕ) → length (indices shape) ≡ size shap
 length_indices [] = refl
 length_indices (len ∷ lens) = length_rows (indices lens) 0 len ∙ ap (λ m. len * m) (length_indices lens)
 
-get_left : {A : Type 0} (xs ys : List A) (k : ℕ) → k < length xs → slice_get (xs ++ ys) k ≡ slice_get xs k
-get_left [] ys k h = absurd (omega arith)
-get_left (x ∷ xs) ys zero h = refl
-get_left (x ∷ xs) ys (suc k) h = get_left xs ys k (omega arith)
-
-get_right : {A : Type 0} (xs ys : List A) (n k : ℕ) → n ≡ length xs + k → slice_get (xs ++ ys) n ≡ slice_get ys k
-get_right [] ys n k e = let same : n ≡ k = omega arith in ap (slice_get ys) same
-get_right (x ∷ xs) ys zero k e = absurd (omega arith)
-get_right (x ∷ xs) ys (suc n) k e = get_right xs ys n k (omega arith)
-
 -- the index at place j of row k
-module _ (tails : List (List ℕ)) (j : ℕ) (within : j < length tails) where
-  pub slice_get_rows : (a n k r : ℕ) → k < n → r ≡ k * length tails + j → slice_get (rows tails a n) r ≡ slice_get (row tails (a + k)) j
-  slice_get_rows a zero k r h e = absurd (omega arith)
-  slice_get_rows a (suc n) zero r h e =
-      let long = length-map tails (λ index. a ∷ index) in
-      let here : r ≡ j = omega arith in
-      let first : a ≡ a + 0 = omega arith in
-      get_left (row tails a) (rows tails (a + 1) n) r (omega (arith, within))
-      ∙ ap (slice_get (row tails a)) here
-      ∙ ap (λ i. slice_get (row tails i) j) first
-  slice_get_rows a (suc n) (suc k) r h e =
-      let long = length-map tails (λ index. a ∷ index) in
-      let next : a + 1 + k ≡ a + suc k = omega arith in
-      get_right (row tails a) (rows tails (a + 1) n) r (k * length tails + j) (omega arith)
-      ∙ slice_get_rows (a + 1) n k (k * length tails + j) (omega arith) refl
-      ∙ ap (λ i. slice_get (row tails i) j) next
+pub get_or_rows : (tails : List (List ℕ)) (len k j : ℕ) (d : List ℕ) → k < len → j < length tails
+    → get_or (rows tails 0 len) (k * length tails + j) d ≡ k ∷ get_or tails j d
+get_or_rows tails len k j d h l =
+    let numbers = below len in
+    let number : get_or numbers k 0 ≡ k = get_or-below len k 0 h in
+    let front : take k numbers ≡ below k =
+    ap (take k) (sym (map-id numbers)) ∙ take-map-range_with_len (λ i. i) 0 len k (omega arith) ∙ map-id (below k) in
+    let before = ap (λ xs. length (flat_map (row tails) xs)) front ∙ length_rows tails 0 k in
+    ap (λ n. get_or (rows tails 0 len) (n + j) d) (sym before)
+    ∙ get_or-flat_map (row tails) numbers k j 0 d (omega (arith, length-below len))
+    (omega (arith, l, length-map tails (λ index. get_or numbers k 0 ∷ index)))
+    ∙ ap (λ i. get_or (row tails i) j d) number
+    ∙ get_or-map (λ index. k ∷ index) tails j d d l

@@ -1,3 +1,4 @@
+pub mod Below
 pub mod Definitions
 pub mod Dim
 pub mod Entries

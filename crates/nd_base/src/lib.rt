@@ -33,4 +33,4 @@ pub use ixdyn::new_ixdyn;
 pub use lengths::{FixedCount, INLINE_AXES, Lengths};
 pub use offsets::{index_offset, stride_offset_checked};
 pub use order::Order;
-pub use strides::{signed, stride_offset, unsigned};
+pub use strides::{is_multiple, signed, stride_offset, unsigned};

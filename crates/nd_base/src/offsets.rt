@@ -1,13 +1,26 @@
 //! Where the indices of a shape lie from its first index.
-ghost use Rattle.std.specs.Prelude.{◌≡◌, ◌≤◌};
+ghost use Rattle.std.specs.Int.{w64};
+ghost use Rattle.std.specs.Int.RustNames.{FitsSigned};
+ghost use Rattle.std.specs.Prelude.{◌≡◌, ◌≤◌, pos, ◌+ℤ◌, ◌*ℤ◌};
 ghost use Rattle.std.specs.List.{All};
 ghost use Rattle.nd_base.specs.Offset.{offset_of, checked_offset};
 ghost use Rattle.nd_base.specs.Reach.{farthest_offset};
-ghost use Rattle.nd_base.specs.Signed.{all_signed};
+ghost use Rattle.nd_base.specs.Signed.{signed, all_signed};
 ghost use Rattle.nd_base.specs.Size.{limit};
 ghost use Rattle.nd_base.specs.ValidLayout.{IsValidLayout};
 
 use crate::strides::stride_offset;
+
+/// An offset, moved from coordinate 0 of an axis to another one.
+#[inline(always)]
+fn moved(offset: isize, entry: usize, stride: usize) -> isize
+    requires small { entry ≤ limit }
+    requires part { FitsSigned w64 (pos entry *ℤ signed stride) }
+    requires whole { FitsSigned w64 (offset +ℤ (pos entry *ℤ signed stride)) }
+    ensures { result ≡ offset +ℤ (pos entry *ℤ signed stride) }
+{
+    offset + stride_offset(entry, stride)
+}
 
 /// The sum of each coordinate times its stride, in elements.
 ///
@@ -28,7 +41,7 @@ pub fn index_offset(index: &[usize], strides: &[usize]) -> isize
     let axes = index.len().min(strides.len());
     let mut offset = 0isize;
     for axis in 0..axes {
-        offset += stride_offset(index[axis], strides[axis]);
+        offset = moved(offset, index[axis], strides[axis]);
     }
     offset
 }
@@ -55,7 +68,7 @@ pub fn stride_offset_checked(dim: &[usize], strides: &[usize], index: &[usize]) 
         if index[axis] >= dim[axis] {
             return None;
         }
-        offset += stride_offset(index[axis], strides[axis]);
+        offset = moved(offset, index[axis], strides[axis]);
     }
     Some(offset)
 }

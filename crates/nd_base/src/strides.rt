@@ -1,5 +1,5 @@
 //! Strides: kept in a `usize`, with the meaning of an `isize`.
-ghost use Rattle.std.specs.Prelude.{◌≡◌, ◌<◌, ◌^◌, pos, ◌*ℤ◌};
+ghost use Rattle.std.specs.Prelude.{◌≡◌, ◌<◌, ◌^◌, ◌↔◌, pos, ◌*ℤ◌, IsTrue};
 ghost use Rattle.std.specs.Int.RustNames.{FitsSigned};
 ghost use Rattle.std.specs.Int.{w64};
 ghost use Rattle.nd_base.specs.Signed.{signed as signed_reading, unsigned as unsigned_bits};
@@ -39,4 +39,18 @@ pub fn stride_offset(n: usize, stride: usize) -> isize
     ensures { result ≡ pos n *ℤ signed_reading stride }
 {
     n as isize * signed(stride)
+}
+
+/// Whether a stride is that many times another one.
+///
+/// The caller ensures that `n` is below 2^63.
+///
+/// -6 of 2 and -3: true. The project's own.
+#[inline(always)]
+pub fn is_multiple(stride: usize, n: usize, other: usize) -> bool
+    requires { n < 2 ^ 63 }
+    ensures { IsTrue result ↔ (signed_reading stride ≡ pos n *ℤ signed_reading other) }
+{
+    // (128 bits hold the product of any two numbers of 64; two signed ones take one instruction)
+    signed(stride) as i128 == signed(n) as i128 * signed(other) as i128
 }

@@ -1,6 +1,6 @@
 -- Layouts that lie at the distances 0, 1 and so on below their size, whatever the signs of the strides.
-use Rattle.std.proofs.Common.{◌≡◌, ◌⊎◌, ℕ, zero, suc, ◌+◌, ◌*◌, ◌/◌, ◌%◌, ◌<◌, ℤ, true, List, [], ◌∷◌, length, get_or, set, replicate}
-use Rattle.std.proofs.Common.{refl, sym, ap, ◌∙◌, arith, get_or-set_same, inl, inr, subst}
+use Rattle.std.proofs.Common.{◌≡◌, ◌⊎◌, ℕ, zero, suc, ◌+◌, ◌*◌, ◌/◌, ◌%◌, ◌<◌, ℤ, true, List, length, get_or, set, replicate}
+use Rattle.std.proofs.Common.{refl, sym, ap, ◌∙◌, arith, get_or-set_same, inl, inr}
 use Rattle.std.proofs.lemmas.List.{ext_get_or, get_or-replicate, length-replicate, length-set, set-get_or, set-set}
 use Rattle.std.proofs.lemmas.Nat.{div_below, div-add-mod', div-mul-add, mod_below, mod-mul-add, mul-add-lt}
 use Rattle.nd_base.proofs.laws.Definitions.{is_index, farthest_offset, size}
@@ -136,9 +136,7 @@ pub fills_next : {shape : List ℕ} {strides : List ℤ} (axis : ℕ) {len : ℕ
     → get_or shape axis 0 ≡ 1 → 0 < size shape → (len ≡ 1) ⊎ (magnitude_at strides axis ≡ size shape) → Fills shape strides
     → Fills (set shape axis len) strides
 fills_next {shape = shape} {strides = strides} axis {len = len} count inside one some (inl alone) fills =
-    let same = ap (set shape axis) (alone ∙ sym one) ∙ set-get_or shape axis 0 in
-    let P : List ℕ → Type 0 = λ s. Fills s strides in
-    subst P (sym same) fills
+    rw (ap (set shape axis) (alone ∙ sym one) ∙ set-get_or shape axis 0) fills
 fills_next {shape = shape} {strides = strides} axis {len = len} count inside one some (inr packed) fills =
     let next : IsNext shape strides axis len =
     record { count = count; inside = inside; one = one; packed = packed; fills = fills } in

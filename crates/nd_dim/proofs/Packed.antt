@@ -1,42 +1,21 @@
 -- Tests of layouts, axis by axis.
-use Rattle.std.proofs.Common.{Fits, w64, ◌≡◌, ◌<◌, ◌≤◌, ◌^◌, ◌+◌, ◌*◌, ◌↔◌, ℕ, pos, Bool, true, false, List, [], ◌∷◌, ◌++◌, length}
+use Rattle.std.proofs.Common.{Fits, w64, ◌≡◌, ◌<◌, ◌≤◌, ◌^◌, ◌+◌, ◌*◌, ◌↔◌, ℕ, pos, Bool, true, false, List, [], ◌∷◌, length}
 use Rattle.std.proofs.Common.{get_or, map, cond, refl, ap, sym, ◌∙◌, arith, mul-one}
-use Rattle.std.specs.List.{list_all, filter, slice_index}
+use Rattle.std.specs.List.{filter, slice_index}
 use Rattle.std.specs.Cmp.Rules.{signed_items}
 use Rattle.std.specs.Prelude.{IsTrue}
-use Rattle.std.proofs.lemmas.Bool.{cond-true, cond-false, both_ways, false_from_ne_true}
+use Rattle.std.proofs.lemmas.Bool.{cond-true, cond-false}
 use Rattle.std.proofs.lemmas.Bool.Decides.{same_from_decides}
-use Rattle.std.proofs.lemmas.Int.{of_z-to_z, to_z_pos}
-use Rattle.std.proofs.lemmas.List.{map-id, map-append, length-map, ext_get_or, get_or-map}
-use Rattle.std.proofs.lemmas.List.Sums.{list_all-from_AllPass, AllPass-from_list_all}
+use Rattle.std.proofs.lemmas.Int.{of_z-to_z}
+use Rattle.std.proofs.lemmas.List.{map-append, length-map, ext_get_or, get_or-map}
 use Rattle.std.proofs.lemmas.List.Elements.{filter-append}
-use Rattle.std.proofs.lemmas.List.FromFn.{length-range_with_len, get_or-range_with_len, map-range_with_len_more}
 use Rattle.nd_base.proofs.laws.Definitions.{below, all_signed, signed, unsigned, limit, nonzero_size, size}
+use Rattle.nd_base.proofs.laws.Below.{below_more}
 use Rattle.nd_base.proofs.laws.Signed.{all_signed_small}
 use Rattle.nd_dim.specs.Contiguous.{has_default_strides}
 use Rattle.nd_dim.specs.Strides.{default_strides}
 use Rattle.nd_dim.proofs.laws.Strides.{default_count, default_small}
 use Rattle.nd_base.proofs.laws.Size.{size-append}
-
--- a test that passes at each number below n, or fails at one
-pub all_below : (p : ℕ → Bool) (n : ℕ) → ((k : ℕ) → k < n → p k ≡ true) → list_all p (below n) ≡ true
-all_below p n h =
-    list_all-from_AllPass p (below n) (λ k d g.
-    let last : k < n = omega (arith, length-range_with_len 0 n) in
-    let same = get_or-range_with_len 0 n k d last ∙ omega arith in
-    rw same (h k last))
-
-pub not_all_below : (p : ℕ → Bool) (n k : ℕ) → k < n → p k ≡ false → list_all p (below n) ≡ false
-not_all_below p n k h fails =
-    false_from_ne_true (list_all p (below n)) (λ all.
-    let within : k < length (below n) = omega (arith, length-range_with_len 0 n) in
-    let same = get_or-range_with_len 0 n k 0 h ∙ omega arith in
-    let passes : p k ≡ true = rw same at (AllPass-from_list_all p (below n) all k 0 within) in
-    both_ways (p k) fails passes)
-
-numbers_more : (n : ℕ) → below (n + 1) ≡ below n ++ n ∷ []
-numbers_more n = sym (map-id (below (n + 1))) ∙ map-range_with_len_more (λ k. k) 0 n n (omega arith)
-    ∙ ap (λ xs. xs ++ n ∷ []) (map-id (below n))
 
 one_chosen : (b : Bool) (f : ℕ → ℕ) (n : ℕ) → size (map f (cond b (n ∷ []) [])) ≡ cond b (f n) 1
 one_chosen true f n = mul-one (f n)
@@ -47,7 +26,7 @@ module _ (p : ℕ → Bool) (lens : List ℕ) (n : ℕ) where
   pub chosen_more : size (map (slice_index lens) (filter p (below (n + 1))))
       ≡ size (map (slice_index lens) (filter p (below n))) * cond (p n) (get_or lens n 0) 1
   chosen_more =
-      ap (λ xs. size (map (slice_index lens) (filter p xs))) (numbers_more n)
+      ap (λ xs. size (map (slice_index lens) (filter p xs))) (below_more n)
       ∙ ap (λ xs. size (map (slice_index lens) xs)) (filter-append p (below n) (n ∷ []))
       ∙ ap size (map-append (slice_index lens) (filter p (below n)) (cond (p n) (n ∷ []) []))
       ∙ size-append (map (slice_index lens) (filter p (below n))) (map (slice_index lens) (cond (p n) (n ∷ []) []))

@@ -1,6 +1,6 @@
 -- Every axis is packed exactly where the layout lies at each distance below its size once.
 use Rattle.std.proofs.Common.{◌≡◌, ◌⊎◌, ℕ, zero, suc, ◌+◌, ◌*◌, ◌<◌, ◌≤◌, ℤ, true, false, List, [], ◌∷◌, length, get_or}
-use Rattle.std.proofs.Common.{get_or-set_same, set, replicate, refl, sym, ap, ◌∙◌, arith, inl, inr, subst, mul-pos}
+use Rattle.std.proofs.Common.{get_or-set_same, set, replicate, refl, sym, ap, ◌∙◌, add-one, arith, inl, inr, mul-pos}
 use Rattle.std.proofs.Math.Nat.{mul-le-mul_left, mul-le-mul_right}
 use Rattle.std.proofs.lemmas.Bool.{cases_lt, cases_order}
 use Rattle.std.proofs.lemmas.List.{get_or-replicate, length-replicate, set-get_or}
@@ -47,9 +47,7 @@ abbrev pub IsPackedAt : List ℕ → List ℤ → ℕ → Type 0
 IsPackedAt lens strides axis = (get_or lens axis 0 ≡ 1) ⊎ (magnitude_at strides axis ≡ size (lens_before lens strides axis))
 
 fills_no_axes : (lens : List ℕ) (strides : List ℤ) → Fills (first_axes lens strides 0) strides
-fills_no_axes lens strides =
-    let P : List ℕ → Type 0 = λ s. Fills s strides in
-    subst P (sym (first_none lens strides)) (fills_ones (length lens) strides)
+fills_no_axes lens strides = rw (first_none lens strides) (fills_ones (length lens) strides)
 
 module _ (lens : List ℕ) (strides : List ℤ) (count : length lens ≡ length strides) (some : is_empty lens ≡ false) where
   fills_from_axis : (place axis : ℕ) → axis < length lens → stride_place strides (length lens) axis ≡ place → IsPackedAt lens strides axis
@@ -61,36 +59,29 @@ module _ (lens : List ℕ) (strides : List ℤ) (count : length lens ≡ length 
         | inl one ↦ inl one
         | inr fits ↦ inr (fits ∙ size_before lens strides axis h ∙ ap (λ k. size (first_axes lens strides k)) e)
       ] in
-      let next : Fills (set first axis (get_or lens axis 0)) strides =
-      fills_next axis (many ∙ count) (omega arith) (first_left lens strides place axis h (omega arith))
-      (first_above lens strides place some) at fills in
-      let P : List ℕ → Type 0 = λ s. Fills s strides in
-      subst P (sym (first_more lens strides place axis h e)) next
+      rw (first_more lens strides place axis h e)
+      (fills_next axis (many ∙ count) (omega arith) (first_left lens strides place axis h (omega arith))
+      (first_above lens strides place some) at fills)
 
   -- one place on, where the axis there is packed
   fills_more : (place : ℕ) → ((axis : ℕ) → axis < length lens → stride_place strides (length lens) axis ≡ place
       → IsPackedAt lens strides axis) → Fills (first_axes lens strides place) strides → Fills (first_axes lens strides (place + 1)) strides
   fills_more place packed fills = elim (axis_at_place (stride_place strides (length lens)) (length lens) place) [
     | inl found ↦ fills_from_axis place found.0 found.1 found.2 (packed found.0 found.1 found.2) fills
-    | inr none ↦
-        let P : List ℕ → Type 0 = λ s. Fills s strides in
-        subst P (sym (first_same lens strides place none)) fills
+    | inr none ↦ rw (first_same lens strides place none) fills
   ]
 
   fills_first : (place : ℕ) → ((axis : ℕ) → axis < length lens → IsPackedAt lens strides axis)
       → Fills (first_axes lens strides place) strides
   fills_first zero packed = fills_no_axes lens strides
   fills_first (suc place) packed =
-      let next : place + 1 ≡ suc place = omega arith in
-      let P : ℕ → Type 0 = λ k. Fills (first_axes lens strides k) strides in
-      subst P next (fills_more place (λ axis h e. packed axis h) (fills_first place packed))
+      rw (← add-one) (fills_more place (λ axis h e. packed axis h) (fills_first place packed))
 
   -- a layout whose axes are all packed
   pub fills_from_packed : ((axis : ℕ) → axis < length lens → IsPackedAt lens strides axis) → Fills lens strides
   fills_from_packed packed =
       let top = past_all (stride_place strides (length lens)) (length lens) in
-      let P : List ℕ → Type 0 = λ s. Fills s strides in
-      subst P (first_all lens strides top.0 top.1) (fills_first top.0 packed)
+      rw (first_all lens strides top.0 top.1) at (fills_first top.0 packed)
 
 -- ---- from a filled stretch to packed axes
 -- one step along an axis is an index that lies as far as its stride
@@ -219,10 +210,8 @@ module _ (lens : List ℕ) (strides : List ℤ) (count : length lens ≡ length 
   fills_reached : (place : ℕ) → ReachesEach lens strides → Fills (first_axes lens strides place) strides
   fills_reached zero reaches = fills_no_axes lens strides
   fills_reached (suc place) reaches =
-      let next : place + 1 ≡ suc place = omega arith in
       let before = fills_reached place reaches in
-      let P : ℕ → Type 0 = λ k. Fills (first_axes lens strides k) strides in
-      subst P next (fills_more lens strides count some place (λ axis h e. packed_at_place place axis reaches before h e) before)
+      rw (← add-one) (fills_more lens strides count some place (λ axis h e. packed_at_place place axis reaches before h e) before)
 
   -- a layout that lies at each distance below its size once has packed axes alone
   pub packed_from_reaches : ReachesEach lens strides → (axis : ℕ) → axis < length lens → IsPackedAt lens strides axis

@@ -23,12 +23,13 @@ pub use error::incompatible_shapes;
 pub use nd_base::{
     Arithmetic, Axis, Convert, Dim, ErrorKind, FixedCount, INLINE_AXES, Ix0, Ix1, Ix2, Ix3, Ix4,
     Ix5, Ix6, IxDyn, IxDynImpl, LayoutError, Lengths, Order, Scale, ShapeError, axis_of, from_kind,
-    has_axis, index_offset, is_index, new_ix0, new_ix1, new_ix2, new_ix3, new_ix4, new_ix5,
-    new_ix6, new_ixdyn, set_axis_of, signed, stride_offset, stride_offset_checked, unsigned,
+    has_axis, index_offset, is_index, is_multiple, new_ix0, new_ix1, new_ix2, new_ix3, new_ix4,
+    new_ix5, new_ix6, new_ixdyn, set_axis_of, signed, stride_offset, stride_offset_checked,
+    unsigned,
 };
 pub use next_index::{step_by_columns, step_by_rows};
 pub use remove_axis::RemoveAxis;
-pub use sequence::{Forward, Reverse, Sequence, SequenceMut};
+pub use sequence::{Forward, Reverse, Sequence, SequenceMut, item};
 pub use shape_arg::ShapeArg;
 pub use sizes::product;
 pub use stride_axes::magnitude_at;

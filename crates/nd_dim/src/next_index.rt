@@ -5,7 +5,7 @@ ghost use Rattle.nd_base.specs.Indices.{is_index};
 ghost use Rattle.nd_base.specs.FlatIndex.{flat_index, index_of_flat, flat_index_in, index_of_flat_in};
 ghost use Rattle.nd_base.specs.Size.{size};
 
-use crate::sequence::{Forward, Reverse, Sequence, SequenceMut};
+use crate::sequence::{Forward, Reverse, Sequence, SequenceMut, item};
 
 /// Moves an index to the next one, where both sequences begin with the axis that moves fastest.
 /// Returns whether there is one; the last index becomes the first, all 0, with `false`.
@@ -25,8 +25,8 @@ fn step<S: Sequence, I: SequenceMut>(shape: &S, index: &mut I) -> bool
 {
     // (the coordinate is written before it is known to be the one: loops run in half the time so)
     for k in 0..shape.len() {
-        let len = shape[k];
-        let next = index[k] + 1;
+        let len = item(shape, k);
+        let next = item(index, k) + 1;
         index.set(k, next);
         if next < len {
             return true;

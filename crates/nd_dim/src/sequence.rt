@@ -1,5 +1,5 @@
 //! The numbers of a dimension or a slice, one for each axis, counted from the first axis on or from the last one back.
-ghost use Rattle.std.specs.Prelude.{◌≡◌, ℕ, ◌<◌, List, length, reverse, Some, slice_get, slice_set};
+ghost use Rattle.std.specs.Prelude.{◌≡◌, ℕ, ◌<◌, List, length, reverse, Some, slice_get, slice_index, slice_set};
 
 use nd_base::Lengths;
 use std::ops::{Index, IndexMut};
@@ -27,6 +27,19 @@ pub trait Sequence: Index<usize, Output = usize> {
     // and shows its number.
     ghost index_is: { (s : Self) (k item : ℕ) → Self.index_gives s k item →
         slice_get (items s) k ≡ Some item };
+}
+
+/// The number at a position of a sequence.
+///
+/// The caller ensures that there is one.
+///
+/// The project's own.
+#[inline(always)]
+pub fn item<S: Sequence>(items: &S, k: usize) -> usize
+    requires { k < length (S.items items.now) }
+    ensures { result ≡ slice_index (S.items items.now) k }
+{
+    items[k]
 }
 
 /// A list of numbers that are read and written by their position. ndarray's `SequenceMut`.

@@ -4,7 +4,7 @@ ghost use Rattle.nd_base.specs.Lengths.{NeedsNoMemory};
 ghost use Rattle.nd_base.specs.Size.{size, is_empty};
 ghost use Rattle.nd_dim.specs.Strides.{default_strides as default_strides_of, fortran_strides as fortran_strides_of, size_until, AreEquivalent};
 
-use crate::sequence::{Forward, Reverse, Sequence, SequenceMut};
+use crate::sequence::{Forward, Reverse, Sequence, SequenceMut, item};
 use nd_base::Lengths;
 use std::alloc::{AllocError, Global};
 
@@ -14,7 +14,7 @@ fn has_zero<S: Sequence>(lens: &S) -> bool
     ensures { result ≡ is_empty (S.items lens.now) }
 {
     for k in 0..lens.len() {
-        if lens[k] == 0 {
+        if item(lens, k) == 0 {
             return true;
         }
     }
@@ -35,7 +35,7 @@ fn write_products<S: Sequence, O: SequenceMut>(lens: &S, first: usize, out: &mut
     let mut product = first;
     for k in 0..lens.len() {
         out.set(k, product);
-        product *= lens[k];
+        product *= item(lens, k);
     }
 }
 

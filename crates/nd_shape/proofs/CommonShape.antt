@@ -1,11 +1,14 @@
 -- The common shape of a list of lengths and one that is no longer, axis by axis.
 use Rattle.std.proofs.Common.{◌≡◌, ℕ, zero, suc, ◌+◌, ◌-◌, ◌<◌, ◌≤◌, max, true, Option, Some, None, is_some, List, [], ◌∷◌, ◌++◌}
-use Rattle.std.proofs.Common.{length, replicate, get_or, inl, inr, refl, sym, ap, ◌∙◌, arith}
+use Rattle.std.proofs.Common.{length, map, replicate, get_or, inl, inr, refl, sym, ap, ◌∙◌, arith}
 use Rattle.std.specs.Option.{option_map, option_and_then}
+use Rattle.std.specs.Prelude.{unwrap_or}
 use Rattle.std.proofs.lemmas.Bool.{cases_lt}
 use Rattle.std.proofs.lemmas.List.{get_or-append-add, get_or_append_left, get_or-replicate, length-replicate}
+use Rattle.std.proofs.lemmas.List.FromFn.{get_or-map-range_with_len, length-map-range_with_len}
+use Rattle.nd_base.specs.Indices.{below}
 use Rattle.nd_shape.specs.CommonShape.{common_length, common_lengths, padded, common_shape}
-use Rattle.nd_shape.proofs.laws.CommonShape.{common_with_one, length-padded}
+use Rattle.nd_shape.proofs.laws.CommonShape.{common_with_one, joined_parts, length-padded}
 
 -- ---- as many lengths on both sides
 -- a list that is common axis by axis is the common one
@@ -21,36 +24,39 @@ some_by_axes (len ∷ lens) (other ∷ others) (c ∷ common) e f h =
     ap (λ o. option_and_then (λ n. option_map (λ s. n ∷ s) (common_lengths lens others)) o) (h 0 (omega arith))
     ∙ ap (option_map (λ s. c ∷ s)) rest
 
--- there is one where each axis has one
+-- and has at each axis what is common there
+pub axes_of_common : (lens others common : List ℕ) → length lens ≡ length others → common_lengths lens others ≡ Some common → (k : ℕ)
+    → k < length lens → common_length (get_or lens k 0) (get_or others k 0) ≡ Some (get_or common k 0)
+axes_of_common [] others common e h k l = absurd (omega arith)
+axes_of_common (len ∷ lens) [] common e h k l = absurd (omega arith)
+axes_of_common (len ∷ lens) (other ∷ others) common e h zero l =
+    let parts = joined_parts (common_length len other) (common_lengths lens others) common h in
+    parts.is_first ∙ ap (λ s. Some (get_or s 0 0)) parts.same
+axes_of_common (len ∷ lens) (other ∷ others) common e h (suc k) l =
+    let parts = joined_parts (common_length len other) (common_lengths lens others) common h in
+    axes_of_common lens others parts.lens (omega arith) parts.is_rest k (omega arith) ∙ ap (λ s. Some (get_or s (suc k) 0)) parts.same
+
+there : {A : Type 0} (o : Option A) → is_some o ≡ true → (x : A) × (o ≡ Some x)
+there None h = absurd (cc)
+there (Some x) h = (x, refl)
+
+-- so there is one where each axis has one
 some_where_all : (lens others : List ℕ) → length lens ≡ length others
     → ((k : ℕ) → k < length lens → is_some (common_length (get_or lens k 0) (get_or others k 0)) ≡ true)
     → is_some (common_lengths lens others) ≡ true
-some_where_all [] others e h = refl
-some_where_all (len ∷ lens) [] e h = refl
-some_where_all (len ∷ lens) (other ∷ others) e h =
-    by (common_length len other) (common_lengths lens others) (h 0 (omega arith))
-    (some_where_all lens others (omega arith) (λ k l. h (suc k) (omega arith)))
-  where
-    by : (o : Option ℕ) (p : Option (List ℕ)) → is_some o ≡ true → is_some p ≡ true
-        → is_some (option_and_then (λ n. option_map (λ s. n ∷ s) p) o) ≡ true
-    by None p g f = absurd (cc)
-    by (Some n) None g f = absurd (cc)
-    by (Some n) (Some s) g f = refl
-
-both_there : (o : Option ℕ) (p : Option (List ℕ)) → is_some (option_and_then (λ n. option_map (λ s. n ∷ s) p) o) ≡ true
-    → (is_some o ≡ true) × (is_some p ≡ true)
-both_there None p g = absurd (cc)
-both_there (Some n) None g = absurd (cc)
-both_there (Some n) (Some s) g = (refl, refl)
+some_where_all lens others e h =
+    let n = length lens in
+    let of = λ (k : ℕ). unwrap_or (common_length (get_or lens k 0) (get_or others k 0)) 0 in
+    ap is_some (some_by_axes lens others (map of (below n)) e (length-map-range_with_len of 0 n) (λ k l.
+    let found = there (common_length (get_or lens k 0) (get_or others k 0)) (h k l) in
+    found.1 ∙ ap Some (sym (get_or-map-range_with_len of 0 n k k 0 l (omega arith) ∙ ap (λ o. unwrap_or o 0) found.1))))
 
 -- and then each axis has one
 all_where_some : (lens others : List ℕ) → length lens ≡ length others → is_some (common_lengths lens others) ≡ true → (k : ℕ)
     → k < length lens → is_some (common_length (get_or lens k 0) (get_or others k 0)) ≡ true
-all_where_some [] others e h k l = absurd (omega arith)
-all_where_some (len ∷ lens) [] e h k l = absurd (omega arith)
-all_where_some (len ∷ lens) (other ∷ others) e h zero l = (both_there (common_length len other) (common_lengths lens others) h).0
-all_where_some (len ∷ lens) (other ∷ others) e h (suc k) l =
-    all_where_some lens others (omega arith) (both_there (common_length len other) (common_lengths lens others) h).1 k (omega arith)
+all_where_some lens others e h k l =
+    let found = there (common_lengths lens others) h in
+    ap is_some (axes_of_common lens others found.0 e found.1 k l)
 
 -- ---- one list of lengths no longer than the other
 module _ (longer shorter : List ℕ) where

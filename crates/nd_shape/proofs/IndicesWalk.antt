@@ -1,9 +1,9 @@
 -- What a walk over the indices of a shape keeps while it goes on.
 use Rattle.std.proofs.Common.{◌≡◌, ℕ, ◌+◌, ◌-◌, ◌<◌, ◌≤◌, ◌↔◌, Bool, true, false, cond, drop, eqb, eqb-true, not, pos_of_ne-zero, List}
-use Rattle.std.proofs.Common.{[], ◌∷◌, length, replicate, Option, Some, None, refl, sym, ap, subst, ◌∙◌, arith}
+use Rattle.std.proofs.Common.{[], ◌∷◌, length, replicate, Option, Some, None, inl, inr, refl, sym, ap, subst, ◌∙◌, arith}
 use Rattle.std.specs.List.{slice_get}
-use Rattle.std.specs.Prelude.{nat_lt, IsTrue}
-use Rattle.std.proofs.lemmas.Bool.{eqb-false, ltb-true, ltb-false}
+use Rattle.std.specs.Prelude.{IsTrue}
+use Rattle.std.proofs.lemmas.Bool.{cases_Bool, cases_lt, eqb-false}
 use Rattle.nd_base.specs.declared.dim.Dim.{Dim}
 use Rattle.nd_base.specs.declared.order.Order.{Order}
 use Rattle.nd_base.proofs.laws.Definitions.{lengths, rewritten, is_index, index_of_flat_in, flat_index_in, is_empty, size}
@@ -17,11 +17,10 @@ use Rattle.nd_shape.proofs.laws.IndicesLeft.{indices_left-more, indices_left-non
 
 -- a shape with an index has no zero length
 nonempty : (shape : List ℕ) → 0 < size shape → is_empty shape ≡ false
-nonempty shape h = by (is_empty shape) refl
-  where
-    by : (b : Bool) → is_empty shape ≡ b → b ≡ false
-    by false e = refl
-    by true e = absurd (omega (arith, size_of_empty shape e))
+nonempty shape h = elim (cases_Bool (is_empty shape)) [
+  | inl none ↦ absurd (omega (arith, size_of_empty shape none))
+  | inr some ↦ some
+]
 
 module _ (order : Order) (shape : List ℕ) where
   -- at first all are left, and the first one, if there is one, is all 0
@@ -104,23 +103,12 @@ module _ (order : Order) (shape : List ℕ) where
   goes_on_to {index = index} next {n = n} true h s is e =
       let more : flat_index_in order shape index + 1 < size shape = is.0 refl in
       (omega (arith, flat_index_here order shape index n h s), goes_on order shape index next n h s (λ _. e))
-  goes_on_to {index = index} next {n = n} false h s is e = ended n refl
-    where
-      ended : (k : ℕ) → k ≡ n → n - 1 ≡ 0
-      ended k z = by (nat_lt (flat_index_in order shape index + 1) (size shape)) refl
-        where
-          by : (b : Bool) → nat_lt (flat_index_in order shape index + 1) (size shape) ≡ b → n - 1 ≡ 0
-          by true t = absurd (wrong (is.1 (ltb-true (flat_index_in order shape index + 1) (size shape) t)))
-            where
-              wrong : IsTrue false → ⊥
-              wrong g = absurd (cc)
-          by false t = omega (
-            arith,
-            s.within,
-            flat_index_here order shape index n h s,
-            ltb-false (flat_index_in order shape index + 1)
-                (size shape) t,
-          )
+  goes_on_to {index = index} next {n = n} false h s is e =
+      let here = flat_index_here order shape index n h s in
+      elim (cases_lt (flat_index_in order shape index + 1) (size shape)) [
+        | inl less ↦ let more = is.1 less in absurd (cc)
+        | inr past ↦ omega (arith, s.within, here)
+      ]
 
 -- ---- a cursor, which moves on before it lends
 module _ (order : Order) (shape : List ℕ) where
@@ -132,13 +120,7 @@ module _ (order : Order) (shape : List ℕ) where
   moves_on index next n more s is e =
       let same : n + 1 - 1 ≡ n = omega arith in
       subst (λ m. StandsAt order shape m next) same
-      (goes_on order shape index next (n + 1) (omega arith) s (λ within. taken more (is.1 within) e))
-    where
-      taken : (b : Bool) → IsTrue b
-          → next ≡ cond b (index_of_flat_in order shape (flat_index_in order shape index + 1)) (replicate (length shape) 0)
-          → next ≡ index_of_flat_in order shape (flat_index_in order shape index + 1)
-      taken true t g = g
-      taken false t g = absurd (cc)
+      (goes_on order shape index next (n + 1) (omega arith) s (λ within. rw (is.1 within) at e))
 
   -- what it lends is the first of those left
   pub lends : (index : List ℕ) (n : ℕ) (left : List (List ℕ)) → 0 < n → StandsAt order shape n index → indices_left order shape n ≡ left

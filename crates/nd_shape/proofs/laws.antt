@@ -9,6 +9,5 @@ pub mod LayoutOrder
 pub mod Merge
 pub mod OwnedRule
 pub mod OwnedWalk
-pub mod ShapeBuilder
 pub mod StandardStrides
 pub mod Stretches

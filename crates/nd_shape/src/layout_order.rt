@@ -1,21 +1,12 @@
 //! Whether the indices of a layout lie one after another.
-ghost use Rattle.std.specs.Prelude.{◌≡◌, ◌<◌, ◌≤◌, ◌↔◌, IsTrue, false, length, slice_index};
+ghost use Rattle.std.specs.Prelude.{◌≡◌, ◌≤◌, ◌↔◌, IsTrue, false, length};
 ghost use Rattle.nd_base.specs.declared.order.Order.TheVariants.{RowMajor, ColumnMajor};
 ghost use Rattle.nd_base.specs.Signed.{all_signed};
 ghost use Rattle.nd_base.specs.Size.{is_empty, nonzero_size, limit};
 ghost use Rattle.nd_shape.specs.LayoutOrder.{LiesInOrder, MeetsOrderRule};
 
 use nd_base::Lengths;
-use nd_dim::{Forward, Reverse, Sequence};
-
-/// The number at a position of a sequence.
-#[inline(always)]
-fn item<S: Sequence>(items: &S, k: usize) -> usize
-    requires { k < length (S.items items.now) }
-    ensures { result ≡ slice_index (S.items items.now) k }
-{
-    items[k]
-}
+use nd_dim::{Forward, Reverse, Sequence, item};
 
 /// Whether each axis of another length than 1 has the product of the lengths before it as its
 /// stride, where both sequences begin with the axis that moves fastest.

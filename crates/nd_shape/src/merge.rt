@@ -1,21 +1,11 @@
 //! Two axes as one.
 ghost use Rattle.std.specs.Bool.{OnTrue};
-ghost use Rattle.std.specs.Prelude.{◌≡◌, ◌≢◌, ◌<◌, ◌^◌, ◌↔◌, pos, ◌*ℤ◌, if◌then◌else◌, IsTrue, length, slice_index};
+ghost use Rattle.std.specs.Prelude.{◌≡◌, ◌≢◌, ◌<◌, ◌↔◌, if◌then◌else◌, IsTrue, length, slice_index};
 ghost use Rattle.nd_base.specs.Signed.{signed as signed_reading, all_signed};
 ghost use Rattle.nd_base.specs.ValidLayout.{IsValidLayout};
 ghost use Rattle.nd_shape.specs.Merge.{IsMergedStride, MergeFits, merged_shape, merged_strides};
 
-use nd_base::{Axis, Lengths, signed};
-
-/// Whether a stride is as long as that many steps of another.
-#[inline(always)]
-fn is_multiple(stride: usize, count: usize, step: usize) -> bool
-    requires { count < 2 ^ 63 }
-    ensures { IsTrue result ↔ (signed_reading stride ≡ pos count *ℤ signed_reading step) }
-{
-    // (128 bits hold the product of any two numbers of 64; two signed ones take one instruction)
-    signed(stride) as i128 == signed(count) as i128 * signed(step) as i128
-}
+use nd_base::{Axis, Lengths, is_multiple};
 
 /// Merges the axis `take` into the axis `into` where one stride serves for the coordinates of both,
 /// and returns whether it did.

@@ -12,7 +12,7 @@ ghost use Rattle.nd_base.specs.ValidLayout.{IsValidLayout};
 
 use crate::limits::reach;
 use nd_base::{Lengths, signed};
-use nd_dim::{Forward, Reverse, Sequence};
+use nd_dim::{Forward, Reverse, Sequence, item};
 
 /// The distance in elements from the first to the last coordinate of an axis, or 0 where its stride is
 /// of a magnitude past `magnitude`.
@@ -91,7 +91,8 @@ fn overlap_on_walk<S: Sequence>(shape: &S, strides: &S) -> Option<bool>
     let mut reached = 0usize;
     let mut longest = 0usize;
     for place in 0..shape.len() {
-        let (len, stride) = (shape[place], signed(strides[place]));
+        let len = item(shape, place);
+        let stride = signed(item(strides, place));
         let magnitude = stride.unsigned_abs();
         if len > 1 {
             if magnitude <= reached {

@@ -14,6 +14,7 @@ pub mod SlicedView
 pub mod Step
 pub mod StepFits
 pub mod View
+pub use Rattle.nd_base.proofs.laws.Below
 pub use Rattle.nd_base.proofs.laws.Definitions
 pub use Rattle.nd_base.proofs.laws.Dim
 pub use Rattle.nd_base.proofs.laws.Entries
@@ -44,7 +45,6 @@ pub use Rattle.nd_shape.proofs.laws.Axes
 pub use Rattle.nd_shape.proofs.laws.DefaultStrides
 pub use Rattle.nd_shape.proofs.laws.IndicesLeft
 pub use Rattle.nd_shape.proofs.laws.LayoutOrder
-pub use Rattle.nd_shape.proofs.laws.ShapeBuilder
 pub use Rattle.nd_shape.proofs.laws.StandardStrides
 pub use Rattle.nd_shape.proofs.laws.Acceptance
 pub use Rattle.nd_shape.proofs.laws.CommonShape

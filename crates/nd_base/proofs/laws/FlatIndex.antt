@@ -1,19 +1,19 @@
 -- Laws of flat indices: the indices of a shape and the numbers below its size stand for one another.
-use Rattle.std.proofs.Common.{◌≡◌, ℕ, zero, suc, ◌+◌, ◌*◌, ◌/◌, ◌%◌, ◌<◌, Some, true, List, [], ◌∷◌, length, replicate, reverse, refl}
+use Rattle.std.proofs.Common.{◌≡◌, ℕ, zero, suc, ◌+◌, ◌*◌, ◌/◌, ◌%◌, ◌<◌, Some, true, List, [], ◌∷◌, length, get_or, replicate, reverse, refl}
 use Rattle.std.proofs.Common.{sym, ap, ◌∙◌, arith}
 use Rattle.std.specs.List.{slice_get}
-use Rattle.std.specs.Option.{option_map}
 use Rattle.std.specs.Prelude.{nat_lt}
 use Rattle.std.proofs.lemmas.Bool.{and_from, and_parts, lt-ltb, ltb-true}
-use Rattle.std.proofs.lemmas.List.{length-reverse, reverse-reverse}
+use Rattle.std.proofs.lemmas.List.{get_or-map, length-map}
 use Rattle.std.proofs.lemmas.Nat.{div_below, mod_below, div-add-mod', div-mul-add, mod-mul-add, mul-add-lt}
-use Rattle.std.proofs.lemmas.Option.{slice_get-map}
+use Rattle.std.proofs.lemmas.Option.{slice_get-get_or}
 use Rattle.nd_base.specs.declared.order.Order.{Order}
 use Rattle.nd_base.specs.declared.order.Order.TheVariants.{RowMajor, ColumnMajor}
 use Rattle.nd_base.proofs.laws.Definitions.{as_read, indices, indices_in, is_index, index_of_flat}
 use Rattle.nd_base.proofs.laws.Definitions.{index_of_flat_in, flat_index, flat_index_in, size}
-use Rattle.nd_base.proofs.Rows.{row, length_indices, slice_get_rows}
+use Rattle.nd_base.proofs.Rows.{length_indices, get_or_rows}
 use Rattle.nd_base.proofs.laws.Reading.{as_read-as_read, as_read-replicate, is_index-as_read, length-as_read, size-as_read}
+use Rattle.nd_base.proofs.laws.Size.{size-reverse}
 
 -- a number below a product, by its quotient and its remainder
 record IsSplit (len rest r : ℕ) : Type 0 where
@@ -31,19 +31,17 @@ split len (suc rest) r h = record {
 
 -- ---- in row-major order
 -- the item of flat index r
-pub slice_get-indices : (shape : List ℕ) (r : ℕ) → r < size shape → slice_get (indices shape) r ≡ Some (index_of_flat shape r)
-slice_get-indices [] zero h = refl
-slice_get-indices [] (suc r) h = absurd (omega arith)
-slice_get-indices (len ∷ lens) r h =
+get_or-indices : (shape : List ℕ) (r : ℕ) (d : List ℕ) → r < size shape → get_or (indices shape) r d ≡ index_of_flat shape r
+get_or-indices [] zero d h = refl
+get_or-indices [] (suc r) d h = absurd (omega arith)
+get_or-indices (len ∷ lens) r d h =
     let parts = split len (size lens) r h in
     let counts = length_indices lens in
     let k = r / size lens in
     let j = r % size lens in
-    let entry : 0 + k ≡ k = omega arith in
-    slice_get_rows (indices lens) j (omega (arith, parts.later)) 0 len k r parts.first (sym (ap (λ m. k * m + j) counts ∙ parts.whole))
-    ∙ ap (λ i. slice_get (row (indices lens) i) j) entry
-    ∙ slice_get-map (λ index. k ∷ index) (indices lens) j
-    ∙ ap (option_map (λ index. k ∷ index)) (slice_get-indices lens j parts.later)
+    ap (λ n. get_or (indices (len ∷ lens)) n d) (sym (ap (λ m. k * m + j) counts ∙ parts.whole))
+    ∙ get_or_rows (indices lens) len k j d parts.first (omega (arith, parts.later))
+    ∙ ap (λ index. k ∷ index) (get_or-indices lens j d parts.later)
 
 -- it is an index of the shape
 pub is_index-index_of_flat : (shape : List ℕ) (r : ℕ) → r < size shape → is_index shape (index_of_flat shape r) ≡ true
@@ -85,13 +83,24 @@ index_of_flat-flat_index (len ∷ lens) (i ∷ index) h =
 in_size : (order : Order) (shape : List ℕ) (r : ℕ) → r < size shape → r < size (as_read order shape)
 in_size order shape r h = omega (arith, size-as_read order shape)
 
+-- as many as the size of the shape
+pub length-indices_in : (order : Order) (shape : List ℕ) → length (indices_in order shape) ≡ size shape
+length-indices_in RowMajor shape = length_indices shape
+length-indices_in ColumnMajor shape = length-map (indices (reverse shape)) reverse ∙ length_indices (reverse shape) ∙ size-reverse shape
+
 -- the item of flat index r
+pub get_or-indices_in : (order : Order) (shape : List ℕ) (r : ℕ) (d : List ℕ) → r < size shape
+    → get_or (indices_in order shape) r d ≡ index_of_flat_in order shape r
+get_or-indices_in RowMajor shape r d h = get_or-indices shape r d h
+get_or-indices_in ColumnMajor shape r d h =
+    let within = in_size ColumnMajor shape r h in
+    get_or-map reverse (indices (reverse shape)) r [] d (omega (arith, within, length_indices (reverse shape)))
+    ∙ ap reverse (get_or-indices (reverse shape) r [] within)
+
 pub slice_get-indices_in : (order : Order) (shape : List ℕ) (r : ℕ) → r < size shape
     → slice_get (indices_in order shape) r ≡ Some (index_of_flat_in order shape r)
-slice_get-indices_in RowMajor shape r h = slice_get-indices shape r h
-slice_get-indices_in ColumnMajor shape r h =
-    slice_get-map reverse (indices (reverse shape)) r
-    ∙ ap (option_map reverse) (slice_get-indices (reverse shape) r (in_size ColumnMajor shape r h))
+slice_get-indices_in order shape r h =
+    slice_get-get_or (indices_in order shape) r [] (omega (arith, length-indices_in order shape)) ∙ ap Some (get_or-indices_in order shape r [] h)
 
 module _ (order : Order) (shape : List ℕ) where
   -- it is an index of the shape
@@ -121,14 +130,7 @@ module _ (order : Order) (shape : List ℕ) where
       ap (as_read order) (index_of_flat-flat_index (as_read order shape) (as_read order index) (is_index-as_read order shape index ∙ h))
       ∙ as_read-as_read order index
 
-  -- so an index is the item at its flat index
-  pub slice_get-flat_index_in : (index : List ℕ) → is_index shape index ≡ true
-      → slice_get (indices_in order shape) (flat_index_in order shape index) ≡ Some index
-  slice_get-flat_index_in index h =
-      slice_get-indices_in order shape (flat_index_in order shape index) (flat_index_in-lt-size index h)
-      ∙ ap Some (index_of_flat_in-flat_index_in index h)
-
-  -- and two indices of equal flat index are one
+  -- so two indices of equal flat index are one
   pub same_from_flat_index_in : (index other : List ℕ) → is_index shape index ≡ true → is_index shape other ≡ true
       → flat_index_in order shape index ≡ flat_index_in order shape other → index ≡ other
   same_from_flat_index_in index other h g e =

@@ -1,7 +1,8 @@
 -- Laws of the test for an index of a shape.
-use Rattle.std.proofs.Common.{◌≡◌, ℕ, zero, suc, ◌<◌, Bool, true, false, eqb, List, [], ◌∷◌, ◌++◌, length, get_or, replicate, reverse}
+use Rattle.std.proofs.Common.{◌≡◌, ℕ, zero, suc, ◌<◌, true, false, eqb, List, [], ◌∷◌, ◌++◌, length, get_or, replicate, reverse}
 use Rattle.std.proofs.Common.{refl, sym, ap, ◌∙◌, arith, pos_of_ne-zero}
 use Rattle.std.specs.Prelude.{nat_lt, ◌&&◌}
+use Rattle.std.proofs.Math.Bool.{and-true, and_assoc, and_comm}
 use Rattle.std.proofs.lemmas.Bool.{and_from, and_parts, and_right, eqb-false, lt-ltb, ltb-true, ne_eqb, or_from, or_parts}
 use Rattle.std.proofs.lemmas.List.{reverse-append}
 use Rattle.nd_base.proofs.laws.Definitions.{is_index, is_empty}
@@ -41,14 +42,6 @@ is_index-zeros (len ∷ lens) h =
     and_from (nat_lt 0 len) (is_index lens (replicate (length lens) 0)) (lt-ltb 0 len (pos_of_ne-zero (eqb-false len 0 parts.0)))
     (is_index-zeros lens parts.1)
 
-and_turned : (b : Bool) → (b && true) ≡ b
-and_turned true = refl
-and_turned false = refl
-
-and_assoc : (a b c : Bool) → (a && (b && c)) ≡ ((a && b) && c)
-and_assoc true b c = refl
-and_assoc false b c = refl
-
 no_index : (index : List ℕ) (i : ℕ) → is_index [] (index ++ i ∷ []) ≡ false
 no_index [] i = refl
 no_index (j ∷ index) i = refl
@@ -60,16 +53,11 @@ no_entry (n ∷ shape) len = refl
 -- one axis more is one entry more
 pub is_index-push : (shape index : List ℕ) (len i : ℕ)
     → is_index (shape ++ len ∷ []) (index ++ i ∷ []) ≡ (is_index shape index && nat_lt i len)
-is_index-push [] [] len i = and_turned (nat_lt i len)
+is_index-push [] [] len i = and-true (nat_lt i len)
 is_index-push [] (j ∷ index) len i = and_right (nat_lt j len) (is_index [] (index ++ i ∷ [])) (no_index index i)
 is_index-push (n ∷ shape) [] len i = and_right (nat_lt i n) (is_index (shape ++ len ∷ []) []) (no_entry shape len)
 is_index-push (n ∷ shape) (j ∷ index) len i =
-    ap (λ b. nat_lt j n && b) (is_index-push shape index len i) ∙ and_assoc (nat_lt j n) (is_index shape index) (nat_lt i len)
-
-and_comm : (a b : Bool) → (a && b) ≡ (b && a)
-and_comm true b = sym (and_turned b)
-and_comm false true = refl
-and_comm false false = refl
+    ap (λ b. nat_lt j n && b) (is_index-push shape index len i) ∙ sym (and_assoc (nat_lt j n) (is_index shape index) (nat_lt i len))
 
 -- an index read from the back is one of the shape read from the back
 pub is_index-reverse : (shape index : List ℕ) → is_index (reverse shape) (reverse index) ≡ is_index shape index

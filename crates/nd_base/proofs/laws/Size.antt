@@ -1,7 +1,8 @@
 -- Laws of sizes, the products of lengths.
-use Rattle.std.proofs.Common.{◌≡◌, ℕ, zero, suc, ◌+◌, ◌-◌, ◌*◌, ◌<◌, ◌≤◌, Bool, true, false, ◌||◌, eqb, List, [], ◌∷◌, ◌++◌, length}
+use Rattle.std.proofs.Common.{◌≡◌, ℕ, zero, suc, ◌+◌, ◌-◌, ◌*◌, ◌<◌, ◌≤◌, true, false, ◌||◌, eqb, List, [], ◌∷◌, ◌++◌, length}
 use Rattle.std.proofs.Common.{get_or, take, drop, reverse, refl, sym, ap, ◌∙◌, inl, inr, arith, add-one, drop-cons, eqb-true}
 use Rattle.std.proofs.Common.{mul-le-mul_left, mul-one, mul-pos, mul-zero, mul_assoc, mul_comm, one-mul, pos_of_ne-zero, zero-mul}
+use Rattle.std.proofs.Math.Bool.{or_assoc, or_comm}
 use Rattle.std.proofs.lemmas.Bool.{or_cases, or_parts, eqb-false}
 use Rattle.std.proofs.lemmas.List.{reverse-append, take_more}
 use Rattle.std.proofs.lemmas.Nat.{mul-le}
@@ -36,15 +37,13 @@ drop_nonempty shape zero h = h
 drop_nonempty [] (suc k) h = h
 drop_nonempty (n ∷ lens) (suc k) h = drop_nonempty lens k (or_parts (eqb n 0) (is_empty lens) h).1
 
-or_turned : (a b c : Bool) → (a || (b || c)) ≡ (b || (a || c))
-or_turned true true c = refl
-or_turned true false c = refl
-or_turned false b c = refl
-
 -- one axis more at the back is one at the front
 pub is_empty-push : (shape : List ℕ) (len : ℕ) → is_empty (shape ++ len ∷ []) ≡ is_empty (len ∷ shape)
 is_empty-push [] len = refl
-is_empty-push (n ∷ shape) len = ap (λ b. eqb n 0 || b) (is_empty-push shape len) ∙ or_turned (eqb n 0) (eqb len 0) (is_empty shape)
+is_empty-push (n ∷ shape) len = ap (λ b. eqb n 0 || b) (is_empty-push shape len)
+    ∙ sym (or_assoc (eqb n 0) (eqb len 0) (is_empty shape))
+    ∙ ap (λ b. b || is_empty shape) (or_comm (eqb n 0) (eqb len 0))
+    ∙ or_assoc (eqb len 0) (eqb n 0) (is_empty shape)
 
 -- the axes read from the back have a zero length where the shape has one
 pub is_empty-reverse : (shape : List ℕ) → is_empty (reverse shape) ≡ is_empty shape

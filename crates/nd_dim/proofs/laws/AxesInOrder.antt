@@ -1,19 +1,19 @@
 -- Laws of lists with the axes in another order: it is undone by the inverse order, and what folds over the axes stays.
-use Rattle.std.proofs.Common.{eq-eqb, ◌≡◌, ◌≢◌, ◌⊎◌, ℕ, zero, suc, ◌+◌, ◌<◌, Bool, true, false, ◌&&◌, List, [], ◌∷◌, length, map}
-use Rattle.std.proofs.Common.{get_or, eqb, refl, sym, ap, ◌∙◌, inl, inr, arith}
+use Rattle.std.proofs.Common.{eq-eqb, ◌≡◌, ◌≢◌, ℕ, zero, suc, ◌+◌, ◌<◌, Bool, true, false, List, [], ◌∷◌, length}
+use Rattle.std.proofs.Common.{get_or, refl, sym, ap, ◌∙◌, inl, inr, arith}
 use Rattle.std.specs.Prelude.{remove, ◌==◌, ◌↔◌, IsTrue}
 use Rattle.std.specs.Cmp.{nat_eq_equiv}
-use Rattle.std.specs.List.{All, AllPairs, AllPass, Contains, list_any, position_or_len}
+use Rattle.std.specs.List.{AllPairs, Contains, list_any, position_or_len}
 use Rattle.std.specs.List.Sorted.{IsPermutation}
 use Rattle.std.proofs.lemmas.Bool.{and_from, and_parts, cases_order, eqb-true}
 use Rattle.std.proofs.lemmas.Bool.Decides.{same_from_decides}
 use Rattle.std.proofs.lemmas.List.{ext_get_or, get_or-map, get_or_default, length-map, nil_from_length}
-use Rattle.std.proofs.lemmas.List.Sums.{AllPass-from_list_all, list_all-from_AllPass}
-use Rattle.std.proofs.lemmas.List.FromFn.{get_or-map-range_with_len, get_or-range_with_len, length-map-range_with_len}
-use Rattle.std.proofs.lemmas.List.FromFn.{length-range_with_len}
+use Rattle.std.proofs.lemmas.List.Elements.{All-contains}
+use Rattle.std.proofs.lemmas.List.FromFn.{get_or-map-range_with_len, length-map-range_with_len}
 use Rattle.std.proofs.lemmas.List.Sorted.{All-permutation, Contains-permutation, length_permutation}
 use Rattle.std.proofs.lemmas.Map.Views.{list_any-from_Contains}
 use Rattle.nd_base.specs.Indices.{below}
+use Rattle.nd_base.proofs.laws.Below.{All-below, AllPairs-below, all_below, get_or-below, length-below, passes_below}
 use Rattle.nd_dim.specs.AxesInOrder.{reordered, is_axis_order, inverse_order}
 use Rattle.nd_dim.proofs.laws.Rearranged.{later_apart, permutation_from_members, taken_out}
 use Rattle.nd_dim.proofs.StrideOrder.{places_differ}
@@ -70,12 +70,6 @@ found : (axis : ℕ) (axes : List ℕ) → list_any (λ other. axis == other) ax
 found axis [] none = absurd (cc)
 found axis (other ∷ axes) some = found_first axis other axes (axis == other) refl (λ apart. found axis axes (rw apart at some))
 
--- the numbers from 0 on differ
-numbers_apart : (n : ℕ) → AllPairs (λ a b. a ≢ b) (below n)
-numbers_apart n i j d before inside same =
-    let last : j < n = omega (arith, length-range_with_len 0 n) in
-    omega (arith, get_or-range_with_len 0 n i d (omega arith), get_or-range_with_len 0 n j d last)
-
 module _ (n : ℕ) (axes : List ℕ) (order : is_axis_order n axes ≡ true) where
   -- it has as many entries as there are axes
   pub length_of_order : length axes ≡ n
@@ -84,33 +78,22 @@ module _ (n : ℕ) (axes : List ℕ) (order : is_axis_order n axes ≡ true) whe
   -- each axis has its place
   pub axis_found : (axis : ℕ) → axis < n → StandsAtItsPlace axis axes
   axis_found axis inside =
-      let all = AllPass-from_list_all (λ a. list_any (λ other. a == other) axes) (below n) (and_parts (length axes == n) _ order).1 in
-      let own : get_or (below n) axis 0 ≡ axis = get_or-range_with_len 0 n axis 0 inside ∙ omega arith in
-      found axis axes (rw own at (all axis 0 (omega (arith, length-range_with_len 0 n))))
+      found axis axes (passes_below (λ a. list_any (λ other. a == other) axes) n (and_parts (length axes == n) _ order).1 axis inside)
 
   -- the axes from 0 on, in another order
   pub members_of_order : (axis : ℕ) → Contains (below n) axis → Contains axes axis
   members_of_order axis there =
-      let inside : axis < n = omega (
-        arith,
-        there.1,
-        there.2,
-        length-range_with_len 0 n,
-        get_or-range_with_len 0 n there.0 axis (omega (arith, there.1, length-range_with_len 0 n)),
-      ) in
+      let inside = All-contains (λ a. a < n) (below n) axis (All-below n) there in
       let found = axis_found axis inside in
       (place_of axis axes, found.0, get_or_default axes (place_of axis axes) axis 0 found.0 ∙ found.1)
 
   pub permutation_of_order : IsPermutation (below n) axes
-  permutation_of_order = permutation_from_members (below n) axes (numbers_apart n) (length-range_with_len 0 n ∙ sym length_of_order)
+  permutation_of_order = permutation_from_members (below n) axes (AllPairs-below n) (length-below n ∙ sym length_of_order)
       members_of_order
 
   -- each of its entries is an axis
   pub entry_below : (place : ℕ) → place < length axes → get_or axes place 0 < n
-  entry_below place inside =
-      let all : All (λ axis. axis < n) (below n) = λ k d h.
-      omega (arith, length-range_with_len 0 n, get_or-range_with_len 0 n k d (omega (arith, length-range_with_len 0 n))) in
-      All-permutation (λ axis. axis < n) (below n) axes permutation_of_order all place 0 inside
+  entry_below place inside = All-permutation (λ axis. axis < n) (below n) axes permutation_of_order (All-below n) place 0 inside
 
   -- each axis stands where it is found alone
   pub place_of_entry : (place : ℕ) → place < length axes → place_of (get_or axes place 0) axes ≡ place
@@ -162,7 +145,7 @@ module _ (n : ℕ) (axes : List ℕ) (order : is_axis_order n axes ≡ true) whe
   pub total_in_order : {A : Type 0} (op : A → A → A) (start : A) (turns : (x y z : A) → op x (op y z) ≡ op y (op x z)) (of : ℕ → A)
       → total op start turns of (below n) ≡ total op start turns of axes
   total_in_order op start turns of =
-      total_of_members op start turns of (below n) axes (numbers_apart n) (length-range_with_len 0 n ∙ sym length_of_order) members_of_order
+      total_of_members op start turns of (below n) axes (AllPairs-below n) (length-below n ∙ sym length_of_order) members_of_order
 
 -- the axes in their own order
 pub in_own_order : {X : Type 0} (otherwise : X) (entries : List X) → reordered otherwise (below (length entries)) entries ≡ entries
@@ -175,31 +158,17 @@ in_own_order otherwise entries =
 -- the axes from 0 on, shuffled, are an order of them
 pub order_of_permutation : (n : ℕ) (axes : List ℕ) → IsPermutation (below n) axes → is_axis_order n axes ≡ true
 order_of_permutation n axes shuffled =
-    let count : length axes ≡ n = length_permutation (below n) axes shuffled ∙ length-range_with_len 0 n in
-    let each : AllPass (λ axis. list_any (λ other. axis == other) axes) (below n) = λ axis d inside.
-    let here : Contains (below n) (get_or (below n) axis d) =
-    (axis, inside, get_or_default (below n) axis (get_or (below n) axis d) d inside) in
-    list_any-from_Contains nat_eq_equiv (get_or (below n) axis d) axes
-    (Contains-permutation (below n) axes (get_or (below n) axis d) shuffled here) in
-    and_from (length axes == n) _ (eq-eqb (length axes) n count)
-    (list_all-from_AllPass (λ axis. list_any (λ other. axis == other) axes) (below n) each)
+    let count : length axes ≡ n = length_permutation (below n) axes shuffled ∙ length-below n in
+    and_from (length axes == n) _ (eq-eqb (length axes) n count) (all_below _ n (λ axis inside.
+    let here : Contains (below n) axis = (axis, omega (arith, length-below n), get_or-below n axis axis inside) in
+    list_any-from_Contains nat_eq_equiv axis axes (Contains-permutation (below n) axes axis shuffled here)))
 
 -- the test of an order by its axes
 pub order_by_axes : (n : ℕ) (axes : List ℕ) (test : Bool) → length axes ≡ n
     → (IsTrue test ↔ ((axis : ℕ) → axis < n → list_any (λ other. axis == other) axes ≡ true)) → test ≡ is_axis_order n axes
 order_by_axes n axes test count h =
-    same_from_decides {P = (axis : ℕ) → axis < n → list_any (λ other. axis == other) axes ≡ true} test (is_axis_order n axes) h (
-      λ order axis inside.
-          let all = AllPass-from_list_all (λ a. list_any (λ other. a == other) axes) (below n) (and_parts (length axes == n) _ order).1 in
-          let own : get_or (below n) axis 0 ≡ axis = get_or-range_with_len 0 n axis 0 inside ∙ omega arith in
-          rw own at (all axis 0 (omega (arith, length-range_with_len 0 n))),
-      λ each. and_from (length axes == n) _ (eq-eqb (length axes) n count)
-          (list_all-from_AllPass (λ axis. list_any (λ other. axis == other) axes) (below n) (λ axis d inside.
-          each (get_or (below n) axis d)
-          (omega (
-            arith,
-            inside,
-            length-range_with_len 0 n,
-            get_or-range_with_len 0 n axis d (omega (arith, length-range_with_len 0 n)),
-          )))),
+    let p = λ (axis : ℕ). list_any (λ other. axis == other) axes in
+    same_from_decides {P = (axis : ℕ) → axis < n → p axis ≡ true} test (is_axis_order n axes) h (
+      λ order. passes_below p n (and_parts (length axes == n) _ order).1,
+      λ each. and_from (length axes == n) _ (eq-eqb (length axes) n count) (all_below p n each),
     )

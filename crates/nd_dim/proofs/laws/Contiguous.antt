@@ -4,22 +4,21 @@ use Rattle.std.proofs.Common.{[], ◌∷◌, length, get_or, map, cond, refl, sy
 use Rattle.std.specs.Bool.{IsTrue}
 use Rattle.std.specs.List.Sorted.{IsPermutation}
 use Rattle.std.specs.Ordering.{int_eq}
-use Rattle.std.specs.List.{list_all}
 use Rattle.std.specs.Prelude.{if◌then◌else◌, nat_le, nat_lt, slice_index, ◌==◌, ◌&&◌, ◌||◌}
-use Rattle.std.proofs.lemmas.Bool.{cond-false, eq-eqb, eqb-true, le-leb, leb-true, both_ways, cases_Bool, eqb-false, ne_eqb, or_cases}
+use Rattle.std.proofs.lemmas.Bool.{cond-false, eq-eqb, eqb-true, le-leb, leb-true, both_ways, eqb-false, ne_eqb, or_cases}
 use Rattle.std.proofs.lemmas.Bool.{or_left, or_parts, or_right}
 use Rattle.std.proofs.lemmas.Bool.Decides.{Decides-int_eq, nat_tests}
 use Rattle.std.proofs.lemmas.Int.{ints}
 use Rattle.std.specs.Cmp.Rules.{signed_items}
 use Rattle.nd_base.specs.declared.order.Order.{Order}
 use Rattle.nd_base.specs.declared.order.Order.TheVariants.{RowMajor}
+use Rattle.nd_base.proofs.laws.Below.{all_below, passes_below}
 use Rattle.nd_base.proofs.laws.Definitions.{below, offset_of, places, index_of_flat, flat_index, magnitude, is_empty, size, low_span}
 use Rattle.nd_base.proofs.laws.FlatIndex.{is_index-index_of_flat, flat_index-index_of_flat, same_from_flat_index_in}
 use Rattle.nd_dim.specs.AxisOrder.{magnitude_at}
 use Rattle.nd_dim.specs.Contiguous.{has_default_strides, is_contiguous, is_lone_step_back, is_packed, is_packed_at, lens_before}
 use Rattle.nd_dim.specs.OneStretch.{FillsStretch}
 use Rattle.nd_dim.specs.Strides.{default_strides}
-use Rattle.nd_dim.proofs.Packed.{all_below, not_all_below}
 use Rattle.nd_dim.proofs.PackedLayouts.{IsPackedAt, fills_from_packed, packed_from_reaches}
 use Rattle.nd_dim.proofs.laws.OneStretch.{places_in_stretch, reaches_from_stretch, stretch_from_reaches}
 use Rattle.nd_dim.proofs.laws.Strides.{offset_of-default_strides}
@@ -125,12 +124,6 @@ lone_contiguous len stride some (inr fits) = elim (one_step stride (fits ∙ non
 ]
 
 -- ---- the rule
-passes_below : (p : ℕ → Bool) (n : ℕ) → list_all p (below n) ≡ true → (k : ℕ) → k < n → p k ≡ true
-passes_below p n all k h = elim (cases_Bool (p k)) [
-  | inl passes ↦ passes
-  | inr fails ↦ absurd (both_ways (list_all p (below n)) (not_all_below p n k h fails) all)
-]
-
 -- what the rule asks where the strides are not the default ones
 abbrev asked : List ℕ → List ℤ → Bool
 asked lens strides = (if length lens == 1 then is_lone_step_back lens strides else is_packed lens strides)
@@ -191,13 +184,6 @@ module _ (lens : List ℕ) (strides : List ℤ) (count : length lens ≡ length 
 both_reversed : FillsStretch (2 ∷ 3 ∷ []) (negsuc 2 ∷ negsuc 0 ∷ [])
 both_reversed = stretch_from_rule (2 ∷ 3 ∷ []) (negsuc 2 ∷ negsuc 0 ∷ []) refl refl refl
 
-by_columns : FillsStretch (2 ∷ 3 ∷ []) (pos 1 ∷ pos 2 ∷ [])
-by_columns = stretch_from_rule (2 ∷ 3 ∷ []) (pos 1 ∷ pos 2 ∷ []) refl refl refl
-
 with_a_gap : FillsStretch (2 ∷ 3 ∷ []) (pos 1 ∷ pos 3 ∷ []) → ⊥
 with_a_gap stretch = both_ways (is_contiguous (2 ∷ 3 ∷ []) (pos 1 ∷ pos 3 ∷ [])) refl
     (rule_from_stretch (2 ∷ 3 ∷ []) (pos 1 ∷ pos 3 ∷ []) refl refl stretch)
-
-distinct_with_a_gap : FillsStretch (3 ∷ 2 ∷ []) (pos 2 ∷ pos 3 ∷ []) → ⊥
-distinct_with_a_gap stretch =
-    both_ways (is_contiguous (3 ∷ 2 ∷ []) (pos 2 ∷ pos 3 ∷ [])) refl (rule_from_stretch (3 ∷ 2 ∷ []) (pos 2 ∷ pos 3 ∷ []) refl refl stretch)

@@ -1,5 +1,5 @@
 -- Laws of layouts that fill one stretch of memory: where it begins and ends, and that a walk along it meets each index once.
-use Rattle.std.proofs.Common.{◌≡◌, ℕ, ◌+◌, ◌-◌, ◌<◌, ◌≤◌, ℤ, pos, neg_ℤ, ◌+ℤ◌, ◌≤ℤ◌, ◌<ℤ◌, true, false, List, length, get_or, map, sym}
+use Rattle.std.proofs.Common.{◌≡◌, ℕ, ◌+◌, ◌-◌, ◌<◌, ◌≤◌, ℤ, pos, neg_ℤ, ◌+ℤ◌, ◌≤ℤ◌, true, false, List, length, get_or, map, sym}
 use Rattle.std.proofs.Common.{ap, ◌∙◌, arith, subst}
 use Rattle.std.specs.List.Sorted.{IsPermutation}
 use Rattle.std.proofs.lemmas.Int.{ints}
@@ -14,7 +14,6 @@ use Rattle.nd_base.proofs.laws.Size.{size_of_nonempty}
 use Rattle.nd_base.proofs.laws.Turned.{turned, is_index-turned, turned-turned, offset_of-turned, has_offset_turned, least_offset}
 use Rattle.nd_dim.specs.OneStretch.{HasIndexAt, FillsStretch}
 use Rattle.nd_dim.proofs.Filled.{ReachesEach}
-use Rattle.nd_dim.proofs.PackedLayouts.{fills_from_packed, packed_from_reaches}
 use Rattle.nd_dim.proofs.laws.Rearranged.{permutation_from_members}
 
 -- ---- sums and values
@@ -73,23 +72,11 @@ values_in_order order f g shape differ given =
           ∙ found.2 ∙ sym (at c.0 z (let l = c.1 in omega arith)) ∙ c.2,
     ))
 
-moved_apart : (low i j : ℕ) → pos i +ℤ neg_ℤ (pos low) ≡ pos j +ℤ neg_ℤ (pos low) → i ≡ j
-moved_apart low i j e = omega (arith, ints)
-
 place_there : (start low k : ℕ) (z : ℤ) → low ≤ start → z ≡ pos k +ℤ neg_ℤ (pos low) → pos start +ℤ z ≡ pos (start - low + k)
 place_there start low k z h e = omega (arith, ints)
 
 same_place : (n i j : ℕ) → pos (n + i) ≡ pos (n + j) → i ≡ j
 same_place n i j e = omega (arith, ints)
-
-less_from_far : (z : ℤ) (low far n : ℕ) → z +ℤ pos low ≡ pos far → far < n → (z +ℤ pos low) <ℤ pos n
-less_from_far z low far n e h = omega (arith, ints)
-
--- there is one such index, and no other
-pub record IsOnlyIndexAt (shape : List ℕ) (strides : List ℤ) (offset : ℤ) (index : List ℕ) : Type 0 where
-  pub inside : is_index shape index ≡ true
-  pub here : offset_of strides index ≡ offset
-  pub only : (other : List ℕ) → is_index shape other ≡ true → offset_of strides other ≡ offset → other ≡ index
 
 -- ---- a layout that fills a stretch: where it begins and ends, and a walk along it
 module _ (shape : List ℕ) (strides : List ℤ) (count : length shape ≡ length strides) (some : is_empty shape ≡ false)
@@ -136,43 +123,14 @@ module _ (shape : List ℕ) (strides : List ℤ) (count : length shape ≡ lengt
     distinct = apart;
   }
 
-  -- counted from where it begins, each index lies below the size
-  pub below_size_in_stretch : (index : List ℕ) → is_index shape index ≡ true
-      → (offset_of strides index +ℤ pos (low_span shape strides)) <ℤ pos (size shape)
-  below_size_in_stretch index h =
-      let each = reaches_from_stretch in
-      let fills = fills_from_packed shape strides count some (packed_from_reaches shape strides count some each) in
-      less_from_far (offset_of strides index) (low_span shape strides) (farthest_offset strides (turned shape strides index)) (size shape)
-      (offset_of-turned shape strides index count h) (fills.below (turned shape strides index) (is_index-turned shape strides index h))
-
-  -- and each number below the size is where some index lies, counted so
+  -- each number below the size is where some index lies, counted from where the stretch begins
   pub has_index_in_stretch : (k : ℕ) → k < size shape → HasIndexAt shape strides (pos k +ℤ neg_ℤ (pos (low_span shape strides)))
   has_index_in_stretch k h =
       let found = stretch.filled k h in
       let begin = least_of_stretch in
       (found.0, found.1, omega (arith, ints, found.2, begin))
 
-  pub only_index_in_stretch : (k : ℕ) → k < size shape
-      → (index : List ℕ) × IsOnlyIndexAt shape strides (pos k +ℤ neg_ℤ (pos (low_span shape strides))) index
-  only_index_in_stretch k h =
-      let found = has_index_in_stretch k h in (
-        found.0,
-        record {
-          inside = found.1;
-          here = found.2;
-          only = λ other g e. stretch.distinct other found.0 g found.1 (e ∙ sym found.2);
-        },
-      )
-
-  -- the offsets of all indices, in whatever order of the indices, are the numbers from the low span down, one by one
-  pub offsets_in_stretch : (order : Order)
-      → IsPermutation (map (λ k. pos k +ℤ neg_ℤ (pos (low_span shape strides))) (below (size shape)))
-      (map (offset_of strides) (indices_in order shape))
-  offsets_in_stretch order =
-      values_in_order order (λ k. pos k +ℤ neg_ℤ (pos (low_span shape strides))) (offset_of strides) shape
-      (moved_apart (low_span shape strides)) (λ k h. has_index_in_stretch k h)
-
-  -- and the places are start less the low span, one more, and so on, as many as the size
+  -- so the places are start less the low span, one more, and so on, as many as the size
   pub places_in_stretch : (order : Order) (start : ℕ) → low_span shape strides ≤ start
       → IsPermutation (map (λ k. pos (start - low_span shape strides + k)) (below (size shape))) (places order start shape strides)
   places_in_stretch order start fits =

@@ -7,14 +7,13 @@ use Rattle.std.proofs.lemmas.Int.{ints}
 use Rattle.std.proofs.lemmas.List.{drop_at, ext_get_or, get_or-replicate, get_or-reverse, length-drop, length-map, length-replicate}
 use Rattle.std.proofs.lemmas.List.{length-reverse, reverse-append, reverse-reverse, take-append-drop}
 use Rattle.std.proofs.lemmas.List.FromFn.{length-map-range_with_len, get_or-map-range_with_len}
-use Rattle.nd_base.specs.declared.order.Order.TheVariants.{RowMajor, ColumnMajor}
-use Rattle.nd_base.proofs.laws.Definitions.{below, is_index, offset_of, places, flat_index, flat_index_in, is_empty, limit, nonzero_size}
+use Rattle.nd_base.specs.declared.order.Order.TheVariants.{ColumnMajor}
+use Rattle.nd_base.proofs.laws.Definitions.{below, is_index, offset_of, flat_index, flat_index_in, is_empty, limit, nonzero_size}
 use Rattle.nd_base.proofs.laws.Definitions.{size}
 use Rattle.nd_base.proofs.laws.IsIndex.{is_index-reverse, length_of_index, nonempty_from_index}
 use Rattle.nd_base.proofs.laws.Lists.{map-reverse}
 use Rattle.nd_base.proofs.laws.NonzeroSize.{size_le_nonzero_size}
 use Rattle.nd_base.proofs.laws.Offset.{offset_of-reverse}
-use Rattle.nd_base.proofs.laws.Place.{places_at_flat_indices}
 use Rattle.nd_base.proofs.laws.Size.{is_empty-reverse, size-reverse, size_drop_le}
 use Rattle.nd_dim.specs.Strides.{size_after, size_until, default_strides, fortran_strides}
 
@@ -47,7 +46,8 @@ default_small lens k top h =
           omega (arith, size_le_nonzero_size lens)
     ]
 
-default_cons : (len : ℕ) (lens : List ℕ) → is_empty (len ∷ lens) ≡ false → default_strides (len ∷ lens) ≡ size lens ∷ default_strides lens
+-- the first axis moves by the size of the others, which have the default strides of their own
+pub default_cons : (len : ℕ) (lens : List ℕ) → is_empty (len ∷ lens) ≡ false → default_strides (len ∷ lens) ≡ size lens ∷ default_strides lens
 default_cons len lens some =
     ext_get_or 0 (default_strides (len ∷ lens)) (size lens ∷ default_strides lens)
     (default_count (len ∷ lens) ∙ ap suc (sym (default_count lens))) (λ k h. by k (omega (arith, default_count (len ∷ lens))))
@@ -144,15 +144,3 @@ offset_of-fortran_strides shape index h =
     ∙ ap (offset_of (reverse back)) (sym (reverse-reverse index))
     ∙ offset_of-reverse back (reverse index) long
     ∙ offset_of-default_strides (reverse shape) (reverse index) (is_index-reverse shape index ∙ h)
-
--- by the default strides the places by rows follow one another
-pub places-default_strides : (start : ℕ) (shape : List ℕ)
-    → places RowMajor start shape (map pos (default_strides shape)) ≡ map (λ r. pos (start + r)) (below (size shape))
-places-default_strides start shape =
-    places_at_flat_indices RowMajor start shape (map pos (default_strides shape)) (offset_of-default_strides shape)
-
--- by the strides by columns the places by columns follow one another
-pub places-fortran_strides : (start : ℕ) (shape : List ℕ)
-    → places ColumnMajor start shape (map pos (fortran_strides shape)) ≡ map (λ r. pos (start + r)) (below (size shape))
-places-fortran_strides start shape =
-    places_at_flat_indices ColumnMajor start shape (map pos (fortran_strides shape)) (offset_of-fortran_strides shape)

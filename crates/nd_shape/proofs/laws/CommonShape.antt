@@ -1,8 +1,8 @@
 -- Laws of the shape that two shapes have in common: the order and the grouping of shapes don't matter, success included.
-use Rattle.std.proofs.Common.{◌≡◌, ◌≢◌, ℕ, zero, suc, ◌+◌, ◌-◌, ◌≤◌, max, cond, eqb, Option, Some, None, is_some, List, [], ◌∷◌, ◌++◌}
-use Rattle.std.proofs.Common.{length, replicate, inl, inr, refl, sym, ap, ◌∙◌, arith, append_assoc, length-append}
+use Rattle.std.proofs.Common.{◌≡◌, ◌≢◌, ℕ, zero, suc, ◌+◌, ◌-◌, ◌≤◌, max, cond, Option, Some, None, is_some, List, [], ◌∷◌, ◌++◌}
+use Rattle.std.proofs.Common.{length, replicate, refl, sym, ap, ◌∙◌, arith, append_assoc, length-append}
 use Rattle.std.specs.Option.{option_map, option_and_then}
-use Rattle.std.proofs.lemmas.Bool.{cases_eq, cond-true, cond-false, eq-eqb, ne_eqb}
+use Rattle.std.proofs.lemmas.Bool.Decides.{nat_tests}
 use Rattle.std.proofs.lemmas.List.{length-replicate, replicate-append-replicate}
 use Rattle.nd_base.specs.declared.error.ErrorKind.TheVariants.{IncompatibleShape}
 use Rattle.nd_base.proofs.laws.Options.{and_then-option_map, and_then_same, option_map-option_map, option_map_same}
@@ -11,91 +11,25 @@ use Rattle.nd_shape.specs.CommonShape.{common_length, common_lengths, padded, co
 -- ---- one length
 -- a length has itself in common with itself
 pub common_with_same : (len other : ℕ) → len ≡ other → common_length len other ≡ Some len
-common_with_same len other e = cond-true (eqb len other) (Some len) _ (eq-eqb len other e)
+common_with_same len other e = grind (arith, nat_tests)
 
 -- and any length with 1, on either side
 pub common_from_one : (other : ℕ) → common_length 1 other ≡ Some other
-common_from_one other =
-    elim (cases_eq 1 other) [
-      | inl e ↦ common_with_same 1 other e ∙ ap Some e
-      | inr e ↦ cond-false (eqb 1 other) (Some 1) (Some other) (ne_eqb 1 other e)
-    ]
+common_from_one other = grind (arith, nat_tests)
 
 pub common_with_one : (len : ℕ) → common_length len 1 ≡ Some len
-common_with_one len =
-    elim (cases_eq len 1) [
-      | inl e ↦ common_with_same len 1 e
-      | inr e ↦ cond-false (eqb len 1) (Some len) _ (ne_eqb len 1 e) ∙ cond-false (eqb len 1) (Some 1) (Some len) (ne_eqb len 1 e)
-    ]
+common_with_one len = grind (arith, nat_tests)
 
 -- two others have none
 pub common_of_others : (len other : ℕ) → len ≢ other → len ≢ 1 → other ≢ 1 → common_length len other ≡ None
-common_of_others len other e f g =
-    cond-false (eqb len other) (Some len) _ (ne_eqb len other e)
-    ∙ cond-false (eqb len 1) (Some other) _ (ne_eqb len 1 f)
-    ∙ cond-false (eqb other 1) (Some len) None (ne_eqb other 1 g)
+common_of_others len other e f g = grind (arith, nat_tests)
 
 common_length-commutes : (len other : ℕ) → common_length len other ≡ common_length other len
-common_length-commutes len other =
-    elim (cases_eq len 1) [
-      | inl e ↦ ap (λ n. common_length n other) e ∙ common_from_one other ∙ sym (ap (common_length other) e ∙ common_with_one other)
-      | inr e ↦ elim (cases_eq other 1) [
-        | inl f ↦ ap (common_length len) f ∙ common_with_one len ∙ sym (ap (λ n. common_length n len) f ∙ common_from_one len)
-        | inr f ↦ elim (cases_eq len other) [
-          | inl g ↦ common_with_same len other g ∙ ap Some g ∙ sym (common_with_same other len (sym g))
-          | inr g ↦ common_of_others len other g e f ∙ sym (common_of_others other len (λ h. g (sym h)) f e)
-        ]
-      ]
-    ]
-
-after_one : (o : Option ℕ) → option_and_then (λ n. common_length 1 n) o ≡ o
-after_one None = refl
-after_one (Some n) = common_from_one n
-
-before_one : (o : Option ℕ) → option_and_then (λ n. common_length n 1) o ≡ o
-before_one None = refl
-before_one (Some n) = common_with_one n
+common_length-commutes len other = grind (arith, nat_tests)
 
 common_length-associates : (a b c : ℕ)
     → option_and_then (λ n. common_length n c) (common_length a b) ≡ option_and_then (λ n. common_length a n) (common_length b c)
-common_length-associates a b c =
-    elim (cases_eq a 1) [
-      | inl e ↦
-          ap (λ n. option_and_then (λ m. common_length m c) (common_length n b)) e
-          ∙ ap (option_and_then (λ m. common_length m c)) (common_from_one b)
-          ∙ sym (after_one (common_length b c))
-          ∙ ap (λ n. option_and_then (λ m. common_length n m) (common_length b c)) (sym e)
-      | inr e ↦ elim (cases_eq b 1) [
-        | inl f ↦
-            ap (λ n. option_and_then (λ m. common_length m c) (common_length a n)) f
-            ∙ ap (option_and_then (λ m. common_length m c)) (common_with_one a)
-            ∙ sym (ap (λ n. option_and_then (λ m. common_length a m) (common_length n c)) f
-            ∙ ap (option_and_then (λ m. common_length a m)) (common_from_one c))
-        | inr f ↦ elim (cases_eq c 1) [
-          | inl g ↦
-              ap (λ n. option_and_then (λ m. common_length m n) (common_length a b)) g
-              ∙ before_one (common_length a b)
-              ∙ sym (ap (λ n. option_and_then (λ m. common_length a m) (common_length b n)) g
-              ∙ ap (option_and_then (λ m. common_length a m)) (common_with_one b))
-          | inr g ↦ elim (cases_eq a b) [
-            | inl h ↦
-                ap (option_and_then (λ m. common_length m c)) (common_with_same a b h)
-                ∙ elim (cases_eq b c) [
-                  | inl k ↦ common_with_same a c (h ∙ k)
-                      ∙ sym (ap (option_and_then (λ m. common_length a m)) (common_with_same b c k) ∙ common_with_same a b h)
-                  | inr k ↦ common_of_others a c (λ l. k (sym h ∙ l)) e g
-                      ∙ sym (ap (option_and_then (λ m. common_length a m)) (common_of_others b c k f g))
-                ]
-            | inr h ↦
-                ap (option_and_then (λ m. common_length m c)) (common_of_others a b h e f)
-                ∙ elim (cases_eq b c) [
-                  | inl k ↦ sym (ap (option_and_then (λ m. common_length a m)) (common_with_same b c k) ∙ common_of_others a b h e f)
-                  | inr k ↦ sym (ap (option_and_then (λ m. common_length a m)) (common_of_others b c k f g))
-                ]
-          ]
-        ]
-      ]
-    ]
+common_length-associates a b c = grind (arith, nat_tests)
 
 -- ---- as many lengths on both sides
 -- a length before others, where both are there
@@ -149,13 +83,19 @@ common_lengths-associates (x ∷ xs) (y ∷ ys) (z ∷ zs) e f =
     (common_lengths-associates xs ys zs (omega arith) (omega arith))
     ∙ sym (third_before x xs (common_length y z) (common_lengths ys zs))
 
-joined_count : (o : Option ℕ) (p : Option (List ℕ)) (n : ℕ) → ((s : List ℕ) → p ≡ Some s → length s ≡ n) → (s : List ℕ)
-    → joined o p ≡ Some s → length s ≡ suc n
-joined_count None p n h s e = absurd (cc)
-joined_count (Some len) None n h s e = absurd (cc)
-joined_count (Some len) (Some lens) n h s e =
-    let same : len ∷ lens ≡ s = cc in
-    ap length (sym same) ∙ ap suc (h lens refl)
+-- what is common to two lists begins with what their first lengths have in common
+pub record Joined (first : Option ℕ) (rest : Option (List ℕ)) (common : List ℕ) : Type 0 where
+  pub len : ℕ
+  pub lens : List ℕ
+  pub is_first : first ≡ Some len
+  pub is_rest : rest ≡ Some lens
+  pub same : len ∷ lens ≡ common
+
+pub joined_parts : (o : Option ℕ) (p : Option (List ℕ)) (common : List ℕ) → joined o p ≡ Some common
+    → Joined o p common
+joined_parts None p common h = absurd (cc)
+joined_parts (Some n) None common h = absurd (cc)
+joined_parts (Some n) (Some s) common h = record { len = n; lens = s; is_first = refl; is_rest = refl; same = cc }
 
 common_lengths_count : (lens others s : List ℕ) → length lens ≡ length others → common_lengths lens others ≡ Some s → length s ≡ length lens
 common_lengths_count [] others s e h =
@@ -163,8 +103,8 @@ common_lengths_count [] others s e h =
     ap length (sym same)
 common_lengths_count (len ∷ lens) [] s e h = absurd (omega arith)
 common_lengths_count (len ∷ lens) (other ∷ others) s e h =
-    joined_count (common_length len other) (common_lengths lens others) (length lens)
-    (λ t g. common_lengths_count lens others t (omega arith) g) s h
+    let parts = joined_parts (common_length len other) (common_lengths lens others) s h in
+    ap length (sym parts.same) ∙ ap suc (common_lengths_count lens others parts.lens (omega arith) parts.is_rest)
 
 -- ---- lengths of 1 in front
 -- ones before both lists stay before what they have in common

@@ -1,10 +1,11 @@
 -- Laws of layouts that place no two of their indices at one element.
-use Rattle.std.proofs.Common.{◌≡◌, ◌≢◌, ℕ, zero, suc, ◌-◌, ◌*◌, ◌<◌, ◌≤◌, ℤ, pos, negsuc, ◌+ℤ◌, ◌*ℤ◌, ◌≤ℤ◌, true, false, List, [], ◌∷◌}
-use Rattle.std.proofs.Common.{length, get_or, refl, sym, ◌∙◌, ◌⊎◌, inl, inr, arith}
+use Rattle.std.proofs.Common.{◌≡◌, ◌≢◌, ℕ, zero, suc, ◌+◌, ◌-◌, ◌*◌, ◌<◌, ◌≤◌, ℤ, pos, negsuc, ◌+ℤ◌, ◌*ℤ◌, ◌≤ℤ◌, true, false, List, [], ◌∷◌}
+use Rattle.std.proofs.Common.{length, get_or, refl, sym, ap, ◌∙◌, ◌⊎◌, inl, inr, arith}
 use Rattle.std.specs.Prelude.{nat_lt, nat_le, remove, not, ◌&&◌}
 use Rattle.std.proofs.Math.Nat.{mul-le-mul_right, suc-mul}
 use Rattle.std.proofs.lemmas.Bool.{and_from, and_parts, both_ways, cases_eq, cases_lt, cases_order, cond-true, le-leb, ltb-true}
 use Rattle.std.proofs.lemmas.Int.{ints}
+use Rattle.std.proofs.lemmas.List.Edits.{get_or-remove_above, get_or-remove_below, length-remove}
 use Rattle.nd_base.proofs.laws.Definitions.{HasDistinctOffsets, is_index, offset_of, magnitude, is_empty, reach}
 use Rattle.nd_dim.specs.AxisOrder.{magnitude_at}
 use Rattle.nd_shape.specs.OwnedRule.{span_up_to, span_of_others, meets_owned_rule, MeetsOwnedRule}
@@ -13,44 +14,18 @@ use Rattle.nd_shape.proofs.laws.OwnedRule.{reach_up_to, no_overlap}
 
 -- where two lists of entries differ, the strides are of magnitude at most m
 abbrev DiffersUpTo : ℕ → List ℤ → List ℕ → List ℕ → Type 0
-DiffersUpTo m [] index other = Unit {0}
-DiffersUpTo m (stride ∷ strides) [] other = Unit {0}
-DiffersUpTo m (stride ∷ strides) (i ∷ index) [] = Unit {0}
-DiffersUpTo m (stride ∷ strides) (i ∷ index) (j ∷ other) = (i ≢ j → magnitude stride ≤ m) × DiffersUpTo m strides index other
+DiffersUpTo m strides index other = (k : ℕ) → k < length strides → get_or index k 0 ≢ get_or other k 0 → magnitude_at strides k ≤ m
 
--- a greater bound serves as well
-raised : (m n : ℕ) (strides : List ℤ) (index other : List ℕ) → m ≤ n → DiffersUpTo m strides index other → DiffersUpTo n strides index other
-raised m n [] index other h d = tt
-raised m n (stride ∷ strides) [] other h d = tt
-raised m n (stride ∷ strides) (i ∷ index) [] h d = tt
-raised m n (stride ∷ strides) (i ∷ index) (j ∷ other) h d =
-    (λ ne. let at : magnitude stride ≤ m = d.0 ne in omega arith, raised m n strides index other h d.1)
-
-module _ (m : ℕ) where
-  -- the two lists may be exchanged
-  turned : (strides : List ℤ) (index other : List ℕ) → DiffersUpTo m strides index other → DiffersUpTo m strides other index
-  turned [] index other d = tt
-  turned (stride ∷ strides) [] [] d = tt
-  turned (stride ∷ strides) [] (j ∷ other) d = tt
-  turned (stride ∷ strides) (i ∷ index) [] d = tt
-  turned (stride ∷ strides) (i ∷ index) (j ∷ other) d = (λ ne. d.0 (λ e. ne (sym e)), turned strides index other d.1)
-
-  -- a list differs nowhere from itself
-  same_everywhere : (strides : List ℤ) (index : List ℕ) → DiffersUpTo m strides index index
-  same_everywhere [] index = tt
-  same_everywhere (stride ∷ strides) [] = tt
-  same_everywhere (stride ∷ strides) (i ∷ index) = (λ ne. absurd (ne refl), same_everywhere strides index)
-
+module _ (m : ℕ) (strides : List ℤ) (index other : List ℕ) where
   -- without an axis the rest differs where the whole did
-  rest_differs : (strides : List ℤ) (index other : List ℕ) (axis : ℕ) → length index ≡ length strides → length other ≡ length strides
+  rest_differs : (axis : ℕ) → axis < length strides → length index ≡ length strides → length other ≡ length strides
       → DiffersUpTo m strides index other → DiffersUpTo m (remove strides axis) (remove index axis) (remove other axis)
-  rest_differs [] index other zero e f d = tt
-  rest_differs [] index other (suc axis) e f d = tt
-  rest_differs (stride ∷ strides) [] other axis e f d = absurd (omega arith)
-  rest_differs (stride ∷ strides) (i ∷ index) [] axis e f d = absurd (omega arith)
-  rest_differs (stride ∷ strides) (i ∷ index) (j ∷ other) zero e f d = d.1
-  rest_differs (stride ∷ strides) (i ∷ index) (j ∷ other) (suc axis) e f d =
-      (d.0, rest_differs strides index other axis (omega arith) (omega arith) d.1)
+  rest_differs axis h e f d k l ne = elim (cases_lt k axis) [
+    | inl before ↦ rw (get_or-remove_below strides axis (pos 0) k before h) (d k (omega arith) (λ same.
+        ne (get_or-remove_below index axis 0 k before (omega arith) ∙ same ∙ sym (get_or-remove_below other axis 0 k before (omega arith)))))
+    | inr after ↦ rw (get_or-remove_above strides axis (pos 0) k after h) (d (k + 1) (omega (arith, length-remove strides axis h)) (λ same.
+        ne (get_or-remove_above index axis 0 k after (omega arith) ∙ same ∙ sym (get_or-remove_above other axis 0 k after (omega arith)))))
+  ]
 
 -- an axis where the entries differ, and no other such axis has a stride of greater magnitude
 record IsLongestDifference (strides : List ℤ) (index other : List ℕ) (axis : ℕ) : Type 0 where
@@ -59,14 +34,23 @@ record IsLongestDifference (strides : List ℤ) (index other : List ℕ) (axis :
   longest : DiffersUpTo (magnitude_at strides axis) strides index other
 
 module _ (stride : ℤ) (strides : List ℤ) (i j : ℕ) (index other : List ℕ) where
+  one_more : (m : ℕ) → (i ≢ j → magnitude stride ≤ m) → DiffersUpTo m strides index other
+      → DiffersUpTo m (stride ∷ strides) (i ∷ index) (j ∷ other)
+  one_more m first rest zero l ne = first ne
+  one_more m first rest (suc k) l ne = rest k (omega arith) ne
+
   -- it can be the first axis, or that of the rest
   first_taken : i ≢ j → DiffersUpTo (magnitude stride) strides index other
       → IsLongestDifference (stride ∷ strides) (i ∷ index) (j ∷ other) 0
-  first_taken ne d = record { exists = omega arith; differs = ne; longest = (λ w. omega arith, d) }
+  first_taken ne d = record { exists = omega arith; differs = ne; longest = one_more (magnitude stride) (λ w. omega arith) d }
 
   later_kept : (axis : ℕ) → (i ≢ j → magnitude stride ≤ magnitude_at strides axis) → IsLongestDifference strides index other axis
       → IsLongestDifference (stride ∷ strides) (i ∷ index) (j ∷ other) (suc axis)
-  later_kept axis short h = record { exists = let e = h.exists in omega arith; differs = h.differs; longest = (short, h.longest) }
+  later_kept axis short h = record {
+    exists = let e = h.exists in omega arith;
+    differs = h.differs;
+    longest = one_more (magnitude_at strides axis) short h.longest;
+  }
 
 -- two lists of entries are equal, or there is such an axis
 longest_difference : (strides : List ℤ) (index other : List ℕ) → length index ≡ length strides → length other ≡ length strides
@@ -80,7 +64,7 @@ longest_difference (stride ∷ strides) (i ∷ index) (j ∷ other) e f =
     elim (longest_difference strides index other (omega arith) (omega arith)) [
       | inl rest ↦ elim (cases_eq i j) [
         | inl same ↦ inl (cc)
-        | inr ne ↦ inr (0, first_taken stride strides i j index other ne (rw (← rest) (same_everywhere (magnitude stride) strides index)))
+        | inr ne ↦ inr (0, first_taken stride strides i j index other ne (λ k l apart. absurd (apart (ap (λ xs. get_or xs k 0) rest))))
       ]
       | inr found ↦ elim (cases_eq i j) [
         | inl same ↦ inr (suc found.0, later_kept stride strides i j index other found.0 (λ ne. absurd (ne same)) found.1)
@@ -88,7 +72,7 @@ longest_difference (stride ∷ strides) (i ∷ index) (j ∷ other) e f =
           | inl longer ↦ inr (
             0,
             first_taken stride strides i j index other ne
-                (raised (magnitude_at strides found.0) (magnitude stride) strides index other (omega arith) found.1.longest),
+                (λ k l apart. let at = found.1.longest k l apart in omega arith),
           )
           | inr shorter ↦ inr (suc found.0, later_kept stride strides i j index other found.0 (λ w. shorter) found.1)
         ]
@@ -131,8 +115,8 @@ module _ (m : ℕ) where
   offsets_apart (len ∷ shape) (stride ∷ strides) (i ∷ index) (j ∷ other) h g d =
       let first = and_parts (nat_lt i len) (is_index shape index) h in
       let second = and_parts (nat_lt j len) (is_index shape other) g in
-      let here = entry_within len stride i j (ltb-true i len first.0) (ltb-true j len second.0) d.0 in
-      omega (arith, ints, here, offsets_apart shape strides index other first.1 second.1 d.1)
+      let here = entry_within len stride i j (ltb-true i len first.0) (ltb-true j len second.0) (d 0 (omega arith)) in
+      omega (arith, ints, here, offsets_apart shape strides index other first.1 second.1 (λ k l. d (suc k) (omega arith)))
 
 -- an offset is that of one axis and that of the others
 offset_and_others : (strides : List ℤ) (index : List ℕ) (axis : ℕ) → axis < length strides → length index ≡ length strides
@@ -190,9 +174,9 @@ module _ (shape : List ℕ) (strides : List ℤ) where
       let there = offset_of moves two in
       let first = is_index-remove shape index axis below h in
       let second = is_index-remove shape other axis below g in
-      let short = rest_differs m strides index other axis entries others found.longest in
+      let short = rest_differs m strides index other axis exists entries others found.longest in
       let up : here ≤ℤ (there +ℤ pos n) = offsets_apart m rest moves one two first second short in
-      let down : there ≤ℤ (here +ℤ pos n) = offsets_apart m rest moves two one second first (turned m moves one two short) in
+      let down : there ≤ℤ (here +ℤ pos n) = offsets_apart m rest moves two one second first (λ k l ne. short k l (λ e. ne (sym e))) in
       let sums : (pos i *ℤ stride) +ℤ here ≡ (pos j *ℤ stride) +ℤ there = sym (offset_and_others strides index axis exists entries) ∙ same
       ∙ offset_and_others strides other axis exists others in
       elim (cases_order i j) [

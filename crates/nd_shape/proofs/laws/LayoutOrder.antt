@@ -7,14 +7,12 @@ use Rattle.std.proofs.lemmas.Int.{ints}
 use Rattle.std.proofs.lemmas.List.{get_or-map, length-map}
 use Rattle.std.proofs.lemmas.List.FromFn.{get_or-map-range_with_len}
 use Rattle.nd_base.specs.declared.order.Order.{Order}
-use Rattle.nd_base.specs.declared.order.Order.TheVariants.{RowMajor, ColumnMajor}
-use Rattle.nd_base.proofs.laws.Definitions.{below, indices_in, is_index, offset_of, place, places, flat_index_in, is_empty, size}
+use Rattle.nd_base.proofs.laws.Definitions.{below, indices_in, is_index, offset_of, place, flat_index_in, is_empty, size}
 use Rattle.nd_base.proofs.laws.Indices.{get_or-indices_in, indices_in_of_empty, length-indices_in}
 use Rattle.nd_base.proofs.laws.IsIndex.{is_index-zeros}
 use Rattle.nd_base.proofs.laws.Offset.{offset_of-zeros}
 use Rattle.nd_base.proofs.laws.FlatIndex.{flat_index_in-lt-size, index_of_flat_in-flat_index_in}
 use Rattle.nd_base.proofs.laws.Size.{size_of_empty}
-use Rattle.nd_dim.proofs.laws.Strides.{offset_of-default_strides, offset_of-fortran_strides}
 use Rattle.nd_shape.specs.LayoutOrder.{LiesInOrder, MeetsOrderRule}
 use Rattle.nd_shape.specs.ShapeBuilder.{standard_strides}
 use Rattle.nd_base.proofs.laws.Place.{places_at_flat_indices}

@@ -1,10 +1,9 @@
 -- Laws of two axes as one: where one stride has the entries of both, and which stride does.
-use Rattle.std.proofs.Common.{◌≡◌, ◌⊎◌, ℕ, ◌≤◌, ◌<◌, ℤ, pos, ◌*ℤ◌, true, inl, inr, leb, ltb, refl}
+use Rattle.std.proofs.Common.{◌≡◌, ◌⊎◌, ℕ, ◌≤◌, ◌<◌, ℤ, pos, ◌*ℤ◌, true, inl, inr, refl, arith}
 use Rattle.std.specs.Bool.{Decides}
 use Rattle.std.specs.Ordering.{int_eq}
-use Rattle.std.specs.Prelude.{◌&&◌}
-use Rattle.std.proofs.lemmas.Bool.{and_from, and_left, and_right, cases_lt, cond-false, cond-true, le-leb, le-ltb, lt-leb, lt-ltb}
-use Rattle.std.proofs.lemmas.Bool.Decides.{Decides-int_eq}
+use Rattle.std.proofs.lemmas.Bool.{cases_lt, le-leb, lt-leb}
+use Rattle.std.proofs.lemmas.Bool.Decides.{Decides-int_eq, nat_tests}
 use Rattle.nd_shape.specs.Merge.{IsMergedStride, MergeFits, merge_fits, merged_stride}
 use Rattle.nd_shape.proofs.MergedStride.{short_taken, into_short, steps_on, steps_on_from_fit}
 
@@ -32,18 +31,16 @@ HowItFits take_len take_stride into_len into_stride =
 module _ (take_len : ℕ) (take_stride : ℤ) (into_len : ℕ) (into_stride : ℤ) where
   pub how_it_fits : merge_fits take_len take_stride into_len into_stride ≡ true → HowItFits take_len take_stride into_len into_stride
   how_it_fits h =
-      let here = ltb 1 take_len && leb into_len 1 in
       elim (cases_lt 1 take_len) [
         | inr few ↦ inl (record {
           few = few;
-          stride = cond-false here take_stride into_stride (and_left (ltb 1 take_len) (leb into_len 1) (le-ltb 1 take_len few));
+          stride = grind (arith, nat_tests);
         })
         | inl more ↦ elim (cases_lt 1 into_len) [
           | inr few ↦ inr (inl (record {
             more = more;
             few = few;
-            stride = cond-true here take_stride into_stride
-                (and_from (ltb 1 take_len) (leb into_len 1) (lt-ltb 1 take_len more) (le-leb into_len 1 few));
+            stride = grind (arith, nat_tests);
           }))
           | inl into ↦
               let on : int_eq take_stride (pos into_len *ℤ into_stride) ≡ true = rw (lt-leb take_len 1 more, lt-leb into_len 1 into) at h in
@@ -51,7 +48,7 @@ module _ (take_len : ℕ) (take_stride : ℤ) (into_len : ℕ) (into_stride : �
                 taken = more;
                 into = into;
                 on = (Decides-int_eq take_stride (pos into_len *ℤ into_stride)).0 on;
-                stride = cond-false here take_stride into_stride (and_right (ltb 1 take_len) (leb into_len 1) (lt-leb into_len 1 into));
+                stride = grind (arith, nat_tests);
               }))
         ]
       ]

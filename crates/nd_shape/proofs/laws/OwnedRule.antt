@@ -1,16 +1,17 @@
 -- Laws of the rule for owned data.
-use Rattle.std.proofs.Common.{inl, inr, ◌⊎◌, ◌↔◌, ◌≡◌, ℕ, zero, suc, ◌+◌, ◌<◌, ◌≤◌, ℤ, true, false, Bool, List, length, get_or, refl}
-use Rattle.std.proofs.Common.{◌∙◌, arith, add-zero}
-use Rattle.std.specs.Prelude.{if◌then◌else◌, nat_le, nat_lt, not, ◌&&◌}
-use Rattle.std.specs.List.{list_all, range_with_len}
-use Rattle.std.proofs.lemmas.Bool.{and_left, and_right, cases_Bool, cond_both, not_from_true, leb-true, le-leb, ltb-true, or_cases}
-use Rattle.std.proofs.lemmas.Bool.{or_left, both_ways, true_from_ne_false}
+use Rattle.std.proofs.Common.{inl, inr, ◌⊎◌, ◌↔◌, ◌≡◌, ℕ, ◌-◌, ◌<◌, ◌≤◌, ℤ, pos, true, false, Bool, List, length, get_or, reverse, refl}
+use Rattle.std.proofs.Common.{sym, ap, ap₂, ◌∙◌, arith}
+use Rattle.std.specs.Prelude.{if◌then◌else◌, nat_le, nat_lt, not, remove, ◌&&◌}
+use Rattle.std.proofs.lemmas.List.{length-reverse}
+use Rattle.std.proofs.lemmas.Bool.{and_left, and_right, cases_Bool, cond_both, not_from_true, leb-true, ltb-true, or_cases}
+use Rattle.std.proofs.lemmas.Bool.{both_ways, false_from_ne_true}
 use Rattle.std.proofs.lemmas.Bool.Decides.{nat_tests}
-use Rattle.std.proofs.lemmas.List.Folds.{list_all_at}
-use Rattle.std.proofs.lemmas.List.FromFn.{length-range_with_len, get_or-range_with_len}
-use Rattle.nd_base.proofs.laws.Definitions.{magnitude, is_empty, reach}
+use Rattle.nd_base.proofs.laws.Below.{all_below, passes_below}
+use Rattle.nd_base.proofs.laws.Definitions.{magnitude, is_empty, reach, sum_over_axes}
 use Rattle.nd_dim.specs.AxisOrder.{magnitude_at}
-use Rattle.nd_shape.specs.OwnedRule.{span_of_others, steps_over_others, meets_owned_rule, MeetsOwnedRule}
+use Rattle.nd_base.proofs.laws.Lists.{get_or-from_back}
+use Rattle.nd_base.proofs.laws.Span.{sum_and_others, sum_over_axes-reverse}
+use Rattle.nd_shape.specs.OwnedRule.{span_of_others, span_up_to, steps_over_others, meets_owned_rule, MeetsOwnedRule}
 
 -- how far an axis reaches, or 0 where its stride is of a magnitude past m
 abbrev pub reach_up_to : ℕ → ℕ → ℤ → ℕ
@@ -21,42 +22,23 @@ reach_up_to_le m len stride =
     cond_both (nat_le (magnitude stride) m) (reach len stride) 0 (λ x. x ≤ reach len stride) (λ e. omega arith) (λ e. omega arith)
 
 module _ (shape : List ℕ) (strides : List ℤ) where
-  -- an axis of at most one entry steps over the others
-  pub short_axis : (axis : ℕ) → get_or shape axis 0 ≤ 1 → steps_over_others shape strides axis ≡ true
-  short_axis axis h = or_left (nat_le (get_or shape axis 0) 1) (nat_lt (span_of_others shape strides axis) (magnitude_at strides axis))
-      (le-leb (get_or shape axis 0) 1 h)
-
   -- an axis that does not step over the others breaks the rule
   pub rule_broken : (axis : ℕ) → axis < length shape → steps_over_others shape strides axis ≡ false → meets_owned_rule shape strides ≡ false
   rule_broken axis h b =
-      let at : get_or (range_with_len 0 (length shape)) axis 0 ≡ axis = get_or-range_with_len 0 (length shape) axis 0 h ∙ (omega arith) in
-      list_all_at (steps_over_others shape strides) (range_with_len 0 (length shape)) axis 0
-      (omega (arith, length-range_with_len 0 (length shape))) (rw at b)
+      false_from_ne_true _ (λ met. both_ways _ b (passes_below (steps_over_others shape strides) (length shape) met axis h))
 
   -- where the test passes, the rule is met
   pub rule_holds : meets_owned_rule shape strides ≡ true → MeetsOwnedRule shape strides
   rule_holds h axis below long =
-      let steps : steps_over_others shape strides axis ≡ true =
-      true_from_ne_false (steps_over_others shape strides axis)
-      (λ b. both_ways (meets_owned_rule shape strides) (rule_broken axis below b) h) in
+      let steps = passes_below (steps_over_others shape strides) (length shape) h axis below in
       elim (or_cases (nat_le (get_or shape axis 0) 1) (nat_lt (span_of_others shape strides axis) (magnitude_at strides axis)) steps) [
         | inl short ↦ absurd (omega (arith, leb-true (get_or shape axis 0) 1 short))
         | inr apart ↦ ltb-true (span_of_others shape strides axis) (magnitude_at strides axis) apart
       ]
 
-all_in_range : (p : ℕ → Bool) (a n : ℕ) → ((k : ℕ) → k < n → p (a + k) ≡ true) → list_all p (range_with_len a n) ≡ true
-all_in_range p a zero h = refl
-all_in_range p a (suc n) h =
-    let here : p a ≡ true = rw (add-zero a) at (h 0 (omega arith)) in
-    let rest : list_all p (range_with_len (a + 1) n) ≡ true =
-    all_in_range p (a + 1) n (λ k l. let next : a + (k + 1) ≡ (a + 1) + k = omega arith in rw next at (h (k + 1) (omega arith))) in
-    rw here rest
-
-module _ (shape : List ℕ) (strides : List ℤ) where
   -- the test passes where each axis steps over the others
   pub rule_met : ((axis : ℕ) → axis < length shape → steps_over_others shape strides axis ≡ true) → meets_owned_rule shape strides ≡ true
-  rule_met h = all_in_range (steps_over_others shape strides) 0 (length shape)
-      (λ k l. let same : 0 + k ≡ k = omega arith in rw same (h k l))
+  rule_met h = all_below (steps_over_others shape strides) (length shape) h
 
   -- an axis with a stride past what the others reach passes its test
   pub axis_tested : (axis : ℕ) → (1 < get_or shape axis 0 → span_of_others shape strides axis < magnitude_at strides axis)
@@ -87,3 +69,35 @@ no_overlap shape strides =
         | inr rule ↦ and_right (not empty) (not met) (not_from_true met (rule_tested shape strides rule))
       ],
     )
+
+-- ---- axes that are read from the back
+pub counts_back : (shape : List ℕ) (strides : List ℤ) → length shape ≡ length strides → length (reverse shape) ≡ length (reverse strides)
+counts_back shape strides count = length-reverse shape ∙ count ∙ sym (length-reverse strides)
+
+others_back : (shape : List ℕ) (strides : List ℤ) (axis : ℕ) → length shape ≡ length strides → axis < length shape
+    → (span_of_others (reverse shape) (reverse strides) (length shape - 1 - axis) ≡ span_of_others shape strides axis)
+    × (magnitude_at (reverse strides) (length shape - 1 - axis) ≡ magnitude_at strides axis)
+others_back shape strides axis count below =
+    let k = length shape - 1 - axis in
+    let within : k < length (reverse shape) = omega (arith, length-reverse shape) in
+    let counts = counts_back shape strides count in
+    let stride : get_or (reverse strides) k (pos 0) ≡ get_or strides axis (pos 0) =
+    ap (λ n. get_or (reverse strides) (n - 1 - axis) (pos 0)) count ∙ get_or-from_back strides axis (pos 0) (omega arith) in
+    let f = reach_up_to (magnitude_at (reverse strides) k) in
+    let own : f (get_or (reverse shape) k 0) (get_or (reverse strides) k (pos 0)) ≡ f (get_or shape axis 0) (get_or strides axis (pos 0)) =
+    ap₂ f (get_or-from_back shape axis 0 below) stride in
+    let there = sum_and_others f (reverse shape) (reverse strides) k within counts in
+    let here = sum_and_others f shape strides axis below count in
+    let whole = sum_over_axes-reverse f shape strides count in
+    let others : span_of_others (reverse shape) (reverse strides) k ≡ sum_over_axes f (remove shape axis) (remove strides axis) =
+    omega (arith, there, here, whole, own) in
+    (others ∙ ap (λ z. span_up_to (magnitude z) (remove shape axis) (remove strides axis)) stride, ap magnitude stride)
+
+-- where the axes from the back follow the rule, so do the axes
+pub rule_from_back : (shape : List ℕ) (strides : List ℤ) → length shape ≡ length strides → MeetsOwnedRule (reverse shape) (reverse strides)
+    → MeetsOwnedRule shape strides
+rule_from_back shape strides count rule axis below long =
+    let same = others_back shape strides axis count below in
+    let len = get_or-from_back shape axis 0 below in
+    let apart = rule (length shape - 1 - axis) (omega (arith, length-reverse shape)) (omega arith) in
+    omega (arith, same.0, same.1, apart)

@@ -1,18 +1,17 @@
 -- The walk along the axes by their strides answers what the rule for owned data does.
-use Rattle.std.proofs.Common.{◌≡◌, ℕ, zero, suc, ◌+◌, ◌-◌, ◌*◌, ◌<◌, ◌≤◌, ℤ, pos, true, false, List, [], ◌∷◌, length, get_or, take}
+use Rattle.std.proofs.Common.{◌≡◌, ℕ, zero, suc, ◌+◌, ◌-◌, ◌<◌, ◌≤◌, ℤ, pos, true, false, List, [], ◌∷◌, length, get_or, take}
 use Rattle.std.proofs.Common.{drop, refl, sym, ap, ◌∙◌, inl, inr, arith, add-one, drop-cons, mul-zero, one-mul, zero-mul}
-use Rattle.std.specs.Prelude.{nat_le, nat_lt}
+use Rattle.std.specs.Prelude.{nat_le}
 use Rattle.std.specs.List.{sum_by, range_with_len, All}
 use Rattle.std.specs.List.Sorted.{IsPermutation}
-use Rattle.std.proofs.lemmas.Bool.{and_from, and_parts, cases_lt, cond-true, cond-false, le-leb, lt-ltb, lt-leb, leb-true, ltb-true}
-use Rattle.std.proofs.lemmas.Bool.{or_cases, or_left, or_right}
+use Rattle.std.proofs.lemmas.Bool.{and_from, and_parts, cases_lt, cond-true, cond-false, le-leb, lt-leb}
 use Rattle.std.proofs.lemmas.Bool.Decides.{nat_tests, same_from_decides}
 use Rattle.std.proofs.lemmas.List.{drop_all, get_or_default, get_or-drop, get_or-take, length-drop, length-take}
 use Rattle.std.proofs.lemmas.Nat.{mul-le}
-use Rattle.std.proofs.lemmas.List.FromFn.{length-range_with_len, get_or-range_with_len}
 use Rattle.std.proofs.lemmas.List.Sorted.{Contains-permutation, All-permutation, sum_by-IsPermutation}
 use Rattle.std.proofs.lemmas.List.Sums.{get_or-le-sum_by, sum_by-cons, sum_by-drop_more, sum_by-le, sum_by-le-sum_by, sum_by-take-drop}
 use Rattle.std.proofs.lemmas.List.Sums.{sum_by_more_le}
+use Rattle.nd_base.proofs.laws.Below.{All-below, get_or-below, length-below}
 use Rattle.nd_base.proofs.laws.Definitions.{below, magnitude, reach, span, sum_over_axes}
 use Rattle.nd_base.proofs.laws.Span.{sum_and_others}
 use Rattle.nd_dim.specs.AxisOrder.{magnitude_at, comes_before, IsStrideOrder}
@@ -29,18 +28,10 @@ WalkHolds reached shape strides order = (place : ℕ) → place < length order �
 module _ (reached : ℕ) (shape : List ℕ) (strides : List ℤ) (axis : ℕ) where
   -- a test that an axis passes
   stepped : steps_over reached shape strides axis ≡ true → 1 < get_or shape axis 0 → reached < magnitude_at strides axis
-  stepped h long = elim (or_cases (nat_le (get_or shape axis 0) 1) (nat_lt reached (magnitude_at strides axis)) h) [
-    | inl short ↦ absurd (omega (arith, leb-true (get_or shape axis 0) 1 short))
-    | inr far ↦ ltb-true reached (magnitude_at strides axis) far
-  ]
+  stepped h long = grind (arith, nat_tests)
 
   steps : (1 < get_or shape axis 0 → reached < magnitude_at strides axis) → steps_over reached shape strides axis ≡ true
-  steps h = elim (cases_lt 1 (get_or shape axis 0)) [
-    | inl long ↦ or_right (nat_le (get_or shape axis 0) 1) (nat_lt reached (magnitude_at strides axis))
-        (lt-ltb reached (magnitude_at strides axis) (h long))
-    | inr short ↦ or_left (nat_le (get_or shape axis 0) 1) (nat_lt reached (magnitude_at strides axis))
-        (le-leb (get_or shape axis 0) 1 short)
-  ]
+  steps h = grind (arith, nat_tests, h)
 
 walk_tested : (reached : ℕ) (shape : List ℕ) (strides : List ℤ) (order : List ℕ) → WalkHolds reached shape strides order
     → walk_from reached shape strides order ≡ true
@@ -95,18 +86,13 @@ sum_in_order f shape strides order count p =
 
 -- each place has the number of an axis
 axis_at : (n : ℕ) (order : List ℕ) (place : ℕ) → IsPermutation (below n) order → place < length order → get_or order place 0 < n
-axis_at n order place p l =
-    let all : All (λ axis. axis < n) (below n) = λ k d h.
-    omega (arith, length-range_with_len 0 n, get_or-range_with_len 0 n k d (omega (arith, length-range_with_len 0 n))) in
-    All-permutation (λ axis. axis < n) (below n) order p all place 0 l
+axis_at n order place p l = All-permutation (λ axis. axis < n) (below n) order p (All-below n) place 0 l
 
 -- and each axis has a place
 place_of : (n : ℕ) (order : List ℕ) (axis : ℕ) → IsPermutation (below n) order → axis < n
     → (place : ℕ) × (place < length order) × (get_or order place 0 ≡ axis)
 place_of n order axis p l =
-    let within : axis < length (below n) = omega (arith, length-range_with_len 0 n) in
-    let same = get_or-range_with_len 0 n axis axis l ∙ omega arith in
-    let found = Contains-permutation (below n) order axis p (axis, within, same) in
+    let found = Contains-permutation (below n) order axis p (axis, omega (arith, length-below n), get_or-below n axis axis l) in
     (found.0, found.1, get_or_default order found.0 0 axis found.1 ∙ found.2)
 
 -- how far the others reach up to the stride of the axis at a place: those before it and those after it
@@ -149,11 +135,6 @@ sorted strides order i (suc j) h le l = elim (cases_lt j i) [
 ]
 
 -- ---- the rule and the walk
--- an axis whose stride is of magnitude at most m counts as far as it reaches
-counted : (m len : ℕ) (stride : ℤ) → magnitude stride ≤ m → reach len stride ≤ reach_up_to m len stride
-counted m len stride h = let own : reach_up_to m len stride ≡ reach len stride =
-    cond-true (nat_le (magnitude stride) m) (reach len stride) 0 (le-leb (magnitude stride) m h) in omega arith
-
 -- an axis of at most one entry reaches nowhere
 pub reaches_nowhere : (len : ℕ) (stride : ℤ) → len ≤ 1 → reach len stride ≡ 0
 reaches_nowhere len stride h = let none : len - 1 ≡ 0 = omega arith in rw none (zero-mul (magnitude stride))
@@ -161,23 +142,30 @@ reaches_nowhere len stride h = let none : len - 1 ≡ 0 = omega arith in rw none
 -- so it does where its stride matters at all
 counts_before : (m len : ℕ) (stride : ℤ) → (1 < len → magnitude stride ≤ m) → reach len stride ≤ reach_up_to m len stride
 counts_before m len stride h = elim (cases_lt 1 len) [
-  | inl long ↦ counted m len stride (h long)
+  | inl long ↦ rw (cond-true (nat_le (magnitude stride) m) (reach len stride) 0 (le-leb (magnitude stride) m (h long))) (omega arith)
   | inr short ↦ omega (arith, reaches_nowhere len stride short)
 ]
+
+-- where the axes of more than one entry before a place have no longer strides, all before it count
+earlier_count : (shape : List ℕ) (strides : List ℤ) (order : List ℕ) (place : ℕ) → place < length order
+    → ((k : ℕ) → k < place → 1 < get_or shape (get_or order k 0) 0
+    → magnitude_at strides (get_or order k 0) ≤ magnitude_at strides (get_or order place 0))
+    → sum_by (reach_at shape strides) (take place order)
+    ≤ sum_by (term_at (reach_up_to (magnitude_at strides (get_or order place 0))) shape strides) (take place order)
+earlier_count shape strides order place l rising =
+    let m = magnitude_at strides (get_or order place 0) in
+    sum_le_within (reach_at shape strides) (term_at (reach_up_to m) shape strides) (take place order) (λ k g.
+    let before : k < place = omega (arith, length-take place order) in
+    rw (get_or-take place order k 0 before)
+    (counts_before m (get_or shape (get_or order k 0) 0) (get_or strides (get_or order k 0) (pos 0)) (rising k before)))
 
 -- where the rule is met, so is the walk: the axes before a place are among the others that count
 walk_from_rule : (shape : List ℕ) (strides : List ℤ) (order : List ℕ) → length shape ≡ length strides → IsStrideOrder strides order
     → MeetsOwnedRule shape strides → meets_owned_walk shape strides order ≡ true
 walk_from_rule shape strides order count h rule = walk_tested 0 shape strides order (λ place l long.
     let axis = get_or order place 0 in
-    let m = magnitude_at strides axis in
     let inside : axis < length shape = omega (arith, axis_at (length strides) order place h.each_once l) in
-    let earlier : sum_by (reach_at shape strides) (take place order) ≤ sum_by (term_at (reach_up_to m) shape strides) (take place order) =
-    sum_le_within (reach_at shape strides) (term_at (reach_up_to m) shape strides) (take place order) (λ k g.
-    let before : k < place = omega (arith, length-take place order) in
-    rw (get_or-take place order k 0 before)
-    (counted m (get_or shape (get_or order k 0) 0) (get_or strides (get_or order k 0) (pos 0))
-    (sorted strides order k place h (omega arith) l))) in
+    let earlier = earlier_count shape strides order place l (λ k before long. sorted strides order k place h (omega arith) l) in
     omega (arith, rule axis inside long, others_by_place shape strides order place count h.each_once l))
 
 -- an axis with a stride past m, or with at most one entry, does not count up to m
@@ -267,13 +255,8 @@ module _ (shape : List ℕ) (strides : List ℤ) (order : List ℕ) where
       → magnitude_at strides (get_or order k 0) ≤ magnitude_at strides (get_or order place 0)) → meets_owned_rule shape strides ≡ false
   walk_stops place count p l long upto rising =
       let axis = get_or order place 0 in
-      let m = magnitude_at strides axis in
       let inside : axis < length shape = omega (arith, axis_at (length strides) order place p l) in
-      let earlier : sum_by (reach_at shape strides) (take place order) ≤ sum_by (term_at (reach_up_to m) shape strides) (take place order) =
-      sum_le_within (reach_at shape strides) (term_at (reach_up_to m) shape strides) (take place order) (λ k g.
-      let before : k < place = omega (arith, length-take place order) in
-      rw (get_or-take place order k 0 before)
-      (counts_before m (get_or shape (get_or order k 0) 0) (get_or strides (get_or order k 0) (pos 0)) (rising k before))) in
-      let others : m ≤ span_of_others shape strides axis =
+      let earlier = earlier_count shape strides order place l rising in
+      let others : magnitude_at strides axis ≤ span_of_others shape strides axis =
       omega (arith, upto, earlier, others_by_place shape strides order place count p l) in
       rule_broken shape strides axis inside (stopped_test shape strides axis long others)

@@ -1,27 +1,24 @@
 -- Laws of the strides that a shape has by itself, in either order, as they are read.
-use Rattle.std.proofs.Common.{◌≡◌, ℕ, zero, suc, ◌+◌, ◌-◌, ◌<◌, ◌≤◌, ◌∙◌, ℤ, pos, false, true, inl, inr, List, [], ◌∷◌, length, get_or}
-use Rattle.std.proofs.Common.{map, replicate, reverse, ap, sym, refl, arith, mul-zero}
+use Rattle.std.proofs.Common.{◌≡◌, ℕ, zero, suc, ◌-◌, ◌<◌, ◌≤◌, ◌∙◌, ℤ, pos, false, true, inl, inr, List, [], ◌∷◌, length}
+use Rattle.std.proofs.Common.{map, replicate, ap, sym, refl, arith, mul-zero}
 use Rattle.std.proofs.lemmas.Bool.{cases_Bool, cond-true}
-use Rattle.std.proofs.lemmas.List.{length-map, length-reverse}
+use Rattle.std.proofs.lemmas.List.{length-map}
 use Rattle.nd_base.specs.declared.order.Order.{Order}
 use Rattle.nd_base.specs.declared.order.Order.TheVariants.{RowMajor, ColumnMajor}
 use Rattle.nd_base.proofs.laws.Definitions.{HasDistinctOffsets, LiesInside, IsValidLayout, as_read, below, is_index, offset_of}
 use Rattle.nd_base.proofs.laws.Definitions.{flat_index_in}
 use Rattle.nd_base.proofs.laws.Definitions.{all_signed, signed, is_empty, limit, nonzero_size, size, low_span, reach, span}
-use Rattle.nd_base.proofs.laws.Lists.{get_or-from_back}
 use Rattle.nd_base.proofs.laws.NonzeroSize.{size_le_nonzero_size}
 use Rattle.nd_base.proofs.laws.FlatIndex.{flat_index_in-lt-size, same_from_flat_index_in}
 use Rattle.nd_base.proofs.laws.Reading.{as_read-as_read, is_empty-as_read, map-as_read, nonzero_size-as_read, sum_over_axes-as_read}
 use Rattle.nd_base.proofs.laws.Signed.{all_signed_small}
-use Rattle.nd_base.proofs.laws.Span.{sum_and_others, sum_over_axes-reverse}
-use Rattle.nd_dim.specs.AxisOrder.{magnitude_at}
 use Rattle.nd_dim.specs.Strides.{default_strides, size_after}
 use Rattle.nd_dim.proofs.laws.Strides.{default_count, default_small, fortran_by_default, fortran_count}
 use Rattle.nd_dim.proofs.laws.Strides.{offset_of-default_strides, offset_of-fortran_strides}
 use Rattle.nd_shape.specs.ShapeBuilder.{standard_strides}
 use Rattle.nd_shape.specs.OwnedRule.{MeetsOwnedRule}
 use Rattle.nd_shape.proofs.laws.DefaultStrides.{default_strides_meet_rule, default_strides_span}
-use Rattle.nd_shape.proofs.laws.OwnedRule.{reach_up_to}
+use Rattle.nd_shape.proofs.laws.OwnedRule.{rule_from_back}
 
 -- ---- one stride for each axis, none past the limit
 -- in an order they are the default ones of the axes as they are read
@@ -124,17 +121,7 @@ standard_distinct order shape top = rw (standard_signed order shape top) (λ ind
 meets_rule_as_read : (order : Order) (shape : List ℕ) (strides : List ℤ) → length shape ≡ length strides
     → MeetsOwnedRule (as_read order shape) (as_read order strides) → MeetsOwnedRule shape strides
 meets_rule_as_read RowMajor shape strides count rule = rule
-meets_rule_as_read ColumnMajor shape strides count rule = λ axis within long.
-    let k = length shape - 1 - axis in
-    let place : k ≡ length strides - 1 - axis = omega arith in
-    let len = get_or-from_back shape axis 0 within in
-    let stride = ap (λ n. get_or (reverse strides) n (pos 0)) place ∙ get_or-from_back strides axis (pos 0) (omega arith) in
-    let there : k < length (reverse shape) = omega (arith, length-reverse shape) in
-    let counts : length (reverse shape) ≡ length (reverse strides) = omega (arith, length-reverse shape, length-reverse strides) in
-    let f = reach_up_to (magnitude_at strides axis) in
-    let others = rw (len, stride) at (sum_and_others f (reverse shape) (reverse strides) k there counts) in
-    let holds = rw stride at (rule k there (rw len long)) in
-    omega (arith, holds, others, sum_and_others f shape strides axis within count, sum_over_axes-reverse f shape strides count)
+meets_rule_as_read ColumnMajor shape strides count rule = rule_from_back shape strides count rule
 
 -- where there is an index, they meet it
 pub standard_meets_rule : (order : Order) (shape : List ℕ) → nonzero_size shape ≤ limit → is_empty shape ≡ false

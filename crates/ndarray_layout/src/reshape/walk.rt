@@ -1,7 +1,7 @@
 //! One pass over the axes of two shapes, in the order of reading, that finds the strides of a reshape.
 ghost use Rattle.std.specs.Int.{w64};
 ghost use Rattle.std.specs.Int.RustNames.{FitsSigned};
-ghost use Rattle.std.specs.Prelude.{◌≡◌, ◌≢◌, ◌↔◌, ◌+◌, ◌-◌, ◌*◌, ◌<◌, ◌≤◌, ℕ, Some, None, false, pos, ◌*ℤ◌, IsTrue, IfOk, IfErr, OnOk, length, take, drop, map, slice_index};
+ghost use Rattle.std.specs.Prelude.{◌≡◌, ◌≢◌, ◌+◌, ◌-◌, ◌*◌, ◌<◌, ◌≤◌, ℕ, Some, None, false, pos, ◌*ℤ◌, IsTrue, IfOk, IfErr, OnOk, length, take, drop, map, slice_index};
 ghost use Rattle.nd_base.specs.Indices.{below};
 ghost use Rattle.nd_base.specs.Signed.{signed as signed_reading, all_signed};
 ghost use Rattle.nd_base.specs.Size.{size, nonzero_size, is_empty, limit};
@@ -10,8 +10,8 @@ ghost use Rattle.ndarray_layout.specs.private.ReshapeProgress.{CanWalk, IsReache
 ghost use Rattle.ndarray_layout.specs.reshape.ForcedStrides.{forced_strides, stride_at};
 ghost use Rattle.ndarray_layout.specs.reshape.ReshapeFault.{reshape_fault};
 
-use nd_base::{ErrorKind, Lengths, Order, ShapeError, from_kind, signed, unsigned};
-use nd_dim::{Forward, Reverse, Sequence, SequenceMut};
+use nd_base::{ErrorKind, Lengths, Order, ShapeError, from_kind, is_multiple, signed, unsigned};
+use nd_dim::{Forward, Reverse, Sequence, SequenceMut, item};
 
 /// How far two shapes are read: so many axes of each, which have as many indices.
 #[derive(Clone, Copy)]
@@ -26,24 +26,6 @@ struct Reached {
 struct Block {
     end: Reached,
     step: usize,
-}
-
-/// The item at a position of a sequence.
-#[inline(always)]
-fn item<S: Sequence>(items: &S, k: usize) -> usize
-    requires { k < length (S.items items.now) }
-    ensures { result ≡ slice_index (S.items items.now) k }
-{
-    items[k]
-}
-
-/// Whether an axis of this stride and one of this length after it, with the stride `next`, step as one.
-#[inline(always)]
-fn is_whole(stride: usize, len: usize, next: usize) -> bool
-    requires { len ≤ limit }
-    ensures { IsTrue result ↔ (signed_reading stride ≡ pos len *ℤ signed_reading next) }
-{
-    signed(stride) as i128 == len as isize as i128 * signed(next) as i128
 }
 
 /// Reads axes of both shapes until they have as many indices again.
@@ -97,7 +79,7 @@ fn next_block<S: Sequence, T: Sequence>(
         let len = item(from, from_end);
         if len > 1 {
             let next = item(strides, from_end);
-            if !is_whole(step, len, next) {
+            if !is_multiple(step, len, next) {
                 return Err(from_kind(ErrorKind::IncompatibleLayout));
             }
             step = next;

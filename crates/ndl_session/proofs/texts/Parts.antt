@@ -5,6 +5,7 @@ use Rattle.std.specs.List.{slice_split, onto_first, position_or_len, prefix_len,
 use Rattle.std.proofs.lemmas.Bool.{ltb-true, ltb-false}
 use Rattle.std.proofs.lemmas.Option.{cond_some}
 use Rattle.std.proofs.lemmas.List.Splits.{slice_split_first, join_with_byte-slice_split, length-slice_split}
+use Rattle.ndarray_layout.proofs.laws.Options.{cond_none}
 use Rattle.ndl_session.specs.text.Lines.{parts}
 
 -- where no element is a separator, the list is the one part
@@ -17,10 +18,6 @@ split_of_none p (x ∷ xs) h =
       | true ↦ λ k. absurd (omega arith)
       | false ↦ λ k. rw (split_of_none p xs (omega arith)) refl
     ]) h
-
-cond_none : {A : Type 0} (b : Bool) (x : A) → cond b (Some x) None ≡ None → b ≡ false
-cond_none true x e = absurd (cc)
-cond_none false x e = refl
 
 pub parts_without : (separator : ℕ) (text : List ℕ) → position (λ b. eqb b separator) text ≡ None → parts separator text ≡ text ∷ []
 parts_without separator text e = split_of_none _ text (ltb-false _ _ (cond_none _ _ e))

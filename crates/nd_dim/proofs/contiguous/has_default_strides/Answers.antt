@@ -1,4 +1,4 @@
-use Rattle.std.proofs.Common.{◌≡◌, ◌<◌, ◌+◌, ◌-◌, ◌*◌, length, ℕ, false, drop, get_or, Fits, w64, arith, sym, ap, ◌∙◌, refl}
+use Rattle.std.proofs.Common.{◌≡◌, ◌<◌, ◌+◌, ◌-◌, length, ℕ, drop, get_or, Fits, w64, arith, sym, ap, ◌∙◌, refl}
 use Rattle.std.proofs.lemmas.Bool.{cond-false}
 use Rattle.std.proofs.lemmas.List.FromFn.{fill_by_all}
 use Rattle.nd_base.specs.Size.{size, is_empty}

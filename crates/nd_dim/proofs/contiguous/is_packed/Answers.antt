@@ -1,9 +1,9 @@
 use Rattle.std.proofs.Common.{◌≡◌, false, get_or, length, arith, sym, ◌∙◌}
-use Rattle.std.proofs.lemmas.Bool.{or_from, ne_eqb}
+use Rattle.std.proofs.lemmas.Bool.{both_ways, false_from_ne_true, or_from, ne_eqb}
+use Rattle.nd_base.proofs.laws.Below.{all_below, passes_below}
 use Rattle.nd_base.proofs.laws.Definitions.{all_signed, size}
 use Rattle.nd_dim.specs.AxisOrder.{magnitude_at}
 use Rattle.nd_dim.specs.Contiguous.{lens_before, is_packed_at}
-use Rattle.nd_dim.proofs.Packed.{all_below, not_all_below}
 use Rattle.nd_dim.proofs.contiguous.is_packed.Goals as goal
 
 pub returns-then-magnitude_at-size_before : goal.returns-then-magnitude_at-size_before
@@ -15,7 +15,7 @@ returns-then-magnitude_at-size_before c =
     or_from _ _ (ne_eqb (get_or lens k 0) 1 c.if-len-ne1.true)
     (ne_eqb (magnitude_at strides k) (size (lens_before lens strides k))
     (λ e. c.if-magnitude_at-size_before.true (c.magnitude_at.ensures ∙ e ∙ sym c.size_before.ensures))) in
-    sym (not_all_below (is_packed_at lens strides) (length lens) k c.loop-axis-test.true fails)
+    sym (false_from_ne_true _ (λ all. both_ways _ fails (passes_below (is_packed_at lens strides) (length lens) all k c.loop-axis-test.true)))
 
 pub returns : goal.returns
 returns c =

@@ -1,17 +1,9 @@
 use Rattle.std.proofs.Common.{◌≡◌, ◌<◌, ◌+◌, ◌*◌, ℕ, List, length, get_or, set, take, arith, sym, ap, ap₂, ◌∙◌, length-set, mul_assoc}
 use Rattle.std.proofs.lemmas.List.Edits.{fill_by_more}
-use Rattle.std.proofs.lemmas.Option.{get_or_from_slice_get}
 use Rattle.nd_base.specs.Size.{size}
 use Rattle.nd_dim.specs.Strides.{size_until}
 use Rattle.nd_base.proofs.laws.Size.{size_take_more}
-use Rattle.nd_dim.proofs.strides.write_products.Given.{Over}
 use Rattle.nd_dim.proofs.strides.write_products.Goals as goal
-use Rattle.nd_dim.proofs.strides.write_products.Goals.{After-index}
-
--- the length of the axis
-len_is : (g : Over) (c : After-index g) → get_or (g.S.Sequence.items c.args.lens.now) c.loop-k.k 0 ≡ c.index.result.now
-len_is g c = get_or_from_slice_get (g.S.Sequence.items c.args.lens.now) c.loop-k.k c.index.result.now 0
-    (g.met.S.Sequence.index_is c.args.lens.now c.loop-k.k c.index.result.now c.index.ensures)
 
 -- the next product, as the code has it
 next : (lens : List ℕ) (k first : ℕ) {product len : ℕ} → k < length lens → product ≡ first * size_until lens k → get_or lens k 0 ≡ len
@@ -25,8 +17,7 @@ pub overflow_mul-product : goal.overflow_mul-product
 overflow_mul-product g c =
     let lens = g.S.Sequence.items c.args.lens.now in
     let k = c.loop-k.k in
-    let read = len_is g (goal.at.overflow_mul-product g c).After-index in
-    let more = next lens k c.args.first (omega arith) c.loop-k.invariant.product read in
+    let more = next lens k c.args.first (omega arith) c.loop-k.invariant.product (sym c.item-product.ensures) in
     omega (arith, c.requires.fits (k + 1) (omega arith))
 
 pub loop-k-preserved : goal.loop-k-preserved
@@ -34,11 +25,10 @@ loop-k-preserved g c =
     let lens = g.S.Sequence.items c.args.lens.now in
     let k = c.loop-k.k in
     let out = g.O.Sequence.items c.loop-k.out in
-    let read = len_is g (goal.at.loop-k-preserved g c).After-index in
     let known = c.loop-k.invariant in
     let made = c.set.ensures.items in
     record {
-      product = next lens k c.args.first (omega arith) known.product read;
+      product = next lens k c.args.first (omega arith) known.product (sym c.item-product.ensures);
       room = ap length made ∙ length-set {A = ℕ} out k c.loop-k.product ∙ known.room;
       written = λ j below. ap (λ xs. get_or xs j 0) (made ∙ ap (set out k) known.product)
           ∙ fill_by_more (λ n. c.args.first * size_until lens n) out k 0 (omega arith) known.written j below;

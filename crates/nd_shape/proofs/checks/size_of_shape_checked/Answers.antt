@@ -1,7 +1,7 @@
-use Rattle.std.proofs.Common.{◌≡◌, true, false, sym, ◌∙◌, ap, arith}
+use Rattle.std.proofs.Common.{◌≡◌, sym, ◌∙◌, ap, arith}
 use Rattle.std.proofs.lemmas.Grind.{common_steps}
 use Rattle.nd_base.proofs.laws.Size.{size_of_empty}
-use Rattle.nd_base.specs.Size.{is_empty, nonzero_size, size}
+use Rattle.nd_base.specs.Size.{nonzero_size, size}
 use Rattle.nd_base.proofs.laws.NonzeroSize.{nonzero_size_of_nonempty}
 use Rattle.nd_shape.proofs.checks.size_of_shape_checked.Goals as goal
 use Rattle.nd_shape.proofs.checks.size_of_shape_checked.Goals.{then-contains, else-contains}

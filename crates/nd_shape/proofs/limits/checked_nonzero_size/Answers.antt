@@ -1,4 +1,4 @@
-use Rattle.std.proofs.Common.{◌≡◌, ◌+◌, ◌*◌, ◌≤◌, [], arith, drop, get_or, sym, ◌∙◌, drop_of_length-le, mul_assoc, mul-one}
+use Rattle.std.proofs.Common.{◌≡◌, ◌+◌, ◌*◌, ◌≤◌, arith, drop, get_or, sym, ◌∙◌, drop_of_length-le, mul_assoc, mul-one}
 use Rattle.std.proofs.Common.{le-mul_of_pos_right}
 use Rattle.nd_base.specs.Size.{nonzero_size}
 use Rattle.nd_base.proofs.laws.NonzeroSize.{nonzero_size_from_zero, nonzero_size_from_other, nonzero_size_pos}

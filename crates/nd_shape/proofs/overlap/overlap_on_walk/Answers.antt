@@ -6,10 +6,9 @@ use Rattle.std.specs.Prelude.{unsigned_abs, FitsSigned, nat_le}
 use Rattle.std.proofs.lemmas.Bool.{cases_Bool, leb-true, not_from_true, not_from_false}
 use Rattle.std.proofs.lemmas.Int.{to_z-of_z}
 use Rattle.std.proofs.lemmas.List.{length-map}
-use Rattle.std.proofs.lemmas.List.FromFn.{length-range_with_len, get_or-range_with_len}
 use Rattle.std.proofs.lemmas.List.Sorted.{IsPermutation-refl}
 use Rattle.std.proofs.lemmas.List.Sums.{sum_by_more}
-use Rattle.std.proofs.lemmas.Option.{get_or_from_slice_get}
+use Rattle.nd_base.proofs.laws.Below.{get_or-below, length-below}
 use Rattle.nd_base.proofs.laws.Definitions.{below, all_signed, signed, reach, span}
 use Rattle.nd_dim.specs.AxisOrder.{magnitude_at}
 use Rattle.nd_shape.specs.OwnedRule.{meets_owned_rule}
@@ -37,24 +36,19 @@ walked_within : (shape strides : List ℕ) (place : ℕ) → length shape ≡ le
     + reach_at shape (all_signed strides) (get_or (below (length shape)) place 0) ≤ span shape (all_signed strides)
 walked_within shape strides place count h =
     walked_le_span shape (all_signed strides) (below (length shape)) place (signed_count shape strides count)
-    (each_once shape strides count) (omega (arith, length-range_with_len 0 (length shape)))
+    (each_once shape strides count) (omega (arith, length-below (length shape)))
 
 -- the axis that a turn comes to
 abbrev axis_at : List ℕ → ℕ → ℕ
 axis_at shape place = get_or (below (length shape)) place 0
 
-axis_is : (n place : ℕ) → place < n → get_or (below n) place 0 ≡ place
-axis_is n place h = get_or-range_with_len 0 n place 0 h ∙ omega arith
-
 -- its length
 len_is : (g : Over) (c : After-unsigned_abs-magnitude g)
     → get_or (g.S.Sequence.items c.args.shape.now) (axis_at (g.S.Sequence.items c.args.shape.now) c.loop-place.place) 0
-    ≡ c.index.result.now
+    ≡ c.item-len.result
 len_is g c =
     let shape = g.S.Sequence.items c.args.shape.now in
-    ap (λ k. get_or shape k 0) (axis_is (length shape) c.loop-place.place (omega arith))
-    ∙ get_or_from_slice_get shape c.loop-place.place c.index.result.now 0
-    (g.met.S.Sequence.index_is c.args.shape.now c.loop-place.place c.index.result.now c.index.ensures)
+    ap (λ k. get_or shape k 0) (get_or-below (length shape) c.loop-place.place 0 (omega arith)) ∙ sym c.item-len.ensures
 
 -- its stride
 stride_is : (g : Over) (c : After-unsigned_abs-magnitude g)
@@ -64,15 +58,12 @@ stride_is : (g : Over) (c : After-unsigned_abs-magnitude g)
 stride_is g c =
     let strides = g.S.Sequence.items c.args.strides.now in
     let place = c.loop-place.place in
-    let stride = c.index-in-loop-place.result.now in
     let fits : FitsSigned w64 c.signed-stride.result = search rules in
     let count = c.requires.same_count in
-    let axis = axis_is (length (g.S.Sequence.items c.args.shape.now)) place (omega arith) in
-    let read = get_or_from_slice_get strides place stride 0 (g.met.S.Sequence.index_is c.args.strides.now place stride
-    c.index-in-loop-place.ensures) in
+    let axis = get_or-below (length (g.S.Sequence.items c.args.shape.now)) place 0 (omega arith) in
     to_z-of_z w64 c.signed-stride.result fits
     ∙ c.signed-stride.ensures.same_bits
-    ∙ ap signed (sym read)
+    ∙ ap signed c.item.ensures
     ∙ sym (signed_at strides place (omega arith))
     ∙ ap (λ k. get_or (all_signed strides) k (pos 0)) (sym axis)
 
@@ -96,7 +87,7 @@ returns-then-magnitude-reached g c =
           let broken : meets_owned_rule shape strides ≡ false =
           walk_stops shape strides order c.loop-place.place count
           (each_once shape read c.requires.same_count)
-          (omega (arith, length-range_with_len 0 (length shape)))
+          (omega (arith, length-below (length shape)))
           (rw (len_is g at) c.if-len-gt1.true) (omega (arith, own, c.if-magnitude-reached.true, c.loop-place.invariant.reached))
           (λ k before long. let earlier = c.loop-place.invariant.walk k before long in
           omega (arith, own, earlier, leb-true c.loop-place.longest m far)) in
@@ -132,7 +123,7 @@ loop-place-preserved g c =
     let place = c.loop-place.place in
     let len = len_is g at in
     let known = c.loop-place.invariant in
-    let more = sum_by_more (reach_at shape strides) order place 0 (omega (arith, length-range_with_len 0 (length shape))) in
+    let more = sum_by_more (reach_at shape strides) order place 0 (omega (arith, length-below (length shape))) in
     elim c.if-len-gt1.branch [
       | then-len-gt1+else-magnitude-reached w ↦
           let own = magnitude_is g at in
@@ -167,7 +158,7 @@ returns g c =
     let order = below (length shape) in
     let count = signed_count shape read c.requires.same_count in
     let through : WalkHolds 0 shape (all_signed read) order = λ place l long. let past =
-    c.loop-place.invariant.walk place (omega (arith, length-range_with_len 0 (length shape))) long in
+    c.loop-place.invariant.walk place (omega (arith, length-below (length shape))) long in
     omega (arith, past) in
     let rule = rule_from_walk shape (all_signed read) order count (each_once shape read c.requires.same_count) through in
     sym (not_from_true (meets_owned_rule shape (all_signed read)) (rule_tested shape (all_signed read) rule))

@@ -1,4 +1,4 @@
-use Rattle.std.proofs.Common.{◌≡◌, length, sym, ap, ◌∙◌}
+use Rattle.std.proofs.Common.{sym, ap, ◌∙◌}
 use Rattle.std.proofs.lemmas.List.{length-map}
 use Rattle.nd_base.specs.Signed.{signed, all_signed}
 use Rattle.nd_dim.specs.Contiguous.{is_contiguous}

@@ -7,7 +7,7 @@ use Rattle.ndarray_layout.proofs.reshapes.Inside.{inside-first, inside-to, insid
 use Rattle.ndarray_layout.proofs.reshapes.Halfway.{IsHalfway, product-fits, len-fits, sizes-below, halfway-first, halfway-to, halfway-one}
 use Rattle.ndarray_layout.proofs.reshapes.Halfway.{halfway-longer, halfway-to-end, halfway-from-end, halfway-apart, halfway-reached}
 use Rattle.ndarray_layout.proofs.reshape.walk.next_block.Goals as goal
-use Rattle.ndarray_layout.proofs.reshape.walk.next_block.Goals.{then-len-gt1+else-not-is_whole, else-len-gt1}
+use Rattle.ndarray_layout.proofs.reshape.walk.next_block.Goals.{then-len-gt1+else-not-is_multiple, else-len-gt1}
 
 stride-read : (strides : List ℕ) (k : ℕ) {stride : ℕ} → stride ≡ get_or strides k 0 → signed stride ≡ get_or (all_signed strides) k (pos 0)
 stride-read strides k e = ap signed e ∙ sym (get_or-map signed strides k 0)
@@ -76,8 +76,8 @@ returns-then-from_end-len-clause-fault g c =
     halfway-from-end l.invariant.half (omega arith) (omega arith)
     ∙ ap Some (sym c.from_kind-then-from_end-len.ensures)
 
-pub is_whole-requires : goal.is_whole-requires
-is_whole-requires g c =
+pub is_multiple-requires : goal.is_multiple-requires
+is_multiple-requires g c =
     let l = c.loop-from_product in
     let within = l.invariant.half.from_in in
     let count = c.len-in-loop-from_product.ensures in
@@ -88,8 +88,8 @@ is_whole-requires g c =
     let same = c.item-len.ensures in
     omega (arith, fits, same)
 
-pub returns-then-not-is_whole-clause-fault : goal.returns-then-not-is_whole-clause-fault
-returns-then-not-is_whole-clause-fault g c =
+pub returns-then-not-is_multiple-clause-fault : goal.returns-then-not-is_multiple-clause-fault
+returns-then-not-is_multiple-clause-fault g c =
     let l = c.loop-from_product in
     let within = l.invariant.half.from_in in
     let less = c.if-from_product-to_product.false in
@@ -98,8 +98,8 @@ returns-then-not-is_whole-clause-fault g c =
     let end = c.if-from_end-len.false in
     halfway-apart l.invariant.half (omega arith) (omega arith) c.item-len.ensures c.if-len-gt1.true
     (stride-read (g.S.Sequence.items c.args.strides.now) l.from_end c.item-next.ensures)
-    (λ same. both_ways c.is_whole.result c.if-not-is_whole.true (c.is_whole.ensures.1 same))
-    ∙ ap Some (sym c.from_kind-then-not-is_whole.ensures)
+    (λ same. both_ways c.is_multiple.result c.if-not-is_multiple.true (c.is_multiple.ensures.1 same))
+    ∙ ap Some (sym c.from_kind-then-not-is_multiple.ensures)
 
 pub overflow_mul-from_product : goal.overflow_mul-from_product
 overflow_mul-from_product g c =
@@ -130,12 +130,12 @@ loop-from_product-preserved g c =
     let sizes = sizes-below from c.args.start.from_axes l.from_product l.to_product c.requires.reached.can_walk.some below in
     record {
       half = elim c.if-len-gt1.branch [
-        | then-len-gt1+else-not-is_whole w ↦
+        | then-len-gt1+else-not-is_multiple w ↦
             subst (λ s. IsHalfway (layouts from strides to) c.args.start.from_axes c.args.start.to_axes (l.from_end + 1) l.to_end
             (l.from_product * c.item-len.result) l.to_product (signed s)) (sym w.step-is)
             (halfway-longer l.invariant.half below left c.item-len.ensures w.if-len-gt1.true
             (stride-read (g.S.Sequence.items c.args.strides.now) l.from_end w.item-next.ensures)
-            (w.is_whole.ensures.0 w.if-not-is_whole.false))
+            (w.is_multiple.ensures.0 w.if-not-is_multiple.false))
         | else-len-gt1 w ↦
             subst (λ s. IsHalfway (layouts from strides to) c.args.start.from_axes c.args.start.to_axes (l.from_end + 1) l.to_end
             (l.from_product * c.item-len.result) l.to_product (signed s)) (sym w.step-is)
