@@ -11,6 +11,10 @@ use Rattle.nd_base.proofs.laws.Definitions.{below, indices, offset_of}
 abbrev pub row_from : ℤ → ℤ → ℕ → List ℤ
 row_from place stride len = map (λ entry. place +ℤ (pos entry *ℤ stride)) (below len)
 
+-- those of rows that begin at places, one row after another
+abbrev pub rows_from : ℤ → ℕ → List ℤ → List ℤ
+rows_from stride len starts = flat_map (λ start. row_from start stride len) starts
+
 -- how far indices lie from a place
 abbrev pub places_from : ℤ → List ℤ → List (List ℕ) → List ℤ
 places_from place strides xs = map (λ index. place +ℤ offset_of strides index) xs

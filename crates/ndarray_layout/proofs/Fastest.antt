@@ -1,48 +1,98 @@
 -- A view by the axis that moves fastest in an order: its other axes are a view whose places begin the rows along that axis.
-use Rattle.std.proofs.Common.{◌≡◌, ℕ, zero, suc, ◌+◌, ◌*◌, ◌/◌, ◌%◌, ◌<◌, ◌≤◌, ◌^◌, ℤ, pos, ◌+ℤ◌, ◌*ℤ◌, ◌≤ℤ◌, inl, inr, List, [], ◌∷◌, ◌++◌}
-use Rattle.std.proofs.Common.{refl, sym, ap, ◌∙◌, arith, length-append, length, map}
+use Rattle.std.proofs.Common.{◌≡◌, ℕ, zero, suc, ◌+◌, ◌*◌, ◌-◌, ◌/◌, ◌%◌, ◌<◌, ◌≤◌, ◌^◌, ℤ, pos, ◌+ℤ◌, ◌*ℤ◌, ◌≤ℤ◌, inl, inr, List, [], ◌∷◌, ◌++◌}
+use Rattle.std.proofs.Common.{refl, sym, ap, ◌∙◌, arith, length-append, length, get_or, map, take}
 use Rattle.std.proofs.Math.Nat.{div-one, mod-eq_of_lt}
+use Rattle.std.proofs.Math.Seq.{get_or-append_seam, take-append_seam, take-length}
 use Rattle.std.proofs.lemmas.Bool.{cases_eq}
 use Rattle.std.proofs.lemmas.Int.{ints}
-use Rattle.std.proofs.lemmas.List.{map-append}
+use Rattle.std.proofs.lemmas.List.{map-append, reverse-append, take_more}
 use Rattle.std.proofs.lemmas.Nat.{div-add-mod', div_below, mod_below, mod-mul-add, div-mul-add, mul-add-lt}
 use Rattle.nd_base.specs.declared.order.Order.{Order}
-use Rattle.nd_base.specs.declared.order.Order.TheVariants.{RowMajor}
+use Rattle.nd_base.specs.declared.order.Order.TheVariants.{RowMajor, ColumnMajor}
 use Rattle.nd_base.proofs.laws.Definitions.{as_read, index_of_flat, index_of_flat_in, limit, nonzero_size, offset_of, place}
 use Rattle.nd_base.proofs.laws.Definitions.{reach_down, reach_up, size, sum_over_axes}
 use Rattle.nd_base.proofs.laws.NonzeroSize.{length_le_nonzero_size, nonzero_size-push, nonzero_size_of_other, nonzero_size_of_zero}
 use Rattle.nd_base.proofs.laws.Offset.{offset_of-push}
-use Rattle.nd_base.proofs.laws.Reading.{as_read-as_read, length-as_read, map-as_read, nonzero_size-as_read, offset_of-as_read}
+use Rattle.nd_base.proofs.laws.Reading.{as_read-as_read, length-as_read, nonzero_size-as_read, offset_of-as_read}
 use Rattle.nd_base.proofs.laws.Reading.{size-as_read, sum_over_axes-as_read}
 use Rattle.nd_base.proofs.laws.Size.{size-push}
 use Rattle.nd_base.proofs.laws.Span.{sum_over_axes-push}
+use Rattle.ndarray_layout.specs.Rows.{fastest_item, slower_items}
 use Rattle.ndarray_layout.specs.View.{IsView, view_places}
-use Rattle.ndarray_layout.specs.private.PlacesLeft.{EndsIn, rows_places}
+use Rattle.ndarray_layout.specs.RowsLeft.{with_item}
+use Rattle.ndarray_layout.specs.private.Fastest.{EndsIn}
 use Rattle.ndarray_layout.proofs.reshapes.FlatIndices.{length-index_of_flat}
-use Rattle.ndarray_layout.proofs.ByRows.{by_last_axis}
+use Rattle.ndarray_layout.proofs.ByRows.{by_last_axis, rows_from}
 use Rattle.ndarray_layout.proofs.OneAxis.{axis_within}
 use Rattle.ndarray_layout.proofs.ReadView.{places-as_read}
 use Rattle.ndarray_layout.proofs.laws.View.{IsView-within}
 
 -- ---- lists with an item for each axis
+-- read from the slowest axis on, the item of the fastest one is the last
+read-with_item : {A : Type 0} (order : Order) (others : List A) (item : A)
+    → as_read order (with_item order others item) ≡ as_read order others ++ item ∷ []
+read-with_item RowMajor others item = refl
+read-with_item ColumnMajor others item = reverse-append (item ∷ []) others
+
+pub as_read-ends : {A : Type 0} {order : Order} {items others : List A} {item : A} → EndsIn order items others item
+    → as_read order items ≡ as_read order others ++ item ∷ []
+as_read-ends {order = order} {others = others} {item = item} e = ap (as_read order) e.is ∙ read-with_item order others item
+
+-- the item of the fastest axis, and those of the others
+slower-with_item : {A : Type 0} (order : Order) (others : List A) (item : A) → slower_items order (with_item order others item) ≡ others
+slower-with_item RowMajor others item =
+    let less : length (others ++ item ∷ []) - 1 ≡ length others = omega (arith, length-append others (item ∷ [])) in
+    ap (λ n. take n (others ++ item ∷ [])) less ∙ take-append_seam others (item ∷ [])
+slower-with_item ColumnMajor others item = refl
+
+fastest-with_item : {A : Type 0} (order : Order) (others : List A) (item other : A)
+    → fastest_item order (with_item order others item) other ≡ item
+fastest-with_item RowMajor others item other =
+    let less : length (others ++ item ∷ []) - 1 ≡ length others = omega (arith, length-append others (item ∷ [])) in
+    ap (λ n. get_or (others ++ item ∷ []) n other) less ∙ get_or-append_seam others item [] other
+fastest-with_item ColumnMajor others item other = refl
+
+pub slower_items-ends : {A : Type 0} {order : Order} {items others : List A} {item : A} → EndsIn order items others item
+    → slower_items order items ≡ others
+slower_items-ends {order = order} {others = others} {item = item} e = ap (slower_items order) e.is ∙ slower-with_item order others item
+
+pub fastest_item-ends : {A : Type 0} {order : Order} {items others : List A} {item : A} (other : A) → EndsIn order items others item
+    → fastest_item order items other ≡ item
+fastest_item-ends {order = order} {others = others} {item = item} other e =
+    ap (λ items. fastest_item order items other) e.is ∙ fastest-with_item order others item other
+
+-- which each list with an item has
+pub ends_of_some : {A : Type 0} (order : Order) (items : List A) (other : A) → 0 < length items
+    → EndsIn order items (slower_items order items) (fastest_item order items other)
+ends_of_some RowMajor items other some =
+    let last = length items - 1 in
+    let all : length items ≡ last + 1 = omega arith in
+    record { is = sym (take-length items) ∙ ap (λ n. take n items) all ∙ take_more items last other (omega arith) }
+ends_of_some ColumnMajor [] other some = absurd (omega arith)
+ends_of_some ColumnMajor (item ∷ items) other some = record { is = refl }
+
 -- one item less
 pub length-others : {A : Type 0} {order : Order} {items others : List A} {item : A} → EndsIn order items others item
     → length items ≡ length others + 1
 length-others {order = order} {items = items} {others = others} {item = item} e =
-    omega (arith, length-as_read order items, length-as_read order others, ap length e.is, length-append (as_read order others) (item ∷ []))
+    omega (arith, length-as_read order items, length-as_read order others, ap length (as_read-ends e), length-append (as_read order others) (item ∷ []))
 
 -- a function of each item
+map-with_item : {A B : Type 0} (order : Order) (f : A → B) (others : List A) (item : A)
+    → map f (with_item order others item) ≡ with_item order (map f others) (f item)
+map-with_item RowMajor f others item = map-append f others (item ∷ [])
+map-with_item ColumnMajor f others item = refl
+
 pub EndsIn-map : {A B : Type 0} {order : Order} {items others : List A} {item : A} (f : A → B) → EndsIn order items others item
     → EndsIn order (map f items) (map f others) (f item)
 EndsIn-map {order = order} {items = items} {others = others} {item = item} f e = record {
-  is = sym (map-as_read order f items) ∙ ap (map f) e.is ∙ map-append f (as_read order others) (item ∷ [])
-      ∙ ap (λ xs. xs ++ f item ∷ []) (map-as_read order f others);
+  is = ap (map f) e.is ∙ map-with_item order f others item;
 }
 
 -- the sizes
 pub size-others : {order : Order} {shape lens : List ℕ} {len : ℕ} → EndsIn order shape lens len → size shape ≡ len * size lens
 size-others {order} {shape} {lens} {len} e =
-    sym (size-as_read order shape) ∙ ap size e.is ∙ size-push (as_read order lens) len ∙ ap (λ n. len * n) (size-as_read order lens)
+    sym (size-as_read order shape) ∙ ap size (as_read-ends e) ∙ size-push (as_read order lens) len ∙ ap (λ n. len * n) (size-as_read order lens)
 
 no_more : (len : ℕ) (lens : List ℕ) → nonzero_size lens ≤ nonzero_size (len ∷ lens)
 no_more len lens = elim (cases_eq len 0) [
@@ -61,7 +111,7 @@ nonzero_size-others {order} {shape} {lens} {len} e =
       arith,
       nonzero_size-as_read order shape,
       nonzero_size-as_read order lens,
-      ap nonzero_size e.is,
+      ap nonzero_size (as_read-ends e),
       nonzero_size-push (as_read order lens) len,
       no_more len (as_read order lens),
     )
@@ -71,7 +121,7 @@ len_le_nonzero_size {order} {shape} {lens} {len} e =
     omega (
       arith,
       nonzero_size-as_read order shape,
-      ap nonzero_size e.is,
+      ap nonzero_size (as_read-ends e),
       nonzero_size-push (as_read order lens) len,
       length_le_nonzero_size (len ∷ as_read order lens) 0,
     )
@@ -86,8 +136,8 @@ sum-others {order} {shape} {lens} {strides} {others} {len} {stride} f e g count 
     let read : length (as_read order lens) ≡ length (as_read order others) =
     omega (arith, less, length-as_read order lens, length-as_read order others) in
     sym (sum_over_axes-as_read order f shape strides count)
-    ∙ ap (λ xs. sum_over_axes f xs (as_read order strides)) e.is
-    ∙ ap (sum_over_axes f (as_read order lens ++ len ∷ [])) g.is
+    ∙ ap (λ xs. sum_over_axes f xs (as_read order strides)) (as_read-ends e)
+    ∙ ap (sum_over_axes f (as_read order lens ++ len ∷ [])) (as_read-ends g)
     ∙ sum_over_axes-push f (as_read order lens) (as_read order others) len stride read
     ∙ ap (λ n. f len stride + n) (sum_over_axes-as_read order f lens others less)
 
@@ -127,16 +177,16 @@ module _ (order : Order) {start : ℕ} {shape lens : List ℕ} {strides others :
 
   -- whose places begin the rows
   pub places-others : view_places order (record { start = start; shape = shape; strides = strides })
-      ≡ rows_places stride len (view_places order (record { start = start; shape = lens; strides = others }))
+      ≡ rows_from stride len (view_places order (record { start = start; shape = lens; strides = others }))
   places-others =
       let less : length lens ≡ length others = omega (arith, length-others e, length-others g, v.valid.same_count) in
       let read : length (as_read order lens) ≡ length (as_read order others) =
       omega (arith, less, length-as_read order lens, length-as_read order others) in
       sym (places-as_read order start shape strides v.valid.same_count)
-      ∙ ap (λ xs. view_places RowMajor (record { start = start; shape = xs; strides = as_read order strides })) e.is
-      ∙ ap (λ xs. view_places RowMajor (record { start = start; shape = as_read order lens ++ len ∷ []; strides = xs })) g.is
+      ∙ ap (λ xs. view_places RowMajor (record { start = start; shape = xs; strides = as_read order strides })) (as_read-ends e)
+      ∙ ap (λ xs. view_places RowMajor (record { start = start; shape = as_read order lens ++ len ∷ []; strides = xs })) (as_read-ends g)
       ∙ by_last_axis (pos start) (as_read order lens) (as_read order others) len stride read
-      ∙ ap (rows_places stride len) (places-as_read order start lens others less)
+      ∙ ap (rows_from stride len) (places-as_read order start lens others less)
 
 -- ---- flat indices
 -- the entry of the last axis is a remainder
@@ -182,8 +232,8 @@ pub offset_of-flat_index : {order : Order} {shape lens : List ℕ} {strides othe
 offset_of-flat_index {order} {shape} {lens} {strides} {others} {len} {stride} r e g count below =
     let index = index_of_flat (as_read order shape) r in
     let slow = index_of_flat (as_read order lens) (r / len) in
-    let within : r < size (as_read order lens ++ len ∷ []) = omega (arith, size-as_read order shape, ap size e.is) in
-    let is : index ≡ slow ++ (r % len) ∷ [] = ap (λ xs. index_of_flat xs r) e.is ∙ index_of_flat-push (as_read order lens) len r within in
+    let within : r < size (as_read order lens ++ len ∷ []) = omega (arith, size-as_read order shape, ap size (as_read-ends e)) in
+    let is : index ≡ slow ++ (r % len) ∷ [] = ap (λ xs. index_of_flat xs r) (as_read-ends e) ∙ index_of_flat-push (as_read order lens) len r within in
     let counts : length (as_read order strides) ≡ length index =
     omega (arith, length-as_read order strides, length-as_read order shape, length-index_of_flat (as_read order shape) r) in
     let slow_counts : length (as_read order others) ≡ length slow =
@@ -197,7 +247,7 @@ offset_of-flat_index {order} {shape} {lens} {strides} {others} {len} {stride} r 
     ) in
     ap (λ xs. offset_of xs (as_read order index)) (sym (as_read-as_read order strides))
     ∙ offset_of-as_read order (as_read order strides) index counts
-    ∙ ap (λ xs. offset_of xs index) g.is
+    ∙ ap (λ xs. offset_of xs index) (as_read-ends g)
     ∙ ap (offset_of (as_read order others ++ stride ∷ [])) is
     ∙ offset_of-push (as_read order others) slow stride (r % len) slow_counts
     ∙ ap (λ z. (pos (r % len) *ℤ stride) +ℤ z) (sym (offset_of-as_read order (as_read order others) slow slow_counts)

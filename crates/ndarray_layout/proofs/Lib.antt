@@ -1,12 +1,9 @@
 pub mod AcceptedRule
 pub mod Broadcasts
-pub mod ByAxis
 pub mod ByRows
 pub mod Collapses
 pub mod Fastest
 pub mod FromStart
-pub mod LongerAxes
-pub mod LongerSteps
 pub mod Merged
 pub mod Offsets
 pub mod OneAxis
@@ -15,10 +12,10 @@ pub mod PickedSize
 pub mod PicksFit
 pub mod ReadView
 pub mod Replaced
+pub mod RowsLeft
 pub mod RowSteps
 pub mod SliceSteps
 pub mod Slices
 pub mod TakenSteps
-pub mod Walks
 pub mod laws
 pub mod reshapes

@@ -1,21 +1,17 @@
--- A layout with its axes turned round has the same sums and products, and the places of the turned indices.
+-- A layout with its axes turned round has the places of the turned indices.
 use Rattle.std.proofs.Common.{◌≡◌, ℕ, ℤ, pos, ◌+ℤ◌, List, length, reverse, arith, refl, sym, ap, ◌∙◌}
 use Rattle.std.proofs.lemmas.List.{reverse-reverse, length-reverse}
 use Rattle.nd_base.specs.declared.order.Order.{Order}
 use Rattle.nd_base.specs.declared.order.Order.TheVariants.{RowMajor, ColumnMajor}
-use Rattle.nd_base.proofs.laws.Definitions.{indices, offset_of, place, places, reach, reach_down, reach_up}
+use Rattle.nd_base.proofs.laws.Definitions.{as_read, indices, offset_of, place, places}
 use Rattle.nd_base.proofs.laws.Indices.{map-indices_in}
 use Rattle.nd_base.proofs.laws.IsIndex.{length_of_index}
-use Rattle.nd_base.proofs.laws.NonzeroSize.{nonzero_size-reverse}
 use Rattle.nd_base.proofs.laws.Offset.{offset_of-reverse}
-use Rattle.nd_base.proofs.laws.Span.{sum_over_axes-reverse}
-use Rattle.ndarray_layout.specs.View.{IsView, view_places}
-use Rattle.ndarray_layout.specs.private.ReadView.{view_as_read}
 use Rattle.std.proofs.lemmas.Simd.{map-map}
 
 -- the places in an order, with the axes turned where the first moves fastest
 pub places-as_read : (order : Order) (start : ℕ) (shape : List ℕ) (strides : List ℤ) → length shape ≡ length strides
-    → view_places RowMajor (view_as_read order start shape strides) ≡ places order start shape strides
+    → places RowMajor start (as_read order shape) (as_read order strides) ≡ places order start shape strides
 places-as_read RowMajor start shape strides e = refl
 places-as_read ColumnMajor start shape strides e =
     let turned = reverse strides in
@@ -29,18 +25,3 @@ places-as_read ColumnMajor start shape strides e =
     ) in
     ap (λ z. pos start +ℤ z) (sym (offset_of-reverse turned x counts) ∙ ap (λ s. offset_of s (reverse x)) (reverse-reverse strides)))
     ∙ sym (map-map (place start strides) reverse (indices (reverse shape)))
-
-pub IsView-as_read : (order : Order) (start : ℕ) (shape : List ℕ) (strides : List ℤ)
-    → IsView (record { start = start; shape = shape; strides = strides }) → IsView (view_as_read order start shape strides)
-IsView-as_read RowMajor start shape strides view = view
-IsView-as_read ColumnMajor start shape strides view =
-    let counts = view.valid.same_count in
-    record {
-      valid = record {
-        same_count = omega (arith, counts, length-reverse shape, length-reverse strides);
-        size_fits = omega (arith, nonzero_size-reverse shape, view.valid.size_fits);
-        span_fits = omega (arith, sum_over_axes-reverse reach shape strides counts, view.valid.span_fits);
-      };
-      low = omega (arith, sum_over_axes-reverse reach_down shape strides counts, view.low);
-      high = omega (arith, sum_over_axes-reverse reach_up shape strides counts, view.high);
-    }

@@ -1,131 +1,174 @@
 -- What is left of rows of places, from one place to the next.
-use Rattle.std.proofs.Common.{◌≡◌, ℕ, zero, suc, ◌+◌, ◌*◌, ◌-◌, ◌<◌, ◌≤◌, ◌^◌, ℤ, pos, negsuc, ◌+ℤ◌, ◌*ℤ◌, ◌≤ℤ◌, List, [], ◌∷◌, ◌++◌}
-use Rattle.std.proofs.Common.{length, map, refl, sym, ap, subst, ◌∙◌, arith, length-append}
+use Rattle.std.proofs.Common.{◌≡◌, ℕ, zero, suc, ◌+◌, ◌-◌, ◌<◌, ◌≤◌, ◌^◌, ℤ, pos, negsuc, ◌+ℤ◌, ◌*ℤ◌, ◌≤ℤ◌, List, [], ◌∷◌, ◌++◌}
+use Rattle.std.proofs.Common.{add-one, append_assoc, drop, length, map, refl, sym, ap, subst, ◌∙◌, arith, length-append, length-drop}
 use Rattle.std.specs.List.{All, range_with_len}
 use Rattle.std.proofs.lemmas.Int.{ints}
-use Rattle.std.proofs.lemmas.List.Elements.{All-head, All-tail}
-use Rattle.std.proofs.lemmas.List.FromFn.{length-map-range_with_len}
+use Rattle.std.proofs.lemmas.List.Elements.{All-head, All-nil, All-tail}
 use Rattle.nd_base.proofs.laws.Definitions.{IsInside, limit}
-use Rattle.ndarray_layout.specs.private.PlacesLeft.{AreLeft, places_after, row_places, rows_places}
+use Rattle.ndarray_layout.specs.declared.strided.rows.Row.{Row}
+use Rattle.ndarray_layout.specs.Rows.{row_places, rows_places}
+use Rattle.ndarray_layout.specs.PlacesLeft.{ArePlacesLeft, places_after}
+use Rattle.ndarray_layout.proofs.ByRows.{row_from}
+use Rattle.ndarray_layout.proofs.laws.Rows.{All-first_row, get_or-row_places, length-row_places}
 
 -- ---- a row
-one_more_step : (entry : ℕ) (stride : ℤ) → pos (entry + 1) *ℤ stride ≡ (pos entry *ℤ stride) +ℤ stride
-one_more_step entry (pos s) = omega (arith, ints)
-one_more_step entry (negsuc s) = omega (arith, ints)
+one_more_step : (i : ℕ) (stride : ℤ) → pos (i + 1) *ℤ stride ≡ (pos i *ℤ stride) +ℤ stride
+one_more_step i (pos s) = omega (arith, ints)
+one_more_step i (negsuc s) = omega (arith, ints)
 
-pub no_step : (first stride : ℤ) → first +ℤ (pos 0 *ℤ stride) ≡ first
+no_step : (first stride : ℤ) → first +ℤ (pos 0 *ℤ stride) ≡ first
 no_step first (pos s) = omega (arith, ints)
 no_step first (negsuc s) = omega (arith, ints)
 
--- from one entry further on
-one_further : (first stride : ℤ) (a n : ℕ) → map (λ entry. first +ℤ (pos entry *ℤ stride)) (range_with_len (a + 1) n)
-    ≡ map (λ entry. (first +ℤ stride) +ℤ (pos entry *ℤ stride)) (range_with_len a n)
+-- from one place further on
+one_further : (first stride : ℤ) (a n : ℕ) → map (λ i. first +ℤ (pos i *ℤ stride)) (range_with_len (a + 1) n)
+    ≡ map (λ i. (first +ℤ stride) +ℤ (pos i *ℤ stride)) (range_with_len a n)
 one_further first stride a zero = refl
 one_further first stride a (suc n) =
     let here : first +ℤ (pos (a + 1) *ℤ stride) ≡ (first +ℤ stride) +ℤ (pos a *ℤ stride) = omega (arith, ints, one_more_step a stride) in
     rw (here, one_further first stride (a + 1) n) refl
 
 -- the first place, and then the row from the next one on
-row_first : (first stride : ℤ) (n : ℕ) → row_places first stride (suc n) ≡ first ∷ row_places (first +ℤ stride) stride n
+row_first : (first stride : ℤ) (n : ℕ) → row_from first stride (suc n) ≡ first ∷ row_from (first +ℤ stride) stride n
 row_first first stride n =
-    ap (λ z. z ∷ map (λ entry. first +ℤ (pos entry *ℤ stride)) (range_with_len (0 + 1) n)) (no_step first stride)
+    ap (λ z. z ∷ map (λ i. first +ℤ (pos i *ℤ stride)) (range_with_len (0 + 1) n)) (no_step first stride)
     ∙ ap (λ places. first ∷ places) (one_further first stride 0 n)
 
-row_of_some : (first stride : ℤ) (n : ℕ) → 0 < n → row_places first stride n ≡ first ∷ row_places (first +ℤ stride) stride (n - 1)
+row_of_some : (first stride : ℤ) (n : ℕ) → 0 < n → row_from first stride n ≡ first ∷ row_from (first +ℤ stride) stride (n - 1)
 row_of_some first stride n some =
     let more : n ≡ suc (n - 1) = omega arith in
-    ap (row_places first stride) more ∙ row_first first stride (n - 1)
+    ap (row_from first stride) more ∙ row_first first stride (n - 1)
 
-length-row_places : (first stride : ℤ) (n : ℕ) → length (row_places first stride n) ≡ n
-length-row_places first stride n = length-map-range_with_len (λ entry. first +ℤ (pos entry *ℤ stride)) 0 n
-
--- ---- rows
-pub length-rows_places : (stride : ℤ) (len : ℕ) (starts : List ℤ) → length (rows_places stride len starts) ≡ length starts * len
-length-rows_places stride len [] = omega arith
-length-rows_places stride len (start ∷ starts) =
-    omega (
-      arith,
-      length-append (row_places start stride len) (rows_places stride len starts),
-      length-row_places start stride len,
-      length-rows_places stride len starts,
-    )
-
-pub length-places_after : (place left : ℕ) (stride : ℤ) (len : ℕ) (starts : List ℤ)
-    → length (places_after place left stride len starts) ≡ left + length starts * len
-length-places_after place left stride len starts =
-    omega (
-      arith,
-      length-append (row_places (pos place +ℤ stride) stride left) (rows_places stride len starts),
-      length-row_places (pos place +ℤ stride) stride left,
-      length-rows_places stride len starts,
-    )
+-- what is appended place by place
+pub appended : (old : List ℤ) {now new : List ℤ} (row : List ℤ) (place : ℤ) {more : List ℤ} → new ≡ now ++ place ∷ [] → now ≡ old ++ row
+    → more ≡ row ++ place ∷ [] → new ≡ old ++ more
+appended old row place e f g = e ∙ ap (λ xs. xs ++ place ∷ []) f ∙ append_assoc old row (place ∷ []) ∙ ap (λ xs. old ++ xs) (sym g)
 
 pub inside_bounds : (z : ℤ) → IsInside (2 ^ 63) z → (pos 0 ≤ℤ z) × (z ≤ℤ pos limit)
 inside_bounds (pos n) inside = (omega (arith, ints), omega (arith, ints))
 inside_bounds (negsuc n) inside = absurd inside
 
+-- each place of a row is a number of an `isize`, and so is the first one
+pub place_bounds : (start : ℕ) (stride : ℤ) (len i : ℕ) → All (IsInside (2 ^ 63)) (row_places start stride len) → i < len
+    → (pos 0 ≤ℤ (pos start +ℤ (pos i *ℤ stride))) × ((pos start +ℤ (pos i *ℤ stride)) ≤ℤ pos limit)
+place_bounds start stride len i inside below =
+    inside_bounds (pos start +ℤ (pos i *ℤ stride))
+    (subst (IsInside (2 ^ 63)) (get_or-row_places start stride len i (pos 0) below)
+    (inside i (pos 0) (omega (arith, length-row_places start stride len))))
+
+pub start_bound : (start : ℕ) (stride : ℤ) (len : ℕ) → All (IsInside (2 ^ 63)) (row_places start stride len) → 0 < len → start ≤ limit
+start_bound start stride len inside some =
+    omega (arith, ints, (place_bounds start stride len 0 inside some).1, no_step (pos start) stride)
+
+-- ---- rows
+length-rows : (row : Row) (rows : List Row) → length (rows_places (row ∷ rows)) ≡ row.len + length (rows_places rows)
+length-rows row rows =
+    length-append (row_places row.start row.stride row.len) (rows_places rows)
+    ∙ ap (λ n. n + length (rows_places rows)) (length-row_places row.start row.stride row.len)
+
+-- the first of rows, and the others
+pub record IsFirstRow (all : List Row) (row : Row) (others : List Row) : Type 0 where
+  pub is : all ≡ row ∷ others
+
+module _ {all : List Row} {row : Row} {others : List Row} (f : IsFirstRow all row others) where
+  pub length-first : length (rows_places all) ≡ row.len + length (rows_places others)
+  length-first = ap (λ rows. length (rows_places rows)) f.is ∙ length-rows row others
+
+  pub inside-first : All (IsInside (2 ^ 63)) (rows_places all)
+      → All (IsInside (2 ^ 63)) (row_places row.start row.stride row.len) × All (IsInside (2 ^ 63)) (rows_places others)
+  inside-first inside =
+      All-first_row (IsInside (2 ^ 63)) row others (subst (λ rows. All (IsInside (2 ^ 63)) (rows_places rows)) f.is inside)
+
+  -- with the places of the first one appended, those of the others are left
+  pub append-first : (now : List ℤ) {new whole : List ℤ} → new ≡ now ++ row_places row.start row.stride row.len
+      → now ++ rows_places all ≡ whole → new ++ rows_places others ≡ whole
+  append-first now e so_far =
+      ap (λ xs. xs ++ rows_places others) e
+      ∙ append_assoc now (row_places row.start row.stride row.len) (rows_places others)
+      ∙ ap (λ places. now ++ places) (sym (ap rows_places f.is))
+      ∙ so_far
+
+rest_of_row : (first stride : ℤ) (left : ℕ) → drop 1 (row_from first stride (left + 1)) ≡ row_from (first +ℤ stride) stride left
+rest_of_row first stride left =
+    ap (λ n. drop 1 (row_from first stride n)) (add-one left) ∙ ap (drop 1) (row_first first stride left)
+
+after : (place : ℕ) (stride : ℤ) (left : ℕ) (rows : List Row)
+    → places_after place stride left rows ≡ row_from (pos place +ℤ stride) stride left ++ rows_places rows
+after place stride left rows = ap (λ row. row ++ rows_places rows) (rest_of_row (pos place) stride left)
+
 -- ---- where places are left
-module _ {place left : ℕ} {stride : ℤ} {len : ℕ} {starts : List ℤ} (l : AreLeft place left stride len starts) where
+module _ {place left : ℕ} {stride : ℤ} {rows : List Row} (l : ArePlacesLeft place stride left rows) where
   -- the next one lies a stride on, if one is left in the row
-  first_of_row : 0 < left → places_after place left stride len starts
-      ≡ (pos place +ℤ stride) ∷ (row_places ((pos place +ℤ stride) +ℤ stride) stride (left - 1) ++ rows_places stride len starts)
-  first_of_row some = ap (λ row. row ++ rows_places stride len starts) (row_of_some (pos place +ℤ stride) stride left some)
+  first_of_row : 0 < left → places_after place stride left rows
+      ≡ (pos place +ℤ stride) ∷ (row_from ((pos place +ℤ stride) +ℤ stride) stride (left - 1) ++ rows_places rows)
+  first_of_row some =
+      after place stride left rows ∙ ap (λ row. row ++ rows_places rows) (row_of_some (pos place +ℤ stride) stride left some)
 
   pub next_inside : 0 < left → IsInside (2 ^ 63) (pos place +ℤ stride)
   next_inside some =
       All-head (IsInside (2 ^ 63)) (pos place +ℤ stride)
-      (row_places ((pos place +ℤ stride) +ℤ stride) stride (left - 1) ++ rows_places stride len starts)
+      (row_from ((pos place +ℤ stride) +ℤ stride) stride (left - 1) ++ rows_places rows)
       (subst (All (IsInside (2 ^ 63))) (first_of_row some) l.inside)
 
   pub steps_on : {next : ℕ} → 0 < left → pos next ≡ pos place +ℤ stride
-      → places_after place left stride len starts ≡ pos next ∷ places_after next (left - 1) stride len starts
-  steps_on some at =
+      → places_after place stride left rows ≡ pos next ∷ places_after next stride (left - 1) rows
+  steps_on {next} some at =
       first_of_row some
-      ∙ ap (λ z. z ∷ (row_places (z +ℤ stride) stride (left - 1) ++ rows_places stride len starts)) (sym at)
+      ∙ ap (λ z. z ∷ (row_from (z +ℤ stride) stride (left - 1) ++ rows_places rows)) (sym at)
+      ∙ ap (λ places. pos next ∷ places) (sym (after next stride (left - 1) rows))
 
-  pub left_after_step : {next : ℕ} → 0 < left → pos next ≡ pos place +ℤ stride → AreLeft next (left - 1) stride len starts
+  pub left_after_step : {next : ℕ} → 0 < left → pos next ≡ pos place +ℤ stride → ArePlacesLeft next stride (left - 1) rows
   left_after_step {next} some at = record {
     here = omega (arith, ints, (inside_bounds (pos next) (subst (IsInside (2 ^ 63)) (sym at) (next_inside some))).1);
-    inside = All-tail (IsInside (2 ^ 63)) (pos next) (places_after next (left - 1) stride len starts)
+    inside = All-tail (IsInside (2 ^ 63)) (pos next) (places_after next stride (left - 1) rows)
         (subst (All (IsInside (2 ^ 63))) (steps_on some at) l.inside);
     some = l.some;
-    fits = omega (arith, l.fits);
+    fits = omega (arith, l.fits, ap length (steps_on some at));
   }
 
-  -- the next row begins at the next start
-  pub begins_row : {next : ℕ} {others : List ℤ} → left ≡ 0 → starts ≡ pos next ∷ others → 0 < len
-  begins_row none first = l.some (omega (arith, ap length first))
+  -- else it begins the next row
+  pub some_in_row : {row : Row} {others : List Row} → rows ≡ row ∷ others → 0 < row.len
+  some_in_row {row} {others} e = All-head (λ row. 0 < row.len) row others (subst (All (λ row. 0 < row.len)) e l.some)
 
-  pub row_begins : {next : ℕ} {others : List ℤ} → left ≡ 0 → starts ≡ pos next ∷ others
-      → places_after place left stride len starts ≡ pos next ∷ places_after next (len - 1) stride len others
-  row_begins {next} {others} none first =
-      ap (λ n. places_after place n stride len starts) none
-      ∙ ap (rows_places stride len) first
-      ∙ ap (λ row. row ++ rows_places stride len others) (row_of_some (pos next) stride len (begins_row none first))
+  pub row_begins : {row : Row} {others : List Row} {step : ℤ} → left ≡ 0 → rows ≡ row ∷ others → row.stride ≡ step
+      → places_after place stride left rows ≡ pos row.start ∷ places_after row.start step (row.len - 1) others
+  row_begins {row} {others} none e steps =
+      ap (λ n. places_after place stride n rows) none
+      ∙ ap rows_places e
+      ∙ ap (λ places. places ++ rows_places others) (row_of_some (pos row.start) row.stride row.len (some_in_row e))
+      ∙ ap (λ places. pos row.start ∷ places) (sym (after row.start row.stride (row.len - 1) others))
+      ∙ ap (λ s. pos row.start ∷ places_after row.start s (row.len - 1) others) steps
 
-  pub left_in_row : {next : ℕ} {others : List ℤ} → left ≡ 0 → starts ≡ pos next ∷ others → AreLeft next (len - 1) stride len others
-  left_in_row {next} {others} none first =
-      let all = subst (All (IsInside (2 ^ 63))) (row_begins none first) l.inside in
-      let rest = places_after next (len - 1) stride len others in
+  pub left_in_row : {row : Row} {others : List Row} {step : ℤ} → left ≡ 0 → rows ≡ row ∷ others → row.stride ≡ step
+      → ArePlacesLeft row.start step (row.len - 1) others
+  left_in_row {row} {others} {step} none e steps =
+      let all = subst (All (IsInside (2 ^ 63))) (row_begins none e steps) l.inside in
+      let rest = places_after row.start step (row.len - 1) others in
       record {
-        here = omega (arith, ints, (inside_bounds (pos next) (All-head (IsInside (2 ^ 63)) (pos next) rest all)).1);
-        inside = All-tail (IsInside (2 ^ 63)) (pos next) rest all;
-        some = λ _. begins_row none first;
-        fits = fewer (length starts) (length others) len (ap length first) (begins_row none first) (omega (arith, l.fits));
+        here = omega (arith, ints, (inside_bounds (pos row.start) (All-head (IsInside (2 ^ 63)) (pos row.start) rest all)).1);
+        inside = All-tail (IsInside (2 ^ 63)) (pos row.start) rest all;
+        some = All-tail (λ row. 0 < row.len) row others (subst (All (λ row. 0 < row.len)) e l.some);
+        fits = omega (arith, l.fits, ap length (row_begins none e steps));
       }
-    where
-      fewer : (n m k : ℕ) → n ≡ suc m → 0 < k → n * k ≤ limit → k - 1 + m * k ≤ limit
-      fewer n m k e some fits = omega (arith, ap (λ i. i * k) e)
 
   -- and without another one none is left
-  pub none_after : left ≡ 0 → starts ≡ [] → places_after place left stride len starts ≡ []
-  none_after none end = ap (λ n. places_after place n stride len starts) none ∙ ap (rows_places stride len) end
+  pub none_after : left ≡ 0 → rows ≡ [] → places_after place stride left rows ≡ []
+  none_after none end = ap (λ n. places_after place stride n rows) none ∙ ap rows_places end
 
-  pub left_after_end : {others : List ℤ} → left ≡ 0 → others ≡ [] → AreLeft place left stride len others
-  left_after_end {others} none end = record {
-    here = l.here;
-    inside = subst (All (IsInside (2 ^ 63))) (sym (ap (λ n. places_after place n stride len others) none ∙ ap (rows_places stride len) end))
-        (λ k d below. absurd (omega arith));
-    some = λ more. absurd (omega (arith, ap length end));
-    fits = omega (arith, none, ap (λ xs. length xs * len) end);
-  }
+  pub left_after_end : {others : List Row} → left ≡ 0 → others ≡ [] → ArePlacesLeft place stride left others
+  left_after_end {others} none end =
+      let nothing : places_after place stride left others ≡ [] = ap (λ n. places_after place stride n others) none ∙ ap rows_places end in
+      record {
+        here = l.here;
+        inside = subst (All (IsInside (2 ^ 63))) (sym nothing) (All-nil (IsInside (2 ^ 63)));
+        some = subst (All (λ row. 0 < row.len)) (sym end) (All-nil (λ row. 0 < row.len));
+        fits = omega (arith, ap length nothing);
+      }
+
+-- as many as are left in the row, and in the rows
+pub length-places_after : (place : ℕ) (stride : ℤ) (left : ℕ) (rows : List Row)
+    → length (places_after place stride left rows) ≡ left + length (rows_places rows)
+length-places_after place stride left rows =
+    length-append (drop 1 (row_places place stride (left + 1))) (rows_places rows)
+    ∙ ap (λ n. n + length (rows_places rows))
+    (length-drop 1 (row_places place stride (left + 1)) ∙ ap (λ n. n - 1) (length-row_places place stride (left + 1)) ∙ omega arith)

@@ -8,6 +8,7 @@ pub mod MergedView
 pub mod PermutedView
 pub mod ReshapedView
 pub mod RowMajor
+pub mod Rows
 pub mod Run
 pub mod SharePlace
 pub mod SlicedView

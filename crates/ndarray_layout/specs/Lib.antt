@@ -6,7 +6,10 @@ pub mod DistinctPlaces
 pub mod KeepsPlaces
 pub mod MergedView
 pub mod PermutedView
+pub mod PlacesLeft
 pub mod ReshapedView
+pub mod Rows
+pub mod RowsLeft
 pub mod Run
 pub mod SharePlace
 pub mod SlicedView

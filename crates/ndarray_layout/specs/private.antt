@@ -1,4 +1,2 @@
-pub mod LongerAxes
-pub mod PlacesLeft
-pub mod ReadView
+pub mod Fastest
 pub mod ReshapeProgress

@@ -44,4 +44,4 @@ pub use reshape::reshape_dim;
 
 // Views, and runs of steps from one to the next.
 pub use runs::{Step, Stopped, run};
-pub use strided::{Places, Strided};
+pub use strided::{Places, Row, Rows, Strided};

@@ -2,18 +2,19 @@
 mod broadcasting;
 mod collapsing;
 mod iterating;
-mod longer;
 mod makers;
 mod merging;
 mod permuting;
 mod places;
 mod readers;
 mod reshaping;
+mod rows;
 mod sizes;
 mod slicing;
 
 pub use iterating::Places;
 use nd_base::Lengths;
+pub use rows::{Row, Rows};
 use std::marker::Model;
 
 /// A view of data: a shape, a stride for each axis, and the place of the first index. The place of

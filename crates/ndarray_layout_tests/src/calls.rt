@@ -1,11 +1,11 @@
 //! The calls of rows, by their names.
 use crate::arrays::{OfArray, array_holds};
 use crate::axes::{OfAxes, axes_hold};
-use crate::iterated::places_hold;
+use crate::iterated::{places_hold, rows_hold};
 use crate::reshapes::reshape_holds;
 use crate::runs::run_holds;
 use crate::views::{OfView, view_holds};
-use Call::{Array, Axes, IterPlaces, Reshape, Run, View};
+use Call::{Array, Axes, IterPlaces, Reshape, Rows, Run, View};
 use Order::{ColumnMajor, RowMajor};
 use ndarray_layout::Order;
 use std::alloc::Global;
@@ -20,6 +20,8 @@ enum Call {
     Axes(OfAxes),
     /// `TYPE ..`: of the places of a view one after another.
     IterPlaces,
+    /// `TYPE ..`: of the rows of a view.
+    Rows,
     /// A run of steps.
     Run,
     /// `SHAPE STRIDES SHAPE => STRIDES`, or the fault.
@@ -28,7 +30,7 @@ enum Call {
     Array(OfArray),
 }
 
-static CALLS: [(&str, Call); 19] = [
+static CALLS: [(&str, Call); 20] = [
     ("new", View(OfView::New)),
     ("from_parts", View(OfView::FromParts)),
     ("from_shape", View(OfView::FromShape)),
@@ -37,6 +39,7 @@ static CALLS: [(&str, Call); 19] = [
     ("reversed_axes", Axes(OfAxes::Reversed)),
     ("permuted_axes", Axes(OfAxes::Permuted)),
     ("iter_places", IterPlaces),
+    ("rows", Rows),
     ("run", Run),
     ("reshape_dim_C", Reshape(RowMajor)),
     ("reshape_dim_F", Reshape(ColumnMajor)),
@@ -60,6 +63,7 @@ impl Asked for Calls {
             View(asked) => view_holds(alloc, reading, asked),
             Axes(asked) => axes_hold(alloc, reading, asked),
             IterPlaces => places_hold(alloc, reading),
+            Rows => rows_hold(alloc, reading),
             Run => run_holds(alloc, reading),
             Reshape(order) => reshape_holds(alloc, row, order),
             Array(asked) => array_holds(alloc, reading, asked),

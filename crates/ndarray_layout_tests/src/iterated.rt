@@ -1,10 +1,10 @@
-//! The places of a view one after another, at the dimension type that a row names, and the items of an array.
+//! The places and the rows of a view one after another, at the dimension type that a row names, and the items of an array.
 use crate::items::Item;
 use crate::layout::Layout;
 use crate::views::shaped;
 use Order::{ColumnMajor, RowMajor};
 use nd_owned::Items;
-use ndarray_layout::{Lengths, Order, Places, Strided, Strides};
+use ndarray_layout::{Lengths, Order, Places, Row, Rows, Strided, Strides, unsigned};
 use std::alloc::Global;
 use test_tables::{AtType, Reading, at_type, made, meaning};
 
@@ -68,6 +68,75 @@ pub fn places_hold(alloc: Global, row: &mut Reading<'_>) -> Option<bool> {
     at_type(alloc, ndim, OfRow { row })
 }
 
+/// Whether an iterator gives rows from these places on and no other, of this stride and length, and says each time how
+/// many are left.
+fn gives_rows(mut rows: Rows<'_>, starts: &[usize], stride: isize, len: usize) -> bool {
+    let mut left = starts.len();
+    for start in starts {
+        if (rows.len(), rows.size_hint()) != (left, (left, Some(left))) {
+            return false;
+        }
+        let Some(row) = rows.next() else {
+            return false;
+        };
+        if (row.start, row.stride, row.len) != (*start, stride, len) {
+            return false;
+        }
+        left = rows.len();
+    }
+    (left, rows.next().is_none(), rows.next().is_none()) == (0, true, true)
+}
+
+/// A row about the rows of a view: `TYPE LEN owned|read SHAPE STRIDES C|F => STARTS STRIDE LEN`.
+struct OfRows<'a, 'b> {
+    row: &'a mut Reading<'b>,
+}
+
+impl AtType for OfRows<'_, '_> {
+    fn at<D: Lengths>(self, alloc: Global) -> Option<bool> {
+        let OfRows { row } = self;
+        let layout = Layout::read(&mut row.given)?;
+        let order = meaning(&ORDERS, row.given.word()?)?;
+        let starts = row.answer.list()?;
+        let stride = row.answer.number()?;
+        let len = row.answer.length()?;
+        let view: Strided<D> = layout.view(alloc)?.ok()?;
+        Some(gives_rows(view.rows(order), starts.as_slice(), stride, len))
+    }
+}
+
+/// Whether a row about the rows of a view holds, at the type that it names.
+pub fn rows_hold(alloc: Global, row: &mut Reading<'_>) -> Option<bool> {
+    let ndim = row.given.ndim()?;
+    at_type(alloc, ndim, OfRows { row })
+}
+
+/// Whether the places of a row are these.
+fn has_places(row: Row, expected: &[usize]) -> bool {
+    let stride = unsigned(row.stride);
+    for (i, place) in expected.iter().enumerate() {
+        if row.start.wrapping_add(i.wrapping_mul(stride)) != *place {
+            return false;
+        }
+    }
+    row.len == expected.len()
+}
+
+/// Whether the places of rows one after another are these.
+fn have_places(rows: Rows<'_>, expected: &[usize]) -> bool {
+    let mut left = expected;
+    for row in rows {
+        let Some((first, others)) = left.split_at_checked(row.len) else {
+            return false;
+        };
+        if !has_places(row, first) {
+            return false;
+        }
+        left = others;
+    }
+    left.is_empty()
+}
+
 /// A shape with many places, in which no row is long.
 #[derive(Drop)]
 struct ManyPlaces<'a> {
@@ -83,7 +152,9 @@ impl AtType for ManyPlaces<'_> {
         Some(
             is_whole
                 && gives(view.iter_places(RowMajor), rows.as_slice())
-                && gives(view.iter_places(ColumnMajor), columns.as_slice()),
+                && gives(view.iter_places(ColumnMajor), columns.as_slice())
+                && have_places(view.rows(RowMajor), rows.as_slice())
+                && have_places(view.rows(ColumnMajor), columns.as_slice()),
         )
     }
 }

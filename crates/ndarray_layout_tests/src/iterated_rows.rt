@@ -1,4 +1,4 @@
-//! Rows of places that come one after another.
+//! Rows of places, and of rows of them, that come one after another.
 use crate::assertions::hold;
 use crate::calls::Calls;
 use crate::iterated::many_come;
@@ -42,6 +42,51 @@ iter_places IxDyn 12 owned 2,1,3,1,2 -6,9,1,9,3 F => 6,0,7,1,8,2,9,3,10,4,11,5
 iter_places IxDyn 6 read 2,1,1,2,1,3 0,9,9,3,9,1 C => 0,1,2,3,4,5,0,1,2,3,4,5
 iter_places IxDyn 9 owned 1,1,1,1,1,1,1 9,9,9,9,9,9,9 C => 0
 iter_places IxDyn 12 owned 2,1,3,0,2 6,6,2,2,1 C => -";
+    hold(&rt, rt.alloc(), table, &Calls);
+}
+
+#[test]
+fn rows_of_fixed_types(rt: HostRuntime) {
+    let table = "\
+rows Ix0 1 owned - - C => 0 0 1
+rows Ix0 1 owned - - F => 0 0 1
+rows Ix1 4 owned 4 1 C => 0 1 4
+rows Ix1 7 owned 3 -3 F => 6 -3 3
+rows Ix1 0 owned 0 1 C => - 0 0
+rows Ix1 1 read 4611686018427387904 0 C => 0 0 4611686018427387904
+rows Ix2 6 owned 2,3 -3,1 C => 3,0 1 3
+rows Ix2 6 owned 2,3 -3,1 F => 3,4,5 -3 2
+rows Ix2 3 owned 3,1 1,9 C => 0,1,2 9 1
+rows Ix2 3 owned 3,1 1,9 F => 0 1 3
+rows Ix2 3 read 3,2 0,2 C => 0,0,0 2 2
+rows Ix2 3 read 3,2 0,2 F => 0,2 0 3
+rows Ix2 2 owned 1,2 -9223372036854775808,1 C => 0 1 2
+rows Ix2 2 owned 1,2 -9223372036854775808,1 F => 0,1 -9223372036854775808 1
+rows Ix2 9 owned 0,3 3,1 C => - 0 0
+rows Ix2 9 owned 3,0 3,1 C => - 0 0
+rows Ix2 9 owned 0,3 3,1 F => - 0 0
+rows Ix2 9 owned 3,0 3,1 F => - 0 0
+rows Ix2 9 owned 4611686018427387904,0 0,1 C => - 0 0
+rows Ix3 12 owned 2,3,2 6,-2,1 C => 4,2,0,10,8,6 1 2
+rows Ix3 12 owned 2,3,2 6,-2,1 F => 4,2,0,5,3,1 6 2
+rows Ix4 16 owned 2,2,2,2 1,-2,4,-8 C => 10,14,8,12,11,15,9,13 -8 2
+rows Ix4 16 owned 2,2,2,2 1,-2,4,-8 F => 10,8,14,12,2,0,6,4 1 2
+rows Ix5 6 owned 1,3,1,2,1 9,2,9,1,9 C => 0,1,2,3,4,5 9 1
+rows Ix6 8 owned 2,1,2,1,2,1 4,9,2,9,1,9 F => 0,2,1,3 4 2";
+    hold(&rt, rt.alloc(), table, &Calls);
+}
+
+#[test]
+fn rows_of_any_count_of_axes(rt: HostRuntime) {
+    let table = "\
+rows IxDyn 1 owned - - C => 0 0 1
+rows IxDyn 6 owned 2,3 -3,-1 C => 5,2 -1 3
+rows IxDyn 8 owned 2,1,2,2 4,9,-2,1 F => 2,0,3,1 4 2
+rows IxDyn 12 owned 2,1,3,1,2 -6,9,1,9,3 C => 6,7,8,0,1,2 3 2
+rows IxDyn 12 owned 2,1,3,1,2 -6,9,1,9,3 F => 6,7,8,9,10,11 -6 2
+rows IxDyn 6 read 2,1,1,2,1,3 0,9,9,3,9,1 C => 0,3,0,3 1 3
+rows IxDyn 9 owned 1,1,1,1,1,1,1 9,9,9,9,9,9,9 C => 0 9 1
+rows IxDyn 12 owned 2,1,3,0,2 6,6,2,2,1 C => - 0 0";
     hold(&rt, rt.alloc(), table, &Calls);
 }
 

@@ -5,7 +5,7 @@ use crate::nd_base::{IxDyn, new_ixdyn};
 use crate::nd_dim::Dimension;
 use crate::nd_owned::Items;
 use crate::nd_shape::{IndexCursor, IndexCursorF, IndicesIter, IndicesIterF};
-use crate::ndarray_layout::Places;
+use crate::ndarray_layout::{Places, Rows};
 use core::fmt;
 use core::iter::FusedIterator;
 
@@ -17,6 +17,12 @@ fn print_left(f: &mut fmt::Formatter<'_>, name: &str, left: usize) -> fmt::Resul
 impl fmt::Debug for Places<'_> {
     fn fmt(&self, f: &mut fmt::Formatter<'_>) -> fmt::Result {
         print_left(f, "Places", self.len())
+    }
+}
+
+impl fmt::Debug for Rows<'_> {
+    fn fmt(&self, f: &mut fmt::Formatter<'_>) -> fmt::Result {
+        print_left(f, "Rows", self.len())
     }
 }
 

@@ -159,6 +159,8 @@ fn iterators_know_their_lengths() -> Result<(), LayoutError> {
     knows_its_length(view.axes().rev(), 3);
     knows_its_length(view.iter_places(Order::C), 24);
     knows_its_length(view.iter_places(Order::F), 24);
+    knows_its_length(view.rows(Order::C), 6);
+    knows_its_length(view.rows(Order::F), 12);
     knows_its_length(all_indices(shape)?.into_iter(), 24);
     knows_its_length(indices_iter_f(shape)?, 24);
     knows_its_length(counted(shape)?.iter(), 24);
@@ -203,6 +205,7 @@ fn every_type_prints() -> Result<(), LayoutError> {
     let view = view_of(Ix1(2))?;
     assert!(format!("{view:?}").starts_with("Strided { start: 0"));
     assert_eq!(format!("{:?}", view.iter_places(Order::C)), "Places { left: 2, .. }");
+    assert_eq!(format!("{:?}", view.rows(Order::F)), "Rows { left: 1, .. }");
     let [array, _] = equal_arrays()?;
     assert_eq!(format!("{array:?}"), format!("OwnedArray {{ view: {:?}, items: [8, 7] }}", array.view()));
     assert_eq!(format!("{:?}", array.iter()), "Items { left: 2, .. }");

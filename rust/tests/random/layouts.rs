@@ -8,8 +8,8 @@ use crate::numbers::Numbers;
 use crate::types::{axes_of, dimension, kept, lists_of, of_types, signed_list, strided, strides_of};
 use ndarray_layout::CanIndexCheckMode::ReadOnly;
 use ndarray_layout::{
-    CanIndexCheckMode, Dimension, ErrorKind, IndexCursor, IndexCursorF, LayoutError, Lengths, Order, ShapeError,
-    StrideShape, Strided, Strides, accept, can_index_slice, default_strides, dim_stride_overlap, fortran_strides,
+    CanIndexCheckMode, Dimension, ErrorKind, IndexCursor, IndexCursorF, LayoutError, Lengths, Order, Row,
+    ShapeError, StrideShape, Strided, Strides, accept, can_index_slice, default_strides, dim_stride_overlap, fortran_strides,
     from_kind, is_index, is_layout_c, is_layout_f, low_span, new_ixdyn, offset_from_low_addr_ptr_to_logical_ptr,
     size_of_shape_checked, span_of_lengths, step_by_columns, step_by_rows,
 };
@@ -293,12 +293,19 @@ fn iterators_go_over_all_indices_in_order() {
     }
 }
 
-/// The places of all indices, from an iterator that counts them.
+/// The places of a row.
+fn of_row(row: Row) -> impl Iterator<Item = usize> {
+    (0..row.len).map(move |i| row.start.wrapping_add_signed(row.stride.wrapping_mul(i as isize)))
+}
+
+/// The places of all indices, from iterators that count them.
 fn places_of<D: Lengths>(view: &View, order: Order) -> Result<Vec<usize>, LayoutError> {
     let view = strided::<D>(view)?;
     let places = view.places(order)?;
     assert_eq!(view.iter_places(order).len(), places.len());
     assert!(view.iter_places(order).eq(places.iter().copied()), "{places:?}");
+    assert!(view.rows(order).flat_map(of_row).eq(places.iter().copied()), "{places:?}");
+    assert!(view.rows(order).all(|row| row.len > 0 && row.len * view.rows(order).len() == places.len()));
     Ok(places)
 }
 

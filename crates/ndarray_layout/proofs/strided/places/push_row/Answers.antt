@@ -1,17 +1,40 @@
--- Each entry of the axis gives one place.
-use Rattle.std.proofs.Common.{pos, map, [], ◌∷◌, arith, ap, ◌∙◌}
+-- Each place of the row is one more in the list.
+use Rattle.std.proofs.Common.{◌≡◌, ◌*ℤ◌, ◌+ℤ◌, pos, map, [], ◌∷◌, ◌++◌, arith, ap, sym, ◌∙◌}
+use Rattle.std.proofs.lemmas.Int.{ints}
 use Rattle.std.proofs.lemmas.List.{map-append}
 use Rattle.nd_base.specs.Signed.{signed}
-use Rattle.ndarray_layout.proofs.Walks.{row_more, row_after}
+use Rattle.ndarray_layout.specs.Rows.{row_places}
+use Rattle.ndarray_layout.proofs.RowSteps.{appended, place_bounds, start_bound}
+use Rattle.ndarray_layout.proofs.laws.Rows.{row_more}
 use Rattle.ndarray_layout.proofs.strided.places.push_row.Goals as goal
 
-pub loop-entry-preserved : goal.loop-entry-preserved
-loop-entry-preserved c =
+pub entry_place-requires-clause-first : goal.entry_place-requires-clause-first
+entry_place-requires-clause-first c =
+    start_bound c.args.row.start c.args.row.stride c.args.row.len c.requires.inside (omega arith)
+
+pub entry_place-requires-clause-low : goal.entry_place-requires-clause-low
+entry_place-requires-clause-low c =
+    let row = c.args.row in
+    let stride : signed c.unsigned-stride.result ≡ row.stride = omega (arith, ints, c.unsigned-stride.ensures.back) in
+    rw stride (place_bounds row.start row.stride row.len c.loop-i.i c.requires.inside (omega arith)).0
+
+pub entry_place-requires-clause-high : goal.entry_place-requires-clause-high
+entry_place-requires-clause-high c =
+    let row = c.args.row in
+    let stride : signed c.unsigned-stride.result ≡ row.stride = omega (arith, ints, c.unsigned-stride.ensures.back) in
+    rw stride (place_bounds row.start row.stride row.len c.loop-i.i c.requires.inside (omega arith)).1
+
+pub loop-i-preserved : goal.loop-i-preserved
+loop-i-preserved c =
+    let row = c.args.row in
+    let i = c.loop-i.i in
     let place = c.entry_place.result in
-    let pushed = ap (map pos) c.push_reserved.ensures.items ∙ map-append pos c.loop-entry.places.items (place ∷ []) in
-    let more = row_more c.args.start c.loop-entry.entry (signed c.args.stride) c.entry_place.ensures in
+    let stride : signed c.unsigned-stride.result ≡ row.stride = omega (arith, ints, c.unsigned-stride.ensures.back) in
+    let here = c.entry_place.ensures ∙ ap (λ s. pos row.start +ℤ (pos i *ℤ s)) stride in
+    let pushed = ap (map pos) c.push_reserved.ensures.items ∙ map-append pos c.loop-i.places.items (place ∷ []) in
+    let more = row_more row.start row.stride i ∙ ap (λ z. row_places row.start row.stride i ++ z ∷ []) (sym here) in
     record {
-      items = row_after _ _ _ pushed c.loop-entry.invariant.items more;
-      len = omega (arith, c.push_reserved.ensures.len, c.loop-entry.invariant.len);
-      capacity = c.push_reserved.ensures.capacity ∙ c.loop-entry.invariant.capacity;
+      items = appended (map pos c.args.places.items) (row_places row.start row.stride i) (pos place) pushed c.loop-i.invariant.items more;
+      len = omega (arith, c.push_reserved.ensures.len, c.loop-i.invariant.len);
+      capacity = c.push_reserved.ensures.capacity ∙ c.loop-i.invariant.capacity;
     }

@@ -1,0 +1,20 @@
+use Rattle.std.proofs.Common.{◌<◌, sym, ap, subst, ◌∙◌}
+use Rattle.std.specs.List.{All}
+use Rattle.ndarray_layout.specs.Rows.{rows_places}
+use Rattle.ndarray_layout.specs.RowsLeft.{axis_view}
+use Rattle.ndarray_layout.proofs.laws.Rows.{rows_places-view_rows, some_in_each_row}
+use Rattle.ndarray_layout.proofs.strided.rows.Rows.of_places.Goals as goal
+
+pub along-requires : goal.along-requires
+along-requires c = c.longer_axis.ensures.is_view c.args.start c.requires
+
+pub returns-clause-places : goal.returns-clause-places
+returns-clause-places c =
+    let axis = c.longer_axis.ensures in
+    ap rows_places c.along.ensures
+    ∙ rows_places-view_rows c.args.order (axis.is_view c.args.start c.requires)
+    ∙ axis.places c.args.start c.requires
+
+pub returns-clause-some : goal.returns-clause-some
+returns-clause-some c = subst (All (λ row. 0 < row.len)) (sym c.along.ensures)
+    (some_in_each_row c.args.order (axis_view c.args.order c.args.start c.longer_axis.result))
