@@ -13,13 +13,13 @@ use crate::strides::stride_offset;
 
 /// An offset, moved from coordinate 0 of an axis to another one.
 #[inline(always)]
-fn moved(offset: isize, entry: usize, stride: usize) -> isize
-    requires small { entry ≤ limit }
-    requires part { FitsSigned w64 (pos entry *ℤ signed stride) }
-    requires whole { FitsSigned w64 (offset +ℤ (pos entry *ℤ signed stride)) }
-    ensures { result ≡ offset +ℤ (pos entry *ℤ signed stride) }
+fn moved(offset: isize, coordinate: usize, stride: usize) -> isize
+    requires small { coordinate ≤ limit }
+    requires part { FitsSigned w64 (pos coordinate *ℤ signed stride) }
+    requires whole { FitsSigned w64 (offset +ℤ (pos coordinate *ℤ signed stride)) }
+    ensures { result ≡ offset +ℤ (pos coordinate *ℤ signed stride) }
 {
-    offset + stride_offset(entry, stride)
+    offset + stride_offset(coordinate, stride)
 }
 
 /// The sum of each coordinate times its stride, in elements.

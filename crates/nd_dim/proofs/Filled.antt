@@ -4,8 +4,8 @@ use Rattle.std.proofs.Common.{refl, sym, ap, ◌∙◌, arith, get_or-set_same, 
 use Rattle.std.proofs.lemmas.List.{ext_get_or, get_or-replicate, length-replicate, length-set, set-get_or, set-set}
 use Rattle.std.proofs.lemmas.Nat.{div_below, div-add-mod', div-mul-add, mod_below, mod-mul-add, mul-add-lt}
 use Rattle.nd_base.proofs.laws.Definitions.{is_index, farthest_offset, size}
-use Rattle.nd_base.proofs.laws.Entries.{farthest_offset-set, is_index-set, is_index_from_entries, size-set}
-use Rattle.nd_base.proofs.laws.IsIndex.{entry_of_index, length_of_index}
+use Rattle.nd_base.proofs.laws.Entries.{farthest_offset-set, is_index-set, size-set}
+use Rattle.nd_base.proofs.laws.IsIndex.{entry_of_index, is_index_from_entries, length_of_index}
 use Rattle.nd_base.proofs.laws.Reach.{farthest_offset-zeros}
 use Rattle.nd_dim.specs.AxisOrder.{magnitude_at}
 

@@ -3,7 +3,8 @@ use Rattle.std.proofs.Common.{◌≡◌, ◌≢◌, ℕ, ◌+◌, ◌*◌, ◌<�
 use Rattle.std.proofs.Common.{get_or-set_other, map, replicate, refl, sym, ap, ◌∙◌, arith, inl, inr}
 use Rattle.std.specs.List.{filter, slice_index}
 use Rattle.std.specs.Prelude.{nat_lt}
-use Rattle.std.proofs.lemmas.Bool.{cases_Bool, cases_eq, cases_lt, cond-true, cond-false, le-ltb, lt-ltb}
+use Rattle.std.proofs.lemmas.Bool.{cases_Bool, cases_eq, cases_lt, cond-true, cond-false}
+use Rattle.std.proofs.lemmas.Bool.Decides.{nat_tests}
 use Rattle.std.proofs.lemmas.List.{ext_get_or, get_or-replicate, length-replicate, length-set}
 use Rattle.std.proofs.lemmas.List.FromFn.{fill_by_all, get_or-map-range_with_len, length-map-range_with_len}
 use Rattle.nd_base.proofs.laws.Definitions.{below, size}
@@ -29,15 +30,11 @@ module _ (lens : List ℕ) (strides : List ℤ) where
 
   pub first_kept : (place axis : ℕ) → axis < length lens → stride_place strides (length lens) axis < place
       → get_or (first_axes lens strides place) axis 0 ≡ get_or lens axis 0
-  first_kept place axis h l = first_at place axis h
-      ∙ cond-true (nat_lt (stride_place strides (length lens) axis) place) (get_or lens axis 0) 1
-      (lt-ltb (stride_place strides (length lens) axis) place l)
+  first_kept place axis h l = let at = first_at place axis h in grind (arith, nat_tests)
 
   pub first_left : (place axis : ℕ) → axis < length lens → place ≤ stride_place strides (length lens) axis
       → get_or (first_axes lens strides place) axis 0 ≡ 1
-  first_left place axis h l = first_at place axis h
-      ∙ cond-false (nat_lt (stride_place strides (length lens) axis) place) (get_or lens axis 0) 1
-      (le-ltb (stride_place strides (length lens) axis) place l)
+  first_left place axis h l = let at = first_at place axis h in grind (arith, nat_tests)
 
   -- no axis is before 0
   pub first_none : first_axes lens strides 0 ≡ replicate (length lens) 1
@@ -93,16 +90,8 @@ module _ (lens : List ℕ) (strides : List ℤ) where
 chosen_size : (p : ℕ → Bool) (g : ℕ → ℕ) (axes : List ℕ) → size (map g (filter p axes)) ≡ size (map (λ axis. cond (p axis) (g axis) 1) axes)
 chosen_size p g [] = refl
 chosen_size p g (axis ∷ axes) = elim (cases_Bool (p axis)) [
-  | inl kept ↦
-      ap (λ xs. size (map g xs)) (cond-true (p axis) (axis ∷ filter p axes) (filter p axes) kept)
-      ∙ ap (λ m. g axis * m) (chosen_size p g axes)
-      ∙ ap (λ m. m * size (map (λ axis. cond (p axis) (g axis) 1) axes)) (sym (cond-true (p axis) (g axis) 1 kept))
-  | inr left ↦
-      let one : 1 * size (map (λ axis. cond (p axis) (g axis) 1) axes) ≡ size (map (λ axis. cond (p axis) (g axis) 1) axes) = omega arith in
-      ap (λ xs. size (map g xs)) (cond-false (p axis) (axis ∷ filter p axes) (filter p axes) left)
-      ∙ chosen_size p g axes
-      ∙ sym one
-      ∙ ap (λ m. m * size (map (λ axis. cond (p axis) (g axis) 1) axes)) (sym (cond-false (p axis) (g axis) 1 left))
+  | inl kept ↦ rw kept (ap (λ m. g axis * m) (chosen_size p g axes))
+  | inr left ↦ rw left (chosen_size p g axes ∙ omega arith)
 ]
 
 -- the axes that come before an axis are those before its place

@@ -34,17 +34,11 @@ module _ (p : ℕ → Bool) (lens : List ℕ) (n : ℕ) where
 
   pub chosen_taken : (whole : ℕ) → p n ≡ true → whole ≡ size (map (slice_index lens) (filter p (below n)))
       → whole * get_or lens n 0 ≡ size (map (slice_index lens) (filter p (below (n + 1))))
-  chosen_taken whole chosen e =
-      ap (λ w. w * get_or lens n 0) e
-      ∙ ap (λ m. size (map (slice_index lens) (filter p (below n))) * m) (sym (cond-true (p n) (get_or lens n 0) 1 chosen))
-      ∙ sym chosen_more
+  chosen_taken whole chosen e = rw (chosen_more, chosen, e) refl
 
   pub chosen_left : (whole : ℕ) → p n ≡ false → whole ≡ size (map (slice_index lens) (filter p (below n)))
       → whole ≡ size (map (slice_index lens) (filter p (below (n + 1))))
-  chosen_left whole passed e =
-      e ∙ sym (mul-one (size (map (slice_index lens) (filter p (below n)))))
-      ∙ ap (λ m. size (map (slice_index lens) (filter p (below n))) * m) (sym (cond-false (p n) (get_or lens n 0) 1 passed))
-      ∙ sym chosen_more
+  chosen_left whole passed e = rw (chosen_more, passed, e) (sym (mul-one _))
 
 small_from_signed : (m n : ℕ) → m < 2 ^ 64 → signed m ≡ pos n → m ≡ n
 small_from_signed m n h e = sym (of_z-to_z w64 m h) ∙ ap unsigned e

@@ -1,13 +1,13 @@
 -- Every axis is packed exactly where the layout lies at each distance below its size once.
 use Rattle.std.proofs.Common.{◌≡◌, ◌⊎◌, ℕ, zero, suc, ◌+◌, ◌*◌, ◌<◌, ◌≤◌, ℤ, true, false, List, [], ◌∷◌, length, get_or}
-use Rattle.std.proofs.Common.{get_or-set_same, set, replicate, refl, sym, ap, ◌∙◌, add-one, arith, inl, inr, mul-pos}
+use Rattle.std.proofs.Common.{get_or-set_same, replicate, refl, sym, ap, ◌∙◌, add-one, arith, inl, inr, mul-pos}
 use Rattle.std.proofs.Math.Nat.{mul-le-mul_left, mul-le-mul_right}
 use Rattle.std.proofs.lemmas.Bool.{cases_lt, cases_order}
-use Rattle.std.proofs.lemmas.List.{get_or-replicate, length-replicate, set-get_or}
+use Rattle.std.proofs.lemmas.List.{get_or-replicate, length-replicate}
 use Rattle.nd_base.proofs.laws.Definitions.{is_index, farthest_offset, is_empty, size}
-use Rattle.nd_base.proofs.laws.Entries.{farthest_offset-set, farthest_offset_ge_entry, index_or_entry, is_index-set, is_index_of_larger}
-use Rattle.nd_base.proofs.laws.Entries.{size-set, size_le}
-use Rattle.nd_base.proofs.laws.IsIndex.{entry_of_index, is_index-zeros, length_of_index}
+use Rattle.nd_base.proofs.laws.Entries.{farthest_offset-set, farthest_offset_ge_entry, index_or_entry, is_index_of_larger}
+use Rattle.nd_base.proofs.laws.Entries.{is_index-step_along, size-set, size_le, step_along}
+use Rattle.nd_base.proofs.laws.IsIndex.{entry_of_index, length_of_index}
 use Rattle.nd_base.proofs.laws.Reach.{farthest_offset-zeros}
 use Rattle.nd_base.proofs.laws.Size.{length_pos}
 use Rattle.nd_dim.specs.AxisOrder.{magnitude_at}
@@ -84,16 +84,7 @@ module _ (lens : List ℕ) (strides : List ℤ) (count : length lens ≡ length 
       rw (first_all lens strides top.0 top.1) at (fills_first top.0 packed)
 
 -- ---- from a filled stretch to packed axes
--- one step along an axis is an index that lies as far as its stride
-abbrev step_along : List ℕ → ℕ → List ℕ
-step_along lens axis = set (replicate (length lens) 0) axis 1
-
-step_is_index : (lens : List ℕ) (axis : ℕ) → is_empty lens ≡ false → axis < length lens → 1 < get_or lens axis 0
-    → is_index lens (step_along lens axis) ≡ true
-step_is_index lens axis some h long =
-    ap (λ s. is_index s (step_along lens axis)) (sym (set-get_or lens axis 0))
-    ∙ is_index-set lens (replicate (length lens) 0) (is_index-zeros lens some) axis (get_or lens axis 0) 1 h long
-
+-- one step along an axis lies as far as its stride
 step_lies : (lens : List ℕ) (strides : List ℤ) (axis : ℕ) → length lens ≡ length strides → axis < length lens
     → farthest_offset strides (step_along lens axis) ≡ magnitude_at strides axis
 step_lies lens strides axis count h =
@@ -129,7 +120,7 @@ module _ {lens : List ℕ} {strides : List ℤ} {place axis : ℕ} (a : IsAtAxis
       let same : found.0 ≡ step_along lens axis =
       a.reaches.distinct found.0 (step_along lens axis)
       (is_index_of_larger first lens found.0 (sym many) (λ k l. first_no_longer lens strides place k a.some l) found.1)
-      (step_is_index lens axis a.some inside a.long) (found.2 ∙ sym (step_lies lens strides axis a.count inside)) in
+      (is_index-step_along lens axis a.some inside a.long) (found.2 ∙ sym (step_lies lens strides axis a.count inside)) in
       let entry = entry_of_index first found.0 axis found.1 (omega arith) in
       let there : axis < length (replicate {A = ℕ} (length lens) 0) = omega (arith, length-replicate {A = ℕ} (length lens) 0) in
       let one : get_or found.0 axis 0 ≡ 1 = ap (λ xs. get_or xs axis 0) same ∙ get_or-set_same (replicate (length lens) 0) axis 1 0 there in

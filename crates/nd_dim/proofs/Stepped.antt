@@ -22,7 +22,7 @@ module _ (back rest : List ℕ) (full : flat_index back rest + 1 ≡ size back) 
   stepped : (front index : List ℕ) → length index ≡ length front → is_index (front ++ len ∷ back) (index ++ i ∷ rest) ≡ true
       → IsStepped (front ++ len ∷ back) (index ++ i ∷ rest) (index ++ (i + 1) ∷ replicate (length back) 0)
   stepped [] [] count here =
-      let parts = and_parts (nat_lt i len) (is_index back rest) here in
+      let parts = and_parts _ _ here in
       let first = flat_index-zeros back in
       let one : (i + 1) * size back ≡ i * size back + size back = omega arith in
       let zeros = is_index-zeros back (nonempty_from_index back rest parts.1) in
@@ -30,7 +30,7 @@ module _ (back rest : List ℕ) (full : flat_index back rest + 1 ≡ size back) 
   stepped [] (j ∷ index) count here = absurd (omega arith)
   stepped (n ∷ front) [] count here = absurd (omega arith)
   stepped (n ∷ front) (j ∷ index) count here =
-      let parts = and_parts (nat_lt j n) (is_index (front ++ len ∷ back) (index ++ i ∷ rest)) here in
+      let parts = and_parts _ _ here in
       let later = stepped front index (omega arith) parts.1 in
       record { within = and_from _ _ parts.0 later.within; flat_indices = omega (arith, later.flat_indices) }
 

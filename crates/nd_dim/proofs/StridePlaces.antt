@@ -2,7 +2,7 @@
 use Rattle.std.proofs.Common.{◌≡◌, ◌≢◌, ◌⊎◌, ℕ, zero, suc, ◌+◌, ◌*◌, ◌%◌, ◌<◌, ◌≤◌, ℤ, ◌==◌, List, sym, ap, ◌∙◌, arith, inl, inr}
 use Rattle.std.specs.Prelude.{nat_lt, ◌&&◌, ◌||◌}
 use Rattle.std.proofs.Math.Nat.{mul-le-mul_right, suc-mul}
-use Rattle.std.proofs.lemmas.Bool.{cases_eq, cases_order}
+use Rattle.std.proofs.lemmas.Bool.{cases_eq, cases_lt, cases_order}
 use Rattle.std.proofs.lemmas.Bool.Decides.{nat_tests}
 use Rattle.std.proofs.lemmas.Nat.{mod-mul-add}
 use Rattle.nd_dim.specs.AxisOrder.{magnitude_at, comes_before}
@@ -41,14 +41,11 @@ module _ (strides : List ℤ) (n axis other : ℕ) (h : axis < n) where
   -- and at no lesser place the stride is no shorter
   pub longer_at_later_place : stride_place strides n other ≤ stride_place strides n axis
       → magnitude_at strides other ≤ magnitude_at strides axis
-  longer_at_later_place l = elim (cases_order (magnitude_at strides axis) (magnitude_at strides other)) [
-    | inl same ↦ omega arith
-    | inr differ ↦ elim differ [
-      | inl less ↦
-          let first = lesser_first (magnitude_at strides axis) (magnitude_at strides other) n axis other h less in
-          absurd (omega arith)
-      | inr more ↦ omega arith
-    ]
+  longer_at_later_place l = elim (cases_lt (magnitude_at strides axis) (magnitude_at strides other)) [
+    | inr upto ↦ upto
+    | inl less ↦
+        let first = lesser_first (magnitude_at strides axis) (magnitude_at strides other) n axis other h less in
+        absurd (omega arith)
   ]
 
 -- some number is past the places of all axes

@@ -1,7 +1,7 @@
 //! Strides as they are kept, and calls of slices: the offsets of entries, and axes.
 use nd_dim::{
-    Axis, Dimension, Ix2, axis_of, has_axis, index_offset, is_index, new_ix2, set_axis_of, signed,
-    stride_offset, stride_offset_checked, unsigned,
+    Axis, Dimension, Ix2, axis_of, has_axis, index_offset, is_index, is_multiple, new_ix2,
+    set_axis_of, signed, stride_offset, stride_offset_checked, unsigned,
 };
 
 // A stride as it is kept, and what it means.
@@ -32,6 +32,17 @@ fn offsets_of_entries(rt: HostRuntime) {
             && Ix2::stride_offset(&new_ix2(1, 2), &new_ix2(unsigned(-3), 1)) == -1
             && stride_offset(3, unsigned(-4)) == -12
             && stride_offset(1, unsigned(isize::MIN)) == isize::MIN
+    );
+}
+
+// In whole numbers: 2^64 isn't 0.
+#[test]
+fn multiples(rt: HostRuntime) {
+    assert!(rt;
+        is_multiple(unsigned(-6), 2, unsigned(-3))
+            && !is_multiple(6, 2, unsigned(-3))
+            && is_multiple(0, 0, unsigned(isize::MIN))
+            && !is_multiple(0, 1 << 62, 4)
     );
 }
 

@@ -1,12 +1,12 @@
 //! The numbers of a dimension by their positions, from either end, read and written by index.
-use ndarray_layout::{Forward, Lengths, Reverse, Sequence, SequenceMut};
+use ndarray_layout::{Forward, Lengths, Reverse, Sequence, SequenceMut, item};
 use std::alloc::Global;
 use test_tables::{AtType, at_each_type, made};
 
 /// Whether these are the numbers, by their positions.
 fn reads<S: Sequence>(items: &S, numbers: &[usize]) -> bool {
     for (k, number) in numbers.iter().enumerate() {
-        if k >= items.len() || items[k] != *number {
+        if k >= items.len() || items[k] != *number || item(items, k) != *number {
             return false;
         }
     }

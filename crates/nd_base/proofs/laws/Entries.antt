@@ -1,24 +1,14 @@
 -- Laws of single entries: of a shape and an index, and of one entry that takes another value.
 use Rattle.std.proofs.Common.{◌≡◌, ◌⊎◌, ℕ, zero, suc, ◌+◌, ◌*◌, ◌<◌, ◌≤◌, ℤ, pos, true, List, [], ◌∷◌, length, get_or, set, refl, sym}
-use Rattle.std.proofs.Common.{ap, ◌∙◌, arith, inl, inr, get_or-set_same, get_or-set_other}
+use Rattle.std.proofs.Common.{ap, ◌∙◌, arith, false, replicate, inl, inr, get_or-set_same, get_or-set_other}
 use Rattle.std.specs.Prelude.{nat_lt}
 use Rattle.std.proofs.lemmas.Bool.{and_from, cases_eq, cases_lt, lt-ltb}
-use Rattle.std.proofs.lemmas.List.{length-set}
+use Rattle.std.proofs.lemmas.List.{length-set, set-get_or}
 use Rattle.std.proofs.lemmas.Nat.{mul-le}
-use Rattle.nd_base.proofs.laws.Definitions.{is_index, farthest_offset, magnitude, size}
-use Rattle.nd_base.proofs.laws.IsIndex.{length_of_index, entry_of_index}
+use Rattle.nd_base.proofs.laws.Definitions.{is_index, is_empty, farthest_offset, magnitude, size}
+use Rattle.nd_base.proofs.laws.IsIndex.{length_of_index, entry_of_index, is_index-zeros, is_index_from_entries}
 
 -- ---- which lists are indices
--- a list with an entry for each axis, below its length, is an index
-pub is_index_from_entries : (shape index : List ℕ) → length index ≡ length shape
-    → ((axis : ℕ) → axis < length shape → get_or index axis 0 < get_or shape axis 0) → is_index shape index ≡ true
-is_index_from_entries [] [] e h = refl
-is_index_from_entries [] (i ∷ index) e h = absurd (omega arith)
-is_index_from_entries (len ∷ shape) [] e h = absurd (omega arith)
-is_index_from_entries (len ∷ shape) (i ∷ index) e h =
-    and_from (nat_lt i len) (is_index shape index) (lt-ltb i len (h 0 (omega arith)))
-    (is_index_from_entries shape index (omega arith) (λ axis l. h (suc axis) (omega arith)))
-
 -- of as many entries as axes, either all are below the lengths or one is not
 pub index_or_entry : (shape index : List ℕ) → length index ≡ length shape
     → (is_index shape index ≡ true) ⊎ ((axis : ℕ) × (axis < length shape) × (get_or shape axis 0 ≤ get_or index axis 0))
@@ -59,6 +49,17 @@ module _ (shape index : List ℕ) (h : is_index shape index ≡ true) where
         | inr other ↦ rw (get_or-set_other shape axis k len 0 other, get_or-set_other index axis k i 0 other)
             (entry_of_index shape index k h inside)
       ])
+
+-- one step along an axis from the first index
+abbrev pub step_along : List ℕ → ℕ → List ℕ
+step_along shape axis = set (replicate (length shape) 0) axis 1
+
+-- it is an index where the axis has more than one entry
+pub is_index-step_along : (shape : List ℕ) (axis : ℕ) → is_empty shape ≡ false → axis < length shape → 1 < get_or shape axis 0
+    → is_index shape (step_along shape axis) ≡ true
+is_index-step_along shape axis some h long =
+    ap (λ s. is_index s (step_along shape axis)) (sym (set-get_or shape axis 0))
+    ∙ is_index-set shape (replicate (length shape) 0) (is_index-zeros shape some) axis (get_or shape axis 0) 1 h long
 
 -- ---- sizes
 -- another length in place of 1 multiplies the size

@@ -1,10 +1,10 @@
 -- Laws of the test for an index of a shape.
-use Rattle.std.proofs.Common.{◌≡◌, ℕ, zero, suc, ◌<◌, true, false, eqb, List, [], ◌∷◌, ◌++◌, length, get_or, replicate, reverse}
+use Rattle.std.proofs.Common.{◌≡◌, ℕ, zero, suc, ◌-◌, ◌<◌, true, false, eqb, List, [], ◌∷◌, length, get_or, replicate, reverse}
 use Rattle.std.proofs.Common.{refl, sym, ap, ◌∙◌, arith, pos_of_ne-zero}
-use Rattle.std.specs.Prelude.{nat_lt, ◌&&◌}
-use Rattle.std.proofs.Math.Bool.{and-true, and_assoc, and_comm}
-use Rattle.std.proofs.lemmas.Bool.{and_from, and_parts, and_right, eqb-false, lt-ltb, ltb-true, ne_eqb, or_from, or_parts}
-use Rattle.std.proofs.lemmas.List.{reverse-append}
+use Rattle.std.specs.Prelude.{nat_lt}
+use Rattle.std.proofs.lemmas.Bool.{and_from, and_parts, eqb-false, lt-ltb, ltb-true, ne_eqb, or_from, or_parts}
+use Rattle.std.proofs.lemmas.Bool.Decides.{same_from_decides}
+use Rattle.std.proofs.lemmas.List.{get_or-reverse, length-reverse, reverse-reverse}
 use Rattle.nd_base.proofs.laws.Definitions.{is_index, is_empty}
 
 -- an index has one entry for each axis
@@ -42,31 +42,27 @@ is_index-zeros (len ∷ lens) h =
     and_from (nat_lt 0 len) (is_index lens (replicate (length lens) 0)) (lt-ltb 0 len (pos_of_ne-zero (eqb-false len 0 parts.0)))
     (is_index-zeros lens parts.1)
 
-no_index : (index : List ℕ) (i : ℕ) → is_index [] (index ++ i ∷ []) ≡ false
-no_index [] i = refl
-no_index (j ∷ index) i = refl
+-- a list with an entry for each axis, below its length, is an index
+pub is_index_from_entries : (shape index : List ℕ) → length index ≡ length shape
+    → ((axis : ℕ) → axis < length shape → get_or index axis 0 < get_or shape axis 0) → is_index shape index ≡ true
+is_index_from_entries [] [] e h = refl
+is_index_from_entries [] (i ∷ index) e h = absurd (omega arith)
+is_index_from_entries (len ∷ shape) [] e h = absurd (omega arith)
+is_index_from_entries (len ∷ shape) (i ∷ index) e h =
+    and_from (nat_lt i len) (is_index shape index) (lt-ltb i len (h 0 (omega arith)))
+    (is_index_from_entries shape index (omega arith) (λ axis l. h (suc axis) (omega arith)))
 
-no_entry : (shape : List ℕ) (len : ℕ) → is_index (shape ++ len ∷ []) [] ≡ false
-no_entry [] len = refl
-no_entry (n ∷ shape) len = refl
-
--- one axis more is one entry more
-pub is_index-push : (shape index : List ℕ) (len i : ℕ)
-    → is_index (shape ++ len ∷ []) (index ++ i ∷ []) ≡ (is_index shape index && nat_lt i len)
-is_index-push [] [] len i = and-true (nat_lt i len)
-is_index-push [] (j ∷ index) len i = and_right (nat_lt j len) (is_index [] (index ++ i ∷ [])) (no_index index i)
-is_index-push (n ∷ shape) [] len i = and_right (nat_lt i n) (is_index (shape ++ len ∷ []) []) (no_entry shape len)
-is_index-push (n ∷ shape) (j ∷ index) len i =
-    ap (λ b. nat_lt j n && b) (is_index-push shape index len i) ∙ sym (and_assoc (nat_lt j n) (is_index shape index) (nat_lt i len))
+from_back : (shape index : List ℕ) → is_index shape index ≡ true → is_index (reverse shape) (reverse index) ≡ true
+from_back shape index h =
+    let count : length index ≡ length shape = length_of_index shape index h in
+    is_index_from_entries (reverse shape) (reverse index) (length-reverse index ∙ count ∙ sym (length-reverse shape)) (λ axis l.
+    let within : axis < length shape = omega (arith, length-reverse shape) in
+    rw (get_or-reverse shape axis 0 within, get_or-reverse index axis 0 (omega arith), count)
+    (entry_of_index shape index (length shape - 1 - axis) h (omega arith)))
 
 -- an index read from the back is one of the shape read from the back
 pub is_index-reverse : (shape index : List ℕ) → is_index (reverse shape) (reverse index) ≡ is_index shape index
-is_index-reverse [] [] = refl
-is_index-reverse [] (i ∷ index) = ap (is_index []) (reverse-append (i ∷ []) index) ∙ no_index (reverse index) i
-is_index-reverse (len ∷ lens) [] = ap (λ s. is_index s []) (reverse-append (len ∷ []) lens) ∙ no_entry (reverse lens) len
-is_index-reverse (len ∷ lens) (i ∷ index) =
-    ap (λ s. is_index s (reverse (i ∷ index))) (reverse-append (len ∷ []) lens)
-    ∙ ap (is_index (reverse lens ++ len ∷ [])) (reverse-append (i ∷ []) index)
-    ∙ is_index-push (reverse lens) (reverse index) len i
-    ∙ ap (λ b. b && nat_lt i len) (is_index-reverse lens index)
-    ∙ and_comm (is_index lens index) (nat_lt i len)
+is_index-reverse shape index =
+    same_from_decides {P = is_index shape index ≡ true} (is_index (reverse shape) (reverse index)) (is_index shape index)
+    (λ h. rw (reverse-reverse shape, reverse-reverse index) at (from_back (reverse shape) (reverse index) h), from_back shape index)
+    (λ h. h, λ h. h)

@@ -33,6 +33,19 @@ map-reverse f (x ∷ xs) =
     ∙ ap (λ ys. ys ++ f x ∷ []) (map-reverse f xs)
     ∙ sym (reverse-append (f x ∷ []) (map f xs))
 
+-- what folds over the items, each of which may be taken before the other, is the same from the back
+module _ {A B : Type 0} (op : A → B → B) (of : List A → B) (step : (x : A) (xs : List A) → of (x ∷ xs) ≡ op x (of xs))
+    (turns : (x y : A) (b : B) → op x (op y b) ≡ op y (op x b)) where
+  pub fold-push : (xs : List A) (x : A) → of (xs ++ x ∷ []) ≡ op x (of xs)
+  fold-push [] x = step x []
+  fold-push (y ∷ xs) x =
+      step y (xs ++ x ∷ []) ∙ ap (op y) (fold-push xs x) ∙ turns y x (of xs) ∙ ap (op x) (sym (step y xs))
+
+  pub fold-reverse : (xs : List A) → of (reverse xs) ≡ of xs
+  fold-reverse [] = refl
+  fold-reverse (x ∷ xs) =
+      ap of (reverse-append (x ∷ []) xs) ∙ fold-push (reverse xs) x ∙ ap (op x) (fold-reverse xs) ∙ sym (step x xs)
+
 -- the item between a front and a back stays between them
 pub reverse_parts : {A : Type 0} (front : List A) (x : A) (back : List A)
     → reverse (front ++ x ∷ back) ≡ reverse back ++ x ∷ reverse front

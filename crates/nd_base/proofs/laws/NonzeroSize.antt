@@ -3,9 +3,10 @@ use Rattle.std.proofs.Common.{◌≡◌, ◌≢◌, ℕ, zero, suc, ◌+◌, ◌
 use Rattle.std.proofs.Common.{reverse, drop, get_or, inl, inr, refl, ap, ◌∙◌, arith, add-one, drop-cons, mul-pos, le-mul_of_pos_right}
 use Rattle.std.proofs.Common.{mul-le-mul_left, mul_comm, pos_of_ne-zero, zero-mul}
 use Rattle.std.proofs.lemmas.Bool.{cases_eq, cond-true, cond-false, eq-eqb, ne_eqb, or_parts, eqb-false}
-use Rattle.std.proofs.lemmas.List.{get_or_default, reverse-append}
+use Rattle.std.proofs.lemmas.List.{get_or_default}
 use Rattle.nd_base.proofs.laws.Definitions.{is_index, is_empty, nonzero_size, size}
 use Rattle.nd_base.proofs.laws.IsIndex.{length_of_index, entry_of_index}
+use Rattle.nd_base.proofs.laws.Lists.{fold-push, fold-reverse}
 
 -- a zero length is passed over
 pub nonzero_size_of_zero : (len : ℕ) (lens : List ℕ) → len ≡ 0 → nonzero_size (len ∷ lens) ≡ nonzero_size lens
@@ -81,12 +82,10 @@ factors_swap false false a b n = omega arith
 
 -- one axis more at the back is one at the front
 pub nonzero_size-push : (shape : List ℕ) (len : ℕ) → nonzero_size (shape ++ len ∷ []) ≡ nonzero_size (len ∷ shape)
-nonzero_size-push [] len = refl
-nonzero_size-push (n ∷ shape) len = ap (λ m. cond (eqb n 0) m (n * m)) (nonzero_size-push shape len)
-    ∙ factors_swap (eqb n 0) (eqb len 0) n len (nonzero_size shape)
+nonzero_size-push = fold-push (λ n m. cond (eqb n 0) m (n * m)) nonzero_size (λ n lens. refl)
+    (λ a b n. factors_swap (eqb a 0) (eqb b 0) a b n)
 
 -- the axes read from the back have the same product
 pub nonzero_size-reverse : (shape : List ℕ) → nonzero_size (reverse shape) ≡ nonzero_size shape
-nonzero_size-reverse [] = refl
-nonzero_size-reverse (n ∷ shape) = ap nonzero_size (reverse-append (n ∷ []) shape) ∙ nonzero_size-push (reverse shape) n
-    ∙ ap (λ m. cond (eqb n 0) m (n * m)) (nonzero_size-reverse shape)
+nonzero_size-reverse = fold-reverse (λ n m. cond (eqb n 0) m (n * m)) nonzero_size (λ n lens. refl)
+    (λ a b n. factors_swap (eqb a 0) (eqb b 0) a b n)

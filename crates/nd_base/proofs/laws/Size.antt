@@ -1,12 +1,14 @@
 -- Laws of sizes, the products of lengths.
-use Rattle.std.proofs.Common.{◌≡◌, ℕ, zero, suc, ◌+◌, ◌-◌, ◌*◌, ◌<◌, ◌≤◌, true, false, ◌||◌, eqb, List, [], ◌∷◌, ◌++◌, length}
+use Rattle.std.proofs.Common.{◌≡◌, ℕ, zero, suc, ◌+◌, ◌-◌, ◌*◌, ◌<◌, ◌≤◌, Bool, true, false, ◌||◌, eqb, List, [], ◌∷◌, ◌++◌, length}
 use Rattle.std.proofs.Common.{get_or, take, drop, reverse, refl, sym, ap, ◌∙◌, inl, inr, arith, add-one, drop-cons, eqb-true}
 use Rattle.std.proofs.Common.{mul-le-mul_left, mul-one, mul-pos, mul-zero, mul_assoc, mul_comm, one-mul, pos_of_ne-zero, zero-mul}
 use Rattle.std.proofs.Math.Bool.{or_assoc, or_comm}
+use Rattle.std.proofs.Math.Nat.{mul_left_comm}
 use Rattle.std.proofs.lemmas.Bool.{or_cases, or_parts, eqb-false}
-use Rattle.std.proofs.lemmas.List.{reverse-append, take_more}
+use Rattle.std.proofs.lemmas.List.{take_more}
 use Rattle.std.proofs.lemmas.Nat.{mul-le}
 use Rattle.nd_base.specs.Size.{size, is_empty}
+use Rattle.nd_base.proofs.laws.Lists.{fold-push, fold-reverse}
 
 -- ---- shapes with a zero length, and without
 -- a zero length makes the size 0
@@ -37,19 +39,16 @@ drop_nonempty shape zero h = h
 drop_nonempty [] (suc k) h = h
 drop_nonempty (n ∷ lens) (suc k) h = drop_nonempty lens k (or_parts (eqb n 0) (is_empty lens) h).1
 
+or_turned : (a b c : Bool) → (a || (b || c)) ≡ (b || (a || c))
+or_turned a b c = sym (or_assoc a b c) ∙ ap (λ t. t || c) (or_comm a b) ∙ or_assoc b a c
+
 -- one axis more at the back is one at the front
 pub is_empty-push : (shape : List ℕ) (len : ℕ) → is_empty (shape ++ len ∷ []) ≡ is_empty (len ∷ shape)
-is_empty-push [] len = refl
-is_empty-push (n ∷ shape) len = ap (λ b. eqb n 0 || b) (is_empty-push shape len)
-    ∙ sym (or_assoc (eqb n 0) (eqb len 0) (is_empty shape))
-    ∙ ap (λ b. b || is_empty shape) (or_comm (eqb n 0) (eqb len 0))
-    ∙ or_assoc (eqb len 0) (eqb n 0) (is_empty shape)
+is_empty-push shape len = fold-push (λ n b. eqb n 0 || b) is_empty (λ n lens. refl) (λ m n b. or_turned (eqb m 0) (eqb n 0) b) shape len
 
 -- the axes read from the back have a zero length where the shape has one
 pub is_empty-reverse : (shape : List ℕ) → is_empty (reverse shape) ≡ is_empty shape
-is_empty-reverse [] = refl
-is_empty-reverse (n ∷ shape) =
-    ap is_empty (reverse-append (n ∷ []) shape) ∙ is_empty-push (reverse shape) n ∙ ap (λ b. eqb n 0 || b) (is_empty-reverse shape)
+is_empty-reverse = fold-reverse (λ n b. eqb n 0 || b) is_empty (λ n lens. refl) (λ m n b. or_turned (eqb m 0) (eqb n 0) b)
 
 -- ---- shapes one after the other
 -- the axes of two shapes have both sizes as factors
@@ -59,14 +58,11 @@ size-append (x ∷ xs) ys = ap (λ s. x * s) (size-append xs ys) ∙ sym (mul_as
 
 -- one axis more is one factor more
 pub size-push : (shape : List ℕ) (len : ℕ) → size (shape ++ len ∷ []) ≡ len * size shape
-size-push shape len =
-    size-append shape (len ∷ []) ∙ mul_comm (size shape) (size (len ∷ [])) ∙ ap (λ m. m * size shape) (mul-one len)
+size-push = fold-push (λ n s. n * s) size (λ n lens. refl) mul_left_comm
 
 -- the axes read from the back have the same size
 pub size-reverse : (shape : List ℕ) → size (reverse shape) ≡ size shape
-size-reverse [] = refl
-size-reverse (n ∷ shape) =
-    ap size (reverse-append (n ∷ []) shape) ∙ size-push (reverse shape) n ∙ ap (λ m. n * m) (size-reverse shape)
+size-reverse = fold-reverse (λ n s. n * s) size (λ n lens. refl) mul_left_comm
 
 -- ---- parts of a shape
 -- the size from an axis on is its length times the size after it

@@ -73,12 +73,12 @@ found axis (other ∷ axes) some = found_first axis other axes (axis == other) r
 module _ (n : ℕ) (axes : List ℕ) (order : is_axis_order n axes ≡ true) where
   -- it has as many entries as there are axes
   pub length_of_order : length axes ≡ n
-  length_of_order = eqb-true (length axes) n (and_parts (length axes == n) _ order).0
+  length_of_order = eqb-true (length axes) n (and_parts _ _ order).0
 
   -- each axis has its place
   pub axis_found : (axis : ℕ) → axis < n → StandsAtItsPlace axis axes
   axis_found axis inside =
-      found axis axes (passes_below (λ a. list_any (λ other. a == other) axes) n (and_parts (length axes == n) _ order).1 axis inside)
+      found axis axes (passes_below (λ a. list_any (λ other. a == other) axes) n (and_parts _ _ order).1 axis inside)
 
   -- the axes from 0 on, in another order
   pub members_of_order : (axis : ℕ) → Contains (below n) axis → Contains axes axis
@@ -159,7 +159,7 @@ in_own_order otherwise entries =
 pub order_of_permutation : (n : ℕ) (axes : List ℕ) → IsPermutation (below n) axes → is_axis_order n axes ≡ true
 order_of_permutation n axes shuffled =
     let count : length axes ≡ n = length_permutation (below n) axes shuffled ∙ length-below n in
-    and_from (length axes == n) _ (eq-eqb (length axes) n count) (all_below _ n (λ axis inside.
+    and_from _ _ (eq-eqb (length axes) n count) (all_below _ n (λ axis inside.
     let here : Contains (below n) axis = (axis, omega (arith, length-below n), get_or-below n axis axis inside) in
     list_any-from_Contains nat_eq_equiv axis axes (Contains-permutation (below n) axes axis shuffled here)))
 
@@ -169,6 +169,6 @@ pub order_by_axes : (n : ℕ) (axes : List ℕ) (test : Bool) → length axes �
 order_by_axes n axes test count h =
     let p = λ (axis : ℕ). list_any (λ other. axis == other) axes in
     same_from_decides {P = (axis : ℕ) → axis < n → p axis ≡ true} test (is_axis_order n axes) h (
-      λ order. passes_below p n (and_parts (length axes == n) _ order).1,
-      λ each. and_from (length axes == n) _ (eq-eqb (length axes) n count) (all_below p n each),
+      λ order. passes_below p n (and_parts _ _ order).1,
+      λ each. and_from _ _ (eq-eqb (length axes) n count) (all_below p n each),
     )

@@ -1,6 +1,6 @@
 -- Laws of contiguous layouts: the written rule says exactly that the indices fill one stretch of memory.
 use Rattle.std.proofs.Common.{◌≡◌, ◌⊎◌, ◌↔◌, ℕ, zero, suc, ◌+◌, ◌-◌, ◌<◌, ◌≤◌, ℤ, pos, negsuc, ◌+ℤ◌, ◌≤ℤ◌, Bool, true, false, eqb, List}
-use Rattle.std.proofs.Common.{[], ◌∷◌, length, get_or, map, cond, refl, sym, ap, ◌∙◌, arith, inl, inr, subst}
+use Rattle.std.proofs.Common.{[], ◌∷◌, length, map, cond, refl, sym, ap, ◌∙◌, arith, inl, inr, subst}
 use Rattle.std.specs.Bool.{IsTrue}
 use Rattle.std.specs.List.Sorted.{IsPermutation}
 use Rattle.std.specs.Ordering.{int_eq}
@@ -15,7 +15,6 @@ use Rattle.nd_base.specs.declared.order.Order.TheVariants.{RowMajor}
 use Rattle.nd_base.proofs.laws.Below.{all_below, passes_below}
 use Rattle.nd_base.proofs.laws.Definitions.{below, offset_of, places, index_of_flat, flat_index, magnitude, is_empty, size, low_span}
 use Rattle.nd_base.proofs.laws.FlatIndex.{is_index-index_of_flat, flat_index-index_of_flat, same_from_flat_index_in}
-use Rattle.nd_dim.specs.AxisOrder.{magnitude_at}
 use Rattle.nd_dim.specs.Contiguous.{has_default_strides, is_contiguous, is_lone_step_back, is_packed, is_packed_at, lens_before}
 use Rattle.nd_dim.specs.OneStretch.{FillsStretch}
 use Rattle.nd_dim.specs.Strides.{default_strides}
@@ -52,19 +51,14 @@ stretch_of_default lens = record {
 -- ---- packed axes
 module _ (lens : List ℕ) (strides : List ℤ) where
   packed_fact : (axis : ℕ) → is_packed_at lens strides axis ≡ true → IsPackedAt lens strides axis
-  packed_fact axis h = elim (or_cases (eqb (get_or lens axis 0) 1)
-      (eqb (magnitude_at strides axis) (size (lens_before lens strides axis))) h) [
-        | inl one ↦ inl (eqb-true (get_or lens axis 0) 1 one)
-        | inr fits ↦ inr (eqb-true (magnitude_at strides axis) (size (lens_before lens strides axis)) fits)
-      ]
+  packed_fact axis h = elim (or_cases _ _ h) [
+    | inl one ↦ inl (eqb-true _ _ one)
+    | inr fits ↦ inr (eqb-true _ _ fits)
+  ]
 
   packed_test : (axis : ℕ) → IsPackedAt lens strides axis → is_packed_at lens strides axis ≡ true
-  packed_test axis (inl one) =
-      or_left (eqb (get_or lens axis 0) 1) (eqb (magnitude_at strides axis) (size (lens_before lens strides axis)))
-      (eq-eqb (get_or lens axis 0) 1 one)
-  packed_test axis (inr fits) =
-      or_right (eqb (get_or lens axis 0) 1) (eqb (magnitude_at strides axis) (size (lens_before lens strides axis)))
-      (eq-eqb (magnitude_at strides axis) (size (lens_before lens strides axis)) fits)
+  packed_test axis (inl one) = or_left _ _ (eq-eqb _ _ one)
+  packed_test axis (inr fits) = or_right _ _ (eq-eqb _ _ fits)
 
   -- where every axis is packed, the indices fill a stretch
   stretch_from_packed : length lens ≡ length strides → is_empty lens ≡ false
@@ -91,14 +85,12 @@ none_before len stride =
 lone_packed : (len : ℕ) (stride : ℤ) → is_empty (len ∷ []) ≡ false → is_lone_step_back (len ∷ []) (stride ∷ []) ≡ true → (axis : ℕ)
     → axis < length (len ∷ []) → IsPackedAt (len ∷ []) (stride ∷ []) axis
 lone_packed len stride some h (suc axis) l = absurd (omega arith)
-lone_packed len stride some h zero l = elim (or_cases (nat_le len 1) (int_eq stride (negsuc 0)) h) [
+lone_packed len stride some h zero l = elim (or_cases _ _ h) [
   | inl short ↦
       let few : len ≤ 1 = leb-true len 1 short in
-      let none : len ≡ 0 → ⊥ = eqb-false len 0 (or_parts (eqb len 0) false some).0 in
+      let none : len ≡ 0 → ⊥ = eqb-false len 0 (or_parts _ _ some).0 in
       inl (omega arith)
-  | inr back ↦
-      let is : stride ≡ negsuc 0 = (Decides-int_eq stride (negsuc 0)).0 back in
-      inr (ap magnitude is ∙ sym (none_before len stride))
+  | inr back ↦ inr (ap magnitude ((Decides-int_eq stride (negsuc 0)).0 back) ∙ sym (none_before len stride))
 ]
 
 one_step : (stride : ℤ) → magnitude stride ≡ 1 → (stride ≡ pos 1) ⊎ (stride ≡ negsuc 0)
@@ -106,27 +98,29 @@ one_step (pos s) e = inl (ap pos e)
 one_step (negsuc s) e = let none : s ≡ 0 = omega arith in inr (ap negsuc none)
 
 lone_default : (len : ℕ) → is_empty (len ∷ []) ≡ false → map pos (default_strides (len ∷ [])) ≡ pos 1 ∷ []
-lone_default len some = ap (map pos) (cond-false (is_empty (len ∷ [])) (0 ∷ []) (1 ∷ []) some)
+lone_default len some = ap (map pos) (cond-false _ _ _ some)
 
 lone_rule : (len : ℕ) (stride : ℤ) → is_lone_step_back (len ∷ []) (stride ∷ []) ≡ true → is_contiguous (len ∷ []) (stride ∷ []) ≡ true
-lone_rule len stride h = or_right (has_default_strides (len ∷ []) (stride ∷ [])) (is_lone_step_back (len ∷ []) (stride ∷ [])) h
+lone_rule len stride h = or_right _ _ h
 
 lone_contiguous : (len : ℕ) (stride : ℤ) → is_empty (len ∷ []) ≡ false → IsPackedAt (len ∷ []) (stride ∷ []) 0
     → is_contiguous (len ∷ []) (stride ∷ []) ≡ true
-lone_contiguous len stride some (inl one) =
-    lone_rule len stride (or_left (nat_le len 1) (int_eq stride (negsuc 0)) (le-leb len 1 (omega arith)))
+lone_contiguous len stride some (inl one) = lone_rule len stride (or_left _ _ (le-leb len 1 (omega arith)))
 lone_contiguous len stride some (inr fits) = elim (one_step stride (fits ∙ none_before len stride)) [
   | inl up ↦
       let default = ap (λ s. s ∷ []) up ∙ sym (lone_default len some) in
-      or_left (has_default_strides (len ∷ []) (stride ∷ [])) (is_lone_step_back (len ∷ []) (stride ∷ []))
-      ((signed_items (stride ∷ []) (map pos (default_strides (len ∷ [])))).1 default)
-  | inr back ↦ lone_rule len stride (or_right (nat_le len 1) (int_eq stride (negsuc 0)) ((Decides-int_eq stride (negsuc 0)).1 back))
+      or_left _ _ ((signed_items (stride ∷ []) (map pos (default_strides (len ∷ [])))).1 default)
+  | inr back ↦ lone_rule len stride (or_right _ _ ((Decides-int_eq stride (negsuc 0)).1 back))
 ]
 
 -- ---- the rule
 -- what the rule asks where the strides are not the default ones
 abbrev asked : List ℕ → List ℤ → Bool
 asked lens strides = (if length lens == 1 then is_lone_step_back lens strides else is_packed lens strides)
+
+asked_of_several : (len more : ℕ) (lens : List ℕ) (strides : List ℤ)
+    → asked (len ∷ more ∷ lens) strides ≡ is_packed (len ∷ more ∷ lens) strides
+asked_of_several len more lens strides = cond-false _ _ _ (ne_eqb (length (len ∷ more ∷ lens)) 1 (λ e. omega arith))
 
 packed_from_asked : (lens : List ℕ) (strides : List ℤ) → length lens ≡ length strides → is_empty lens ≡ false → asked lens strides ≡ true
     → (axis : ℕ) → axis < length lens → IsPackedAt lens strides axis
@@ -136,10 +130,8 @@ packed_from_asked (len ∷ []) (stride ∷ []) count some h axis l = lone_packed
 packed_from_asked (len ∷ []) (stride ∷ next ∷ strides) count some h axis l = absurd (omega arith)
 packed_from_asked (len ∷ more ∷ lens) strides count some h axis l =
     let all = len ∷ more ∷ lens in
-    let several : asked all strides ≡ is_packed all strides =
-    cond-false (eqb (length all) 1) (is_lone_step_back all strides) (is_packed all strides)
-    (ne_eqb (length all) 1 (λ e. omega arith)) in
-    packed_fact all strides axis (passes_below (is_packed_at all strides) (length all) (sym several ∙ h) axis l)
+    packed_fact all strides axis
+    (passes_below (is_packed_at all strides) (length all) (sym (asked_of_several len more lens strides) ∙ h) axis l)
 
 rule_from_packed : (lens : List ℕ) (strides : List ℤ) → length lens ≡ length strides → is_empty lens ≡ false
     → ((axis : ℕ) → axis < length lens → IsPackedAt lens strides axis) → is_contiguous lens strides ≡ true
@@ -150,16 +142,13 @@ rule_from_packed (len ∷ []) (stride ∷ []) count some packed = lone_contiguou
 rule_from_packed (len ∷ []) (stride ∷ next ∷ strides) count some packed = absurd (omega arith)
 rule_from_packed (len ∷ more ∷ lens) strides count some packed =
     let all = len ∷ more ∷ lens in
-    let several : asked all strides ≡ is_packed all strides =
-    cond-false (eqb (length all) 1) (is_lone_step_back all strides) (is_packed all strides)
-    (ne_eqb (length all) 1 (λ e. omega arith)) in
-    or_right (has_default_strides all strides) (asked all strides)
-    (several ∙ all_below (is_packed_at all strides) (length all) (λ axis l. packed_test all strides axis (packed axis l)))
+    or_right _ _ (asked_of_several len more lens strides
+    ∙ all_below (is_packed_at all strides) (length all) (λ axis l. packed_test all strides axis (packed axis l)))
 
 module _ (lens : List ℕ) (strides : List ℤ) (count : length lens ≡ length strides) (some : is_empty lens ≡ false) where
   -- a layout that the rule takes fills one stretch
   pub stretch_from_rule : is_contiguous lens strides ≡ true → FillsStretch lens strides
-  stretch_from_rule h = elim (or_cases (has_default_strides lens strides) (asked lens strides) h) [
+  stretch_from_rule h = elim (or_cases _ _ h) [
     | inl default ↦
         let P : List ℤ → Type 0 = λ s. FillsStretch lens s in
         subst P (sym ((signed_items strides (map pos (default_strides lens))).0 default)) (stretch_of_default lens)

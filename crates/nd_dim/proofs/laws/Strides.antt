@@ -1,6 +1,6 @@
 -- Laws of the strides that a shape has by itself: each index lies at its flat index.
 use Rattle.std.proofs.Common.{◌≡◌, ℕ, zero, suc, ◌+◌, ◌-◌, ◌<◌, ◌≤◌, pos, ◌+ℤ◌, ◌*ℤ◌, true, false, eqb, List, [], ◌∷◌, length}
-use Rattle.std.proofs.Common.{get_or, map, take, drop, replicate, reverse, inl, inr, refl, sym, ap, ◌∙◌, arith}
+use Rattle.std.proofs.Common.{cond, get_or, map, take, drop, replicate, reverse, inl, inr, refl, sym, ap, ◌∙◌, arith}
 use Rattle.std.specs.Prelude.{nat_lt}
 use Rattle.std.proofs.lemmas.Bool.{and_parts, cases_Bool, cond-true, cond-false, cond_both, or_parts}
 use Rattle.std.proofs.lemmas.Int.{ints}
@@ -17,34 +17,41 @@ use Rattle.nd_base.proofs.laws.Offset.{offset_of-reverse}
 use Rattle.nd_base.proofs.laws.Size.{is_empty-reverse, size-reverse, size_drop_le}
 use Rattle.nd_dim.specs.Strides.{size_after, size_until, default_strides, fortran_strides}
 
+-- ---- a number for each axis, and 0 for each where there is no index
+module _ (lens : List ℕ) (of : ℕ → ℕ) where
+  abbrev own : List ℕ
+  own = cond (is_empty lens) (replicate (length lens) 0) (map of (below (length lens)))
+
+  own_count : length own ≡ length lens
+  own_count = cond_both (is_empty lens) _ _ (λ xs. length xs ≡ length lens) (λ e. length-replicate (length lens) 0)
+      (λ e. length-map-range_with_len of 0 (length lens))
+
+  own_at : (axis : ℕ) → is_empty lens ≡ false → axis < length lens → get_or own axis 0 ≡ of axis
+  own_at axis some h = ap (λ xs. get_or xs axis 0) (cond-false _ _ _ some)
+      ∙ get_or-map-range_with_len of 0 (length lens) axis axis 0 h (omega arith)
+
+  own_zero : (axis : ℕ) → is_empty lens ≡ true → axis < length lens → get_or own axis 0 ≡ 0
+  own_zero axis none h = ap (λ xs. get_or xs axis 0) (cond-true _ _ _ none) ∙ get_or-replicate (length lens) axis 0 0 h
+
 -- ---- in row-major order
 -- the default stride of an axis of a shape with an index
 pub default_at : (lens : List ℕ) (axis : ℕ) → is_empty lens ≡ false → axis < length lens
     → get_or (default_strides lens) axis 0 ≡ size_after lens axis
-default_at lens axis some h =
-    ap (λ xs. get_or xs axis 0) (cond-false (is_empty lens) _ (map (size_after lens) (below (length lens))) some)
-    ∙ get_or-map-range_with_len (size_after lens) 0 (length lens) axis axis 0 h (omega arith)
+default_at lens axis some h = own_at lens (size_after lens) axis some h
 
 -- one default stride for each axis
 pub default_count : (lens : List ℕ) → length (default_strides lens) ≡ length lens
-default_count lens = cond_both (is_empty lens) (replicate (length lens) 0) (map (size_after lens) (below (length lens)))
-    (λ xs. length xs ≡ length lens) (λ e. length-replicate (length lens) 0)
-    (λ e. length-map-range_with_len (size_after lens) 0 (length lens))
+default_count lens = own_count lens (size_after lens)
 
 -- a default stride is no greater than the limit that the size is held to
 pub default_small : (lens : List ℕ) (k : ℕ) → nonzero_size lens ≤ limit → k < length lens → get_or (default_strides lens) k 0 ≤ limit
-default_small lens k top h =
-    elim (cases_Bool (is_empty lens)) [
-      | inl none ↦
-          let zero' : get_or (default_strides lens) k 0 ≡ 0 =
-          ap (λ xs. get_or xs k 0) (cond-true (is_empty lens) (replicate (length lens) 0)
-          (map (size_after lens) (below (length lens))) none) ∙ get_or-replicate (length lens) k 0 0 h in
-          omega arith
-      | inr some ↦
-          let is = default_at lens k some h in
-          let less = size_drop_le lens (k + 1) some in
-          omega (arith, size_le_nonzero_size lens)
-    ]
+default_small lens k top h = elim (cases_Bool (is_empty lens)) [
+  | inl none ↦ omega (arith, own_zero lens (size_after lens) k none h)
+  | inr some ↦
+      let is = default_at lens k some h in
+      let less = size_drop_le lens (k + 1) some in
+      omega (arith, size_le_nonzero_size lens)
+]
 
 -- the first axis moves by the size of the others, which have the default strides of their own
 pub default_cons : (len : ℕ) (lens : List ℕ) → is_empty (len ∷ lens) ≡ false → default_strides (len ∷ lens) ≡ size lens ∷ default_strides lens
@@ -58,7 +65,7 @@ default_cons len lens some =
         let next : suc k + 1 ≡ suc (k + 1) = omega arith in
         default_at (len ∷ lens) (suc k) some h
         ∙ ap (λ a. size (drop a (len ∷ lens))) next
-        ∙ sym (default_at lens k (or_parts (eqb len 0) (is_empty lens) some).1 (omega arith))
+        ∙ sym (default_at lens k (or_parts _ _ some).1 (omega arith))
 
 -- the default strides place each index at its flat index
 pub offset_of-default_strides : (shape index : List ℕ) → is_index shape index ≡ true
@@ -67,7 +74,7 @@ offset_of-default_strides [] [] h = refl
 offset_of-default_strides [] (i ∷ index) h = absurd (cc)
 offset_of-default_strides (len ∷ lens) [] h = absurd (cc)
 offset_of-default_strides (len ∷ lens) (i ∷ index) h =
-    let rest = offset_of-default_strides lens index (and_parts (nat_lt i len) (is_index lens index) h).1 in
+    let rest = offset_of-default_strides lens index (and_parts _ _ h).1 in
     ap (λ strides. offset_of (map pos strides) (i ∷ index)) (default_cons len lens (nonempty_from_index (len ∷ lens) (i ∷ index) h))
     ∙ ap (λ z. (pos i *ℤ pos (size lens)) +ℤ z) rest
     ∙ omega (arith, ints)
@@ -76,15 +83,11 @@ offset_of-default_strides (len ∷ lens) (i ∷ index) h =
 -- the stride by columns of an axis of a shape with an index
 pub fortran_at : (lens : List ℕ) (axis : ℕ) → is_empty lens ≡ false → axis < length lens
     → get_or (fortran_strides lens) axis 0 ≡ size_until lens axis
-fortran_at lens axis some h =
-    ap (λ xs. get_or xs axis 0) (cond-false (is_empty lens) _ (map (size_until lens) (below (length lens))) some)
-    ∙ get_or-map-range_with_len (size_until lens) 0 (length lens) axis axis 0 h (omega arith)
+fortran_at lens axis some h = own_at lens (size_until lens) axis some h
 
 -- one stride by columns for each axis
 pub fortran_count : (lens : List ℕ) → length (fortran_strides lens) ≡ length lens
-fortran_count lens = cond_both (is_empty lens) (replicate (length lens) 0) (map (size_until lens) (below (length lens)))
-    (λ xs. length xs ≡ length lens) (λ e. length-replicate (length lens) 0)
-    (λ e. length-map-range_with_len (size_until lens) 0 (length lens))
+fortran_count lens = own_count lens (size_until lens)
 
 drop-reverse : (k : ℕ) (xs : List ℕ) → drop (length xs - k) (reverse xs) ≡ reverse (take k xs)
 drop-reverse k xs =
@@ -95,13 +98,7 @@ drop-reverse k xs =
 -- where there is no index all strides are 0
 pub zero_at : (lens : List ℕ) (k : ℕ) → is_empty lens ≡ true → k < length lens
     → (get_or (default_strides lens) k 0 ≡ 0) × (get_or (fortran_strides lens) k 0 ≡ 0)
-zero_at lens k none h =
-    let zeros = get_or-replicate (length lens) k 0 0 h in (
-      ap (λ xs. get_or xs k 0) (cond-true (is_empty lens) (replicate (length lens) 0) (map (size_after lens) (below (length lens))) none)
-          ∙ zeros,
-      ap (λ xs. get_or xs k 0) (cond-true (is_empty lens) (replicate (length lens) 0) (map (size_until lens) (below (length lens))) none)
-          ∙ zeros,
-    )
+zero_at lens k none h = (own_zero lens (size_after lens) k none h, own_zero lens (size_until lens) k none h)
 
 -- they are the default ones of the axes read from the back
 pub fortran_by_default : (shape : List ℕ) → fortran_strides shape ≡ reverse (default_strides (reverse shape))

@@ -45,7 +45,7 @@ module _ (elem_size len : ℕ) (mode : CanIndexCheckMode) (shape : List ℕ) (st
       let stays = accepted_stays in
       let some = nonempty_from_index shape index here in
       let test : leaves_data len shape strides ≡ nat_le len (span shape strides) =
-      cond-false (is_empty shape) (nat_lt len (span shape strides)) (nat_le len (span shape strides)) some in
+      cond-false _ _ _ some in
       lies_inside_from_span len shape strides (leb-false len (span shape strides) (sym test ∙ stays)) accepted_count index here
 
 module _ (elem_size len : ℕ) (shape : List ℕ) (strides : List ℤ) (h : acceptance elem_size len OwnedMutable shape strides ≡ None) where

@@ -1,5 +1,5 @@
 -- Laws of the shape that two shapes have in common: the order and the grouping of shapes don't matter, success included.
-use Rattle.std.proofs.Common.{◌≡◌, ◌≢◌, ℕ, zero, suc, ◌+◌, ◌-◌, ◌≤◌, max, cond, Option, Some, None, is_some, List, [], ◌∷◌, ◌++◌}
+use Rattle.std.proofs.Common.{◌≡◌, ℕ, zero, suc, ◌+◌, ◌-◌, ◌≤◌, max, cond, Option, Some, None, is_some, List, [], ◌∷◌, ◌++◌}
 use Rattle.std.proofs.Common.{length, replicate, refl, sym, ap, ◌∙◌, arith, append_assoc, length-append}
 use Rattle.std.specs.Option.{option_map, option_and_then}
 use Rattle.std.proofs.lemmas.Bool.Decides.{nat_tests}
@@ -13,16 +13,9 @@ use Rattle.nd_shape.specs.CommonShape.{common_length, common_lengths, padded, co
 pub common_with_same : (len other : ℕ) → len ≡ other → common_length len other ≡ Some len
 common_with_same len other e = grind (arith, nat_tests)
 
--- and any length with 1, on either side
-pub common_from_one : (other : ℕ) → common_length 1 other ≡ Some other
-common_from_one other = grind (arith, nat_tests)
-
+-- and any length with 1
 pub common_with_one : (len : ℕ) → common_length len 1 ≡ Some len
 common_with_one len = grind (arith, nat_tests)
-
--- two others have none
-pub common_of_others : (len other : ℕ) → len ≢ other → len ≢ 1 → other ≢ 1 → common_length len other ≡ None
-common_of_others len other e f g = grind (arith, nat_tests)
 
 common_length-commutes : (len other : ℕ) → common_length len other ≡ common_length other len
 common_length-commutes len other = grind (arith, nat_tests)

@@ -18,7 +18,7 @@ use Rattle.nd_shape.proofs.laws.OwnedRule.{reach_up_to, reach_up_to_le}
 -- a shape without a zero length begins with a length that is not 0, and goes on without a zero length
 lengths : (len : ℕ) (lens : List ℕ) → is_empty (len ∷ lens) ≡ false → (0 < len) × (is_empty lens ≡ false)
 lengths len lens some =
-    let parts = or_parts (eqb len 0) (is_empty lens) some in
+    let parts = or_parts _ _ some in
     (pos_of_ne-zero (eqb-false len 0 parts.0), parts.1)
 
 -- the reach of an axis and one step more are its length times its step
@@ -28,7 +28,7 @@ whole_axis (suc n) step h = let less : suc n - 1 ≡ n = omega arith in rw less 
 
 -- an axis with a stride past m does not count up to m
 past : (m len step : ℕ) → m < step → reach_up_to m len (pos step) ≡ 0
-past m len step h = cond-false (nat_le step m) (reach len (pos step)) 0 (lt-leb step m h)
+past m len step h = cond-false _ _ _ (lt-leb step m h)
 
 -- the axes of a shape without a zero length reach all places but the first together
 pub default_strides_span : (lens : List ℕ) → is_empty lens ≡ false → span lens (map pos (default_strides lens)) + 1 ≡ size lens

@@ -98,7 +98,7 @@ module _ (m : ℕ) where
     | inl same ↦ rw same (omega (arith, ints))
     | inr ne ↦
         let own : reach_up_to m len stride ≡ reach len stride =
-        cond-true (nat_le (magnitude stride) m) (reach len stride) 0 (le-leb (magnitude stride) m (d ne)) in
+        cond-true _ _ _ (le-leb (magnitude stride) m (d ne)) in
         rw own (entry_apart len stride i j h g)
   ]
 
@@ -113,8 +113,8 @@ module _ (m : ℕ) where
   offsets_apart (len ∷ shape) strides (i ∷ index) [] h g d = absurd (cc)
   offsets_apart (len ∷ shape) [] (i ∷ index) (j ∷ other) h g d = omega (arith, ints)
   offsets_apart (len ∷ shape) (stride ∷ strides) (i ∷ index) (j ∷ other) h g d =
-      let first = and_parts (nat_lt i len) (is_index shape index) h in
-      let second = and_parts (nat_lt j len) (is_index shape other) g in
+      let first = and_parts _ _ h in
+      let second = and_parts _ _ g in
       let here = entry_within len stride i j (ltb-true i len first.0) (ltb-true j len second.0) (d 0 (omega arith)) in
       omega (arith, ints, here, offsets_apart shape strides index other first.1 second.1 (λ k l. d (suc k) (omega arith)))
 
@@ -133,11 +133,10 @@ is_index-remove : (shape index : List ℕ) (axis : ℕ) → axis < length shape 
     → is_index (remove shape axis) (remove index axis) ≡ true
 is_index-remove [] index axis h g = absurd (omega arith)
 is_index-remove (len ∷ shape) [] axis h g = absurd (cc)
-is_index-remove (len ∷ shape) (i ∷ index) zero h g = (and_parts (nat_lt i len) (is_index shape index) g).1
+is_index-remove (len ∷ shape) (i ∷ index) zero h g = (and_parts _ _ g).1
 is_index-remove (len ∷ shape) (i ∷ index) (suc axis) h g =
-    let parts = and_parts (nat_lt i len) (is_index shape index) g in
-    and_from (nat_lt i len) (is_index (remove shape axis) (remove index axis)) parts.0
-    (is_index-remove shape index axis (omega arith) parts.1)
+    let parts = and_parts _ _ g in
+    and_from _ _ parts.0 (is_index-remove shape index axis (omega arith) parts.1)
 
 -- a step along an axis whose stride is longer than what the others make up
 steps_past : (stride : ℤ) {here there : ℤ} {i j n : ℕ} → i < j → n < magnitude stride → here ≤ℤ (there +ℤ pos n)

@@ -1,18 +1,18 @@
 -- Laws of layouts whose indices lie one after another: they are those of the rule on strides.
-use Rattle.std.proofs.Common.{◌≡◌, ◌≢◌, ℕ, zero, suc, ◌+◌, ◌<◌, ℤ, pos, ◌+ℤ◌, ◌*ℤ◌, true, false, eqb, List, [], ◌∷◌, length, get_or}
-use Rattle.std.proofs.Common.{map, replicate, inl, inr, refl, sym, ap, ◌∙◌, ◌↔◌, arith}
+use Rattle.std.proofs.Common.{◌≡◌, ◌≢◌, ℕ, zero, suc, ◌+◌, ◌<◌, ℤ, pos, ◌+ℤ◌, ◌*ℤ◌, true, List, [], ◌∷◌, length, get_or}
+use Rattle.std.proofs.Common.{map, replicate, set, inl, inr, refl, sym, ap, ◌∙◌, ◌↔◌, arith}
 use Rattle.std.specs.Prelude.{nat_lt}
-use Rattle.std.proofs.lemmas.Bool.{and_from, and_parts, cases_Bool, cases_eq, lt-ltb, ltb-true, or_parts, eqb-false}
+use Rattle.std.proofs.lemmas.Bool.{and_parts, cases_Bool, cases_eq, ltb-true}
 use Rattle.std.proofs.lemmas.Int.{ints}
 use Rattle.std.proofs.lemmas.List.{get_or-map, length-map}
 use Rattle.std.proofs.lemmas.List.FromFn.{get_or-map-range_with_len}
 use Rattle.nd_base.specs.declared.order.Order.{Order}
 use Rattle.nd_base.proofs.laws.Definitions.{below, indices_in, is_index, offset_of, place, flat_index_in, is_empty, size}
+use Rattle.nd_base.proofs.laws.Entries.{is_index-step_along, step_along}
 use Rattle.nd_base.proofs.laws.Indices.{get_or-indices_in, indices_in_of_empty, length-indices_in}
-use Rattle.nd_base.proofs.laws.IsIndex.{is_index-zeros}
 use Rattle.nd_base.proofs.laws.Offset.{offset_of-zeros}
 use Rattle.nd_base.proofs.laws.FlatIndex.{flat_index_in-lt-size, index_of_flat_in-flat_index_in}
-use Rattle.nd_base.proofs.laws.Size.{size_of_empty}
+use Rattle.nd_base.proofs.laws.Size.{length_pos, size_of_empty}
 use Rattle.nd_shape.specs.LayoutOrder.{LiesInOrder, MeetsOrderRule}
 use Rattle.nd_shape.specs.ShapeBuilder.{standard_strides}
 use Rattle.nd_base.proofs.laws.Place.{places_at_flat_indices}
@@ -30,7 +30,7 @@ same_offset (len ∷ lens) strides others [] e h same = absurd (cc)
 same_offset (len ∷ lens) [] others (i ∷ index) e h same = absurd (omega (arith, e.0))
 same_offset (len ∷ lens) (s ∷ strides) [] (i ∷ index) e h same = absurd (omega (arith, e.1))
 same_offset (len ∷ lens) (s ∷ strides) (t ∷ others) (i ∷ index) e h same =
-    let parts = and_parts (nat_lt i len) (is_index lens index) h in
+    let parts = and_parts _ _ h in
     let within : i < len = ltb-true i len parts.0 in
     let rest = same_offset lens strides others index (omega (arith, e.0), omega (arith, e.1)) parts.1
     (λ axis l ne. same (suc axis) (omega arith) ne) in
@@ -71,32 +71,13 @@ flat_index_from_in_order order shape strides lies index h =
     let same = sym there ∙ ap (λ zs. get_or zs r (pos 0)) (lies 0) ∙ here in
     omega (arith, ints, same)
 
--- one step along an axis from the first index
-abbrev step_along : List ℕ → ℕ → List ℕ
-step_along [] axis = []
-step_along (len ∷ lens) zero = 1 ∷ replicate (length lens) 0
-step_along (len ∷ lens) (suc axis) = 0 ∷ step_along lens axis
-
-is_index-step_along : (shape : List ℕ) (axis : ℕ) → is_empty shape ≡ false → axis < length shape → get_or shape axis 0 ≢ 1
-    → is_index shape (step_along shape axis) ≡ true
-is_index-step_along [] axis some h ne = absurd (omega arith)
-is_index-step_along (len ∷ lens) zero some h ne =
-    let parts = or_parts (eqb len 0) (is_empty lens) some in
-    let more : len ≢ 0 = eqb-false len 0 parts.0 in
-    and_from (nat_lt 1 len) (is_index lens (replicate (length lens) 0)) (lt-ltb 1 len (omega arith)) (is_index-zeros lens parts.1)
-is_index-step_along (len ∷ lens) (suc axis) some h ne =
-    let parts = or_parts (eqb len 0) (is_empty lens) some in
-    let more : len ≢ 0 = eqb-false len 0 parts.0 in
-    and_from (nat_lt 0 len) (is_index lens (step_along lens axis)) (lt-ltb 0 len (omega arith))
-    (is_index-step_along lens axis parts.1 (omega arith) ne)
-
-offset_of-step_along : (shape : List ℕ) (strides : List ℤ) (axis : ℕ) → length strides ≡ length shape → axis < length shape
-    → offset_of strides (step_along shape axis) ≡ get_or strides axis (pos 0)
-offset_of-step_along [] strides axis e h = absurd (omega arith)
-offset_of-step_along (len ∷ lens) [] axis e h = absurd (omega arith)
-offset_of-step_along (len ∷ lens) (s ∷ strides) zero e h = omega (arith, ints, offset_of-zeros strides (length lens))
-offset_of-step_along (len ∷ lens) (s ∷ strides) (suc axis) e h =
-    omega (arith, ints, offset_of-step_along lens strides axis (omega arith) (omega arith))
+-- one step along an axis moves by its stride
+offset_of-step : (strides : List ℤ) (n axis : ℕ) → length strides ≡ n → axis < n
+    → offset_of strides (set (replicate n 0) axis 1) ≡ get_or strides axis (pos 0)
+offset_of-step strides zero axis e h = absurd (omega arith)
+offset_of-step [] (suc n) axis e h = absurd (omega arith)
+offset_of-step (s ∷ strides) (suc n) zero e h = omega (arith, ints, offset_of-zeros strides n)
+offset_of-step (s ∷ strides) (suc n) (suc axis) e h = omega (arith, ints, offset_of-step strides n axis (omega arith) (omega arith))
 
 module _ (order : Order) (shape : List ℕ) (strides : List ℤ) (e : length strides ≡ length shape) where
   pub rule_from_in_order : LiesInOrder order shape strides → MeetsOrderRule order shape strides
@@ -107,11 +88,12 @@ module _ (order : Order) (shape : List ℕ) (strides : List ℤ) (e : length str
         | inl none ↦ inl none
         | inr some ↦ inr (λ axis l ne.
             let index = step_along shape axis in
-            let h = is_index-step_along shape axis some l ne in
-            sym (offset_of-step_along shape strides axis e l)
+            let more : 1 < get_or shape axis 0 = omega (arith, length_pos shape axis some l) in
+            let h = is_index-step_along shape axis some l more in
+            sym (offset_of-step strides (length shape) axis e l)
             ∙ flat_index_from_in_order order shape strides lies index h
             ∙ sym (offset_of-standard_strides order shape index h)
-            ∙ offset_of-step_along shape (map pos standard) axis (length-map standard pos ∙ count) l
+            ∙ offset_of-step (map pos standard) (length shape) axis (length-map standard pos ∙ count) l
             ∙ get_or-map pos standard axis 0 (pos 0) (omega arith))
       ]
 

@@ -1,9 +1,9 @@
 -- Laws of the rule for owned data.
-use Rattle.std.proofs.Common.{inl, inr, ◌⊎◌, ◌↔◌, ◌≡◌, ℕ, ◌-◌, ◌<◌, ◌≤◌, ℤ, pos, true, false, Bool, List, length, get_or, reverse, refl}
+use Rattle.std.proofs.Common.{inl, inr, ◌⊎◌, ◌↔◌, ◌≡◌, ℕ, ◌-◌, ◌<◌, ◌≤◌, ℤ, pos, true, false, List, length, get_or, reverse}
 use Rattle.std.proofs.Common.{sym, ap, ap₂, ◌∙◌, arith}
-use Rattle.std.specs.Prelude.{if◌then◌else◌, nat_le, nat_lt, not, remove, ◌&&◌}
+use Rattle.std.specs.Prelude.{if◌then◌else◌, nat_le, not, remove, ◌&&◌}
 use Rattle.std.proofs.lemmas.List.{length-reverse}
-use Rattle.std.proofs.lemmas.Bool.{and_left, and_right, cases_Bool, cond_both, not_from_true, leb-true, ltb-true, or_cases}
+use Rattle.std.proofs.lemmas.Bool.{and_left, and_right, cases_Bool, cond_both, not_from_true}
 use Rattle.std.proofs.lemmas.Bool.{both_ways, false_from_ne_true}
 use Rattle.std.proofs.lemmas.Bool.Decides.{nat_tests}
 use Rattle.nd_base.proofs.laws.Below.{all_below, passes_below}
@@ -31,10 +31,7 @@ module _ (shape : List ℕ) (strides : List ℤ) where
   pub rule_holds : meets_owned_rule shape strides ≡ true → MeetsOwnedRule shape strides
   rule_holds h axis below long =
       let steps = passes_below (steps_over_others shape strides) (length shape) h axis below in
-      elim (or_cases (nat_le (get_or shape axis 0) 1) (nat_lt (span_of_others shape strides axis) (magnitude_at strides axis)) steps) [
-        | inl short ↦ absurd (omega (arith, leb-true (get_or shape axis 0) 1 short))
-        | inr apart ↦ ltb-true (span_of_others shape strides axis) (magnitude_at strides axis) apart
-      ]
+      grind (arith, nat_tests)
 
   -- the test passes where each axis steps over the others
   pub rule_met : ((axis : ℕ) → axis < length shape → steps_over_others shape strides axis ≡ true) → meets_owned_rule shape strides ≡ true
@@ -49,11 +46,6 @@ module _ (shape : List ℕ) (strides : List ℤ) where
   pub rule_tested : MeetsOwnedRule shape strides → meets_owned_rule shape strides ≡ true
   rule_tested h = rule_met (λ axis below. axis_tested axis (h axis below))
 
-rule_from_answer : (empty met : Bool) → (not empty && not met) ≡ false → empty ≡ false → met ≡ true
-rule_from_answer true met h some = absurd (cc)
-rule_from_answer false true h some = refl
-rule_from_answer false false h some = absurd (cc)
-
 -- the test for a shared element, which needs an index and a broken rule, fails exactly where there is no index or the rule is met
 pub no_overlap : (shape : List ℕ) (strides : List ℤ)
     → (not (is_empty shape) && not (meets_owned_rule shape strides)) ≡ false ↔ (is_empty shape ≡ true) ⊎ MeetsOwnedRule shape strides
@@ -62,11 +54,11 @@ no_overlap shape strides =
     let met = meets_owned_rule shape strides in (
       λ h. elim (cases_Bool empty) [
         | inl none ↦ inl none
-        | inr some ↦ inr (rule_holds shape strides (rule_from_answer empty met h some))
+        | inr some ↦ inr (rule_holds shape strides (grind (arith, nat_tests)))
       ],
       λ h. elim h [
-        | inl none ↦ and_left (not empty) (not met) (not_from_true empty none)
-        | inr rule ↦ and_right (not empty) (not met) (not_from_true met (rule_tested shape strides rule))
+        | inl none ↦ and_left _ _ (not_from_true empty none)
+        | inr rule ↦ and_right _ _ (not_from_true met (rule_tested shape strides rule))
       ],
     )
 

@@ -41,8 +41,7 @@ walk_tested reached shape strides (axis ∷ order) h =
     let here : 1 < get_or shape axis 0 → reached < magnitude_at strides axis = λ long. let w = h 0 (omega arith) long in omega arith in
     let later : WalkHolds next shape strides order = λ place l long. let w = h (suc place) (omega arith) long in
     omega (arith, sum_by-cons (reach_at shape strides) axis (take place order)) in
-    and_from (steps_over reached shape strides axis) (walk_from next shape strides order) (steps reached shape strides axis here)
-    (walk_tested next shape strides order later)
+    and_from _ _ (steps reached shape strides axis here) (walk_tested next shape strides order later)
 
 walk_holds : (reached : ℕ) (shape : List ℕ) (strides : List ℤ) (order : List ℕ) → walk_from reached shape strides order ≡ true
     → WalkHolds reached shape strides order
@@ -51,13 +50,11 @@ walk_holds reached shape strides (axis ∷ order) h zero l long =
     let next = reached + reach_at shape strides axis in
     omega (
       arith,
-      stepped reached shape strides axis
-          (and_parts (steps_over reached shape strides axis) (walk_from next shape strides order) h).0 long,
+      stepped reached shape strides axis (and_parts _ _ h).0 long,
     )
 walk_holds reached shape strides (axis ∷ order) h (suc place) l long =
     let next = reached + reach_at shape strides axis in
-    let w = walk_holds next shape strides order
-    (and_parts (steps_over reached shape strides axis) (walk_from next shape strides order) h).1 place (omega arith) long in
+    let w = walk_holds next shape strides order (and_parts _ _ h).1 place (omega arith) long in
     omega (arith, sum_by-cons (reach_at shape strides) axis (take place order))
 
 -- ---- sums by axes and by places
@@ -142,7 +139,7 @@ reaches_nowhere len stride h = let none : len - 1 ≡ 0 = omega arith in rw none
 -- so it does where its stride matters at all
 counts_before : (m len : ℕ) (stride : ℤ) → (1 < len → magnitude stride ≤ m) → reach len stride ≤ reach_up_to m len stride
 counts_before m len stride h = elim (cases_lt 1 len) [
-  | inl long ↦ rw (cond-true (nat_le (magnitude stride) m) (reach len stride) 0 (le-leb (magnitude stride) m (h long))) (omega arith)
+  | inl long ↦ let upto = h long in grind (arith, nat_tests)
   | inr short ↦ omega (arith, reaches_nowhere len stride short)
 ]
 
@@ -171,12 +168,8 @@ walk_from_rule shape strides order count h rule = walk_tested 0 shape strides or
 -- an axis with a stride past m, or with at most one entry, does not count up to m
 nowhere : (m len : ℕ) (stride : ℤ) → (magnitude stride ≤ m → len ≤ 1) → reach_up_to m len stride ≡ 0
 nowhere m len stride h = elim (cases_lt m (magnitude stride)) [
-  | inl past ↦ cond-false (nat_le (magnitude stride) m) (reach len stride) 0 (lt-leb (magnitude stride) m past)
-  | inr upto ↦
-      let short : len ≤ 1 = h upto in
-      let none : len - 1 ≡ 0 = omega arith in
-      cond-true (nat_le (magnitude stride) m) (reach len stride) 0 (le-leb (magnitude stride) m upto)
-      ∙ rw none (zero-mul (magnitude stride))
+  | inl past ↦ grind (arith, nat_tests)
+  | inr upto ↦ let none = reaches_nowhere len stride (h upto) in grind (arith, nat_tests)
 ]
 
 -- an axis of more than one entry reaches at least one stride

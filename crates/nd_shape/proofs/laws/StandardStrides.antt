@@ -73,8 +73,7 @@ span_of_zeros (len ∷ shape) (suc n) = omega (arith, mul-zero (len - 1), span_o
 -- and not past the size
 default_span : (shape : List ℕ) → span shape (map pos (default_strides shape)) ≤ nonzero_size shape
 default_span shape = elim (cases_Bool (is_empty shape)) [
-  | inl none ↦ rw (cond-true (is_empty shape) _ (map (size_after shape) (below (length shape))) none)
-      (omega (arith, span_of_zeros shape (length shape)))
+  | inl none ↦ rw (cond-true _ _ _ none) (omega (arith, span_of_zeros shape (length shape)))
   | inr some ↦ omega (arith, default_strides_span shape some, size_le_nonzero_size shape)
 ]
 

@@ -4,8 +4,7 @@ use Rattle.std.proofs.Common.{refl, sym, ap, ◌∙◌, arith}
 use Rattle.std.proofs.lemmas.Bool.Decides.{nat_tests}
 use Rattle.nd_shape.specs.CommonShape.{common_length, padded, common_shape}
 use Rattle.nd_shape.proofs.CommonShape.{after_front, axes_of_common, common_shape_by_axes, common_shape_of_longer}
-use Rattle.nd_shape.proofs.laws.CommonShape.{common_shape-commutes, common_shape_count}
-use Rattle.nd_shape.proofs.laws.CommonShape.{common_with_one, common_with_same, length-padded}
+use Rattle.nd_shape.proofs.laws.CommonShape.{common_shape-commutes, common_shape_count, length-padded}
 
 -- each axis has a length of 1, or that of the axis of the shape that lies as far from the last
 abbrev pub StretchesTo : List ℕ → List ℕ → Type 0
@@ -16,8 +15,8 @@ stays_or_stretches : (len other : ℕ) → common_length len other ≡ Some len 
 stays_or_stretches len other h = grind (arith, nat_tests)
 
 stretched_to : (len other : ℕ) → (other ≡ len) ⊎ (other ≡ 1) → common_length len other ≡ Some len
-stretched_to len other (inl e) = common_with_same len other (sym e)
-stretched_to len other (inr e) = ap (common_length len) e ∙ common_with_one len
+stretched_to len other (inl e) = grind (arith, nat_tests)
+stretched_to len other (inr e) = grind (arith, nat_tests)
 
 -- a shape that is the common one of itself and another has no fewer axes, and the other stretches to it
 pub stretches_to_common : (shape other : List ℕ) → common_shape other shape ≡ Some shape

@@ -5,7 +5,7 @@ use Rattle.std.proofs.lemmas.List.{length-map}
 use Rattle.nd_base.proofs.laws.Definitions.{is_index, offset_of, all_signed, signed, reach}
 use Rattle.nd_base.proofs.IndexOffsets.{IsNextPart, added, is_index_of_count, is_index_of_entry, entry_offset_le}
 use Rattle.nd_base.proofs.IndexOffsets.{offset_from_step, offset_from_end}
-use Rattle.nd_base.proofs.laws.Entries.{is_index_from_entries}
+use Rattle.nd_base.proofs.laws.IsIndex.{is_index_from_entries}
 use Rattle.nd_base.proofs.laws.NonzeroSize.{length_le_nonzero_size}
 use Rattle.nd_base.proofs.laws.Span.{sum_from, sum_from_step}
 use Rattle.nd_base.proofs.offsets.stride_offset_checked.Goals as goal

@@ -36,5 +36,5 @@ returns c =
     let all : (k : ℕ) → k < length lens
     → get_or c.args.strides.now k 0 ≡ size_after lens k = λ k h. c.loop-axis.invariant.same k (omega arith) h in
     let same : c.args.strides.now ≡ default_strides lens =
-    fill_by_all (size_after lens) c.args.strides.now (length lens) 0 (omega arith) all ∙ sym (cond-false (is_empty lens) _ _ some) in
+    fill_by_all (size_after lens) c.args.strides.now (length lens) 0 (omega arith) all ∙ sym (cond-false _ _ _ some) in
     (λ t. same, λ e. refl)

@@ -9,7 +9,7 @@ pub returns-then-has_default_strides : goal.returns-then-has_default_strides
 returns-then-has_default_strides c =
     let test = default_test c.args.lens.now c.args.strides.now c.has_default_strides.result c.type_inv.strides c.requires.size_fits
     c.has_default_strides.ensures in
-    sym (or_left (has_default_strides c.args.lens.now (all_signed c.args.strides.now)) _ (test ∙ c.if-has_default_strides.true))
+    sym (or_left _ _ (test ∙ c.if-has_default_strides.true))
 
 pub returns-else-lens-eq1 : goal.returns-else-lens-eq1
 returns-else-lens-eq1 c =
@@ -18,7 +18,7 @@ returns-else-lens-eq1 c =
     let test = default_test lens c.args.strides.now c.has_default_strides.result c.type_inv.strides c.requires.size_fits
     c.has_default_strides.ensures in
     let several : (if length lens == 1 then is_lone_step_back lens strides else is_packed lens strides) ≡ is_packed lens strides =
-    cond-false (eqb (length lens) 1) _ _ (ne_eqb (length lens) 1 c.if-lens-eq1.false) in
+    cond-false _ _ _ (ne_eqb (length lens) 1 c.if-lens-eq1.false) in
     c.is_packed.ensures ∙ sym several
     ∙ sym (ap (λ b. b || (if length lens == 1 then is_lone_step_back lens strides else is_packed lens strides))
     (test ∙ c.if-has_default_strides.false))

@@ -1,33 +1,25 @@
-use Rattle.std.proofs.Common.{◌≡◌, rules, sym, ◌∙◌}
-use Rattle.std.specs.Result.{result_err}
-use Rattle.nd_shape.specs.AcceptanceByStrides.{acceptance_by_strides}
+use Rattle.std.proofs.Common.{rules, sym, ◌∙◌}
 use Rattle.nd_base.proofs.laws.Faults.{OnOk-without_error}
 use Rattle.nd_shape.proofs.laws.AcceptanceByStrides.{by_strides_valid, by_strides_inside, by_strides_distinct}
 use Rattle.nd_shape.proofs.checks.can_index_slice_with_strides.Goals as goal
 
+pub returns-in-C-clause-fault : goal.returns-in-C-clause-fault
+returns-in-C-clause-fault g c = search rules
+
 pub returns-in-C-clause-valid : goal.returns-in-C-clause-valid
 returns-in-C-clause-valid g c =
     let list = g.D.Lengths.list in
-    let shape = list c.args.dim.now in
-    let fault : result_err c.can_index_slice_not_custom.result
-    ≡ acceptance_by_strides list c.args.elem_size c.args.len c.args.mode shape c.args.strides.now = search rules in
-    OnOk-without_error c.can_index_slice_not_custom.result
-    (λ none. by_strides_valid list c.args.elem_size c.args.len c.args.mode shape c.args.strides.now (sym fault ∙ none))
+    OnOk-without_error _ (λ none. by_strides_valid list c.args.elem_size c.args.len c.args.mode (list c.args.dim.now) c.args.strides.now
+    (sym (returns-in-C-clause-fault g c) ∙ none))
 
 pub returns-in-C-clause-inside : goal.returns-in-C-clause-inside
 returns-in-C-clause-inside g c =
     let list = g.D.Lengths.list in
-    let shape = list c.args.dim.now in
-    let fault : result_err c.can_index_slice_not_custom.result
-    ≡ acceptance_by_strides list c.args.elem_size c.args.len c.args.mode shape c.args.strides.now = search rules in
-    OnOk-without_error c.can_index_slice_not_custom.result
-    (λ none. by_strides_inside list c.args.elem_size c.args.len c.args.mode shape c.args.strides.now (sym fault ∙ none))
+    OnOk-without_error _ (λ none. by_strides_inside list c.args.elem_size c.args.len c.args.mode (list c.args.dim.now) c.args.strides.now
+    (sym (returns-in-C-clause-fault g c) ∙ none))
 
 pub returns-in-C-clause-distinct : goal.returns-in-C-clause-distinct
 returns-in-C-clause-distinct g c owned =
     let list = g.D.Lengths.list in
-    let shape = list c.args.dim.now in
-    let fault : result_err c.can_index_slice_not_custom.result
-    ≡ acceptance_by_strides list c.args.elem_size c.args.len c.args.mode shape c.args.strides.now = search rules in
-    OnOk-without_error c.can_index_slice_not_custom.result
-    (λ none. by_strides_distinct list c.args.elem_size c.args.len shape c.args.strides.now (rw owned at (sym fault ∙ none)))
+    OnOk-without_error _ (λ none. by_strides_distinct list c.args.elem_size c.args.len (list c.args.dim.now) c.args.strides.now
+    (rw owned at (sym (returns-in-C-clause-fault g c) ∙ none)))

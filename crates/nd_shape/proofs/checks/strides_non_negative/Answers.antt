@@ -16,10 +16,10 @@ pub returns-then-some_negative : goal.returns-then-some_negative
 returns-then-some_negative g c =
     let strides = g.D.Lengths.list c.args.strides.now in
     let back = any_signed strides ∙ rw c.slice.ensures.list at (sym c.some_negative.ensures ∙ c.if-some_negative.true) in
-    ap Some c.from_kind.ensures ∙ sym (cond-true (list_any is_negative (all_signed strides)) (Some Unsupported) None back)
+    ap Some c.from_kind.ensures ∙ sym (cond-true _ _ _ back)
 
 pub returns : goal.returns
 returns g c =
     let strides = g.D.Lengths.list c.args.strides.now in
     let none = any_signed strides ∙ rw c.slice.ensures.list at (sym c.some_negative.ensures ∙ c.if-some_negative.false) in
-    sym (cond-false (list_any is_negative (all_signed strides)) (Some Unsupported) None none)
+    sym (cond-false _ _ _ none)
