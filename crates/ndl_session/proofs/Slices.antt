@@ -1,6 +1,5 @@
 -- A text cut at its first separator reads as one cut at all of them, where a number follows.
 use Rattle.std.proofs.Common.{◌≡◌, ◌≢◌, true, ℕ, ℤ, List, [], ◌∷◌, take, drop, eqb, nat_eq, Option, Some, None, refl, sym, ap, ◌∙◌}
-use Rattle.std.proofs.Common.{arith}
 use Rattle.std.specs.Option.{option_map}
 use Rattle.std.proofs.lemmas.Bool.{and_parts}
 use Rattle.std.specs.Cmp.Lexicographic.{pointwise}
@@ -12,7 +11,7 @@ use Rattle.ndl_session.specs.text.Lines.{parts}
 use Rattle.ndl_session.specs.text.Numbers.{signed_number_of}
 use Rattle.ndl_session.specs.script.Elements.{start_of, end_of, slice_of_bounds, slice_of_parts}
 use Rattle.ndl_session.proofs.texts.Parts.{lone_part, some_part}
-use Rattle.ndl_session.proofs.texts.NumberParts.{number_part}
+use Rattle.ndl_session.proofs.texts.NumberParts.{no_dot, no_semicolon, number_part}
 
 -- ---- the step
 module _ (range step : List ℕ) where
@@ -27,7 +26,7 @@ module _ (range step : List ℕ) where
   pub with_step : slice_of_parts (range ∷ parts semicolon step) ≡ (signed_number_of step >>= λ z. slice_of_bounds z (parts dot range))
   with_step =
       step_at (parts semicolon step) (signed_number_of step) refl
-      (number_part semicolon (λ r. omega arith) (λ e. omega arith) step) (lone_part semicolon step) (some_part semicolon step)
+      (number_part semicolon no_semicolon step) (lone_part semicolon step) (some_part semicolon step)
 
 -- ---- the bounds
 some_of_map : {A B : Type 0} (f : A → B) (o : Option A) (y : B) → option_map f o ≡ Some y → (x : A) × (o ≡ Some x)
@@ -38,7 +37,7 @@ end_part : (end : List ℕ) (e : Option ℤ) → end_of end ≡ Some e → parts
 end_part [] e h = refl
 end_part (b ∷ bs) e h =
     let some = some_of_map Some (signed_number_of (b ∷ bs)) e h in
-    number_part dot (λ r. omega arith) (λ x. omega arith) (b ∷ bs) some.0 some.1
+    number_part dot no_dot (b ∷ bs) some.0 some.1
 
 abbrev pub slice_from : ℤ → Option ℤ → Option (Option ℤ) → Option SliceInfoElem
 slice_from step start end = start >>= λ s. end >>= λ e. Some (elem.Slice s e step)

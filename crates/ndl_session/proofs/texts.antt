@@ -1,4 +1,4 @@
-pub mod Bytes
+pub mod Cuts
 pub mod Digits
 pub mod FirstLine
 pub mod NumberParts

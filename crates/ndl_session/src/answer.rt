@@ -1,7 +1,5 @@
 //! The answer to a whole input: its text and its status.
-ghost use Rattle.std.specs.Prelude.{◌≡◌, ◌≤◌, length, map, IfOk, IsOk};
-ghost use Rattle.ndarray_layout.specs.Dim.{lengths};
-ghost use Rattle.ndarray_layout.specs.Signed.{all_signed};
+ghost use Rattle.std.specs.Prelude.{◌≡◌, ◌≤◌, map, IfOk};
 ghost use Rattle.ndarray_layout.specs.Step.{step_value};
 ghost use Rattle.ndl_session.specs.Answer.{answer_of, listing, refused as refusal, IsReply};
 ghost use Rattle.ndl_session.specs.Answer.{reply_to_script, reply_to_steps, unreadable as unreadable_reply};
@@ -9,10 +7,7 @@ ghost use Rattle.ndl_session.specs.script.Script.{script_value};
 
 use crate::script::{ReadError, Script, read_script};
 use crate::text::printing::push_line;
-use ndarray_layout::{
-    INLINE_AXES, IxDyn, LayoutError, Lengths, Order, ShapeError, Step, Strided, new_ixdyn, run,
-    unsigned,
-};
+use ndarray_layout::{IxDyn, LayoutError, Order, ShapeError, Step, Strided, run};
 use std::alloc::{AllocError, Global};
 
 /// A whole text and the exit status that goes with it.
@@ -34,7 +29,7 @@ pub(crate) fn answer_to(alloc: Global, input: &[u8]) -> Result<Answer, AllocErro
     ensures small { IfOk result (λ answer. answer.status ≤ 2) }
 {
     match read_script(alloc, input) {
-        Ok(script) => answer_to_script(alloc, &script),
+        Ok(script) => answer_to_script(alloc, script),
         Err(ReadError::Unreadable(line)) => unreadable(alloc, line),
         Err(ReadError::Memory) => Err(AllocError),
     }
@@ -60,29 +55,13 @@ fn refused(alloc: Global, step: usize, fault: &ShapeError) -> Result<Answer, All
     })
 }
 
-/// Strides as a view keeps them, each as the `usize` of the same bits.
-///
-/// Errors: out of memory; none where there are at most 4 axes.
-fn kept_strides(alloc: Global, strides: &[isize]) -> Result<IxDyn, AllocError>
-    ensures signed { IfOk result (λ kept. all_signed (lengths kept) ≡ strides.now) }
-    ensures memory { length strides.now ≤ INLINE_AXES → IsOk result }
-{
-    let mut kept = IxDyn::zeros(alloc, strides.len())?;
-    for (axis, stride) in strides.iter().enumerate() {
-        kept[axis] = unsigned(*stride);
-    }
-    Ok(kept)
-}
-
 /// The answer to a script: the layout first, and then the steps.
-fn answer_to_script(alloc: Global, script: &Script) -> Result<Answer, AllocError>
-    ensures { IfOk result (λ answer. IsReply answer (reply_to_script (script_value script.now))) }
+fn answer_to_script(alloc: Global, script: Script) -> Result<Answer, AllocError>
+    ensures { IfOk result (λ answer. IsReply answer (reply_to_script (script_value script))) }
 {
-    let layout = &script.layout;
-    let dim = new_ixdyn(alloc, &layout.shape)?;
-    let strides = kept_strides(alloc, &layout.strides)?;
-    match Strided::new(dim, strides, 1, layout.len, layout.mode) {
-        Ok(view) => answer_to_steps(alloc, view, &script.steps),
+    let Script { layout, steps } = script;
+    match Strided::new(layout.shape, layout.strides, 1, layout.len, layout.mode) {
+        Ok(view) => answer_to_steps(alloc, view, &steps),
         Err(fault) => refused(alloc, 0, &fault),
     }
 }

@@ -1,66 +1,85 @@
--- Laws of lists: what one prints, with a comma between each two entries, is read as that list.
-use Rattle.std.proofs.Common.{◌≡◌, ◌≢◌, ℕ, ℤ, Option, Some, List, [], ◌∷◌, get_or, map, codes, decimal, unwrap_or, refl, sym, ap, ◌∙◌}
+-- Laws of lists: the text of one, with a comma between each two items, is read as that list, and is a word.
+use Rattle.std.proofs.Common.{◌≡◌, ◌≢◌, ℕ, ◌<◌, Option, Some, None, List, [], ◌∷◌, get_or, length, map, codes, decimal, refl, sym, ap, ◌∙◌}
+use Rattle.std.proofs.Common.{arith}
 use Rattle.std.specs.Fmt.{signed_decimal}
 use Rattle.std.specs.List.{All}
 use Rattle.std.proofs.lemmas.Bool.{false_from_ne_true}
 use Rattle.std.proofs.lemmas.List.Elements.{All-head, All-map, All-tail, All-weaker}
 use Rattle.std.proofs.lemmas.Slice.Eq.{bytes_eq-Decides}
 use Rattle.ndarray_layout.specs.ElementText.{elem_text}
-use Rattle.ndarray_layout.specs.declared.SliceInfoElem.{SliceInfoElem}
-use Rattle.ndl_session.specs.text.Bytes.{comma}
+use Rattle.ndl_session.specs.text.Bytes.{comma, space}
 use Rattle.ndl_session.specs.text.Lines.{parts}
 use Rattle.ndl_session.specs.text.Numbers.{IsIsize, IsUsize, number_of, signed_number_of}
-use Rattle.ndl_session.specs.text.Printing.{listed, printed}
-use Rattle.ndl_session.specs.script.Elements.{IsElement, element_of, elements_of, elements_text}
-use Rattle.ndl_session.specs.script.Lists.{IsReadBack, list_of, lengths_of, lengths_text, strides_of, strides_text}
+use Rattle.ndl_session.specs.text.Printing.{listed}
+use Rattle.ndl_session.specs.script.Elements.{IsElement, element_of}
+use Rattle.ndl_session.specs.script.Lists.{list_of}
 use Rattle.ndl_session.specs.script.Reading.{read_each}
-use Rattle.ndl_session.proofs.laws.PrintedElements.{IsReadBack-elem_text}
-use Rattle.ndl_session.proofs.laws.PrintedNumbers.{IsReadBack-decimal, IsReadBack-signed_decimal}
-use Rattle.ndl_session.proofs.texts.Bytes.{Lacks, lacks, listed_parts}
+use Rattle.ndl_session.proofs.laws.PrintedElements.{elem_bytes, element_of-elem_text}
+use Rattle.ndl_session.proofs.laws.PrintedNumbers.{number_of-decimal, signed_number_of-signed_decimal, spells_other}
+use Rattle.ndl_session.proofs.texts.Cuts.{IsAfter, Lacks, lacks, listed_bytes, listed_nonempty, listed_parts}
+use Rattle.ndl_session.proofs.texts.NumberParts.{after_comma, number_bytes, signed_number_bytes}
 
--- a text that an entry prints
-pub read-IsReadBack : {A : Type 0} (entry_of : List ℕ → Option A) (output : A → Option (List ℕ)) (entry : A) (text : List ℕ)
-    → IsReadBack entry_of output entry → output entry ≡ Some text → entry_of text ≡ Some entry
-read-IsReadBack entry_of output entry text back same = ap entry_of (sym (ap (λ (o : Option (List ℕ)). unwrap_or o []) same)) ∙ back.read
+-- a byte or more, none of them a space or before it
+pub record IsWord (text : List ℕ) : Type 0 where
+  pub nonempty : 0 < length text
+  pub bytes : All (IsAfter space) text
 
-read_each-printed : {A : Type 0} (entry_of : List ℕ → Option A) (output : A → Option (List ℕ)) (xs : List A)
-    → All (IsReadBack entry_of output) xs → read_each entry_of (map (printed output) xs) ≡ Some xs
-read_each-printed entry_of output [] all = refl
-read_each-printed entry_of output (x ∷ xs) all =
-    rw (
-      (All-head (IsReadBack entry_of output) x xs all).read,
-      read_each-printed entry_of output xs
-          (All-tail (IsReadBack entry_of output) x xs all),
-    ) refl
+-- texts of items: each is read as its item, and has no comma; neither the empty text nor a minus sign is one
+pub record AreItems {A : Type 0} (item_of : List ℕ → Option A) (text_of : A → List ℕ) (Can : A → Type 0) : Type 0 where
+  pub read : (x : A) → Can x → item_of (text_of x) ≡ Some x
+  pub bytes : (x : A) → Can x → All (IsAfter comma) (text_of x)
+  pub no_empty : item_of [] ≡ None
+  pub no_minus : item_of (codes "-") ≡ None
 
--- a list with entries is not written as the empty one
-not_empty_list : {A : Type 0} (output : A → Option (List ℕ)) (x : A) (xs : List A) → printed output x ≢ codes "-"
-    → parts comma (listed (codes ",") (map (printed output) (x ∷ xs))) ≡ map (printed output) (x ∷ xs)
-    → listed (codes ",") (map (printed output) (x ∷ xs)) ≢ codes "-"
-not_empty_list output x xs other cut e = other (ap (λ (texts : List (List ℕ)). get_or texts 0 []) (sym cut ∙ ap (parts comma) e))
+nonempty : (text : List ℕ) → text ≢ [] → 0 < length text
+nonempty [] some = absurd (some refl)
+nonempty (b ∷ bs) some = omega arith
 
-pub list_of-listed : {A : Type 0} (entry_of : List ℕ → Option A) (output : A → Option (List ℕ)) (xs : List A)
-    → All (IsReadBack entry_of output) xs → list_of entry_of (listed (codes ",") (map (printed output) xs)) ≡ Some xs
-list_of-listed entry_of output [] all = refl
-list_of-listed entry_of output (x ∷ xs) all =
-    let apart =
-    All-weaker (IsReadBack entry_of output) (λ y. Lacks comma (printed output y))
-    (λ y r. lacks (λ b. b ≢ comma) comma (λ b other. other) (printed output y) r.no_comma) (x ∷ xs) all in
-    let cut = listed_parts comma (printed output x) (map (printed output) xs) (All-map (Lacks comma) (printed output) (x ∷ xs) apart) in
-    let other = not_empty_list output x xs (All-head (IsReadBack entry_of output) x xs all).not_empty_list cut in
-    rw (false_from_ne_true _ (λ t. other ((bytes_eq-Decides _ _).0 t)), cut) (read_each-printed entry_of output (x ∷ xs) all)
+module _ {A : Type 0} {item_of : List ℕ → Option A} {text_of : A → List ℕ} {Can : A → Type 0} (items : AreItems item_of text_of Can) where
+  pub item_word : (x : A) → Can x → IsWord (text_of x)
+  item_word x can = record {
+    nonempty = nonempty (text_of x) (spells_other item_of (text_of x) [] x (items.read x can) items.no_empty);
+    bytes = All-weaker (IsAfter comma) (IsAfter space) (λ b r. omega (arith, r)) (text_of x) (items.bytes x can);
+  }
 
-pub lengths_of-lengths_text : (lengths : List ℕ) → All IsUsize lengths → lengths_of (lengths_text lengths) ≡ Some lengths
-lengths_of-lengths_text lengths all =
-    list_of-listed number_of (λ n. Some (decimal n)) lengths
-    (All-weaker IsUsize (IsReadBack number_of (λ n. Some (decimal n))) IsReadBack-decimal lengths all)
+  pub list_word : (xs : List A) → All Can xs → IsWord (listed (codes ",") (map text_of xs))
+  list_word xs all = record {
+    nonempty = listed_nonempty (codes ",") (map text_of xs) (All-map (λ t. 0 < length t) text_of xs
+        (All-weaker Can (λ x. 0 < length (text_of x)) (λ x can. (item_word x can).nonempty) xs all));
+    bytes = listed_bytes (IsAfter space) 44 (omega arith) (omega arith) (map text_of xs) (All-map (All (IsAfter space)) text_of xs
+        (All-weaker Can (λ x. All (IsAfter space) (text_of x)) (λ x can. (item_word x can).bytes) xs all));
+  }
 
-pub strides_of-strides_text : (strides : List ℤ) → All IsIsize strides → strides_of (strides_text strides) ≡ Some strides
-strides_of-strides_text strides all =
-    list_of-listed signed_number_of (λ z. Some (signed_decimal z)) strides
-    (All-weaker IsIsize (IsReadBack signed_number_of (λ z. Some (signed_decimal z))) IsReadBack-signed_decimal strides all)
+  read_each-texts : (xs : List A) → All Can xs → read_each item_of (map text_of xs) ≡ Some xs
+  read_each-texts [] all = refl
+  read_each-texts (x ∷ xs) all = rw (items.read x (All-head Can x xs all), read_each-texts xs (All-tail Can x xs all)) refl
 
-pub elements_of-elements_text : (elems : List SliceInfoElem) → All IsElement elems → elements_of (elements_text elems) ≡ Some elems
-elements_of-elements_text elems all =
-    list_of-listed element_of (λ e. Some (elem_text e)) elems
-    (All-weaker IsElement (IsReadBack element_of (λ e. Some (elem_text e))) IsReadBack-elem_text elems all)
+  pub list_of-listed : (xs : List A) → All Can xs → list_of item_of (listed (codes ",") (map text_of xs)) ≡ Some xs
+  list_of-listed [] all = refl
+  list_of-listed (x ∷ xs) all =
+      let apart = All-map (Lacks comma) text_of (x ∷ xs) (All-weaker Can (λ y. Lacks comma (text_of y))
+      (λ y can. lacks (IsAfter comma) comma (λ b r e. omega (arith, r)) (text_of y) (items.bytes y can)) (x ∷ xs) all) in
+      let cut = listed_parts comma (text_of x) (map text_of xs) apart in
+      let other = spells_other item_of (text_of x) (codes "-") x (items.read x (All-head Can x xs all)) items.no_minus in
+      let listed_other = λ (e : listed (codes ",") (map text_of (x ∷ xs)) ≡ codes "-").
+      other (ap (λ (texts : List (List ℕ)). get_or texts 0 []) (sym cut ∙ ap (parts comma) e)) in
+      rw (false_from_ne_true _ (λ t. listed_other ((bytes_eq-Decides _ _).0 t)), cut) (read_each-texts (x ∷ xs) all)
+
+pub lengths_items : AreItems number_of decimal IsUsize
+lengths_items = record {
+  read = number_of-decimal;
+  bytes = λ n can. after_comma (decimal n) (number_bytes (decimal n) n (number_of-decimal n can));
+  no_empty = refl;
+  no_minus = refl;
+}
+
+pub strides_items : AreItems signed_number_of signed_decimal IsIsize
+strides_items = record {
+  read = signed_number_of-signed_decimal;
+  bytes = λ z can. after_comma (signed_decimal z) (signed_number_bytes (signed_decimal z) z (signed_number_of-signed_decimal z can));
+  no_empty = refl;
+  no_minus = refl;
+}
+
+pub elements_items : AreItems element_of elem_text IsElement
+elements_items = record { read = element_of-elem_text; bytes = elem_bytes; no_empty = refl; no_minus = refl }

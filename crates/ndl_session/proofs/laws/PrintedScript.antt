@@ -1,47 +1,38 @@
 -- Laws of lines and scripts: the text of one is read as it.
-use Rattle.std.proofs.Common.{◌≡◌, ◌≢◌, ℕ, ◌+◌, ◌-◌, ◌<◌, ℤ, pos, negsuc, Bool, true, ltb, Some, Ok, List, [], ◌∷◌, ◌++◌, length, get_or}
-use Rattle.std.proofs.Common.{map, codes, decimal, refl, ap, ◌∙◌, append_assoc, arith}
-use Rattle.std.specs.Fmt.{signed_decimal}
-use Rattle.std.specs.List.{All, enumerate_from, filter, flat_map, list_all}
+use Rattle.std.proofs.Common.{◌≡◌, ◌≢◌, ℕ, ◌+◌, ◌-◌, ◌<◌, true, ltb, Some, Ok, Bool, List, [], ◌∷◌, ◌++◌, length, get_or, map, codes, refl, ap}
+use Rattle.std.proofs.Common.{◌∙◌, append_assoc, arith}
+use Rattle.std.specs.List.{All, AllByRecursion, enumerate_from, filter, flat_map, list_all}
 use Rattle.std.specs.Str.Lines.{strip_carriage_return}
 use Rattle.std.proofs.lemmas.Bool.{lt-ltb, ne_eqb}
-use Rattle.std.proofs.lemmas.Fmt.{decimal_nonempty}
-use Rattle.std.proofs.lemmas.List.Elements.{All-cons, All-get_or, All-head, All-map, All-nil, All-tail, All-weaker}
-use Rattle.ndarray_layout.specs.ElementText.{elem_text}
+use Rattle.std.proofs.lemmas.List.Elements.{All-cons, All-from_recursion, All-get_or, All-head, All-map, All-tail, All-weaker}
 use Rattle.ndarray_layout.specs.declared.CanIndexCheckMode.{CanIndexCheckMode}
 use Rattle.ndarray_layout.specs.declared.CanIndexCheckMode.TheVariants.{OwnedMutable, ReadOnly}
 use Rattle.ndarray_layout.specs.declared.Fit.{Fit}
 use Rattle.ndarray_layout.specs.declared.Fit.TheVariants.{Strict, Clamp}
 use Rattle.ndarray_layout.specs.declared.Order.{Order}
 use Rattle.ndarray_layout.specs.declared.Order.TheVariants.{RowMajor, ColumnMajor}
-use Rattle.ndarray_layout.specs.declared.SliceInfoElem.{SliceInfoElem}
-use Rattle.ndarray_layout.specs.declared.SliceInfoElem.TheVariants as elem
 use Rattle.ndarray_layout.specs.Step.{StepValue, SliceBy, CollapseTo, MergeInto, ReshapeTo, BroadcastTo}
 use Rattle.ndl_session.specs.text.Bytes.{line_feed, space}
 use Rattle.ndl_session.specs.text.Lines.{lines_from, lines_of, parts, words_of}
-use Rattle.ndl_session.specs.text.Numbers.{IsIsize, IsUsize}
 use Rattle.ndl_session.specs.text.Printing.{listed}
 use Rattle.ndl_session.specs.script.DataLine.{IsLayout, LayoutValue, layout_of, layout_words, mode_of, mode_text}
-use Rattle.ndl_session.specs.script.Elements.{IsElement, elements_text}
 use Rattle.ndl_session.specs.script.Lists.{lengths_text, strides_text}
 use Rattle.ndl_session.specs.script.Script.{IsScript, ScriptValue, line_text, script_of, script_text, steps_of_lines}
 use Rattle.ndl_session.specs.script.StepLine.{IsStep, order_text, slice_keyword, step_of, step_words}
-use Rattle.ndl_session.proofs.laws.PrintedElements.{IsRangeByte, range_bytes, range_nonempty}
-use Rattle.ndl_session.proofs.laws.PrintedLists.{elements_of-elements_text, lengths_of-lengths_text, strides_of-strides_text}
+use Rattle.ndl_session.proofs.laws.PrintedLists.{IsWord, elements_items, lengths_items, strides_items, item_word, list_of-listed, list_word}
 use Rattle.ndl_session.proofs.laws.PrintedNumbers.{number_of-decimal}
-use Rattle.ndl_session.proofs.texts.Bytes.{IsAfter, IsSignOrDigit, Lacks, decimal_bytes, signed_decimal_bytes, lacks, listed_bytes}
-use Rattle.ndl_session.proofs.texts.Bytes.{listed_nonempty, listed_parts, part_at, spelled}
+use Rattle.ndl_session.proofs.texts.Cuts.{IsAfter, Lacks, lacks, listed_bytes, listed_parts, part_at, spelled}
 use Rattle.ndl_session.proofs.texts.FirstLine.{ended_line}
 
 -- ---- the words of a line
 pub step_of-step_words : (step : StepValue) → IsStep step → step_of (step_words step) ≡ Some step
-step_of-step_words (SliceBy elems Strict) fits = rw (elements_of-elements_text elems fits) refl
-step_of-step_words (SliceBy elems Clamp) fits = rw (elements_of-elements_text elems fits) refl
+step_of-step_words (SliceBy elems Strict) fits = rw (list_of-listed elements_items elems fits) refl
+step_of-step_words (SliceBy elems Clamp) fits = rw (list_of-listed elements_items elems fits) refl
 step_of-step_words (CollapseTo axis index) fits = rw (number_of-decimal axis fits.0, number_of-decimal index fits.1) refl
 step_of-step_words (MergeInto take into) fits = rw (number_of-decimal take fits.0, number_of-decimal into fits.1) refl
-step_of-step_words (ReshapeTo shape RowMajor) fits = rw (lengths_of-lengths_text shape fits) refl
-step_of-step_words (ReshapeTo shape ColumnMajor) fits = rw (lengths_of-lengths_text shape fits) refl
-step_of-step_words (BroadcastTo shape) fits = rw (lengths_of-lengths_text shape fits) refl
+step_of-step_words (ReshapeTo shape RowMajor) fits = rw (list_of-listed lengths_items shape fits) refl
+step_of-step_words (ReshapeTo shape ColumnMajor) fits = rw (list_of-listed lengths_items shape fits) refl
+step_of-step_words (BroadcastTo shape) fits = rw (list_of-listed lengths_items shape fits) refl
 
 mode_of-mode_text : (mode : CanIndexCheckMode) → mode_of (mode_text mode) ≡ Some mode
 mode_of-mode_text OwnedMutable = refl
@@ -52,110 +43,55 @@ layout_of-layout_words layout fits =
     rw (
       number_of-decimal layout.len fits.len,
       mode_of-mode_text layout.mode,
-      lengths_of-lengths_text layout.shape fits.shape,
-      strides_of-strides_text layout.strides fits.strides,
+      list_of-listed lengths_items layout.shape fits.shape,
+      list_of-listed strides_items layout.strides fits.strides,
     ) refl
 
--- ---- words: a byte or more, none of them a space or before it
-record IsWord (text : List ℕ) : Type 0 where
-  nonempty : 0 < length text
-  bytes : All (IsAfter space) text
+-- ---- lines: a word or more
+abbrev IsLine : List (List ℕ) → Type 0
+IsLine words = (0 < length words) × AllByRecursion IsWord words
 
-number_after : (text : List ℕ) → All IsSignOrDigit text → All (IsAfter space) text
-number_after text all = All-weaker IsSignOrDigit (IsAfter space) (λ b r. omega (arith, r.0)) text all
+words_of_line : (words : List (List ℕ)) → IsLine words → All IsWord words
+words_of_line words line = All-from_recursion IsWord words line.1
 
-IsWord-decimal : (n : ℕ) → IsUsize n → IsWord (decimal n)
-IsWord-decimal n h = record { nonempty = decimal_nonempty n h; bytes = number_after _ (decimal_bytes n h) }
-
--- a list is a word where its entries have bytes
-listed_words : {A : Type 0} (text_of : A → List ℕ) (Can : A → Type 0) → ((x : A) → Can x → IsWord (text_of x)) → (xs : List A)
-    → All Can xs → IsWord (listed (codes ",") (map text_of xs))
-listed_words text_of Can words xs all = record {
-  nonempty = listed_nonempty (codes ",") (map text_of xs)
-      (All-map (λ t. 0 < length t) text_of xs (All-weaker Can (λ x. 0 < length (text_of x)) (λ x c. (words x c).nonempty) xs all));
-  bytes = listed_bytes (IsAfter space) 44 (omega arith) (omega arith) (map text_of xs)
-      (All-map (All (IsAfter space)) text_of xs (All-weaker Can (λ x. All (IsAfter space) (text_of x)) (λ x c. (words x c).bytes) xs all));
-}
-
-IsWord-signed_decimal : (z : ℤ) → IsIsize z → IsWord (signed_decimal z)
-IsWord-signed_decimal (pos n) fits = IsWord-decimal n (omega (arith, fits.sfits))
-IsWord-signed_decimal (negsuc n) fits =
-    record { nonempty = omega arith; bytes = number_after (signed_decimal (negsuc n)) (signed_decimal_bytes (negsuc n) fits) }
-
-IsWord-elem_text : (e : SliceInfoElem) → IsElement e → IsWord (elem_text e)
-IsWord-elem_text (elem.Slice start end step) fits = record {
-  nonempty = range_nonempty start end step;
-  bytes = All-weaker IsRangeByte (IsAfter space) (λ b r. omega (arith, r.0)) _ (range_bytes start end step fits);
-}
-IsWord-elem_text (elem.Index index) fits = IsWord-signed_decimal index fits
-IsWord-elem_text elem.NewAxis fits = record { nonempty = omega arith; bytes = spelled space (codes "NewAxis") refl }
-
-IsWord-lengths_text : (lengths : List ℕ) → All IsUsize lengths → IsWord (lengths_text lengths)
-IsWord-lengths_text lengths all = listed_words decimal IsUsize IsWord-decimal lengths all
-
-IsWord-strides_text : (strides : List ℤ) → All IsIsize strides → IsWord (strides_text strides)
-IsWord-strides_text strides all = listed_words signed_decimal IsIsize IsWord-signed_decimal strides all
-
-IsWord-elements_text : (elems : List SliceInfoElem) → All IsElement elems → IsWord (elements_text elems)
-IsWord-elements_text elems all = listed_words elem_text IsElement IsWord-elem_text elems all
-
+-- by tests that compute
 name : (text : List ℕ) → 0 < length text → list_all (λ b. ltb space b) text ≡ true → IsWord text
 name text some e = record { nonempty = some; bytes = spelled space text e }
 
--- ---- lines: a word or more
-record IsLine (words : List (List ℕ)) : Type 0 where
-  some : 0 < length words
-  each : All IsWord words
+keyword_word : (fit : Fit) → IsWord (slice_keyword fit)
+keyword_word Strict = name (codes "slice") (omega arith) refl
+keyword_word Clamp = name (codes "clamp") (omega arith) refl
 
-one_word : (word : List ℕ) → IsWord word → IsLine (word ∷ [])
-one_word word h = record { some = omega arith; each = All-cons IsWord word [] h (All-nil IsWord) }
+order_word : (order : Order) → IsWord (order_text order)
+order_word RowMajor = name (codes "C") (omega arith) refl
+order_word ColumnMajor = name (codes "F") (omega arith) refl
 
-longer : (word : List ℕ) (words : List (List ℕ)) → IsWord word → IsLine words → IsLine (word ∷ words)
-longer word words h line = record { some = omega arith; each = All-cons IsWord word words h line.each }
+mode_word : (mode : CanIndexCheckMode) → IsWord (mode_text mode)
+mode_word OwnedMutable = name (codes "owned") (omega arith) refl
+mode_word ReadOnly = name (codes "read") (omega arith) refl
 
-line_of_two : (keyword word : List ℕ) → IsWord keyword → IsWord word → IsLine (keyword ∷ word ∷ [])
-line_of_two keyword word k w = longer keyword (word ∷ []) k (one_word word w)
+step_line : (step : StepValue) → IsStep step → IsLine (step_words step)
+step_line (SliceBy elems fit) fits = (omega arith, (keyword_word fit, (list_word elements_items elems fits, tt)))
+step_line (CollapseTo axis index) fits = (
+  omega arith,
+  (name (codes "collapse") (omega arith) refl, (item_word lengths_items axis fits.0, (item_word lengths_items index fits.1, tt))),
+)
+step_line (MergeInto take into) fits = (
+  omega arith,
+  (name (codes "merge") (omega arith) refl, (item_word lengths_items take fits.0, (item_word lengths_items into fits.1, tt))),
+)
+step_line (ReshapeTo shape order) fits =
+    (omega arith, (name (codes "reshape") (omega arith) refl, (order_word order, (list_word lengths_items shape fits, tt))))
+step_line (BroadcastTo shape) fits =
+    (omega arith, (name (codes "broadcast") (omega arith) refl, (list_word lengths_items shape fits, tt)))
 
-line_of_three : (keyword first second : List ℕ) → IsWord keyword → IsWord first → IsWord second → IsLine (keyword ∷ first ∷ second ∷ [])
-line_of_three keyword first second k f s = longer keyword (first ∷ second ∷ []) k (line_of_two first second f s)
-
-IsWord-slice_keyword : (fit : Fit) → IsWord (slice_keyword fit)
-IsWord-slice_keyword Strict = name (codes "slice") (omega arith) refl
-IsWord-slice_keyword Clamp = name (codes "clamp") (omega arith) refl
-
-IsWord-order_text : (order : Order) → IsWord (order_text order)
-IsWord-order_text RowMajor = name (codes "C") (omega arith) refl
-IsWord-order_text ColumnMajor = name (codes "F") (omega arith) refl
-
-IsLine-step_words : (step : StepValue) → IsStep step → IsLine (step_words step)
-IsLine-step_words (SliceBy elems fit) fits =
-    line_of_two (slice_keyword fit) (elements_text elems) (IsWord-slice_keyword fit) (IsWord-elements_text elems fits)
-IsLine-step_words (CollapseTo axis index) fits =
-    line_of_three (codes "collapse") (decimal axis) (decimal index) (name (codes "collapse") (omega arith) refl)
-    (IsWord-decimal axis fits.0) (IsWord-decimal index fits.1)
-IsLine-step_words (MergeInto take into) fits =
-    line_of_three (codes "merge") (decimal take) (decimal into) (name (codes "merge") (omega arith) refl) (IsWord-decimal take fits.0)
-    (IsWord-decimal into fits.1)
-IsLine-step_words (ReshapeTo shape order) fits =
-    line_of_three (codes "reshape") (order_text order) (lengths_text shape) (name (codes "reshape") (omega arith) refl)
-    (IsWord-order_text order) (IsWord-lengths_text shape fits)
-IsLine-step_words (BroadcastTo shape) fits =
-    line_of_two (codes "broadcast") (lengths_text shape) (name (codes "broadcast") (omega arith) refl) (IsWord-lengths_text shape fits)
-
-IsWord-mode_text : (mode : CanIndexCheckMode) → IsWord (mode_text mode)
-IsWord-mode_text OwnedMutable = name (codes "owned") (omega arith) refl
-IsWord-mode_text ReadOnly = name (codes "read") (omega arith) refl
-
-IsLine-layout_words : (layout : LayoutValue) → IsLayout layout → IsLine (layout_words layout)
-IsLine-layout_words layout fits =
-    let lists =
-    line_of_three (mode_text layout.mode) (lengths_text layout.shape) (strides_text layout.strides) (IsWord-mode_text layout.mode)
-    (IsWord-lengths_text layout.shape fits.shape) (IsWord-strides_text layout.strides fits.strides) in
-    let numbers =
-    longer (decimal layout.len) (mode_text layout.mode ∷ lengths_text layout.shape ∷ strides_text layout.strides ∷ [])
-    (IsWord-decimal layout.len fits.len) lists in
-    longer (codes "data") (decimal layout.len ∷ mode_text layout.mode ∷ lengths_text layout.shape ∷ strides_text layout.strides ∷ [])
-    (name (codes "data") (omega arith) refl) numbers
+layout_line : (layout : LayoutValue) → IsLayout layout → IsLine (layout_words layout)
+layout_line layout fits =
+    let lists : AllByRecursion IsWord (lengths_text layout.shape ∷ strides_text layout.strides ∷ []) =
+    (list_word lengths_items layout.shape fits.shape, (list_word strides_items layout.strides fits.strides, tt)) in (
+      omega arith,
+      (name (codes "data") (omega arith) refl, (item_word lengths_items layout.len fits.len, (mode_word layout.mode, lists))),
+    )
 
 -- ---- the words of a line are read as they are
 filter_all : {A : Type 0} (p : A → Bool) (xs : List A) → All (λ x. p x ≡ true) xs → filter p xs ≡ xs
@@ -163,21 +99,21 @@ filter_all p [] all = refl
 filter_all p (x ∷ xs) all = rw (All-head (λ y. p y ≡ true) x xs all, filter_all p xs (All-tail (λ y. p y ≡ true) x xs all)) refl
 
 words_of-line : (words : List (List ℕ)) → IsLine words → words_of (listed (codes " ") words) ≡ words
-words_of-line [] line = absurd (omega (arith, line.some))
+words_of-line [] line = absurd (omega (arith, line.0))
 words_of-line (word ∷ words) line =
     let apart =
     All-weaker IsWord (Lacks space) (λ w h. lacks (IsAfter space) space (λ b r e. omega (arith, r)) w h.bytes) (word ∷ words)
-    line.each in
+    (words_of_line (word ∷ words) line) in
     rw (listed_parts space word words apart)
     (filter_all (λ w. ltb 0 (length w)) (word ∷ words)
-    (All-weaker IsWord (λ w. ltb 0 (length w) ≡ true) (λ w h. lt-ltb 0 (length w) h.nonempty) (word ∷ words) line.each))
+    (All-weaker IsWord (λ w. ltb 0 (length w) ≡ true) (λ w h. lt-ltb 0 (length w) h.nonempty) (word ∷ words) (words_of_line (word ∷ words) line)))
 
 -- ---- the lines of a text are read as they are
 line_bytes : (words : List (List ℕ)) → IsLine words → All (IsAfter 31) (listed (codes " ") words)
 line_bytes words line =
     listed_bytes (IsAfter 31) 32 (omega arith) (omega arith) words
     (All-weaker IsWord (All (IsAfter 31)) (λ w h. All-weaker (IsAfter space) (IsAfter 31) (λ b r. omega (arith, r)) w h.bytes) words
-    line.each)
+    (words_of_line words line))
 
 no_return : (text : List ℕ) → All (IsAfter 31) text → get_or text (length text - 1) 0 ≢ 13
 no_return [] all e = omega (arith, e)
@@ -209,7 +145,7 @@ not_blank : (number : ℕ) (lines : List (List (List ℕ))) → All IsLine lines
     → filter (λ line. ltb 0 (length line.1)) (enumerate_from number lines) ≡ enumerate_from number lines
 not_blank number [] all = refl
 not_blank number (words ∷ lines) all =
-    rw (lt-ltb 0 (length words) (All-head IsLine words lines all).some, not_blank (number + 1) lines (All-tail IsLine words lines all)) refl
+    rw (lt-ltb 0 (length words) (All-head IsLine words lines all).0, not_blank (number + 1) lines (All-tail IsLine words lines all)) refl
 
 lines_from-lines : (number : ℕ) (lines : List (List (List ℕ))) → All IsLine lines
     → lines_from number (flat_map line_text lines) ≡ enumerate_from number lines
@@ -226,7 +162,7 @@ pub script_of-script_text : (script : ScriptValue) → IsScript script → scrip
 script_of-script_text script fits =
     let lines = layout_words script.layout ∷ map step_words script.steps in
     let all : All IsLine lines =
-    All-cons IsLine (layout_words script.layout) _ (IsLine-layout_words script.layout fits.layout)
+    All-cons IsLine (layout_words script.layout) _ (layout_line script.layout fits.layout)
     (All-map IsLine step_words script.steps
-    (All-weaker IsStep (λ s. IsLine (step_words s)) IsLine-step_words script.steps fits.steps)) in
+    (All-weaker IsStep (λ s. IsLine (step_words s)) step_line script.steps fits.steps)) in
     rw (lines_from-lines 1 lines all, layout_of-layout_words script.layout fits.layout, steps_of-steps 2 script.steps fits.steps) refl

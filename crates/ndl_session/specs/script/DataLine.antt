@@ -2,9 +2,12 @@
 use Rattle.std.specs.Prelude.{◌≡◌, ℕ, ℤ, pos, negsuc, Option, Some, None, if◌then◌else◌, List, [], ◌∷◌, codes, decimal, refl}
 use Rattle.std.specs.Fmt.{digits}
 use Rattle.std.specs.List.{All}
+use Rattle.std.proofs.Common.{ap}
 use Rattle.std.specs.Str.{bytes_eq}
 use Rattle.ndarray_layout.specs.declared.CanIndexCheckMode.{CanIndexCheckMode}
 use Rattle.ndarray_layout.specs.declared.CanIndexCheckMode.TheVariants.{OwnedMutable, ReadOnly}
+use Rattle.ndarray_layout.specs.Dim.{lengths}
+use Rattle.ndarray_layout.specs.Signed.{all_signed}
 use Rattle.ndl_session.specs.declared.script.data_line.Layout.{Layout}
 use Rattle.ndl_session.specs.script.Reading.{◌>>=◌}
 use Rattle.ndl_session.specs.text.Lines.{words_of}
@@ -20,7 +23,7 @@ pub record LayoutValue : Type 0 where
 
 -- a layout of the program by what its lists hold
 abbrev pub layout_value : Layout → LayoutValue
-layout_value l = record { len = l.len; mode = l.mode; shape = l.shape.items; strides = l.strides.items }
+layout_value l = record { len = l.len; mode = l.mode; shape = lengths l.shape; strides = all_signed (lengths l.strides) }
 
 -- the mode that a word names
 abbrev pub mode_of : List ℕ → Option CanIndexCheckMode
@@ -58,8 +61,11 @@ layout_words layout =
     codes "data" ∷ decimal layout.len ∷ mode_text layout.mode ∷ lengths_text layout.shape ∷ strides_text layout.strides ∷ []
 
 -- examples
-a_shape_kept : (layout : Layout) → layout.shape.items ≡ 2 ∷ 3 ∷ [] → (layout_value layout).shape ≡ 2 ∷ 3 ∷ []
+a_shape_kept : (layout : Layout) → lengths layout.shape ≡ 2 ∷ 3 ∷ [] → (layout_value layout).shape ≡ 2 ∷ 3 ∷ []
 a_shape_kept layout same = same
+
+a_stride_kept : (layout : Layout) → lengths layout.strides ≡ 18446744073709551615 ∷ [] → (layout_value layout).strides ≡ negsuc 0 ∷ []
+a_stride_kept layout same = ap all_signed same
 
 mode_misspelled : mode_of (codes "Read") ≡ None
 mode_misspelled = refl

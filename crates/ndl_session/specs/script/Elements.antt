@@ -13,7 +13,7 @@ use Rattle.ndl_session.specs.text.Numbers.{IsIsize, signed_number_of}
 use Rattle.ndl_session.specs.text.Printing.{listed}
 use Rattle.ndl_session.specs.script.Lists.{list_of}
 
--- the start of a range by its text, which may be empty: then it is the first entry
+-- the start of a range by its text, which may be empty: then it is the first coordinate
 abbrev pub start_of : List ℕ → Option ℤ
 start_of [] = Some (pos 0)
 start_of (byte ∷ text) = signed_number_of (byte ∷ text)

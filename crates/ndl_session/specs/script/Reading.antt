@@ -1,4 +1,4 @@
--- What readings have in common: one after another, and entry by entry.
+-- What readings have in common: one after another, and item by item.
 use Rattle.std.specs.Prelude.{◌≡◌, ℕ, zero, suc, ◌+◌, Option, Some, None, Result, Ok, Err, List, [], ◌∷◌, codes, length, refl}
 use Rattle.std.specs.Option.{option_and_then}
 
@@ -9,11 +9,11 @@ o >>= f = option_and_then f o
 
 -- what each text spells, in order; nothing where one of them can't be read
 abbrev pub read_each : {A : Type 0} → (List ℕ → Option A) → List (List ℕ) → Option (List A)
-read_each entry_of [] = Some []
-read_each entry_of (text ∷ texts) = do
-  entry ← entry_of text
-  entries ← read_each entry_of texts
-  Some (entry ∷ entries)
+read_each item_of [] = Some []
+read_each item_of (text ∷ texts) = do
+  item ← item_of text
+  items ← read_each item_of texts
+  Some (item ∷ items)
 
 -- what is made of two readings; nothing where one of them can't be read
 abbrev pub of_both : {A B C : Type 0} → (A → B → C) → Option A → Option B → Option C

@@ -1,8 +1,9 @@
 -- The numbers that words spell.
-use Rattle.std.specs.Prelude.{◌≡◌, ℕ, ◌<◌, ◌^◌, ℤ, pos, negsuc, neg_ℤ, Bool, true, false, ◌&&◌, nat_lt, nat_le, if◌then◌else◌}
+use Rattle.std.specs.Prelude.{◌≡◌, ℕ, ◌<◌, ◌^◌, ℤ, pos, negsuc, neg_ℤ, Bool, true, false, ◌&&◌, nat_lt, if◌then◌else◌}
 use Rattle.std.specs.Prelude.{Option, Some, None, List, [], length, drop, codes, refl}
 use Rattle.std.specs.Int.{w64}
 use Rattle.std.specs.Int.RustNames.{FitsSigned}
+use Rattle.std.specs.Option.{option_and_then}
 use Rattle.std.specs.Str.{all_ascii_digits}
 use Rattle.std.specs.Str.Parse.{digits_value, starts_with_minus}
 
@@ -14,17 +15,16 @@ is_decimal word = nat_lt 0 (length word) && all_ascii_digits word
 abbrev pub number_of : List ℕ → Option ℕ
 number_of word = if is_decimal word && nat_lt (digits_value 10 word) (2 ^ 64) then Some (digits_value 10 word) else None
 
--- the negative of the number of a word that is a decimal, down to -2^63
-abbrev pub negative_of : List ℕ → Option ℤ
-negative_of digits =
-    if is_decimal digits && nat_le (digits_value 10 digits) (2 ^ 63) then Some (neg_ℤ (pos (digits_value 10 digits))) else None
+-- a number where an `isize` can be it
+abbrev pub isize_of : ℤ → Option ℤ
+isize_of (pos n) = if nat_lt n (2 ^ 63) then Some (pos n) else None
+isize_of (negsuc n) = if nat_lt n (2 ^ 63) then Some (negsuc n) else None
 
--- the number with a sign of a word: a decimal up to 2^63 - 1, or `-` and a decimal for its negative, down to -2^63
+-- the number with a sign of a word: of a decimal, or of `-` and a decimal its negative, where an `isize` can be it
 abbrev pub signed_number_of : List ℕ → Option ℤ
 signed_number_of word =
-    if starts_with_minus word then negative_of (drop 1 word)
-    else if is_decimal word && nat_lt (digits_value 10 word) (2 ^ 63) then Some (pos (digits_value 10 word))
-    else None
+    if starts_with_minus word then option_and_then (λ n. isize_of (neg_ℤ (pos n))) (number_of (drop 1 word))
+    else option_and_then (λ n. isize_of (pos n)) (number_of word)
 
 -- a number that a `usize` can be
 abbrev pub IsUsize : ℕ → Type 0
@@ -65,8 +65,17 @@ past_least_signed = refl
 past_greatest_signed : signed_number_of (codes "9223372036854775808") ≡ None
 past_greatest_signed = refl
 
-negative_of_seven : negative_of (codes "7") ≡ Some (negsuc 6)
-negative_of_seven = refl
+greatest_isize : isize_of (pos 9223372036854775807) ≡ Some (pos 9223372036854775807)
+greatest_isize = refl
+
+past_greatest_isize : isize_of (pos 9223372036854775808) ≡ None
+past_greatest_isize = refl
+
+minus_seven : signed_number_of (codes "-07") ≡ Some (negsuc 6)
+minus_seven = refl
+
+past_usize : signed_number_of (codes "-18446744073709551616") ≡ None
+past_usize = refl
 
 negative_zero : signed_number_of (codes "-0") ≡ Some (pos 0)
 negative_zero = refl

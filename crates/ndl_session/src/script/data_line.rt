@@ -1,11 +1,14 @@
 //! The line of a script that makes a layout.
 ghost use Rattle.std.specs.Prelude.{◌≡◌, map, IfOk};
 ghost use Rattle.std.specs.Option.{option_map};
+ghost use Rattle.ndarray_layout.specs.Dim.{lengths};
+ghost use Rattle.ndarray_layout.specs.Signed.{all_signed};
 ghost use Rattle.ndl_session.specs.script.DataLine.{layout_value, layout_of, mode_of};
+ghost use Rattle.ndl_session.specs.script.Lists.{strides_of};
 
-use crate::script::lists::list;
+use crate::script::lists::dimension;
 use crate::text::numbers::number;
-use ndarray_layout::CanIndexCheckMode;
+use ndarray_layout::{CanIndexCheckMode, IxDyn};
 use std::alloc::{AllocError, Global};
 
 /// A layout over some data, as a script gives it.
@@ -16,9 +19,9 @@ pub struct Layout {
     /// Whether two indices may share an element.
     pub mode: CanIndexCheckMode,
     /// The lengths of the axes.
-    pub shape: Vec<usize>,
-    /// The strides of the axes, in elements, each with its sign.
-    pub strides: Vec<isize>,
+    pub shape: IxDyn,
+    /// The strides of the axes, in elements, each as the `usize` of the same bits.
+    pub strides: IxDyn,
 }
 
 /// The mode of a name; `None` where it is neither `owned` nor `read`.
@@ -32,6 +35,16 @@ fn mode(name: &[u8]) -> Option<CanIndexCheckMode>
     } else {
         None
     }
+}
+
+/// The strides that a word lists, each as the `usize` of the same bits; `None` where one can't be read.
+///
+/// Errors: out of memory.
+fn kept_strides(alloc: Global, word: &[u8]) -> Result<Option<IxDyn>, AllocError>
+    ensures { IfOk result (λ found. option_map (λ kept. all_signed (lengths kept)) found
+        ≡ strides_of word.now) }
+{
+    dimension::<isize>(alloc, word)
 }
 
 /// The layout that the words of a line make; `None` where they aren't of the grammar.
@@ -50,10 +63,10 @@ pub(super) fn read_layout(alloc: Global, words: &[&[u8]]) -> Result<Option<Layou
     let (Some(len), Some(mode)) = (number(len), mode(mode_name)) else {
         return Ok(None);
     };
-    let Some(shape) = list(alloc, shape)? else {
+    let Some(shape) = dimension::<usize>(alloc, shape)? else {
         return Ok(None);
     };
-    let Some(strides) = list(alloc, strides)? else {
+    let Some(strides) = kept_strides(alloc, strides)? else {
         return Ok(None);
     };
     Ok(Some(Layout {

@@ -2,9 +2,9 @@
 ghost use Rattle.std.specs.Prelude.{◌≡◌};
 ghost use Rattle.ndl_session.specs.text.Bytes.{dot};
 ghost use Rattle.ndl_session.specs.text.Lines.{parts};
-ghost use Rattle.ndl_session.specs.script.Elements.{IsElement, element_of, end_of, range_of, slice_of_bounds, start_of};
+ghost use Rattle.ndl_session.specs.script.Elements.{element_of, end_of, range_of, slice_of_bounds, start_of};
 
-use crate::script::lists::Entry;
+use crate::script::lists::Item;
 use crate::text::numbers::signed_number;
 use crate::text::words::split_once;
 use ndarray_layout::SliceInfoElem;
@@ -52,10 +52,10 @@ fn range(text: &[u8]) -> Option<SliceInfoElem>
     }
 }
 
-impl Entry for SliceInfoElem {
-    ghost entry_of = { element_of };
+impl Item for SliceInfoElem {
+    type Kept = SliceInfoElem;
 
-    ghost can_be = { IsElement };
+    ghost item_of = { element_of };
 
     /// A new axis by its name, an index by its number, or a range.
     fn read(text: &[u8]) -> Option<SliceInfoElem> {

@@ -1,88 +1,99 @@
 //! Lists as words spell them.
-ghost use Rattle.std.specs.Prelude.{◌≡◌, ℕ, List, Option, Some, IfOk, codes, map};
-ghost use Rattle.std.specs.List.{All};
+ghost use Rattle.std.specs.Prelude.{◌≡◌, ℕ, List, Option, IfOk};
 ghost use Rattle.std.specs.Option.{option_map};
-ghost use Rattle.ndl_session.specs.script.Lists.{IsReadBack, list_of};
+ghost use Rattle.ndarray_layout.specs.Dim.{lengths};
+ghost use Rattle.ndl_session.specs.script.Lists.{list_of, stride_of};
 ghost use Rattle.ndl_session.specs.text.Bytes.{comma};
 ghost use Rattle.ndl_session.specs.text.Lines.{parts};
-ghost use Rattle.ndl_session.specs.text.Numbers.{IsIsize, IsUsize, number_of, signed_number_of};
-ghost use Rattle.ndl_session.specs.text.Printing.{listed, printed};
+ghost use Rattle.ndl_session.specs.text.Numbers.{number_of};
 ghost use Rattle.ndl_session.specs.script.Reading.{read_each};
 
 use crate::text::numbers::{number, signed_number};
 use crate::text::words::split_once;
+use ndarray_layout::{IxDyn, IxDynImpl, unsigned};
 use std::alloc::{AllocError, Global};
-use std::fmt::Display;
 
-/// What an entry of a list can be.
-pub(super) trait Entry: Sized + Drop + Display {
-    ghost entry_of: { List ℕ → Option Self };
+/// What a list can have as items.
+pub(super) trait Item {
+    /// An item as it is kept.
+    type Kept: Drop;
 
-    ghost can_be: { Self → Type 0 };
+    ghost item_of: { List ℕ → Option Self.Kept };
 
-    /// The entry that a text spells; `None` where it spells none. What an entry prints is read as that entry.
-    fn read(text: &[u8]) -> Option<Self>
-        ensures read { result ≡ entry_of text.now }
-        ensures printed { (entry : Self) → can_be entry → Self.output entry ≡ Some text.now
-            → result ≡ Some entry };
+    /// The item that a text spells; `None` where it spells none.
+    fn read(text: &[u8]) -> Option<Self::Kept>
+        ensures { result ≡ item_of text.now };
 }
 
-impl Entry for usize {
-    ghost entry_of = { number_of };
+/// A length.
+impl Item for usize {
+    type Kept = usize;
 
-    ghost can_be = { IsUsize };
+    ghost item_of = { number_of };
 
     fn read(text: &[u8]) -> Option<usize> {
         number(text)
     }
 }
 
-impl Entry for isize {
-    ghost entry_of = { signed_number_of };
+/// A stride, which is kept as the `usize` of the same bits.
+impl Item for isize {
+    type Kept = usize;
 
-    ghost can_be = { IsIsize };
+    ghost item_of = { stride_of };
 
-    fn read(text: &[u8]) -> Option<isize> {
-        signed_number(text)
+    fn read(text: &[u8]) -> Option<usize> {
+        Some(unsigned(signed_number(text)?))
     }
 }
 
-/// The entries that commas separate, one at least; `None` where one can't be read.
+/// The items that commas separate, one at least; `None` where one can't be read.
 ///
 /// Errors: out of memory.
-fn entries<T: Entry>(alloc: Global, word: &[u8]) -> Result<Option<Vec<T>>, AllocError>
+fn items<T: Item>(alloc: Global, word: &[u8]) -> Result<Option<Vec<T::Kept>>, AllocError>
     ensures { IfOk result (λ found. option_map (λ v. v.items) found
-        ≡ read_each T.entry_of (parts comma word.now)) }
+        ≡ read_each T.item_of (parts comma word.now)) }
 {
-    let mut entries = Vec::new(alloc);
+    let mut items = Vec::new(alloc);
     let mut rest = word;
     while let Some((text, after)) = split_once(rest, b',') {
-        let Some(entry) = T::read(text) else {
+        let Some(item) = T::read(text) else {
             return Ok(None);
         };
-        entries.push(entry)?;
+        items.push(item)?;
         rest = after;
     }
-    let Some(entry) = T::read(rest) else {
+    let Some(item) = T::read(rest) else {
         return Ok(None);
     };
-    entries.push(entry)?;
-    Ok(Some(entries))
+    items.push(item)?;
+    Ok(Some(items))
 }
 
-/// The entries of a list, separated by commas; `-` is the empty list. `None` where one can't be read. A list
-/// that was printed so is read as that list.
+/// The items of a list, separated by commas; `-` is the empty list. `None` where one can't be read.
 ///
 /// Errors: out of memory.
-pub(super) fn list<T: Entry>(alloc: Global, word: &[u8]) -> Result<Option<Vec<T>>, AllocError>
-    ensures read { IfOk result (λ found. option_map (λ v. v.items) found
-        ≡ list_of T.entry_of word.now) }
-    ensures printed { (entries : List T) → All (IsReadBack T.entry_of T.output) entries
-        → word.now ≡ listed (codes ",") (map (printed T.output) entries)
-        → IfOk result (λ found. option_map (λ v. v.items) found ≡ Some entries) }
+pub(super) fn list<T: Item>(alloc: Global, word: &[u8]) -> Result<Option<Vec<T::Kept>>, AllocError>
+    ensures { IfOk result (λ found. option_map (λ v. v.items) found
+        ≡ list_of T.item_of word.now) }
 {
     if word == b"-".as_slice() {
         return Ok(Some(Vec::new(alloc)));
     }
-    entries(alloc, word)
+    items::<T>(alloc, word)
+}
+
+/// The numbers of a list as those of the axes, in the memory in which they were read; `None` where one can't be read.
+///
+/// Errors: out of memory.
+pub(super) fn dimension<T: Item<Kept = usize>>(
+    alloc: Global,
+    word: &[u8],
+) -> Result<Option<IxDyn>, AllocError>
+    ensures { IfOk result (λ found. option_map lengths found ≡ list_of T.item_of word.now) }
+{
+    let Some(numbers) = list::<T>(alloc, word)? else {
+        return Ok(None);
+    };
+    Ok(Some(IxDyn::new(IxDynImpl::from_vec(alloc, numbers)?)))
 }

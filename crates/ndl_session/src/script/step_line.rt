@@ -8,9 +8,9 @@ ghost use Rattle.ndl_session.specs.script.Lists.{lengths_of};
 ghost use Rattle.ndl_session.specs.script.Reading.{of_both};
 ghost use Rattle.ndl_session.specs.script.StepLine.{order_of_word, step_of};
 
-use crate::script::lists::list;
+use crate::script::lists::{dimension, list};
 use crate::text::numbers::number;
-use ndarray_layout::{Axis, Fit, Order, Step, new_ixdyn};
+use ndarray_layout::{Axis, Fit, Order, SliceInfoElem, Step};
 use std::alloc::{AllocError, Global};
 
 /// The slice by the elements that a word lists; `None` where they aren't of the grammar.
@@ -20,7 +20,7 @@ fn slice(alloc: Global, elems: &[u8], fit: Fit) -> Result<Option<Step>, AllocErr
     ensures { IfOk result (λ found. option_map step_value found
         ≡ option_map (λ elems. SliceBy elems fit) (elements_of elems.now)) }
 {
-    let Some(elems) = list(alloc, elems)? else {
+    let Some(elems) = list::<SliceInfoElem>(alloc, elems)? else {
         return Ok(None);
     };
     Ok(Some(Step::Slice(elems, fit)))
@@ -33,10 +33,7 @@ fn broadcast(alloc: Global, shape: &[u8]) -> Result<Option<Step>, AllocError>
     ensures { IfOk result (λ found. option_map step_value found
         ≡ option_map BroadcastTo (lengths_of shape.now)) }
 {
-    let Some(shape) = list(alloc, shape)? else {
-        return Ok(None);
-    };
-    Ok(Some(Step::Broadcast(new_ixdyn(alloc, &shape)?)))
+    Ok(dimension::<usize>(alloc, shape)?.map(Step::Broadcast))
 }
 
 /// The collapse of an axis to an index of it; `None` where one of them is no number.
@@ -79,10 +76,7 @@ fn reshape(alloc: Global, name: &[u8], shape: &[u8]) -> Result<Option<Step>, All
     let Some(order) = order(name) else {
         return Ok(None);
     };
-    let Some(shape) = list(alloc, shape)? else {
-        return Ok(None);
-    };
-    Ok(Some(Step::Reshape(new_ixdyn(alloc, &shape)?, order)))
+    Ok(dimension::<usize>(alloc, shape)?.map(|shape| Step::Reshape(shape, order)))
 }
 
 /// The step by a keyword and a word; `None` where they aren't of the grammar.

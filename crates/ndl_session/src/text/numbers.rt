@@ -18,8 +18,8 @@ pub(crate) fn number(text: &[u8]) -> Option<usize>
 pub(crate) fn signed_number(text: &[u8]) -> Option<isize>
     ensures { result ≡ signed_number_of text.now }
 {
-    if text.starts_with(b"+") {
-        return None;
+    match text.strip_prefix(b"-") {
+        Some(digits) => 0isize.checked_sub_unsigned(number(digits)?),
+        None => 0isize.checked_add_unsigned(number(text)?),
     }
-    str::from_utf8(text).ok()?.parse().ok()
 }

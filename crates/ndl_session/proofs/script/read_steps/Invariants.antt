@@ -3,7 +3,7 @@ use Rattle.std.proofs.Common.{◌≡◌, ◌+◌, ◌<◌, ◌^◌, length, map}
 use Rattle.ndl_session.specs.text.Lines.{lines_from}
 use Rattle.ndl_session.specs.script.Script.{steps_of_lines}
 use Rattle.ndarray_layout.specs.Step.{step_value}
-use Rattle.ndl_session.proofs.Entries.{with_front_lines}
+use Rattle.ndl_session.proofs.Fronts.{with_front_lines}
 use Rattle.ndl_session.proofs.script.read_steps.Given as goal
 
 abbrev pub invariant-loop-steps : goal.invariant-loop-steps

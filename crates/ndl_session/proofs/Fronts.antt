@@ -1,4 +1,4 @@
--- Reading entry by entry, and line by line, as a loop does.
+-- Reading item by item, and line by line, as a loop does.
 use Rattle.std.proofs.Common.{ℕ, List, ◌++◌, Option, Result}
 use Rattle.std.specs.Option.{option_map}
 use Rattle.std.specs.Result.{result_map_both}

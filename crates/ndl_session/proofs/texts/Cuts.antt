@@ -1,43 +1,14 @@
--- Which bytes the texts of numbers and of elements have, and how a text without a separator is cut.
-use Rattle.std.proofs.Common.{◌≡◌, ◌≢◌, ℕ, suc, ◌≤◌, ◌<◌, ◌^◌, ℤ, pos, negsuc, true, false, eqb, ltb, List, [], ◌∷◌, ◌++◌, length}
-use Rattle.std.proofs.Common.{length-append, decimal, refl, ap, ◌∙◌, arith}
-use Rattle.std.specs.Fmt.{signed_decimal}
-use Rattle.std.specs.Int.{IsInRange, w64}
-use Rattle.std.specs.Int.RustNames.{FitsSigned}
+-- Texts between separators: a text without one, and those of a list.
+use Rattle.std.proofs.Common.{◌≡◌, ◌≢◌, ℕ, ◌<◌, true, false, eqb, ltb, List, [], ◌∷◌, ◌++◌, length, length-append, refl, ap, ◌∙◌, arith}
 use Rattle.std.specs.List.{All, flat_map, list_all}
-use Rattle.std.specs.Str.{all_ascii_digits}
 use Rattle.std.proofs.lemmas.Bool.{eq-eqb, ltb-true, ne_eqb}
-use Rattle.std.proofs.lemmas.Fmt.{digits_decimal}
 use Rattle.std.proofs.lemmas.List.{append-nil}
 use Rattle.std.proofs.lemmas.List.Elements.{All-append, All-cons, All-head, All-nil, All-tail, All-weaker}
 use Rattle.std.proofs.lemmas.List.Splits.{slice_split_at, slice_split_none}
 use Rattle.std.proofs.lemmas.List.Sums.{AllPass-from_list_all}
-use Rattle.std.proofs.lemmas.Str.Parse.{tells_all_ascii_digits}
 use Rattle.ndl_session.specs.text.Lines.{parts}
 use Rattle.ndl_session.specs.text.Printing.{listed}
-use Rattle.ndl_session.proofs.texts.Digits.{own}
 
--- ---- digits and signs
-abbrev pub IsSignOrDigit : ℕ → Type 0
-IsSignOrDigit byte = (45 ≤ byte) × (byte ≤ 57) × (byte ≢ 46)
-
-all_digits : (ds : List ℕ) → all_ascii_digits ds ≡ true → All (IsInRange 48 57) ds
-all_digits [] e = All-nil (IsInRange 48 57)
-all_digits (d ∷ ds) e =
-    let found = tells_all_ascii_digits.parts d ds e in
-    All-cons (IsInRange 48 57) d ds found.0 (all_digits ds found.1)
-
-pub decimal_bytes : (n : ℕ) → n < 2 ^ 64 → All IsSignOrDigit (decimal n)
-decimal_bytes n h =
-    All-weaker (IsInRange 48 57) IsSignOrDigit (λ b r. (omega (arith, r.0), r.1, λ e. omega (arith, r.0))) _
-    (all_digits (decimal n) (digits_decimal own n h))
-
-pub signed_decimal_bytes : (z : ℤ) → FitsSigned w64 z → All IsSignOrDigit (signed_decimal z)
-signed_decimal_bytes (pos n) fits = decimal_bytes n (omega (arith, fits.sfits))
-signed_decimal_bytes (negsuc n) fits =
-    All-cons IsSignOrDigit 45 _ (omega arith, omega arith, λ e. omega arith) (decimal_bytes (suc n) (omega (arith, fits.sfits)))
-
--- ---- cuts
 abbrev pub Lacks : ℕ → List ℕ → Type 0
 Lacks separator text = All (λ b. eqb b separator ≡ false) text
 

@@ -3,12 +3,12 @@ use Rattle.std.proofs.Common.{◌≡◌, length}
 use Rattle.ndl_session.specs.text.Bytes.{comma}
 use Rattle.ndl_session.specs.text.Lines.{parts}
 use Rattle.ndl_session.specs.script.Reading.{read_each}
-use Rattle.ndl_session.proofs.Entries.{with_front}
-use Rattle.ndl_session.proofs.script.lists.entries.Given as goal
+use Rattle.ndl_session.proofs.Fronts.{with_front}
+use Rattle.ndl_session.proofs.script.lists.items.Given as goal
 
 abbrev pub invariant-loop-text : goal.invariant-loop-text
 invariant-loop-text g l =
-    with_front l.entries.items (read_each g.T.Entry.entry_of (parts comma l.rest)) ≡ read_each g.T.Entry.entry_of (parts comma l.fn.word)
+    with_front l.items.items (read_each g.T.Item.item_of (parts comma l.rest)) ≡ read_each g.T.Item.item_of (parts comma l.fn.word)
 
 abbrev pub decreases-loop-text : goal.decreases-loop-text
 decreases-loop-text g l = length l.rest
