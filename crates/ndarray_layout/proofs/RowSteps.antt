@@ -9,17 +9,9 @@ use Rattle.ndarray_layout.specs.declared.strided.rows.Row.{Row}
 use Rattle.ndarray_layout.specs.Rows.{row_places, rows_places}
 use Rattle.ndarray_layout.specs.PlacesLeft.{ArePlacesLeft, places_after}
 use Rattle.ndarray_layout.proofs.ByRows.{row_from}
-use Rattle.ndarray_layout.proofs.laws.Rows.{All-first_row, get_or-row_places, length-row_places}
+use Rattle.ndarray_layout.proofs.laws.Rows.{All-first_row, get_or-row_places, length-row_places, no_step, one_more_step}
 
 -- ---- a row
-one_more_step : (i : ℕ) (stride : ℤ) → pos (i + 1) *ℤ stride ≡ (pos i *ℤ stride) +ℤ stride
-one_more_step i (pos s) = omega (arith, ints)
-one_more_step i (negsuc s) = omega (arith, ints)
-
-no_step : (first stride : ℤ) → first +ℤ (pos 0 *ℤ stride) ≡ first
-no_step first (pos s) = omega (arith, ints)
-no_step first (negsuc s) = omega (arith, ints)
-
 -- from one place further on
 one_further : (first stride : ℤ) (a n : ℕ) → map (λ i. first +ℤ (pos i *ℤ stride)) (range_with_len (a + 1) n)
     ≡ map (λ i. (first +ℤ stride) +ℤ (pos i *ℤ stride)) (range_with_len a n)

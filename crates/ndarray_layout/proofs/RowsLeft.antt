@@ -1,5 +1,5 @@
 -- The rows of a view by an axis and the axes that move slower, and what is left of them from one row to the next.
-use Rattle.std.proofs.Common.{◌≡◌, ℕ, zero, suc, ◌+◌, ◌*◌, ◌-◌, ◌/◌, ◌<◌, ◌≤◌, ℤ, pos, negsuc, ◌+ℤ◌, ◌*ℤ◌, ◌≤ℤ◌, Bool, true, false, cond}
+use Rattle.std.proofs.Common.{◌≡◌, ℕ, zero, suc, ◌+◌, ◌*◌, ◌-◌, ◌/◌, ◌<◌, ◌≤◌, ℤ, pos, ◌+ℤ◌, ◌*ℤ◌, ◌≤ℤ◌, Bool, true, false, cond}
 use Rattle.std.proofs.Common.{inl, inr, List, [], ◌∷◌, length, length-append, length-drop, map, drop, nat_eq, refl, sym, ap, subst, ◌∙◌, arith, add-one, drop-cons}
 use Rattle.std.proofs.Common.{drop_of_length-le, eqb-true}
 use Rattle.std.proofs.Math.Dec.{lit≤}
@@ -23,7 +23,7 @@ use Rattle.ndarray_layout.specs.private.Fastest.{EndsIn, HasPlaces, HasRows}
 use Rattle.ndarray_layout.proofs.ByRows.{rows_from}
 use Rattle.ndarray_layout.proofs.Fastest.{EndsIn-map, IsView-others, fastest_item-ends, length-others, offset_of-flat_index, places-others, size-others}
 use Rattle.ndarray_layout.proofs.Fastest.{slower_items-ends}
-use Rattle.ndarray_layout.proofs.laws.Rows.{length-row_places}
+use Rattle.ndarray_layout.proofs.laws.Rows.{length-row_places, no_step, one_more_step}
 use Rattle.ndarray_layout.proofs.laws.View.{HasPlace, length-view_places, view_place}
 
 -- ---- the axis of a view
@@ -95,10 +95,6 @@ module _ (order : Order) (lens strides : List ℕ) (axis : Fastest) (point : IsP
   }
 
 -- ---- an axis of length 1 moves no place
-no_step : (place stride : ℤ) → place +ℤ (pos 0 *ℤ stride) ≡ place
-no_step place (pos s) = omega (arith, ints)
-no_step place (negsuc s) = omega (arith, ints)
-
 rows_of_one : (stride : ℤ) (places : List ℤ) → rows_from stride 1 places ≡ places
 rows_of_one stride [] = refl
 rows_of_one stride (place ∷ places) =
@@ -293,10 +289,6 @@ place_on_axis order start axis flat coordinate v on below =
     ∙ ap (λ n. (pos coordinate *ℤ signed axis.stride) +ℤ offset_of strides (index_of_flat_in order axis.lens.now n))
     (div-mul-add flat axis.len coordinate on) in
     omega (arith, ints, moved)
-
-one_more_step : (coordinate : ℕ) (stride : ℤ) → pos (coordinate + 1) *ℤ stride ≡ (pos coordinate *ℤ stride) +ℤ stride
-one_more_step coordinate (pos s) = omega (arith, ints)
-one_more_step coordinate (negsuc s) = omega (arith, ints)
 
 -- one coordinate on, it lies a stride on
 next_on_axis : (order : Order) (start : ℕ) (axis : Fastest) (flat coordinate : ℕ) → IsView (axis_view order start axis)

@@ -21,6 +21,16 @@ use Rattle.ndarray_layout.proofs.Fastest.{IsView-others, ends_of_some, places-ot
 use Rattle.ndarray_layout.proofs.laws.View.{no_places, places_lie_within, view_place}
 
 -- ---- a row, and rows
+-- its first place is the start
+pub no_step : (place stride : ℤ) → place +ℤ (pos 0 *ℤ stride) ≡ place
+no_step place (pos s) = omega (arith, ints)
+no_step place (negsuc s) = omega (arith, ints)
+
+-- and each other one lies a stride after the one before it
+pub one_more_step : (i : ℕ) (stride : ℤ) → pos (i + 1) *ℤ stride ≡ (pos i *ℤ stride) +ℤ stride
+one_more_step i (pos s) = omega (arith, ints)
+one_more_step i (negsuc s) = omega (arith, ints)
+
 -- as many places as its length says
 pub length-row_places : (start : ℕ) (stride : ℤ) (len : ℕ) → length (row_places start stride len) ≡ len
 length-row_places start stride len = length-map-range_with_len (λ i. pos start +ℤ (pos i *ℤ stride)) 0 len
@@ -79,10 +89,6 @@ from_places order view (place ∷ places) low =
     ap (λ first. row_from first stride len ++ rows_places (map (row_at order view) places)) start
     ∙ ap (λ others. row_from place stride len ++ others)
     (from_places order view places (All-tail (λ place. pos 0 ≤ℤ place) place places low))
-
-no_step : (place stride : ℤ) → place +ℤ (pos 0 *ℤ stride) ≡ place
-no_step place (pos s) = omega (arith, ints)
-no_step place (negsuc s) = omega (arith, ints)
 
 -- without axes there is one place
 of_no_axes : (order : Order) (start : ℕ) → rows_places (view_rows order (record { start = start; shape = []; strides = [] }))
