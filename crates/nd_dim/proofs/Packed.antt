@@ -4,7 +4,6 @@ use Rattle.std.proofs.Common.{get_or, map, cond, refl, ap, sym, ◌∙◌, arith
 use Rattle.std.specs.List.{filter, slice_index}
 use Rattle.std.specs.Cmp.Rules.{signed_items}
 use Rattle.std.specs.Prelude.{IsTrue}
-use Rattle.std.proofs.lemmas.Bool.{cond-true, cond-false}
 use Rattle.std.proofs.lemmas.Bool.Decides.{same_from_decides}
 use Rattle.std.proofs.lemmas.Int.{of_z-to_z}
 use Rattle.std.proofs.lemmas.List.{map-append, length-map, ext_get_or, get_or-map}

@@ -1,7 +1,6 @@
 -- The step at one axis, where a shape begins with the axis that moves fastest: the entries before it are at their ends and become 0.
 use Rattle.std.proofs.Common.{◌≡◌, ℕ, ◌+◌, ◌-◌, ◌*◌, ◌<◌, ◌≤◌, true, List, [], ◌∷◌, ◌++◌, length, get_or, set, take, drop, replicate}
 use Rattle.std.proofs.Common.{reverse, refl, sym, ap, ap₂, subst, ◌∙◌, arith, append_assoc}
-use Rattle.std.specs.Prelude.{nat_lt}
 use Rattle.std.proofs.lemmas.Bool.{and_from, and_parts, lt-ltb}
 use Rattle.std.proofs.lemmas.List.{append-nil, drop_all, drop_more, get_or-append-add, length-drop, length-replicate, length-reverse}
 use Rattle.std.proofs.lemmas.List.{length-take-le, replicate_more, reverse-append, reverse-reverse, set_at, take-append-drop}

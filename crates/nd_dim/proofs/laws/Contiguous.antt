@@ -3,8 +3,7 @@ use Rattle.std.proofs.Common.{◌≡◌, ◌⊎◌, ◌↔◌, ℕ, zero, suc, �
 use Rattle.std.proofs.Common.{[], ◌∷◌, length, map, cond, refl, sym, ap, ◌∙◌, arith, inl, inr, subst}
 use Rattle.std.specs.Bool.{IsTrue}
 use Rattle.std.specs.List.Sorted.{IsPermutation}
-use Rattle.std.specs.Ordering.{int_eq}
-use Rattle.std.specs.Prelude.{if◌then◌else◌, nat_le, nat_lt, slice_index, ◌==◌, ◌&&◌, ◌||◌}
+use Rattle.std.specs.Prelude.{if◌then◌else◌, nat_lt, slice_index, ◌==◌, ◌&&◌, ◌||◌}
 use Rattle.std.proofs.lemmas.Bool.{cond-false, eq-eqb, eqb-true, le-leb, leb-true, both_ways, eqb-false, ne_eqb, or_cases}
 use Rattle.std.proofs.lemmas.Bool.{or_left, or_parts, or_right}
 use Rattle.std.proofs.lemmas.Bool.Decides.{Decides-int_eq, nat_tests}
@@ -15,7 +14,7 @@ use Rattle.nd_base.specs.declared.order.Order.TheVariants.{RowMajor}
 use Rattle.nd_base.proofs.laws.Below.{all_below, passes_below}
 use Rattle.nd_base.proofs.laws.Definitions.{below, offset_of, places, index_of_flat, flat_index, magnitude, is_empty, size, low_span}
 use Rattle.nd_base.proofs.laws.FlatIndex.{is_index-index_of_flat, flat_index-index_of_flat, same_from_flat_index_in}
-use Rattle.nd_dim.specs.Contiguous.{has_default_strides, is_contiguous, is_lone_step_back, is_packed, is_packed_at, lens_before}
+use Rattle.nd_dim.specs.Contiguous.{is_contiguous, is_lone_step_back, is_packed, is_packed_at, lens_before}
 use Rattle.nd_dim.specs.OneStretch.{FillsStretch}
 use Rattle.nd_dim.specs.Strides.{default_strides}
 use Rattle.nd_dim.proofs.PackedLayouts.{IsPackedAt, fills_from_packed, packed_from_reaches}

@@ -1,6 +1,6 @@
 -- Laws of accepted layouts.
 use Rattle.std.proofs.Common.{◌≡◌, ℕ, ℤ, false, List, length, None, arith, sym, ◌∙◌}
-use Rattle.std.specs.Prelude.{nat_le, nat_lt, not, ◌&&◌}
+use Rattle.std.specs.Prelude.{nat_le, not, ◌&&◌}
 use Rattle.std.proofs.lemmas.Bool.{cond-false, leb-false}
 use Rattle.std.proofs.lemmas.Grind.{common_steps}
 use Rattle.nd_base.proofs.laws.Definitions.{HasDistinctOffsets, LiesInside, is_empty, low_span, span, IsValidLayout}

@@ -2,7 +2,6 @@
 use Rattle.std.proofs.Common.{◌≡◌, ℕ, zero, suc, ◌+◌, ◌-◌, ◌*◌, ◌<◌, pos, false, eqb, List, [], ◌∷◌, length, get_or, map}
 use Rattle.std.proofs.Common.{refl, sym, arith}
 use Rattle.std.proofs.Common.{pos_of_ne-zero}
-use Rattle.std.specs.Prelude.{nat_le}
 use Rattle.std.proofs.Math.Nat.{suc-mul}
 use Rattle.std.proofs.lemmas.Bool.{cond-false, eqb-false, lt-leb, or_parts}
 use Rattle.std.proofs.lemmas.Nat.{mul-le}

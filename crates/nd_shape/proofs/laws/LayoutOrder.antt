@@ -1,7 +1,6 @@
 -- Laws of layouts whose indices lie one after another: they are those of the rule on strides.
 use Rattle.std.proofs.Common.{◌≡◌, ◌≢◌, ℕ, zero, suc, ◌+◌, ◌<◌, ℤ, pos, ◌+ℤ◌, ◌*ℤ◌, true, List, [], ◌∷◌, length, get_or}
 use Rattle.std.proofs.Common.{map, replicate, set, inl, inr, refl, sym, ap, ◌∙◌, ◌↔◌, arith}
-use Rattle.std.specs.Prelude.{nat_lt}
 use Rattle.std.proofs.lemmas.Bool.{and_parts, cases_Bool, cases_eq, ltb-true}
 use Rattle.std.proofs.lemmas.Int.{ints}
 use Rattle.std.proofs.lemmas.List.{get_or-map, length-map}

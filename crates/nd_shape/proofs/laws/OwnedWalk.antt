@@ -1,10 +1,9 @@
 -- The walk along the axes by their strides answers what the rule for owned data does.
 use Rattle.std.proofs.Common.{◌≡◌, ℕ, zero, suc, ◌+◌, ◌-◌, ◌<◌, ◌≤◌, ℤ, pos, true, false, List, [], ◌∷◌, length, get_or, take}
 use Rattle.std.proofs.Common.{drop, refl, sym, ap, ◌∙◌, inl, inr, arith, add-one, drop-cons, mul-zero, one-mul, zero-mul}
-use Rattle.std.specs.Prelude.{nat_le}
 use Rattle.std.specs.List.{sum_by, range_with_len, All}
 use Rattle.std.specs.List.Sorted.{IsPermutation}
-use Rattle.std.proofs.lemmas.Bool.{and_from, and_parts, cases_lt, cond-true, cond-false, le-leb, lt-leb}
+use Rattle.std.proofs.lemmas.Bool.{and_from, and_parts, cases_lt}
 use Rattle.std.proofs.lemmas.Bool.Decides.{nat_tests, same_from_decides}
 use Rattle.std.proofs.lemmas.List.{drop_all, get_or_default, get_or-drop, get_or-take, length-drop, length-take}
 use Rattle.std.proofs.lemmas.Nat.{mul-le}

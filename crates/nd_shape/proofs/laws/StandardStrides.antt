@@ -5,14 +5,14 @@ use Rattle.std.proofs.lemmas.Bool.{cases_Bool, cond-true}
 use Rattle.std.proofs.lemmas.List.{length-map}
 use Rattle.nd_base.specs.declared.order.Order.{Order}
 use Rattle.nd_base.specs.declared.order.Order.TheVariants.{RowMajor, ColumnMajor}
-use Rattle.nd_base.proofs.laws.Definitions.{HasDistinctOffsets, LiesInside, IsValidLayout, as_read, below, is_index, offset_of}
+use Rattle.nd_base.proofs.laws.Definitions.{HasDistinctOffsets, LiesInside, IsValidLayout, as_read, is_index, offset_of}
 use Rattle.nd_base.proofs.laws.Definitions.{flat_index_in}
 use Rattle.nd_base.proofs.laws.Definitions.{all_signed, signed, is_empty, limit, nonzero_size, size, low_span, reach, span}
 use Rattle.nd_base.proofs.laws.NonzeroSize.{size_le_nonzero_size}
 use Rattle.nd_base.proofs.laws.FlatIndex.{flat_index_in-lt-size, same_from_flat_index_in}
 use Rattle.nd_base.proofs.laws.Reading.{as_read-as_read, is_empty-as_read, map-as_read, nonzero_size-as_read, sum_over_axes-as_read}
 use Rattle.nd_base.proofs.laws.Signed.{all_signed_small}
-use Rattle.nd_dim.specs.Strides.{default_strides, size_after}
+use Rattle.nd_dim.specs.Strides.{default_strides}
 use Rattle.nd_dim.proofs.laws.Strides.{default_count, default_small, fortran_by_default, fortran_count}
 use Rattle.nd_dim.proofs.laws.Strides.{offset_of-default_strides, offset_of-fortran_strides}
 use Rattle.nd_shape.specs.ShapeBuilder.{standard_strides}

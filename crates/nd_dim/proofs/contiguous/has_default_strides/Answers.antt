@@ -1,7 +1,7 @@
 use Rattle.std.proofs.Common.{◌≡◌, ◌<◌, ◌+◌, ◌-◌, length, ℕ, drop, get_or, Fits, w64, arith, sym, ap, ◌∙◌, refl}
 use Rattle.std.proofs.lemmas.Bool.{cond-false}
 use Rattle.std.proofs.lemmas.List.FromFn.{fill_by_all}
-use Rattle.nd_base.specs.Size.{size, is_empty}
+use Rattle.nd_base.specs.Size.{size}
 use Rattle.nd_dim.specs.Strides.{size_after, default_strides}
 use Rattle.nd_dim.proofs.laws.Strides.{default_at}
 use Rattle.nd_base.proofs.laws.NonzeroSize.{size_le_nonzero_size}
