@@ -16,10 +16,9 @@ use Rattle.ndarray_layout.specs.declared.Fit.TheVariants.{Strict}
 use Rattle.ndarray_layout.specs.declared.LayoutError.{LayoutError}
 use Rattle.ndarray_layout.specs.declared.LayoutError.TheVariants.{Shape, Memory}
 use Rattle.ndarray_layout.specs.declared.SliceInfoElem.{SliceInfoElem}
-use Rattle.ndarray_layout.specs.ArgumentFault.{argument_fault, out_count}
+use Rattle.ndarray_layout.specs.ArgumentFault.{argument_fault}
 use Rattle.ndarray_layout.specs.Meet.{Meet}
 use Rattle.ndarray_layout.specs.ShapeFault.{shape_fault}
-use Rattle.ndarray_layout.specs.SlicedView.{slice_refusal}
 use Rattle.nd_owned.specs.private.Checks.{IsIntersectionFaultOf}
 use Rattle.nd_owned.proofs.Placed.{IsItem}
 use Rattle.nd_owned.specs.Writes.{Write, IsFaultOfWrites, IsIntersectionFault, counts_fault, has_count, slices_fault}
@@ -160,12 +159,6 @@ pub no_fault : {T : Type 0} (shape : List ℕ) (writes : List (Write T)) → cou
     → IsIntersectionFault shape writes None → IsFaultOfWrites shape writes None
 no_fault shape writes none apart = subst (λ fault. MatchOption fault (IsIntersectionFault shape writes None) (λ kind. None ≡ Some kind))
     (sym none) apart
-
--- a slice that leaves as many axes as a type fixes has no error but its own
-pub refusal_of_count : (count : ℕ) (shape : List ℕ) (elems : List SliceInfoElem) → out_count elems ≡ count
-    → slice_refusal Strict (Some count) shape elems ≡ argument_fault Strict shape elems
-refusal_of_count count shape elems same =
-    ap (λ test. cond test (argument_fault Strict shape elems) (Some IncompatibleShape)) (eq-eqb (out_count elems) count same)
 
 -- the fault of one write, by those of its slice and of its count
 pub fault_of_one : {T : Type 0} (shape : List ℕ) (write : Write T) {fault : Option ErrorKind} {have : Bool}

@@ -10,7 +10,7 @@ use Rattle.std.proofs.lemmas.List.Elements.{All-append, All-head, All-tail, Cont
 use Rattle.ndarray_layout.specs.Inside.{IsInside}
 use Rattle.ndarray_layout.proofs.laws.Lists.{map_same}
 use Rattle.nd_owned.specs.Owned.{item_at_place}
-use Rattle.nd_owned.specs.private.Rows.{AreInside, HasWritten}
+use Rattle.nd_owned.specs.private.Written.{AreInside, HasWritten}
 
 -- an item of a list is the same whatever stands for a missing one
 pub other_default : {X : Type 0} (xs : List X) (i : ℕ) (d e : X) → i < length xs → get_or xs i d ≡ get_or xs i e
@@ -22,12 +22,6 @@ other_default (x ∷ xs) (suc i) d e below = other_default xs i d e (omega arith
 pub record IsItem {X : Type 0} (xs : List X) (i : ℕ) (x : X) : Type 0 where
   pub below : i < length xs
   pub is : x ≡ get_or xs i x
-
--- the number of one turn of a loop over a list that is another one
-pub number_of_turn : {given xs : List ℕ} (i : ℕ) → given ≡ xs → i < length given → IsItem xs i (get_or given i 0)
-number_of_turn {given} {xs} i same below =
-    let under : i < length xs = subst (λ those. i < length those) same below in
-    record { below = under; is = ap (λ those. get_or those i 0) same ∙ other_default xs i 0 (get_or given i 0) under }
 
 -- ---- what holds of a list of two parts
 pub all_first : {X : Type 0} (P : X → Type 0) (xs ys : List X) → All P (xs ++ ys) → All P xs
@@ -56,60 +50,30 @@ parts_apart xs ys distinct = λ k d below here.
     (get_or_append_left xs ys d k below ∙ sym here.2 ∙ other_default ys here.0 (get_or xs k d) d here.1
     ∙ sym (get_or-append-add xs ys here.0 d))
 
--- ---- a list of lists, at one of them
-parts_of : {A X : Type 0} (f : A → List X) {xs : List A} {i : ℕ} {x : A} → IsItem xs i x
-    → flat_map f xs ≡ (flat_map f (take i xs) ++ f x) ++ flat_map f (drop (i + 1) xs)
-parts_of f {xs} {i} {x} item =
-    let cut : xs ≡ (take i xs ++ x ∷ []) ++ drop (i + 1) xs =
-    sym (take-append-drop i xs)
-    ∙ ap (λ ys. take i xs ++ ys) (drop_more xs i x item.below ∙ ap (λ y. y ∷ drop (i + 1) xs) (sym item.is))
-    ∙ sym (append_assoc (take i xs) (x ∷ []) (drop (i + 1) xs)) in
-    ap (flat_map f) cut
-    ∙ flat_map-append f (take i xs ++ x ∷ []) (drop (i + 1) xs)
-    ∙ ap (λ ys. ys ++ flat_map f (drop (i + 1) xs)) (flat_map-append f (take i xs) (x ∷ []) ∙ ap (λ ys. flat_map f (take i xs) ++ ys)
-    (append-nil (f x)))
+-- ---- a list of lists, as a loop goes over it
+-- one more that is kept of a list, before those that are left
+pub parts_pushed : {A B X : Type 0} (f : A → List X) (g : B → List X) (old : List A) {new : List A} {x : A} {y : B} {left others : List B}
+    {all : List X} → new ≡ old ++ x ∷ [] → left ≡ y ∷ others → f x ≡ g y → flat_map f old ++ flat_map g left ≡ all
+    → flat_map f new ++ flat_map g others ≡ all
+parts_pushed f g old {x = x} {y} {others = others} pushed first same so_far =
+    ap (λ xs. flat_map f xs ++ flat_map g others) pushed
+    ∙ ap (λ xs. xs ++ flat_map g others) (flat_map-append f old (x ∷ []) ∙ ap (λ ys. flat_map f old ++ ys) (append-nil (f x) ∙ same))
+    ∙ append_assoc (flat_map f old) (g y) (flat_map g others)
+    ∙ ap (λ ys. flat_map f old ++ flat_map g ys) (sym first)
+    ∙ so_far
 
--- those so far, with one more
-pub parts_more : {A X : Type 0} (f : A → List X) {xs : List A} {i : ℕ} {x : A} → IsItem xs i x
-    → flat_map f (take (i + 1) xs) ≡ flat_map f (take i xs) ++ f x
-parts_more f {xs} {i} {x} item =
-    ap (flat_map f) (take_more xs i x item.below ∙ ap (λ y. take i xs ++ y ∷ []) (sym item.is))
-    ∙ flat_map-append f (take i xs) (x ∷ [])
-    ∙ ap (λ ys. flat_map f (take i xs) ++ ys) (append-nil (f x))
+-- one that has nothing is left out
+pub parts_skipped : {B X : Type 0} (g : B → List X) (kept : List X) {y : B} {left others : List B} {all : List X} → left ≡ y ∷ others
+    → length (g y) ≡ 0 → kept ++ flat_map g left ≡ all → kept ++ flat_map g others ≡ all
+parts_skipped g kept {y} {others = others} first none so_far =
+    ap (λ ys. kept ++ (ys ++ flat_map g others)) (sym (nil_from_length (g y) none))
+    ∙ ap (λ ys. kept ++ flat_map g ys) (sym first)
+    ∙ so_far
 
--- one that has nothing adds nothing
-pub parts_skipped : {A X : Type 0} (f : A → List X) {xs : List A} {i : ℕ} {x : A} → IsItem xs i x → length (f x) ≡ 0
-    → flat_map f (take (i + 1) xs) ≡ flat_map f (take i xs)
-parts_skipped f {xs} {i} {x} item none = parts_more f item ∙ ap (λ ys. flat_map f (take i xs) ++ ys) (nil_from_length (f x) none)
-    ∙ append-nil (flat_map f (take i xs))
-
--- one more of two lists of lists
-pub parts_pushed : {A B X : Type 0} (f : A → List X) (g : B → List X) (old : List A) (x : A) {ys : List B} {i : ℕ} {y : B} → IsItem ys i y
-    → f x ≡ g y → flat_map f old ≡ flat_map g (take i ys) → flat_map f (old ++ x ∷ []) ≡ flat_map g (take (i + 1) ys)
-parts_pushed f g old x {y = y} item same before =
-    flat_map-append f old (x ∷ [])
-    ∙ ap (λ zs. flat_map f old ++ zs) (append-nil (f x) ∙ same)
-    ∙ ap (λ zs. zs ++ g y) before
-    ∙ sym (parts_more g item)
-
-pub all_of_part : {A X : Type 0} (P : X → Type 0) (f : A → List X) {xs : List A} {i : ℕ} {x : A} → IsItem xs i x
-    → All P (flat_map f xs) → All P (f x)
-all_of_part P f {xs} {i} {x} item all =
-    all_second P (flat_map f (take i xs)) (f x) (all_first P (flat_map f (take i xs) ++ f x) (flat_map f (drop (i + 1) xs))
-    (subst (All P) (parts_of f item) all))
-
-pub inside_of_part : {A : Type 0} {count : ℕ} (f : A → List ℤ) {xs : List A} {i : ℕ} {x : A} → IsItem xs i x
-    → AreInside count (flat_map f xs) → AreInside count (f x)
-inside_of_part {count} f item inside = record {
-  within = all_of_part (IsInside count) f item inside.within;
-  fit = all_of_part (IsInside (2 ^ 63)) f item inside.fit;
-}
-
-pub pairs_of_part : {A X : Type 0} (R : X → X → Type 0) (f : A → List X) {xs : List A} {i : ℕ} {x : A} → IsItem xs i x
-    → AllPairs R (flat_map f xs) → AllPairs R (f x)
-pairs_of_part R f {xs} {i} {x} item pairs =
-    pairs_second R (flat_map f (take i xs)) (f x)
-    (pairs_first R (flat_map f (take i xs) ++ f x) (flat_map f (drop (i + 1) xs)) (subst (AllPairs R) (parts_of f item) pairs))
+-- in the end none is left
+pub parts_ended : {B X : Type 0} (g : B → List X) (kept : List X) {left : List B} {all : List X} → left ≡ [] → kept ++ flat_map g left ≡ all
+    → kept ≡ all
+parts_ended g kept ended so_far = sym (append-nil kept) ∙ ap (λ ys. kept ++ flat_map g ys) (sym ended) ∙ so_far
 
 -- ---- writes
 set_same : {X : Type 0} (xs : List X) (i : ℕ) {x : X} → i < length xs → slice_get (set xs i x) i ≡ Some x
@@ -161,22 +125,24 @@ both_written count {first} {second} {items} {more} {mid} {new} inside distinct o
           ∙ one.kept place (λ here. spared (Contains-append_left first second (pos place) here));
     }
 
--- one list more of lists of places
-pub one_more_written : {A X : Type 0} (count : ℕ) (f : A → List ℤ) {xs : List A} {i : ℕ} {x : A} {items more old mid new : List X}
-    → IsItem xs i x → All (IsInside count) (flat_map f xs) → AllPairs (λ one other. one ≢ other) (flat_map f xs)
-    → HasWritten (flat_map f (take i xs)) items old mid → HasWritten (f x) more mid new
-    → HasWritten (flat_map f (take (i + 1) xs)) (items ++ more) old new
-one_more_written count f {xs} {i} {x} {items} {more} {old} {new = new} item inside distinct one other =
-    let first = flat_map f (take i xs) in
-    let others = flat_map f (drop (i + 1) xs) in
-    let cut = parts_of f item in
-    subst (λ places. HasWritten places (items ++ more) old new) (sym (parts_more f item))
-    (both_written count
-    (all_first (IsInside count) first (f x) (all_first (IsInside count) (first ++ f x) others (subst (All (IsInside count)) cut inside)))
-    (pairs_first (λ one other. one ≢ other) (first ++ f x) others (subst (AllPairs (λ one other. one ≢ other)) cut distinct)) one other)
+-- the items of a list are these, and then those
+pub record AreBoth {X : Type 0} (all these those : List X) : Type 0 where
+  pub are : all ≡ these ++ those
 
--- what holds of each list holds of all of them together
-pub all_together : {A X : Type 0} (P : X → Type 0) (f : A → List X) (xs : List A) → All (λ a. All P (f a)) xs → All P (flat_map f xs)
-all_together P f [] all = λ k d below. absurd (omega arith)
-all_together P f (x ∷ xs) all = All-append P (f x) (flat_map f xs) (All-head (λ a. All P (f a)) x xs all)
-    (all_together P f xs (All-tail (λ a. All P (f a)) x xs all))
+-- the places of two parts, of which the first is written first
+module _ {all first second : List ℤ} (cut : AreBoth all first second) where
+  pub first_distinct : AllPairs (λ one other. one ≢ other) all → AllPairs (λ one other. one ≢ other) first
+  first_distinct distinct =
+      pairs_first (λ one other. one ≢ other) first second (subst (AllPairs (λ one other. one ≢ other)) cut.are distinct)
+
+  pub second_distinct : AllPairs (λ one other. one ≢ other) all → AllPairs (λ one other. one ≢ other) second
+  second_distinct distinct =
+      pairs_second (λ one other. one ≢ other) first second (subst (AllPairs (λ one other. one ≢ other)) cut.are distinct)
+
+  pub parts_written : {X : Type 0} (count : ℕ) {items these those old mid new : List X} → All (IsInside count) first
+      → AllPairs (λ one other. one ≢ other) all → AreBoth items these those → HasWritten first these old mid
+      → HasWritten second those mid new → HasWritten all items old new
+  parts_written count {items} {these} {those} {old} {new = new} inside distinct given one other =
+      subst (λ places. HasWritten places items old new) (sym cut.are)
+      (subst (λ xs. HasWritten (first ++ second) xs old new) (sym given.are)
+      (both_written count inside (subst (AllPairs (λ one other. one ≢ other)) cut.are distinct) one other))

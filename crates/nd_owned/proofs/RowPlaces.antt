@@ -10,25 +10,13 @@ use Rattle.std.proofs.lemmas.List.FromFn.{take-map-range_with_len}
 use Rattle.std.proofs.lemmas.Option.{slice_get-get_or}
 use Rattle.ndarray_layout.specs.Indices.{below}
 use Rattle.ndarray_layout.specs.Inside.{IsInside}
+use Rattle.ndarray_layout.specs.Rows.{row_places}
+use Rattle.ndarray_layout.proofs.laws.Rows.{get_or-row_places, length-row_places, row_more}
 use Rattle.nd_owned.specs.Owned.{item_at_place}
-use Rattle.nd_owned.specs.private.Rows.{HasWritten, row_places}
+use Rattle.nd_owned.specs.private.Written.{HasWritten}
 use Rattle.nd_owned.proofs.Placed.{IsItem, all_first, both_written, one_written, pairs_first}
 
 -- ---- a row
-pub length-row_places : (start : ℕ) (stride : ℤ) (len : ℕ) → length (row_places start stride len) ≡ len
-length-row_places start stride len = length-map-range_with_len (λ entry. pos start +ℤ (pos entry *ℤ stride)) 0 len
-
--- the place of an entry
-pub get_or-row_places : (start : ℕ) (stride : ℤ) (len entry : ℕ) (d : ℤ) → entry < len
-    → get_or (row_places start stride len) entry d ≡ pos start +ℤ (pos entry *ℤ stride)
-get_or-row_places start stride len entry d below = get_or-map-range_with_len (λ n. pos start +ℤ (pos n *ℤ stride)) 0 len entry entry d below
-    (omega arith)
-
--- the row with one place more
-pub row_more : (start : ℕ) (stride : ℤ) (len : ℕ)
-    → row_places start stride (len + 1) ≡ row_places start stride len ++ (pos start +ℤ (pos len *ℤ stride)) ∷ []
-row_more start stride len = map-range_with_len_more (λ n. pos start +ℤ (pos n *ℤ stride)) 0 len len (omega arith)
-
 -- its first places
 pub take-row_places : (start : ℕ) (stride : ℤ) (len entry : ℕ) → entry ≤ len
     → take entry (row_places start stride len) ≡ row_places start stride entry
@@ -218,29 +206,3 @@ pub write_neighbours : {X : Type 0} {old items : List X} (start : ℕ) → start
     → HasWritten (row_places start (pos 1) (length items)) items old (take start old ++ (items ++ drop (length items) (drop start old)))
 write_neighbours {old} {items} start within = subst (λ others. HasWritten (row_places start (pos 1) (length items)) items old
     (take start old ++ (items ++ others))) (sym (drop-drop (length items) start old)) (put_in start within)
-
--- ---- rows
--- as many places as rows times their length
-pub length-rows : (stride : ℤ) (len : ℕ) (starts : List ℕ)
-    → length (flat_map (λ start. row_places start stride len) starts) ≡ length starts * len
-length-rows stride len [] = omega arith
-length-rows stride len (start ∷ starts) =
-    omega (
-      arith,
-      length-append (row_places start stride len) (flat_map (λ start. row_places start stride len) starts),
-      length-row_places
-          start stride len,
-      length-rows stride len starts,
-    )
-
--- rows of one place each are where they begin
-pub rows_of_one : (starts : List ℕ) → flat_map (λ start. row_places start (pos 1) 1) starts ≡ map pos starts
-rows_of_one [] = refl
-rows_of_one (start ∷ starts) =
-    let here : start + 0 ≡ start = omega arith in
-    ap (λ places. row_places start (pos 1) 1 ++ places) (rows_of_one starts) ∙ ap (λ n. pos n ∷ map pos starts) here
-
--- rows without places
-pub rows_of_none : (stride : ℤ) (starts : List ℕ) → flat_map (λ start. row_places start stride 0) starts ≡ []
-rows_of_none stride [] = refl
-rows_of_none stride (start ∷ starts) = rows_of_none stride starts

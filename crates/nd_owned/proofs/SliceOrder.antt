@@ -163,6 +163,16 @@ apart_from_here {shape = shape} {axis = axis} slice writes {first} {after} cut o
     apart_on shape axis slice other.slice past.first (order.ranges k d below) (omega (arith, past.past, from))
     (fits, each_fits shape writes others_fit k d below)
 
+-- a slice that begins past where another one stops on the axis in order
+pub past_in_order : (shape : List ℕ) (slice other : List SliceInfoElem) (in_order : Option ℕ) (end : Option (ℕ × ℕ))
+    → IfSome end (λ e. (in_order ≡ Some e.0) × HasRange shape e.0 slice × (e.1 ≡ end_on shape e.0 slice))
+    → IsSomeAnd end (λ e. HasRange shape e.0 other × (e.1 ≤ start_on shape e.0 other))
+    → IsSomeAnd in_order (λ axis. IsPast shape axis slice other)
+past_in_order shape slice other in_order None known past = absurd past
+past_in_order shape slice other in_order (Some end) known past =
+    subst (λ order. IsSomeAnd order (λ axis. IsPast shape axis slice other)) (sym known.0)
+    (record { first = known.1; second = past.0; past = omega (arith, known.2, past.1) })
+
 -- the same where it isn't known whether there is such an axis
 module _ {T : Type 0} (shape : List ℕ) (writes : List (Write T)) (i : ℕ) where
   pub apart_in_order : (axis : Option ℕ) (slice : List SliceInfoElem) {first : Write T} {after : List (Write T)}

@@ -24,7 +24,7 @@ use Rattle.ndarray_layout.proofs.laws.SharePlace.{meet_of_shared_place}
 use Rattle.ndarray_layout.proofs.laws.SlicedView.{Descends-slice_of}
 use Rattle.ndarray_layout.proofs.laws.View.{length-view_places}
 use Rattle.nd_owned.specs.Owned.{item_at_place}
-use Rattle.nd_owned.specs.private.Rows.{HasWritten}
+use Rattle.nd_owned.specs.private.Written.{HasWritten}
 use Rattle.nd_owned.specs.Writes.{Write, AreApart, IsFaultOfWrites, IsIntersectionFault, IsWritten, KeepsOthers, Spares, counts_fault}
 use Rattle.nd_owned.specs.Writes.{has_count, slices_fault, write_places}
 use Rattle.nd_owned.proofs.Faults.{both_none}
@@ -148,18 +148,6 @@ all_distinct {T = T} view writes v distinct none apart = by writes (each_fits vi
         (Contains-get_or (write_places view write) k d below, here)))
 
 -- ---- what is left
--- what is written at the places of parts, where these are the places of the writes
-pub at_places : {A T : Type 0} (f : A → List ℤ) (h : A → List T) (view : View) (writes : List (Write T)) {given parts : List A}
-    {old new : List T} → given ≡ parts → flat_map f parts ≡ flat_map (write_places view) writes → flat_map h parts
-    ≡ flat_map (λ write. write.items) writes → (AllPairs (λ one other. one ≢ other) (flat_map f given) → HasWritten (flat_map f given)
-    (flat_map h given) old new) → AllPairs (λ one other. one ≢ other) (flat_map (write_places view) writes)
-    → HasWritten (flat_map (write_places view) writes) (flat_map (λ write. write.items) writes) old new
-at_places f h view writes {given} {old} {new} same places items left =
-    subst (λ zs. AllPairs (λ one other. one ≢ other) zs → HasWritten zs (flat_map (λ write. write.items) writes) old new)
-    (ap (flat_map f) same ∙ places)
-    (subst (λ xs. AllPairs (λ one other. one ≢ other) (flat_map f given) → HasWritten (flat_map f given) xs old new) (ap (flat_map h) same
-    ∙ items) left)
-
 pub all_written : {T : Type 0} (view : View) (writes : List (Write T)) (old new : List T) → list_all (has_count view.shape) writes ≡ true
     → HasWritten (flat_map (write_places view) writes) (flat_map (λ write. write.items) writes) old new → All (IsWritten view new) writes
 all_written {T = T} view writes old new counts left = by writes (each_count view writes counts) left.written

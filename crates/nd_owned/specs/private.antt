@@ -1,3 +1,4 @@
 pub mod Checks
+pub mod Parts
 pub mod Ranges
-pub mod Rows
+pub mod Written

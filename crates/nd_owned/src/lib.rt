@@ -2,9 +2,9 @@
 //! places of its layout.
 #![tactic(auto)]
 
-mod blocks;
 mod iterating;
 mod owned;
+mod parts;
 mod ranges;
 mod rows;
 mod writes;

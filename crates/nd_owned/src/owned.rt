@@ -19,13 +19,14 @@ ghost use Rattle.ndarray_layout.specs.Span.{low_span};
 ghost use Rattle.ndarray_layout.specs.View.{view_of, view_places};
 ghost use Rattle.nd_owned.specs.Owned.{IsOfNone, IsOwned, item_at, item_at_place, shape_fault_of, with_item, with_items};
 ghost use Rattle.nd_owned.specs.Writes.{HaveNoItems, IsFaultOfWrites, IsWritten, KeepsOthers, counts_fault, write_of, write_places};
-ghost use Rattle.nd_owned.specs.private.Rows.{HasWritten};
+ghost use Rattle.nd_owned.specs.private.Written.{HasWritten};
 
-use crate::rows::rows_of;
-use crate::writes::{check_apart, check_counts, rows_of_each, rows_of_write, write_all};
+use crate::parts::Part;
+use crate::rows::view_size;
+use crate::writes::{check_apart, check_counts, part_of_write, parts_of, write_all};
 use ndarray_layout::{
     CanIndexCheckMode, LayoutError, Lengths, NdIndex, SliceElems, SliceInfoElem, StrideShape,
-    Strided, product,
+    Strided,
 };
 use std::alloc::Global;
 use std::marker::Model;
@@ -120,7 +121,7 @@ impl<T: Copy, D: Lengths> OwnedArray<T, D> {
     pub fn len(&self) -> usize
         ensures { result ≡ size self.now.view.shape }
     {
-        product(self.view.dim().slice())
+        view_size(&self.view)
     }
 
     /// Whether the shape has no index. ndarray's `is_empty`.
@@ -197,8 +198,7 @@ impl<T: Copy, D: Lengths> OwnedArray<T, D> {
 
     /// Copies of the items that a slice picks, in row-major order.
     ///
-    /// Each row of neighbours is copied as a whole, and rows that are neighbours as one. Where rows begin is listed first only
-    /// if more than two axes are left and the rows don't lie evenly.
+    /// Each row of neighbours is copied as a whole, and neighbouring rows as one where the whole part lies in order.
     ///
     /// # Errors
     ///
@@ -213,8 +213,8 @@ impl<T: Copy, D: Lengths> OwnedArray<T, D> {
             (view_places RowMajor (slice_of Strict (S.list slices.now) self.now.view))) }
         ensures memory { IsOfNone self.now.view.shape (S.list slices.now) → IsOk result }
     {
-        let rows = rows_of(alloc, &self.view, slices)?;
-        Ok(rows.read(alloc, self.items.as_slice())?)
+        let part = Part::new(alloc, &self.view, slices)?;
+        Ok(part.read(alloc, self.items.as_slice())?)
     }
 
     /// Writes items at several slices at once, all of them or none.
@@ -225,7 +225,7 @@ impl<T: Copy, D: Lengths> OwnedArray<T, D> {
     /// Each slice is compared with those after it: of `k` slices `k * (k - 1) / 2` pairs, each up to the first axis on which
     /// their ranges are apart. Where the slices begin in their order along an axis, as the rows of an array or its tiles row
     /// by row, a slice is compared only with those that begin before it ends; of rows that is none. Before the first write
-    /// the slices are listed if there are several, and where the rows of one begin if these don't lie evenly.
+    /// the parts that the slices pick are listed if there are several.
     ///
     /// # Errors
     ///
@@ -259,12 +259,12 @@ impl<T: Copy, D: Lengths> OwnedArray<T, D> {
         }
         check_counts(&self.view, writes)?;
         check_apart(&self.view, writes)?;
-        let rows = rows_of_each(alloc, &self.view, writes)?;
-        write_all(self.items.as_mut_slice(), rows.as_slice());
+        let parts = parts_of(alloc, &self.view, writes)?;
+        write_all(self.items.as_mut_slice(), parts.as_slice());
         Ok(())
     }
 
-    /// Writes items at one slice, as `multi_set` does with a list of this write. Its rows are not listed.
+    /// Writes items at one slice, as `multi_set` does with a list of this write, which takes no memory to list.
     fn set_one(
         &mut self,
         alloc: Global,
@@ -278,8 +278,8 @@ impl<T: Copy, D: Lengths> OwnedArray<T, D> {
         ensures written { OnOk result (HasWritten (write_places self.old.view (write_of write.now))
             write.now.1.items self.old.items self.new.items) }
     {
-        let rows = rows_of_write(alloc, &self.view, write)?;
-        rows.write(self.items.as_mut_slice(), write.1.as_slice());
+        let part = part_of_write(alloc, &self.view, write)?;
+        part.write(self.items.as_mut_slice(), write.1.as_slice());
         Ok(())
     }
 }

@@ -1,5 +1,5 @@
 //! Where slices lie along an axis, whether they begin there in their order, and whether two share an index.
-ghost use Rattle.std.specs.Prelude.{◌≡◌, ◌↔◌, ◌⊎◌, ◌<◌, ◌^◌, None, IfSome, IsTrue, map};
+ghost use Rattle.std.specs.Prelude.{◌≡◌, ◌↔◌, ◌⊎◌, ◌<◌, ◌≤◌, ◌^◌, Some, None, IfSome, IsSomeAnd, IsTrue, map};
 ghost use Rattle.std.specs.List.{All};
 ghost use Rattle.ndarray_layout.specs.declared.Fit.TheVariants.{Strict};
 ghost use Rattle.ndarray_layout.specs.ArgumentFault.{argument_fault};
@@ -48,19 +48,36 @@ fn range_on(shape: &[usize], axis: usize, slice: &[SliceInfoElem]) -> Option<(us
     range_of(shape[axis], slice[axis])
 }
 
-/// Whether the range of one slice ends on an axis before that of another begins, or there.
-#[inline]
-pub(crate) fn is_past(
+/// The axis on which slices begin in their order, and where a slice stops there. `None` where one of them isn't known.
+pub(crate) fn end_in_order(
     shape: &[usize],
-    axis: usize,
+    in_order: Option<usize>,
     slice: &[SliceInfoElem],
-    other: &[SliceInfoElem],
-) -> bool
-    ensures { IsTrue result → IsPast shape.now axis slice.now other.now }
+) -> Option<(usize, usize)>
+    ensures { IfSome result (λ (axis, end). (in_order ≡ Some axis)
+        × HasRange shape.now axis slice.now × (end ≡ end_on shape.now axis slice.now)) }
 {
-    match (range_on(shape, axis, slice), range_on(shape, axis, other)) {
-        (Some((_, end)), Some((start, _))) => end <= start,
-        _ => false,
+    let axis = in_order?;
+    let (_, end) = range_on(shape, axis, slice)?;
+    Some((axis, end))
+}
+
+/// Whether a slice begins on an axis where another one stops, or later. False where that isn't known.
+#[inline]
+pub(crate) fn begins_past(
+    shape: &[usize],
+    end: Option<(usize, usize)>,
+    slice: &[SliceInfoElem],
+) -> bool
+    ensures { IsTrue result → IsSomeAnd end (λ (axis, end).
+        HasRange shape.now axis slice.now × (end ≤ start_on shape.now axis slice.now)) }
+{
+    let Some((axis, end)) = end else {
+        return false;
+    };
+    match range_on(shape, axis, slice) {
+        Some((start, _)) => end <= start,
+        None => false,
     }
 }
 
@@ -83,14 +100,15 @@ fn ranges_are_apart(
     }
 }
 
-/// Whether the ranges of two slices that fit a shape are apart on some axis. Then they share no index.
+/// Whether the ranges of two slices that fit a shape are apart on some axis. Then they share no index. The last axis comes
+/// first, since slices that are near one another on the first axes are apart there.
 fn have_ranges_apart(shape: &[usize], slice: &[SliceInfoElem], other: &[SliceInfoElem]) -> bool
     requires fits { argument_fault Strict shape.now slice.now ≡ None }
     requires other_fits { argument_fault Strict shape.now other.now ≡ None }
     ensures { IsTrue result → ¬ Meet Strict shape.now slice.now other.now }
 {
-    for axis in 0..shape.len() {
-        if ranges_are_apart(shape, axis, slice, other) {
+    for number in 0..shape.len() {
+        if ranges_are_apart(shape, shape.len() - 1 - number, slice, other) {
             return true;
         }
     }
@@ -139,7 +157,8 @@ pub(crate) fn axis_in_order<T: Copy>(shape: &[usize], writes: &[SliceItems<T>]) 
     let first = writes[0].0.as_slice();
     let last = writes[writes.len() - 1].0.as_slice();
     for axis in 0..shape.len() {
-        if is_past(shape, axis, first, last) && are_in_order(shape, axis, writes) {
+        let end = end_in_order(shape, Some(axis), first);
+        if begins_past(shape, end, last) && are_in_order(shape, axis, writes) {
             return Some(axis);
         }
     }

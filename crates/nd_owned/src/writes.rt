@@ -5,14 +5,17 @@ ghost use Rattle.std.specs.Result.{result_err};
 ghost use Rattle.ndarray_layout.specs.declared.Fit.TheVariants.{Strict};
 ghost use Rattle.ndarray_layout.specs.ArgumentFault.{argument_fault};
 ghost use Rattle.ndarray_layout.specs.ShapeFault.{shape_fault};
+ghost use Rattle.ndarray_layout.specs.Size.{size};
+ghost use Rattle.ndarray_layout.specs.SlicedView.{slice_of};
 ghost use Rattle.ndarray_layout.specs.View.{LiesWithin};
 ghost use Rattle.nd_owned.specs.Writes.{HaveNoItems, IsIntersectionFault, counts_fault, has_count, slices_fault, write_of, write_places};
 ghost use Rattle.nd_owned.specs.private.Checks.{IsIntersectionFaultOf};
 ghost use Rattle.nd_owned.specs.private.Ranges.{AreInOrder, IsPast};
-ghost use Rattle.nd_owned.specs.private.Rows.{AreRowsInside, HasWritten, rows_places};
+ghost use Rattle.nd_owned.specs.private.Parts.{part_places, view_of_part};
+ghost use Rattle.nd_owned.specs.private.Written.{HasWritten};
 
-use crate::ranges::{axis_in_order, is_past, share_an_index};
-use crate::rows::{Rows, rows_of};
+use crate::parts::Part;
+use crate::ranges::{axis_in_order, begins_past, end_in_order, share_an_index};
 use ndarray_layout::{
     ErrorKind, Fit, LayoutError, Lengths, ShapeError, SliceInfoElem, Strided, from_kind,
 };
@@ -21,10 +24,10 @@ use std::alloc::Global;
 /// A slice, and the items for its places.
 pub(crate) type SliceItems<T> = (Vec<SliceInfoElem>, Vec<T>);
 
-/// The rows of a slice, and the items for their places.
+/// A part of a view, and the items for its places.
 #[derive(Drop)]
-pub(crate) struct RowItems<'a, T: Copy> {
-    rows: Rows,
+pub(crate) struct PartItems<'a, T: Copy> {
+    part: Part,
     items: &'a [T],
 }
 
@@ -61,24 +64,6 @@ pub(crate) fn check_counts<T: Copy, D: Lengths>(
     }
 }
 
-/// Whether the range of one slice ends before that of another begins, on the axis on which slices begin in their order.
-/// False without such an axis.
-#[inline]
-fn is_past_in_order(
-    shape: &[usize],
-    in_order: Option<usize>,
-    slice: &[SliceInfoElem],
-    other: &[SliceInfoElem],
-) -> bool
-    ensures { IsTrue result →
-        IsSomeAnd in_order (λ axis. IsPast shape.now axis slice.now other.now) }
-{
-    match in_order {
-        Some(axis) => is_past(shape, axis, slice, other),
-        None => false,
-    }
-}
-
 /// Checks that a slice shares an index with none of those of a list, which all fit the shape. Where these begin in their
 /// order on an axis, the first that begins there past the slice ends the comparison: none after it begins earlier.
 fn check_apart_from<T: Copy>(
@@ -95,9 +80,10 @@ fn check_apart_from<T: Copy>(
     ensures { IsIntersectionFaultOf shape.now slice.now (map write_of others.now)
         (result_err result) }
 {
+    let end = end_in_order(shape, in_order, slice);
     for (other, _) in others {
         let other = other.as_slice();
-        if is_past_in_order(shape, in_order, slice, other) {
+        if begins_past(shape, end, other) {
             return Ok(());
         }
         if share_an_index(shape, slice, other) {
@@ -123,26 +109,26 @@ pub(crate) fn check_apart<T: Copy, D: Lengths>(
     Ok(())
 }
 
-/// The rows of the slice of one write, where it has as many items as the slice picks. Errors: that of the slice, then
-/// `IncompatibleShape` for another count, then out of memory.
-pub(crate) fn rows_of_write<T: Copy, D: Lengths>(
+/// The part of the view that the slice of one write picks, where there are as many items for it. Errors: that of the slice,
+/// then `IncompatibleShape` for another count, then out of memory.
+pub(crate) fn part_of_write<T: Copy, D: Lengths>(
     alloc: Global,
     view: &Strided<D>,
     write: &SliceItems<T>,
-) -> Result<Rows, LayoutError>
+) -> Result<Part, LayoutError>
     ensures fault { shape_fault result ≡ counts_fault view.now.shape (write_of write.now ∷ []) }
-    ensures places { IfOk result (λ rows.
-        rows_places rows ≡ write_places view.now (write_of write.now)) }
-    ensures counts { IfOk result (λ rows.
-        length (rows_places rows) ≡ length write.now.1.items) }
-    ensures inside { IfOk result (λ rows.
-        (len : ℕ) → LiesWithin len view.now → AreRowsInside len rows) }
+    ensures part { IfOk result (λ part.
+        view_of_part part ≡ slice_of Strict write.now.0.items view.now) }
+    ensures count { IfOk result (λ part.
+        size (view_of_part part).shape ≡ length write.now.1.items) }
+    ensures inside { IfOk result (λ part. (len : ℕ) → LiesWithin len view.now →
+        LiesWithin len (view_of_part part)) }
 {
     let (slice, items) = write;
-    let fault = match rows_of(alloc, view, slice) {
-        Ok(rows) => {
-            if rows.size == items.len() {
-                return Ok(rows);
+    let fault = match Part::new(alloc, view, slice) {
+        Ok(part) => {
+            if part.size() == items.len() {
+                return Ok(part);
             }
             return Err(LayoutError::Shape(from_kind(ErrorKind::IncompatibleShape)));
         }
@@ -156,46 +142,47 @@ pub(crate) fn rows_of_write<T: Copy, D: Lengths>(
     }
 }
 
-/// The rows of each slice that picks something, with the items for them.
-pub(crate) fn rows_of_each<'a, T: Copy, D: Lengths>(
+/// The parts of the view that the slices pick, without those that pick nothing, and the items for them.
+pub(crate) fn parts_of<'a, T: Copy, D: Lengths>(
     alloc: Global,
     view: &Strided<D>,
     writes: &'a [SliceItems<T>],
-) -> Result<Vec<RowItems<'a, T>>, LayoutError>
+) -> Result<Vec<PartItems<'a, T>>, LayoutError>
     requires { counts_fault view.now.shape (map write_of writes.now) ≡ None }
     ensures fault { shape_fault result ≡ None }
     ensures memory { HaveNoItems (map write_of writes.now) → IsOk result }
-    ensures places { IfOk result (λ v. flat_map (λ one. rows_places one.rows) v.items
+    ensures places { IfOk result (λ v. flat_map (λ one. part_places one.part) v.items
         ≡ flat_map (write_places view.now) (map write_of writes.now)) }
     ensures items { IfOk result (λ v. flat_map (λ one. one.items.now) v.items
         ≡ flat_map (λ write. write.items) (map write_of writes.now)) }
     ensures counts { IfOk result (λ v.
-        All (λ one. length (rows_places one.rows) ≡ length one.items.now) v.items) }
+        All (λ one. size (view_of_part one.part).shape ≡ length one.items.now) v.items) }
     ensures inside { IfOk result (λ v. (len : ℕ) → LiesWithin len view.now →
-        All (λ one. AreRowsInside len one.rows) v.items) }
+        All (λ one. LiesWithin len (view_of_part one.part)) v.items) }
 {
-    let mut row_items = Vec::new(alloc);
+    let mut parts = Vec::new(alloc);
     for (slice, items) in writes {
         if items.is_empty() {
             continue;
         }
-        let rows = rows_of(alloc, view, slice)?;
+        let part = Part::new(alloc, view, slice)?;
         let items = items.as_slice();
-        row_items.push(RowItems { rows, items })?;
+        parts.push(PartItems { part, items })?;
     }
-    Ok(row_items)
+    Ok(parts)
 }
 
-/// Writes the items of each slice at the places of its rows, one slice after another.
-pub(crate) fn write_all<T: Copy>(stored: &mut [T], writes: &[RowItems<'_, T>])
-    requires inside { All (λ one. AreRowsInside (length stored.old) one.rows) writes.now }
-    requires counts { All (λ one. length (rows_places one.rows) ≡ length one.items.now) writes.now }
+/// Writes the items of each part at its places, one part after another.
+pub(crate) fn write_all<T: Copy>(stored: &mut [T], parts: &[PartItems<'_, T>])
+    requires inside { All (λ one. LiesWithin (length stored.old) (view_of_part one.part)) parts.now }
+    requires counts { All (λ one.
+        size (view_of_part one.part).shape ≡ length one.items.now) parts.now }
     ensures { AllPairs (λ one other. one ≢ other)
-        (flat_map (λ one. rows_places one.rows) writes.now) →
-        HasWritten (flat_map (λ one. rows_places one.rows) writes.now)
-        (flat_map (λ one. one.items.now) writes.now) stored.old stored.new }
+        (flat_map (λ one. part_places one.part) parts.now) →
+        HasWritten (flat_map (λ one. part_places one.part) parts.now)
+        (flat_map (λ one. one.items.now) parts.now) stored.old stored.new }
 {
-    for write in writes {
-        write.rows.write(stored, write.items);
+    for one in parts {
+        one.part.write(stored, one.items);
     }
 }

@@ -3,33 +3,32 @@ use Rattle.std.proofs.Common.{rules, ◌≡◌, ◌+◌, ◌-◌, ◌≤◌, ◌
 use Rattle.std.proofs.Common.{◌∙◌, arith}
 use Rattle.std.proofs.lemmas.List.{append-nil, map-append}
 use Rattle.ndarray_layout.specs.Inside.{IsInside}
-use Rattle.ndarray_layout.specs.Signed.{signed}
+use Rattle.ndarray_layout.specs.Rows.{row_places}
 use Rattle.nd_owned.specs.Owned.{item_at_place}
-use Rattle.nd_owned.specs.private.Rows.{row_places}
 use Rattle.nd_owned.proofs.RowPlaces.{at_entry, begins, copied_within, entry_inside, next_there, read_more, read_neighbours, start_there}
 use Rattle.nd_owned.proofs.rows.read_row.Goals as goal
 
 pub overflow_add-start : goal.overflow_add-start
 overflow_add-start g c =
-    let within = copied_within (length c.args.stored.now) c.args.start c.args.len c.requires.inside.within
-    (ap signed (c.is_copied.ensures c.if-is_copied.true)) (omega arith) in
+    let within = copied_within (length c.args.stored.now) c.args.row.start c.args.row.len c.requires.inside.within
+    (c.is_copied.ensures c.if-is_copied.true) (omega arith) in
     let small : length c.args.stored.now < 2 ^ 64 = search rules in
     omega arith
 
 pub slice_bounds-extend_from_slice-end : goal.slice_bounds-extend_from_slice-end
 slice_bounds-extend_from_slice-end g c =
-    let one = ap signed (c.is_copied.ensures c.if-is_copied.true) in
-    let within : c.args.start + c.args.len ≤ length c.args.stored.now =
-    copied_within (length c.args.stored.now) c.args.start c.args.len c.requires.inside.within one (omega arith) in
+    let one = c.is_copied.ensures c.if-is_copied.true in
+    let within : c.args.row.start + c.args.row.len ≤ length c.args.stored.now =
+    copied_within (length c.args.stored.now) c.args.row.start c.args.row.len c.requires.inside.within one (omega arith) in
     search rules
 
 pub returns-then-is_copied-clause-items : goal.returns-then-is_copied-clause-items
 returns-then-is_copied-clause-items g c =
     let stored = c.args.stored.now in
     let items = c.args.items.items in
-    let start = c.args.start in
-    let len = c.args.len in
-    let one : signed c.args.stride ≡ pos 1 = ap signed (c.is_copied.ensures c.if-is_copied.true) in
+    let start = c.args.row.start in
+    let len = c.args.row.len in
+    let one : c.args.row.stride ≡ pos 1 = c.is_copied.ensures c.if-is_copied.true in
     let within = copied_within (length stored) start len c.requires.inside.within one (omega arith) in
     let same : start + len - start ≡ len = omega arith in
     let pushed : c.extend_from_slice.new.self.items ≡ items ++ take (start + len - start) (drop start stored) = search rules in
@@ -40,7 +39,7 @@ returns-then-is_copied-clause-items g c =
     ∙ ap (λ stride. map Some items ++ map (item_at_place stored) (row_places start stride len)) (sym one)
 
 pub bounds-stored-start : goal.bounds-stored-start
-bounds-stored-start g c = begins (length c.args.stored.now) c.args.start (signed c.args.stride) c.args.len c.requires.inside.within
+bounds-stored-start g c = begins (length c.args.stored.now) c.args.row.start c.args.row.stride c.args.row.len c.requires.inside.within
     (omega arith)
 
 pub push_reserved-requires : goal.push_reserved-requires
@@ -49,13 +48,13 @@ push_reserved-requires g c = omega (arith, c.requires.room)
 pub loop-entry-init : goal.loop-entry-init
 loop-entry-init g c =
     let stored = c.args.stored.now in
-    let start = c.args.start in
-    let stride = signed c.args.stride in
+    let start = c.args.row.start in
+    let stride = c.args.row.stride in
     record {
-      small = begins (2 ^ 63) start stride c.args.len c.requires.inside.fit (omega arith);
+      small = begins (2 ^ 63) start stride c.args.row.len c.requires.inside.fit (omega arith);
       next = next_there start 0 stride (start_there stride);
       items = read_more c.args.items.items c.args.items.items (record {
-        below = begins (length stored) start stride c.args.len c.requires.inside.within (omega arith);
+        below = begins (length stored) start stride c.args.row.len c.requires.inside.within (omega arith);
         is = c.index-stored-start.is;
       }) (at_entry start stride 0 (start_there stride)) c.push_reserved.ensures.items (sym (append-nil (map Some c.args.items.items)));
       len = c.push_reserved.ensures.len;
@@ -65,13 +64,13 @@ loop-entry-init g c =
 pub place_after-place-requires-clause-inside : goal.place_after-place-requires-clause-inside
 place_after-place-requires-clause-inside g c =
     subst (IsInside (2 ^ 63)) (sym c.loop-entry.invariant.next)
-    (entry_inside (2 ^ 63) c.args.start (signed c.args.stride) c.args.len c.loop-entry._entry c.requires.inside.fit c.loop-entry-test.true)
+    (entry_inside (2 ^ 63) c.args.row.start c.args.row.stride c.args.row.len c.loop-entry._entry c.requires.inside.fit c.loop-entry-test.true)
 
 pub bounds-stored-place : goal.bounds-stored-place
 bounds-stored-place g c =
     let count = length c.args.stored.now in
     subst (IsInside count) (sym (c.place_after-place.ensures ∙ c.loop-entry.invariant.next))
-    (entry_inside count c.args.start (signed c.args.stride) c.args.len c.loop-entry._entry c.requires.inside.within c.loop-entry-test.true)
+    (entry_inside count c.args.row.start c.args.row.stride c.args.row.len c.loop-entry._entry c.requires.inside.within c.loop-entry-test.true)
 
 pub offset_bounds-stored-place : goal.offset_bounds-stored-place
 offset_bounds-stored-place g c =
@@ -90,17 +89,17 @@ push_reserved-requires-in-loop-entry g c = omega (
 pub loop-entry-preserved : goal.loop-entry-preserved
 loop-entry-preserved g c =
     let stored = c.args.stored.now in
-    let start = c.args.start in
-    let stride = signed c.args.stride in
+    let start = c.args.row.start in
+    let stride = c.args.row.stride in
     let i = c.loop-entry._entry in
     let place = c.place_after-place.result in
     let here : pos place ≡ pos start +ℤ (pos i *ℤ stride) = c.place_after-place.ensures ∙ c.loop-entry.invariant.next in
     record {
-      small = subst (IsInside (2 ^ 63)) (sym here) (entry_inside (2 ^ 63) start stride c.args.len i c.requires.inside.fit
+      small = subst (IsInside (2 ^ 63)) (sym here) (entry_inside (2 ^ 63) start stride c.args.row.len i c.requires.inside.fit
           c.loop-entry-test.true);
       next = next_there start i stride here;
       items = read_more c.args.items.items c.loop-entry.items.items (record {
-        below = subst (IsInside (length stored)) (sym here) (entry_inside (length stored) start stride c.args.len i
+        below = subst (IsInside (length stored)) (sym here) (entry_inside (length stored) start stride c.args.row.len i
             c.requires.inside.within c.loop-entry-test.true);
         is = c.index-stored-place.is;
       }) (at_entry start stride i here) c.push_reserved-in-loop-entry.ensures.items c.loop-entry.invariant.items;
@@ -110,9 +109,9 @@ loop-entry-preserved g c =
 
 pub returns-clause-items : goal.returns-clause-items
 returns-clause-items g c =
-    let all : c.loop-entry._entry ≡ c.args.len = omega (arith, c.loop-entry-test.false, c.loop-entry.auto._entry-end) in
+    let all : c.loop-entry._entry ≡ c.args.row.len = omega (arith, c.loop-entry-test.false, c.loop-entry.auto._entry-end) in
     c.loop-entry.invariant.items
-    ∙ ap (λ n. map Some c.args.items.items ++ map (item_at_place c.args.stored.now) (row_places c.args.start (signed c.args.stride) n)) all
+    ∙ ap (λ n. map Some c.args.items.items ++ map (item_at_place c.args.stored.now) (row_places c.args.row.start c.args.row.stride n)) all
 
 pub returns-clause-len : goal.returns-clause-len
 returns-clause-len g c = omega (arith, c.loop-entry.invariant.len, c.loop-entry-test.false, c.loop-entry.auto._entry-end)

@@ -1,16 +1,15 @@
 -- A stride after the place lies the next one, and the items so far are read.
 use Rattle.std.proofs.Common.{◌≡◌, ◌+◌, ◌<◌, ◌^◌, pos, ◌+ℤ◌, ◌*ℤ◌, Some, ◌++◌, map, vec_len, vec_capacity}
-use Rattle.ndarray_layout.specs.Signed.{signed}
+use Rattle.ndarray_layout.specs.Rows.{row_places}
 use Rattle.nd_owned.specs.Owned.{item_at_place}
-use Rattle.nd_owned.specs.private.Rows.{row_places}
 use Rattle.nd_owned.proofs.rows.read_row.Given as goal
 
 abbrev pub invariant-loop-entry : goal.invariant-loop-entry
 invariant-loop-entry g l = record {
   small : l.place < 2 ^ 63;
-  next : pos l.place +ℤ signed l.stride ≡ pos l.start +ℤ (pos l._entry *ℤ signed l.stride);
+  next : pos l.place +ℤ l.row.stride ≡ pos l.row.start +ℤ (pos l._entry *ℤ l.row.stride);
   items : map Some l.items.items ≡ map Some l.fn.items.items ++ map (item_at_place l.stored)
-      (row_places l.start (signed l.stride) l._entry);
+      (row_places l.row.start l.row.stride l._entry);
   len : vec_len l.items ≡ vec_len l.fn.items + l._entry;
   capacity : vec_capacity l.items ≡ vec_capacity l.fn.items;
 }

@@ -3,8 +3,8 @@ use Rattle.std.proofs.Common.{rules, ◌≡◌, ◌+◌, ◌-◌, ◌≤◌, ◌
 use Rattle.std.proofs.Common.{subst, ◌∙◌, arith}
 use Rattle.std.proofs.lemmas.List.{take_all}
 use Rattle.ndarray_layout.specs.Inside.{IsInside}
-use Rattle.ndarray_layout.specs.Signed.{signed}
-use Rattle.nd_owned.specs.private.Rows.{HasWritten, row_places}
+use Rattle.ndarray_layout.specs.Rows.{row_places}
+use Rattle.nd_owned.specs.private.Written.{HasWritten}
 use Rattle.nd_owned.proofs.Placed.{none_written}
 use Rattle.nd_owned.proofs.RowPlaces.{after_first, at_entry, begins, copied_within, entry_inside, next_there, start_there, write_more}
 use Rattle.nd_owned.proofs.RowPlaces.{write_neighbours}
@@ -12,34 +12,34 @@ use Rattle.nd_owned.proofs.rows.write_row.Goals as goal
 
 pub overflow_add-start : goal.overflow_add-start
 overflow_add-start g c =
-    let within = copied_within (length c.args.stored.now) c.args.start (length c.args.items.now) c.requires.within
-    (ap signed (c.is_copied.ensures c.if-is_copied.true)) (omega (arith, c.in-Some.ensures.cases.1)) in
+    let within = copied_within (length c.args.stored.now) c.args.row.start (length c.args.items.now) c.requires.within
+    (c.is_copied.ensures c.if-is_copied.true) (omega (arith, c.in-Some.ensures.cases.1)) in
     let small : length c.args.stored.now < 2 ^ 64 = search rules in
     omega arith
 
 pub slice_bounds-copy_from_slice-end : goal.slice_bounds-copy_from_slice-end
 slice_bounds-copy_from_slice-end g c =
     let items = length c.args.items.now in
-    let one = ap signed (c.is_copied.ensures c.if-is_copied.true) in
+    let one = c.is_copied.ensures c.if-is_copied.true in
     let some : 0 < items = omega (arith, c.in-Some.ensures.cases.1) in
-    let within : c.args.start + items ≤ length c.args.stored.now =
-    copied_within (length c.args.stored.now) c.args.start items c.requires.within one some in
+    let within : c.args.row.start + items ≤ length c.args.stored.now =
+    copied_within (length c.args.stored.now) c.args.row.start items c.requires.within one some in
     search rules
 
 pub offset_bounds-stored-start : goal.offset_bounds-stored-start
 offset_bounds-stored-start g c =
-    let under : c.args.start < length c.args.stored.now =
-    begins (length c.args.stored.now) c.args.start (signed c.args.stride) (length c.args.items.now) c.requires.within
+    let under : c.args.row.start < length c.args.stored.now =
+    begins (length c.args.stored.now) c.args.row.start c.args.row.stride (length c.args.items.now) c.requires.within
     (omega (arith, c.in-Some.ensures.cases.1)) in
     search rules
 
 pub returns-then-is_copied : goal.returns-then-is_copied
 returns-then-is_copied g c =
     let count = length c.args.stored.now in
-    let start = c.args.start in
+    let start = c.args.row.start in
     let items = c.args.items.now in
     let old = c.args.stored.now in
-    let one : signed c.args.stride ≡ pos 1 = ap signed (c.is_copied.ensures c.if-is_copied.true) in
+    let one : c.args.row.stride ≡ pos 1 = c.is_copied.ensures c.if-is_copied.true in
     let within = copied_within count start (length items) c.requires.within one (omega (arith, c.in-Some.ensures.cases.1)) in
     let same : start + length items - start ≡ length items = omega arith in
     λ distinct. subst (λ stride. HasWritten (row_places start stride (length items)) items old
@@ -52,19 +52,19 @@ returns-then-is_copied g c =
 
 pub bounds-stored-start : goal.bounds-stored-start
 bounds-stored-start g c =
-    begins (length c.args.stored.now) c.args.start (signed c.args.stride) (length c.args.items.now) c.requires.within
+    begins (length c.args.stored.now) c.args.row.start c.args.row.stride (length c.args.items.now) c.requires.within
     (omega (arith, c.in-Some.ensures.cases.1))
 
 pub offset_bounds-stored-start-2 : goal.offset_bounds-stored-start-2
 offset_bounds-stored-start-2 g c =
-    let under : c.args.start < length c.args.stored.now = bounds-stored-start g c in
+    let under : c.args.row.start < length c.args.stored.now = bounds-stored-start g c in
     search rules
 
 pub loop-item-init : goal.loop-item-init
 loop-item-init g c =
     let stored = c.args.stored.now in
-    let start = c.args.start in
-    let stride = signed c.args.stride in
+    let start = c.args.row.start in
+    let stride = c.args.row.stride in
     let items = c.args.items.now in
     let first = c.in-Some.first.now in
     let some : 0 < length items = omega (arith, c.in-Some.ensures.cases.1) in
@@ -80,28 +80,28 @@ loop-item-init g c =
 pub place_after-place-requires-clause-inside : goal.place_after-place-requires-clause-inside
 place_after-place-requires-clause-inside g c =
     subst (IsInside (2 ^ 63)) (sym c.loop-item.invariant.next)
-    (entry_inside (2 ^ 63) c.args.start (signed c.args.stride) (length c.args.items.now) (c.loop-item.item-index + 1) c.requires.fit
+    (entry_inside (2 ^ 63) c.args.row.start c.args.row.stride (length c.args.items.now) (c.loop-item.item-index + 1) c.requires.fit
     (omega (arith, c.in-Some.ensures.cases.1, c.loop-item-test.true)))
 
 pub bounds-stored-place : goal.bounds-stored-place
 bounds-stored-place g c =
     let count = length c.args.stored.now in
     let under : c.place_after-place.result < count = subst (IsInside count) (sym (c.place_after-place.ensures ∙ c.loop-item.invariant.next))
-    (entry_inside count c.args.start (signed c.args.stride) (length c.args.items.now) (c.loop-item.item-index + 1) c.requires.within
+    (entry_inside count c.args.row.start c.args.row.stride (length c.args.items.now) (c.loop-item.item-index + 1) c.requires.within
     (omega (arith, c.in-Some.ensures.cases.1, c.loop-item-test.true))) in
-    omega (arith, under, c.loop-item.auto.stored, length-set c.args.stored.now c.args.start c.in-Some.first.now)
+    omega (arith, under, c.loop-item.auto.stored, length-set c.args.stored.now c.args.row.start c.in-Some.first.now)
 
 pub offset_bounds-stored-place : goal.offset_bounds-stored-place
 offset_bounds-stored-place g c =
     let under : c.place_after-place.result < length c.args.stored.now =
-    omega (arith, bounds-stored-place g c, c.loop-item.auto.stored, length-set c.args.stored.now c.args.start c.in-Some.first.now) in
+    omega (arith, bounds-stored-place g c, c.loop-item.auto.stored, length-set c.args.stored.now c.args.row.start c.in-Some.first.now) in
     search rules
 
 pub loop-item-preserved : goal.loop-item-preserved
 loop-item-preserved g c =
     let stored = c.args.stored.now in
-    let start = c.args.start in
-    let stride = signed c.args.stride in
+    let start = c.args.row.start in
+    let stride = c.args.row.stride in
     let items = c.args.items.now in
     let i = c.loop-item.item-index in
     let place = c.place_after-place.result in
@@ -118,7 +118,7 @@ loop-item-preserved g c =
 
 pub returns : goal.returns
 returns g c =
-    let places = row_places c.args.start (signed c.args.stride) in
+    let places = row_places c.args.row.start c.args.row.stride in
     let items = c.args.items.now in
     let all : c.loop-item.item-index + 1 ≡ length items = omega (
       arith,

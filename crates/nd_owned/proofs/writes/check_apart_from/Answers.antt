@@ -7,19 +7,20 @@ use Rattle.ndarray_layout.specs.Meet.{Meet}
 use Rattle.nd_owned.specs.Writes.{write_of}
 use Rattle.nd_owned.specs.private.Ranges.{IsPast}
 use Rattle.nd_owned.proofs.Faults.{all_ended, all_more, ended, next, next_fits, this_got}
-use Rattle.nd_owned.proofs.SliceOrder.{apart_in_order}
+use Rattle.nd_owned.proofs.SliceOrder.{apart_in_order, past_in_order}
 use Rattle.nd_owned.proofs.writes.check_apart_from.Goals as goal
 
-pub returns-then-is_past_in_order : goal.returns-then-is_past_in_order
-returns-then-is_past_in_order g c =
+pub returns-then-begins_past : goal.returns-then-begins_past
+returns-then-begins_past g c =
     let i = c.loop-other.other-index in
     let shape = c.args.shape.now in
     let slice = c.args.slice.now in
     let given = c.args.others.now in
-    let past = subst (λ other. IsSomeAnd c.args.in_order (λ axis. IsPast shape axis slice other)) c.as_slice-other.ensures.value
-    (c.is_past_in_order.ensures c.if-is_past_in_order.true) in
+    let past = past_in_order shape slice c.as_slice-other.result.now c.args.in_order c.end_in_order-end.result c.end_in_order-end.ensures
+    (c.begins_past.ensures c.if-begins_past.true) in
+    let there = subst (λ other. IsSomeAnd c.args.in_order (λ axis. IsPast shape axis slice other)) c.as_slice-other.ensures.value past in
     c.loop-other.invariant.apart (apart_in_order shape (map write_of given) i c.args.in_order slice
-    (next write_of given i c.loop-other-test.true c.loop-other-item.is) c.requires.in_order past
+    (next write_of given i c.loop-other-test.true c.loop-other-item.is) c.requires.in_order there
     (c.requires.fits, c.loop-other.invariant.fit))
 
 pub share_an_index-requires-clause-other_fits : goal.share_an_index-requires-clause-other_fits

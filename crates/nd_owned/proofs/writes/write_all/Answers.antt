@@ -1,28 +1,47 @@
--- The items of one more write are at their places.
-use Rattle.std.proofs.Common.{◌≢◌, ◌+◌, length, take, sym, subst}
+-- The items of one more part are at their places, and those of the others are left.
+use Rattle.std.proofs.Common.{◌≡◌, ◌≢◌, ◌+◌, ◌∷◌, [], length, drop, sym, ap, subst, ◌∙◌}
 use Rattle.std.specs.List.{flat_map}
-use Rattle.ndarray_layout.specs.Inside.{IsInside}
-use Rattle.nd_owned.specs.private.Rows.{AreRowsInside, HasWritten, rows_places}
-use Rattle.nd_owned.proofs.Placed.{IsItem, all_together, one_more_written, pairs_of_part, parts_more}
+use Rattle.std.proofs.lemmas.List.{drop_all, drop_more}
+use Rattle.ndarray_layout.specs.declared.Order.TheVariants.{RowMajor}
+use Rattle.ndarray_layout.specs.View.{LiesWithin}
+use Rattle.ndarray_layout.proofs.laws.View.{places_lie_within}
+use Rattle.nd_owned.specs.private.Parts.{part_places, view_of_part}
+use Rattle.nd_owned.specs.private.Written.{HasWritten}
+use Rattle.nd_owned.proofs.Placed.{AreBoth, first_distinct, none_written, parts_written, second_distinct}
+use Rattle.nd_owned.proofs.writes.write_all.Given.{Over}
 use Rattle.nd_owned.proofs.writes.write_all.Goals as goal
 
-pub write-requires-clause-inside : goal.write-requires-clause-inside
-write-requires-clause-inside g c =
-    subst (λ count. AreRowsInside count c.write-item.result.rows) (sym c.loop-write.auto.stored)
-    (subst (λ one. AreRowsInside (length c.args.stored.now) one.rows) (sym c.write-item.is)
-    (c.requires.inside c.loop-write.write-index c.write-item.result c.loop-write-test.true))
+pub write-requires-clause-within : goal.write-requires-clause-within
+write-requires-clause-within g c =
+    subst (λ count. LiesWithin count (view_of_part c.one-item.result.part)) (sym c.loop-one.auto.stored)
+    (subst (λ one. LiesWithin (length c.args.stored.now) (view_of_part one.part)) (sym c.one-item.is)
+    (c.requires.inside c.loop-one.one-index c.one-item.result c.loop-one-test.true))
 
-pub loop-write-preserved : goal.loop-write-preserved
-loop-write-preserved g c =
-    let i = c.loop-write.write-index in
-    let writes = c.args.writes.now in
-    let write = c.write-item.result in
+pub loop-one-preserved : goal.loop-one-preserved
+loop-one-preserved g c =
+    let i = c.loop-one.one-index in
+    let parts = c.args.parts.now in
+    let one = c.one-item.result in
     let count = length c.args.stored.now in
-    let item : IsItem writes i write = record { below = c.loop-write-test.true; is = c.write-item.is } in
-    λ distinct. subst (λ items. HasWritten (flat_map (λ one. rows_places one.rows) (take (i + 1) writes)) items c.args.stored.now
-    c.write.new.stored)
-    (sym (parts_more (λ one. one.items.now) item))
-    (one_more_written count (λ one. rows_places one.rows) item
-    (all_together (IsInside count) (λ one. rows_places one.rows) writes (λ k d under. (c.requires.inside k d under).places.within)) distinct
-    (c.loop-write.invariant distinct)
-    (c.write.ensures (pairs_of_part (λ one other. one ≢ other) (λ one. rows_places one.rows) item distinct)))
+    let first : drop i parts ≡ one ∷ drop (i + 1) parts =
+    drop_more parts i one c.loop-one-test.true ∙ ap (λ next. next ∷ drop (i + 1) parts) (sym c.one-item.is) in
+    let cut : AreBoth (flat_map (λ one. part_places one.part) (drop i parts)) (part_places one.part)
+    (flat_map (λ one. part_places one.part) (drop (i + 1) parts)) =
+    record { are = ap (flat_map (λ one. part_places one.part)) first } in
+    record {
+      distinct = λ distinct. second_distinct cut (c.loop-one.invariant.distinct distinct);
+      written = λ distinct new others.
+          let apart = c.loop-one.invariant.distinct distinct in
+          c.loop-one.invariant.written distinct new
+          (parts_written cut count
+          (places_lie_within count RowMajor (view_of_part one.part)
+          (subst (λ one. LiesWithin count (view_of_part one.part)) (sym c.one-item.is) (c.requires.inside i one c.loop-one-test.true))) apart
+          (record { are = ap (flat_map (λ one. one.items.now)) first }) (c.write.ensures (first_distinct cut apart)) others);
+    }
+
+pub returns : goal.returns
+returns g c =
+    let none = drop_all c.loop-one.one-index c.args.parts.now c.loop-one-test.false in
+    λ distinct. c.loop-one.invariant.written distinct c.loop-one.stored
+    (subst (λ left. HasWritten (flat_map (λ one. part_places one.part) left) (flat_map (λ one. one.items.now) left) c.loop-one.stored
+    c.loop-one.stored) (sym none) none_written)

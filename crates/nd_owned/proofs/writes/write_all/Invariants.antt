@@ -1,11 +1,16 @@
--- The items of the writes so far are at their places, and nothing else has changed.
-use Rattle.std.proofs.Common.{◌≢◌, take}
+-- Once the items that are left are at the places of the parts that are left, all are at theirs.
+use Rattle.std.proofs.Common.{◌≢◌, List, drop}
 use Rattle.std.specs.List.{AllPairs, flat_map}
-use Rattle.nd_owned.specs.private.Rows.{HasWritten, rows_places}
+use Rattle.nd_owned.specs.private.Parts.{part_places}
+use Rattle.nd_owned.specs.private.Written.{HasWritten}
 use Rattle.nd_owned.proofs.writes.write_all.Given as goal
 
-abbrev pub invariant-loop-write : goal.invariant-loop-write
-invariant-loop-write g l =
-    AllPairs (λ one other. one ≢ other) (flat_map (λ one. rows_places one.rows) l.writes)
-    → HasWritten (flat_map (λ one. rows_places one.rows) (take l.write-index l.writes))
-    (flat_map (λ one. one.items.now) (take l.write-index l.writes)) l.initial.stored l.stored
+abbrev pub invariant-loop-one : goal.invariant-loop-one
+invariant-loop-one g l = record {
+  distinct : AllPairs (λ one other. one ≢ other) (flat_map (λ one. part_places one.part) l.parts)
+      → AllPairs (λ one other. one ≢ other) (flat_map (λ one. part_places one.part) (drop l.one-index l.parts));
+  written : AllPairs (λ one other. one ≢ other) (flat_map (λ one. part_places one.part) l.parts) → (new : List g.row.T.Denot)
+      → HasWritten (flat_map (λ one. part_places one.part) (drop l.one-index l.parts))
+      (flat_map (λ one. one.items.now) (drop l.one-index l.parts)) l.stored new
+      → HasWritten (flat_map (λ one. part_places one.part) l.parts) (flat_map (λ one. one.items.now) l.parts) l.initial.stored new;
+}

@@ -5,26 +5,24 @@ use Rattle.ndarray_layout.specs.declared.Fit.TheVariants.{Strict}
 use Rattle.ndarray_layout.specs.declared.Order.TheVariants.{RowMajor}
 use Rattle.ndarray_layout.specs.Size.{size}
 use Rattle.ndarray_layout.specs.Sliced.{sliced_shape}
-use Rattle.ndarray_layout.specs.SlicedView.{slice_of}
-use Rattle.ndarray_layout.proofs.laws.View.{length-view_places}
+use Rattle.ndarray_layout.specs.View.{view_places}
 use Rattle.nd_owned.specs.Owned.{item_at_place}
-use Rattle.nd_owned.specs.private.Rows.{rows_places}
+use Rattle.nd_owned.specs.private.Parts.{view_of_part}
 use Rattle.nd_owned.proofs.owned.OwnedArray.items.Goals as goal
 
-pub read-requires-clause-inside : goal.read-requires-clause-inside
-read-requires-clause-inside g c = rw (c.as_slice.ensures.value) (c.in_ok-rows.ensures.inside (length c.self.inside.items.items)
-    c.self.invariant.within)
+pub read-requires : goal.read-requires
+read-requires g c = rw (c.as_slice.ensures.value) (c.in_ok-part.ensures.inside (length c.self.inside.items.items) c.self.invariant.within)
 
 pub returns-clause-items : goal.returns-clause-items
 returns-clause-items g c =
+    let items = c.self.inside.items.items in
     let known = rw (c.as_slice.ensures.value) at c.in_ok-read.ensures.items in
-    rw (← c.self.view_is) (known ∙ ap (map (item_at_place c.self.inside.items.items)) c.in_ok-rows.ensures.places)
+    rw (← c.self.view_is) (known ∙ ap (λ view. map (item_at_place items) (view_places RowMajor view)) c.in_ok-part.ensures.part)
 
 pub returns-in_err-read-clause-memory : goal.returns-in_err-read-clause-memory
 returns-in_err-read-clause-memory g c = λ none.
     let elems = g.S.SliceElems.list c.args.slices.now in
-    let empty : length (rows_places c.in_ok-rows.rows) ≡ 0 =
-    ap length c.in_ok-rows.ensures.places
-    ∙ length-view_places RowMajor (slice_of Strict elems c.self.inside.view)
+    let empty : size (view_of_part c.in_ok-part.part).shape ≡ 0 =
+    ap (λ view. size view.shape) c.in_ok-part.ensures.part
     ∙ subst (λ array. size (sliced_shape Strict elems array.view.shape) ≡ 0) (sym c.self.view_is) none.none in
     absurd (false≢true (c.in_err-read.ensures.memory empty))

@@ -1,31 +1,36 @@
--- The rows of the slices are such that their items can be written; what that leaves is what was asked for.
-use Rattle.std.proofs.Common.{◌≡◌, ◌++◌, None, [], ◌∷◌, length, map, take, drop, sym, subst, ◌∙◌, arith}
+-- The parts of the slices are such that their items can be written; what that leaves is what was asked for.
+use Rattle.std.proofs.Common.{◌≡◌, ◌++◌, None, List, [], ◌∷◌, length, map, take, drop, sym, subst, ◌∙◌, arith}
 use Rattle.std.proofs.lemmas.Bool.{eq-eqb, false≢true}
 use Rattle.std.proofs.lemmas.List.{take_at}
 use Rattle.std.proofs.lemmas.List.Elements.{All-head}
 use Rattle.std.specs.List.{All}
 use Rattle.ndarray_layout.specs.ShapeFault.{shape_fault}
-use Rattle.nd_owned.specs.declared.rows.Rows.{Rows}
-use Rattle.nd_owned.specs.private.Rows.{rows_places}
+use Rattle.nd_owned.specs.declared.parts.Part.{Part}
+use Rattle.nd_owned.specs.private.Written.{HasWritten}
+use Rattle.ndarray_layout.specs.View.{View}
+use Rattle.nd_owned.specs.Writes.{Write, write_places}
+use Rattle.nd_owned.proofs.Faults.{HaveCounts}
+use Rattle.std.specs.List.{flat_map}
+use Rattle.nd_owned.proofs.owned.OwnedArray.multi_set.Goals.{After-drop-parts}
 use Rattle.nd_owned.specs.Writes.{HaveNoItems, IsFaultOfWrites, IsWritten, KeepsOthers, write_of}
 use Rattle.nd_owned.proofs.Faults.{handed_on, have_counts, no_fault}
-use Rattle.nd_owned.proofs.Slices.{all_distinct, all_written, at_places, on_ok, one_fault, one_kept, one_written, only, others_kept}
+use Rattle.nd_owned.proofs.Slices.{all_distinct, all_written, on_ok, one_fault, one_kept, one_written, only, others_kept}
 use Rattle.nd_owned.proofs.owned.OwnedArray.multi_set.Given.{Over}
 use Rattle.nd_owned.proofs.owned.OwnedArray.multi_set.Goals as goal
 use Rattle.nd_owned.proofs.owned.OwnedArray.multi_set.Goals.{After-set_one}
 
-pub returns-in_err-rows-clause-fault : goal.returns-in_err-rows-clause-fault
-returns-in_err-rows-clause-fault g c =
+pub returns-in_err-parts-clause-fault : goal.returns-in_err-parts-clause-fault
+returns-in_err-parts-clause-fault g c =
     let writes = map write_of c.args.writes.now in
-    let none = handed_on Rows c.from_residual-in_err-rows.result c.in_err-rows.field-0.0 c.from_residual-in_err-rows.ensures.1
-    c.in_err-rows.ensures.fault in
+    let none = handed_on (List Part) c.from_residual-in_err-parts.result c.in_err-parts.field-0.0 c.from_residual-in_err-parts.ensures.1
+    c.in_err-parts.ensures.fault in
     subst (IsFaultOfWrites c.args.self.now.view.shape writes) (sym none)
     (subst (λ array. IsFaultOfWrites array.view.shape writes None) c.self.view_is
     (no_fault c.self.inside.view.shape writes (sym c.in_ok-check_counts.ensures) c.in_ok-check_apart.ensures))
 
 pub write_all-requires-clause-inside : goal.write_all-requires-clause-inside
 write_all-requires-clause-inside g c =
-    rw (c.as_slice.ensures.value, c.as_mut_slice.ensures.value) (c.in_ok-rows.ensures.inside (length c.self.inside.items.items)
+    rw (c.as_slice.ensures.value, c.as_mut_slice.ensures.value) (c.in_ok-parts.ensures.inside (length c.self.inside.items.items)
     c.self.invariant.within)
 
 pub returns-2-clause-fault : goal.returns-2-clause-fault
@@ -34,40 +39,41 @@ returns-2-clause-fault g c =
     subst (λ array. IsFaultOfWrites array.view.shape writes None) c.self.view_is (no_fault c.self.inside.view.shape writes
     (sym c.in_ok-check_counts.ensures) c.in_ok-check_apart.ensures)
 
+-- what is written at the places of all slices
+module _ (g : Over) (c : After-drop-parts g) where
+  abbrev view : View
+  view = c.self.inside.view
+
+  abbrev writes : List (Write g.row.T.Denot)
+  writes = map write_of c.args.writes.now
+
+  have : HaveCounts view.shape writes
+  have = have_counts view.shape writes (sym c.in_ok-check_counts.ensures)
+
+  left : HasWritten (flat_map (write_places view) writes) (flat_map (λ write. write.items) writes) c.self.inside.items.items
+      c.write_all.new.stored
+  left =
+      let known = rw (c.as_slice.ensures.value, c.in_ok-parts.ensures.places, c.in_ok-parts.ensures.items, c.as_mut_slice.ensures.value)
+      at c.write_all.ensures in
+      known (all_distinct view writes c.self.invariant.is_view c.self.invariant.distinct have.fit c.in_ok-check_apart.ensures)
+
+  -- the list is as long as before
+  now : take c.self.inside.items.len (c.write_all.new.stored ++ drop (length c.write_all.new.stored) c.self.inside.items.items)
+      ≡ c.write_all.new.stored
+  now = take_at c.write_all.new.stored _ c.self.inside.items.len (c.write_all.auto.stored ∙ c.as_mut_slice.ensures.len)
+
 pub returns-2-clause-written : goal.returns-2-clause-written
 returns-2-clause-written g c =
-    let view = c.self.inside.view in
-    let writes = map write_of c.args.writes.now in
-    let items = c.self.inside.items in
     let stored = c.write_all.new.stored in
-    let have = have_counts view.shape writes (sym c.in_ok-check_counts.ensures) in
-    let now : take items.len (stored ++ drop (length stored) items.items) ≡ stored =
-    take_at stored (drop (length stored) items.items) items.len (c.write_all.auto.stored ∙ c.as_mut_slice.ensures.len) in
-    let written : All (IsWritten view stored) writes =
-    all_written view writes c.as_mut_slice.result.now stored have.counts
-    (at_places (λ one. rows_places one.rows) (λ one. one.items.now) view writes c.as_slice.ensures.value
-    c.in_ok-rows.ensures.places c.in_ok-rows.ensures.items c.write_all.ensures
-    (all_distinct view writes c.self.invariant.is_view c.self.invariant.distinct have.fit c.in_ok-check_apart.ensures)) in
-    subst (λ those. All (IsWritten c.args.self.now.view those) writes) (sym now) (subst (λ array. All (IsWritten array.view stored) writes)
-    c.self.view_is written)
+    subst (λ those. All (IsWritten c.args.self.now.view those) (writes g c)) (sym (now g c))
+    (subst (λ array. All (IsWritten array.view stored) (writes g c)) c.self.view_is
+    (all_written (view g c) (writes g c) c.self.inside.items.items stored (have g c).counts (left g c)))
 
 pub returns-2-clause-kept : goal.returns-2-clause-kept
 returns-2-clause-kept g c =
-    let view = c.self.inside.view in
-    let writes = map write_of c.args.writes.now in
-    let items = c.self.inside.items in
     let stored = c.write_all.new.stored in
-    let have = have_counts view.shape writes (sym c.in_ok-check_counts.ensures) in
-    let now : take items.len (stored ++ drop (length stored) items.items) ≡ stored =
-    take_at stored (drop (length stored) items.items) items.len (c.write_all.auto.stored ∙ c.as_mut_slice.ensures.len) in
-    let kept : KeepsOthers view writes c.as_mut_slice.result.now stored =
-    others_kept view writes
-    (at_places (λ one. rows_places one.rows) (λ one. one.items.now) view writes c.as_slice.ensures.value
-    c.in_ok-rows.ensures.places c.in_ok-rows.ensures.items c.write_all.ensures
-    (all_distinct view writes c.self.invariant.is_view c.self.invariant.distinct have.fit c.in_ok-check_apart.ensures)) in
-    subst (λ those. KeepsOthers c.args.self.now.view writes c.args.self.now.items those) (sym now)
-    (subst (λ array. KeepsOthers array.view writes array.items stored) c.self.view_is (subst (λ those. KeepsOthers view writes those stored)
-    c.as_mut_slice.ensures.value kept))
+    subst (λ those. KeepsOthers c.args.self.now.view (writes g c) c.args.self.now.items those) (sym (now g c))
+    (subst (λ array. KeepsOthers array.view (writes g c) array.items stored) c.self.view_is (others_kept (view g c) (writes g c) (left g c)))
 
 -- ---- one write alone
 alone : (g : Over) (c : After-set_one g) → c.args.writes.now ≡ c.write-item.result ∷ []

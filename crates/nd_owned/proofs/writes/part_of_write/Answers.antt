@@ -1,4 +1,4 @@
--- The rows have as many places as the slice picks, so their count decides.
+-- The part has as many places as the slice picks, so their count decides.
 use Rattle.std.proofs.Common.{◌≡◌, ℤ, Some, List, length, sym, ap, ◌∙◌}
 use Rattle.std.proofs.lemmas.Bool.{eq-eqb, ne_eqb}
 use Rattle.ndarray_layout.specs.declared.Fit.TheVariants.{Strict}
@@ -11,26 +11,21 @@ use Rattle.ndarray_layout.specs.View.{View, view_places}
 use Rattle.ndarray_layout.proofs.laws.View.{length-view_places}
 use Rattle.nd_owned.specs.Writes.{write_of}
 use Rattle.nd_owned.proofs.Faults.{fault_of_one}
-use Rattle.nd_owned.proofs.writes.rows_of_write.Goals as goal
+use Rattle.nd_owned.proofs.writes.part_of_write.Goals as goal
 
--- as many places as the slice picks
-places_of : (slice : List SliceInfoElem) (view : View) {places : List ℤ} → places ≡ view_places RowMajor (slice_of Strict slice view)
-    → length places ≡ size (sliced_shape Strict slice view.shape)
-places_of slice view same = ap length same ∙ length-view_places RowMajor (slice_of Strict slice view)
-
-pub returns-then-rows-len-clause-fault : goal.returns-then-rows-len-clause-fault
-returns-then-rows-len-clause-fault g c =
+pub returns-then-size-len-clause-fault : goal.returns-then-size-len-clause-fault
+returns-then-size-len-clause-fault g c =
     let view = c.args.view.now in
     let write = c.args.write.now in
-    let picked = c.in-Ok.ensures.size ∙ places_of write.0.items view c.in-Ok.ensures.places in
+    let picked = c.size.ensures ∙ ap (λ view. size view.shape) c.in-Ok.ensures.part in
     sym (fault_of_one view.shape (write_of write) (sym c.in-Ok.ensures.fault)
-    (eq-eqb (length write.1.items) _ (sym write.1.ok.0 ∙ sym c.len.ensures ∙ sym c.if-rows-len.true ∙ picked)))
+    (eq-eqb (length write.1.items) _ (sym write.1.ok.0 ∙ sym c.len.ensures ∙ sym c.if-size-len.true ∙ picked)))
 
 pub returns-in-Ok-clause-fault : goal.returns-in-Ok-clause-fault
 returns-in-Ok-clause-fault g c =
     let view = c.args.view.now in
     let write = c.args.write.now in
-    let picked = c.in-Ok.ensures.size ∙ places_of write.0.items view c.in-Ok.ensures.places in
+    let picked = c.size.ensures ∙ ap (λ view. size view.shape) c.in-Ok.ensures.part in
     ap Some c.from_kind.ensures
     ∙ sym (fault_of_one view.shape (write_of write) (sym c.in-Ok.ensures.fault)
-    (ne_eqb (length write.1.items) _ (λ same. c.if-rows-len.false (picked ∙ sym same ∙ sym write.1.ok.0 ∙ sym c.len.ensures))))
+    (ne_eqb (length write.1.items) _ (λ same. c.if-size-len.false (picked ∙ sym same ∙ sym write.1.ok.0 ∙ sym c.len.ensures))))

@@ -1,0 +1,82 @@
+-- The rows of a view: where they lie, and what is read and written of the first of those that are left.
+use Rattle.std.proofs.Common.{◌≡◌, ℕ, ◌+◌, ◌*◌, ◌<◌, ◌^◌, ℤ, pos, ◌+ℤ◌, ◌*ℤ◌, Some, Option, List, ◌∷◌, ◌++◌, length, get_or, map, append_assoc}
+use Rattle.std.proofs.Common.{sym, ap, subst, ◌∙◌, arith}
+use Rattle.std.specs.List.{All}
+use Rattle.std.proofs.lemmas.List.{length-append, map-append}
+use Rattle.ndarray_layout.specs.declared.Order.TheVariants.{RowMajor}
+use Rattle.ndarray_layout.specs.declared.Row.{Row}
+use Rattle.ndarray_layout.specs.Indices.{below}
+use Rattle.ndarray_layout.specs.Inside.{IsInside}
+use Rattle.ndarray_layout.specs.LayoutOrder.{LiesInOrder}
+use Rattle.ndarray_layout.specs.Rows.{row_places, rows_places, view_rows}
+use Rattle.ndarray_layout.specs.Size.{size}
+use Rattle.ndarray_layout.specs.View.{View, IsView, LiesWithin, view_places}
+use Rattle.ndarray_layout.proofs.laws.Lists.{map_same}
+use Rattle.ndarray_layout.proofs.laws.Rows.{All-rows_places, length-row_places, places_fit, rows_lie_within, rows_places-view_rows}
+use Rattle.ndarray_layout.proofs.laws.View.{length-view_places, places_lie_within}
+use Rattle.nd_owned.specs.Owned.{item_at_place}
+use Rattle.nd_owned.specs.private.Written.{AreInside}
+use Rattle.nd_owned.proofs.Placed.{AreBoth}
+
+abbrev pub places_of : Row → List ℤ
+places_of row = row_places row.start row.stride row.len
+
+-- ---- where the rows of a view lie
+-- places that are neighbours are one row
+pub places_of_one_row : (view : View) → LiesInOrder RowMajor view.shape view.strides
+    → row_places view.start (pos 1) (size view.shape) ≡ view_places RowMajor view
+places_of_one_row view lies =
+    map_same (λ i. pos view.start +ℤ (pos i *ℤ pos 1)) (λ i. pos (view.start + i)) (below (size view.shape))
+    (λ k d under. by (get_or (below (size view.shape)) k d))
+    ∙ sym (lies view.start)
+  where
+    by : (i : ℕ) → pos (view.start + i * 1) ≡ pos (view.start + i)
+    by i =
+        let same : view.start + i * 1 ≡ view.start + i = omega arith in
+        ap pos same
+
+-- which has as many as the view has indices
+pub length_of_one_row : (row : Row) (view : View) → places_of row ≡ view_places RowMajor view → row.len ≡ size view.shape
+length_of_one_row row view same =
+    sym (length-row_places row.start row.stride row.len) ∙ ap length same ∙ length-view_places RowMajor view
+
+-- all of them lie where the view does
+pub places_inside : {count : ℕ} {view : View} → IsView view → LiesWithin count view → AreInside count (view_places RowMajor view)
+places_inside {count} {view} v within = record {
+  within = places_lie_within count RowMajor view within;
+  fit = places_fit RowMajor v;
+}
+
+pub rows_inside : {count : ℕ} {view : View} → IsView view → LiesWithin count view
+    → All (λ row. AreInside count (places_of row)) (view_rows RowMajor view)
+rows_inside {count} {view} v within =
+    let rows = view_rows RowMajor view in
+    let fit = All-rows_places (IsInside (2 ^ 63)) rows (subst (All (IsInside (2 ^ 63))) (sym (rows_places-view_rows RowMajor v))
+    (places_fit RowMajor v)) in
+    λ k d under. record { within = rows_lie_within count RowMajor v within k d under; fit = fit k d under }
+
+-- ---- the first of the rows that are left
+module _ {row : Row} {left others : List Row} (first : left ≡ row ∷ others) where
+  pub first_and_others : AreBoth (rows_places left) (places_of row) (rows_places others)
+  first_and_others = record { are = ap rows_places first }
+
+  pub length_left : length (rows_places left) ≡ row.len + length (rows_places others)
+  length_left = omega (
+    arith,
+    ap length first_and_others.are,
+    length-append (places_of row) (rows_places others),
+    length-row_places row.start row.stride row.len,
+  )
+
+  -- its items are read, and those of the others are left
+  pub read_first : {X : Type 0} (stored old new : List X) {all : List (Option X)}
+      → map Some new ≡ map Some old ++ map (item_at_place stored) (places_of row)
+      → map Some old ++ map (item_at_place stored) (rows_places left) ≡ all
+      → map Some new ++ map (item_at_place stored) (rows_places others) ≡ all
+  read_first stored old new added so_far =
+      let got = item_at_place stored in
+      ap (λ items. items ++ map got (rows_places others)) added
+      ∙ append_assoc (map Some old) (map got (places_of row)) (map got (rows_places others))
+      ∙ ap (λ items. map Some old ++ items)
+      (sym (map-append got (places_of row) (rows_places others)) ∙ ap (map got) (sym first_and_others.are))
+      ∙ so_far

@@ -1,0 +1,89 @@
+-- The items of one more row are read, for which there is room.
+use Rattle.std.proofs.Common.{◌≡◌, ◌+◌, ◌≤◌, ◌++◌, [], Some, length, map, sym, ap, subst, ◌∙◌, arith}
+use Rattle.std.specs.List.{All}
+use Rattle.std.proofs.lemmas.Bool.{false≢true}
+use Rattle.std.proofs.lemmas.List.{append-nil}
+use Rattle.std.proofs.lemmas.List.Elements.{All-head, All-tail}
+use Rattle.ndarray_layout.specs.declared.Order.TheVariants.{RowMajor}
+use Rattle.ndarray_layout.specs.Rows.{row_places, rows_places, view_rows}
+use Rattle.ndarray_layout.specs.View.{view_places}
+use Rattle.ndarray_layout.proofs.laws.Rows.{length-row_places, rows_places-view_rows}
+use Rattle.ndarray_layout.proofs.laws.View.{length-view_places}
+use Rattle.nd_owned.specs.Owned.{item_at_place}
+use Rattle.nd_owned.specs.private.Written.{AreInside}
+use Rattle.nd_owned.proofs.ViewRows.{length_left, places_inside, places_of, read_first, rows_inside}
+use Rattle.nd_owned.proofs.rows.read_view.Goals as goal
+
+pub returns-in_err-items-clause-memory : goal.returns-in_err-items-clause-memory
+returns-in_err-items-clause-memory g c = λ none. absurd (false≢true (c.in_err-items.ensures.succeeds (c.view_size.ensures.size ∙ none)))
+
+pub read_row-requires-clause-inside : goal.read_row-requires-clause-inside
+read_row-requires-clause-inside g c =
+    subst (AreInside (length c.args.stored.now)) (sym c.in-Some.ensures.places) (places_inside c.one_row.ensures.is_view c.requires)
+
+pub read_row-requires-clause-room : goal.read_row-requires-clause-room
+read_row-requires-clause-room g c =
+    let row = c.in-Some.row in
+    omega (
+      arith,
+      length-row_places row.start row.stride row.len,
+      ap length c.in-Some.ensures.places,
+      length-view_places RowMajor c.args.view.now,
+      c.view_size.ensures.size,
+      c.in_ok-items.ensures.len,
+      c.in_ok-items.ensures.exact,
+    )
+
+pub returns-in-Some-clause-items : goal.returns-in-Some-clause-items
+returns-in-Some-clause-items g c =
+    let got = item_at_place c.args.stored.now in
+    c.read_row.ensures.items
+    ∙ ap (λ items. map Some items ++ map got (places_of c.in-Some.row)) c.in_ok-items.ensures.items
+    ∙ ap (map got) c.in-Some.ensures.places
+
+pub loop-row-init : goal.loop-row-init
+loop-row-init g c =
+    let view = c.args.view.now in
+    let v = c.rows-row-items.ensures.is_view in
+    let all = c.into_iter-row-iterator.ensures.into_iter_gives ∙ c.rows-row-items.ensures.items in
+    let places = ap rows_places all ∙ rows_places-view_rows RowMajor v in
+    record {
+      items = ap (λ items. map Some items ++ map (item_at_place c.args.stored.now) (rows_places c.into_iter-row-iterator.result))
+          c.in_ok-items.ensures.items
+          ∙ ap (map (item_at_place c.args.stored.now)) places;
+      inside = subst (All (λ row. AreInside (length c.args.stored.now) (places_of row))) (sym all) (rows_inside v c.requires);
+      room = omega (
+        arith,
+        ap length places,
+        length-view_places RowMajor view,
+        c.view_size.ensures.size,
+        c.in_ok-items.ensures.len,
+        c.in_ok-items.ensures.exact,
+      );
+    }
+
+pub read_row-items-requires-clause-inside : goal.read_row-items-requires-clause-inside
+read_row-items-requires-clause-inside g c =
+    All-head (λ row. AreInside (length c.args.stored.now) (places_of row)) _ _
+    (subst (All (λ row. AreInside (length c.args.stored.now) (places_of row))) c.in-Some-row.ensures.steps c.loop-row.invariant.inside)
+
+pub read_row-items-requires-clause-room : goal.read_row-items-requires-clause-room
+read_row-items-requires-clause-room g c = omega (arith, length_left c.in-Some-row.ensures.steps, c.loop-row.invariant.room)
+
+pub loop-row-preserved : goal.loop-row-preserved
+loop-row-preserved g c =
+    let first = c.in-Some-row.ensures.steps in
+    let row = c.in-Some-row.row in
+    record {
+      items = read_first first c.args.stored.now c.loop-row.items.items c.read_row-items.result.items c.read_row-items.ensures.items c.loop-row.invariant.items;
+      inside = All-tail (λ row. AreInside (length c.args.stored.now) (places_of row)) _ _
+          (subst (All (λ row. AreInside (length c.args.stored.now) (places_of row))) first c.loop-row.invariant.inside);
+      room = omega (arith, length_left first, c.loop-row.invariant.room, c.read_row-items.ensures.len, c.read_row-items.ensures.capacity);
+    }
+
+pub returns-clause-items : goal.returns-clause-items
+returns-clause-items g c =
+    let got = item_at_place c.args.stored.now in
+    sym (append-nil (map Some c.loop-row.items.items))
+    ∙ ap (λ rows. map Some c.loop-row.items.items ++ map got (rows_places rows)) (sym c.in-None.ensures.steps.0)
+    ∙ c.loop-row.invariant.items

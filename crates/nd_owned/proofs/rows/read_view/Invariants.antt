@@ -1,0 +1,18 @@
+-- The items read so far and those of the rows that are left are all.
+use Rattle.std.proofs.Common.{◌≡◌, ◌+◌, ◌≤◌, ◌++◌, Some, length, map, vec_len, vec_capacity}
+use Rattle.std.specs.List.{All}
+use Rattle.ndarray_layout.specs.declared.Order.TheVariants.{RowMajor}
+use Rattle.ndarray_layout.specs.Rows.{rows_places}
+use Rattle.ndarray_layout.specs.View.{view_places}
+use Rattle.nd_owned.specs.Owned.{item_at_place}
+use Rattle.nd_owned.specs.private.Written.{AreInside}
+use Rattle.nd_owned.proofs.ViewRows.{places_of}
+use Rattle.nd_owned.proofs.rows.read_view.Given as goal
+
+abbrev pub invariant-loop-row : goal.invariant-loop-row
+invariant-loop-row g l = record {
+  items : map Some l.items.items ++ map (item_at_place l.stored) (rows_places l.row-iterator)
+      ≡ map (item_at_place l.stored) (view_places RowMajor l.fn.view);
+  inside : All (λ row. AreInside (length l.stored) (places_of row)) l.row-iterator;
+  room : vec_len l.items + length (rows_places l.row-iterator) ≤ vec_capacity l.items;
+}
