@@ -1,4 +1,6 @@
 pub mod ArgumentFault
+pub mod AxisElems
+pub mod AxisElemsLeft
 pub mod Counts
 pub mod ElementText
 pub mod Equation

@@ -1,5 +1,5 @@
 -- When two slice arguments on a shape share an index.
-use Rattle.std.specs.Prelude.{◌≡◌, ℕ, zero, suc, IsTrue, nat_eq, pos, negsuc, None, List, [], ◌∷◌, refl}
+use Rattle.std.specs.Prelude.{◌≡◌, ℕ, zero, suc, IsTrue, nat_eq, pos, negsuc, None, List, [], ◌∷◌, map, refl}
 use Rattle.std.specs.List.{AllZip, Contains}
 use Rattle.std.proofs.Common.{eq-eqb, sym, ◌∙◌}
 use Rattle.std.proofs.Math.Nat.{not-suc-le-zero, le_of_suc-le-suc}
@@ -8,8 +8,8 @@ use Rattle.nd_base.specs.Indices.{is_index}
 use Rattle.nd_base.specs.Signed.{magnitude}
 use Rattle.nd_slice.specs.declared.fit.Fit.{Fit}
 use Rattle.nd_slice.specs.declared.fit.Fit.TheVariants.{Strict}
+use Rattle.nd_slice.specs.AxisElems.{axis_elems}
 use Rattle.nd_slice.specs.Picks.{slice_with, meaning, picks}
-use Rattle.nd_slice.specs.SliceFault.{SliceFits, IndexFits}
 use Rattle.nd_slice.specs.declared.elem.SliceInfoElem.{SliceInfoElem}
 use Rattle.nd_slice.specs.declared.elem.SliceInfoElem.TheVariants as elem
 
@@ -21,37 +21,13 @@ elem_picks fit len elem.NewAxis = []
 
 -- what an argument picks of each axis of a shape: a new axis is for none of them
 abbrev pub axis_picks : Fit → List ℕ → List SliceInfoElem → List (List ℕ)
-axis_picks fit shape [] = []
-axis_picks fit shape (elem.NewAxis ∷ elems) = axis_picks fit shape elems
-axis_picks fit [] (elem.Slice start end step ∷ elems) = []
-axis_picks fit [] (elem.Index index ∷ elems) = []
-axis_picks fit (len ∷ shape) (elem.Slice start end step ∷ elems) = elem_picks fit len (elem.Slice start end step) ∷ axis_picks fit shape elems
-axis_picks fit (len ∷ shape) (elem.Index index ∷ elems) = elem_picks fit len (elem.Index index) ∷ axis_picks fit shape elems
+axis_picks fit shape elems = map (λ one. elem_picks fit one.0 one.1) (axis_elems shape elems)
 
 -- one index of the shape has, for each axis, an entry that both arguments pick
 abbrev pub Meet : Fit → List ℕ → List SliceInfoElem → List SliceInfoElem → Type 0
 Meet fit shape one other =
     (index : List ℕ) × IsTrue (is_index shape index)
     × AllZip Contains (axis_picks fit shape one) index × AllZip Contains (axis_picks fit shape other) index
-
--- an element is without fault on an axis of length len
-abbrev pub ElemFits : Fit → ℕ → SliceInfoElem → Type 0
-ElemFits fit len (elem.Slice start end step) = SliceFits fit len (slice_with start end step)
-ElemFits fit len (elem.Index index) = IndexFits len index
-ElemFits fit len elem.NewAxis = Unit {0}
-
--- an index is, where the element is one
-abbrev pub IndexFitsIn : ℕ → SliceInfoElem → Type 0
-IndexFitsIn len (elem.Slice start end step) = Unit {0}
-IndexFitsIn len (elem.Index index) = IndexFits len index
-IndexFitsIn len elem.NewAxis = Unit {0}
-
--- the elements from the first that is for an axis on
-abbrev pub without_new_axes : List SliceInfoElem → List SliceInfoElem
-without_new_axes [] = []
-without_new_axes (elem.Slice start end step ∷ elems) = elem.Slice start end step ∷ elems
-without_new_axes (elem.Index index ∷ elems) = elem.Index index ∷ elems
-without_new_axes (elem.NewAxis ∷ elems) = without_new_axes elems
 
 -- examples
 back_and_last :
@@ -62,17 +38,8 @@ back_and_last = refl
 last_entry_in_both : Meet Strict (4 ∷ []) (elem.Slice (pos 1) None (negsuc 1) ∷ []) (elem.NewAxis ∷ elem.Index (negsuc 0) ∷ [])
 last_entry_in_both = (3 ∷ [], refl, ((0, ltb-true 0 2 refl, refl), tt), ((0, ltb-true 0 1 refl, refl), tt))
 
-new_axis_not_passed_over : without_new_axes (elem.Index (pos 1) ∷ elem.NewAxis ∷ []) ≡ elem.Index (pos 1) ∷ elem.NewAxis ∷ []
-new_axis_not_passed_over = refl
-
-new_axis_passed_over : without_new_axes (elem.NewAxis ∷ elem.Index (pos 1) ∷ []) ≡ elem.Index (pos 1) ∷ []
-new_axis_passed_over = refl
-
 last_picked : elem_picks Strict 3 (elem.Index (negsuc 0)) ≡ 2 ∷ []
 last_picked = refl
-
-last_fits : ElemFits Strict 3 (elem.Index (negsuc 0))
-last_fits = refl
 
 no_axes : Meet Strict [] (elem.NewAxis ∷ []) []
 no_axes = ([], refl, tt, tt)

@@ -1,6 +1,5 @@
 //! What a slice leaves of an axis.
-ghost use Rattle.std.specs.Prelude.{◌≡◌, ℕ, ◌<◌, ◌≤◌, ◌^◌, pos, ◌+ℤ◌, ◌*ℤ◌, IfOk, OnOk, OnErr, FitsSigned, length, slice_index};
-ghost use Rattle.std.specs.Int.{w64};
+ghost use Rattle.std.specs.Prelude.{◌≡◌, ℕ, ◌<◌, ◌≤◌, ◌^◌, pos, ◌+ℤ◌, ◌*ℤ◌, IfOk, OnOk, OnErr, length, slice_index};
 ghost use Rattle.std.specs.Result.{result_err};
 ghost use Rattle.nd_base.specs.Signed.{signed as signed_reading};
 ghost use Rattle.nd_base.specs.Size.{limit};
@@ -10,23 +9,9 @@ ghost use Rattle.nd_slice.specs.SliceFault.{slice_fault};
 ghost use Rattle.nd_slice.specs.Picked.{picked_stride, first_offset};
 
 use crate::fit::Fit;
-use crate::picks::{first_pick, pick_count, to_abs_slice};
+use crate::resolve::resolve_slice;
 use crate::slice::Slice;
-use nd_base::{ShapeError, signed, stride_offset, unsigned};
-
-/// The stride in elements of `count` coordinates of an axis that are `step` apart; 0
-/// where there is at most one.
-#[inline(always)]
-fn stepped_stride(count: usize, stride: usize, step: isize) -> usize
-    requires { 1 < count → FitsSigned w64 (signed_reading stride *ℤ step) }
-    ensures { signed_reading result ≡ picked_stride count (signed_reading stride) step }
-{
-    if count <= 1 {
-        0
-    } else {
-        unsigned(signed(stride) * step)
-    }
-}
+use nd_base::ShapeError;
 
 /// Slices one axis in place. Returns the offset in elements, with its sign, from the axis's first
 /// coordinate to the first one that the slice picks; 0 where it picks none.
@@ -64,13 +49,9 @@ pub fn do_slice(
         slice_index (picks fit dim.old slice) j < dim.old) }
     ensures unchanged { OnErr result ((dim.new ≡ dim.old) × (stride.new ≡ stride.old)) }
 {
-    let (start, end, step) = to_abs_slice(*dim, slice, fit)?;
-    let offset = if start < end {
-        stride_offset(first_pick(start, end, step), *stride)
-    } else {
-        0
-    };
-    *dim = pick_count(start, end, step);
-    *stride = stepped_stride(*dim, *stride, step);
+    let picks = resolve_slice(*dim, slice, fit)?;
+    let offset = picks.offset(*stride);
+    *dim = picks.count();
+    *stride = picks.stride(*stride);
     Ok(offset)
 }

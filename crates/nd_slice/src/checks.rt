@@ -3,11 +3,11 @@ ghost use Rattle.std.specs.Prelude.{◌≡◌};
 ghost use Rattle.std.specs.Result.{result_err};
 ghost use Rattle.nd_slice.specs.ArgumentFault.{argument_fault, in_count, out_count};
 
+use crate::axis_elems::AxisElems;
 use crate::elem::SliceInfoElem;
 use crate::elems::SliceElems;
 use crate::fit::Fit;
-use crate::picks::{entry_of, to_abs_slice};
-use crate::slice::Slice;
+use crate::resolve::resolve_elem;
 use nd_base::{ErrorKind, Lengths, ShapeError, from_kind};
 
 /// The number of axes of the shapes that a slice argument is for: one for each element but a new
@@ -64,19 +64,8 @@ pub fn check_elems(shape: &[usize], elems: &[SliceInfoElem], fit: Fit) -> Result
     if in_ndim_of(elems) != shape.len() {
         return Err(from_kind(ErrorKind::IncompatibleShape));
     }
-    let mut axis = 0;
-    for elem in elems {
-        match *elem {
-            SliceInfoElem::Slice { start, end, step } => {
-                to_abs_slice(shape[axis], Slice { start, end, step }, fit)?;
-                axis += 1;
-            }
-            SliceInfoElem::Index(index) => {
-                entry_of(shape[axis], index)?;
-                axis += 1;
-            }
-            SliceInfoElem::NewAxis => {}
-        }
+    for (len, elem) in AxisElems::new(shape, elems) {
+        resolve_elem(len, elem, fit)?;
     }
     Ok(())
 }

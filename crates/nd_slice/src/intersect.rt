@@ -1,69 +1,38 @@
 //! Slice arguments that share an index of a shape.
-ghost use Rattle.std.specs.Prelude.{◌≡◌, ℤ, ◌+◌, ◌<◌, ◌≤◌, ◌^◌, ◌↔◌, IsTrue, IfOk, None, drop, length};
+ghost use Rattle.std.specs.Prelude.{◌≡◌, ◌<◌, ◌^◌, ◌↔◌, IsTrue, IfOk, None};
 ghost use Rattle.std.specs.List.{All};
 ghost use Rattle.std.specs.Option.{option_or};
 ghost use Rattle.std.specs.Result.{result_err};
-ghost use Rattle.nd_slice.specs.declared.fit.Fit.{Fit as AnyFit};
-ghost use Rattle.nd_slice.specs.Picks.{picks};
-ghost use Rattle.nd_slice.specs.SliceFault.{SliceFits};
-ghost use Rattle.nd_slice.specs.ArgumentFault.{argument_fault};
-ghost use Rattle.nd_slice.specs.Meet.{elem_picks, ElemFits, IndexFitsIn, without_new_axes, Meet};
+ghost use Rattle.nd_slice.specs.PicksMeet.{PicksMeet};
+ghost use Rattle.nd_slice.specs.ArgumentFault.{argument_fault, elem_fault};
+ghost use Rattle.nd_slice.specs.Meet.{elem_picks, Meet};
 
 mod equation;
 mod euclid;
 mod multiplier;
-mod picks;
 mod sequence;
 
+use crate::axis_elems::AxisElems;
 use crate::checks::check_slice;
 use crate::elem::SliceInfoElem;
 use crate::elems::SliceElems;
 use crate::fit::Fit;
-use crate::intersect::picks::picks_intersect;
-use crate::picks::abs_index;
-use crate::slice::Slice;
+use crate::resolve::resolve_elem;
 pub use equation::solve_linear_diophantine_eq;
 pub use euclid::extended_gcd;
 use nd_base::{Lengths, ShapeError};
 pub use sequence::arith_seq_intersect;
 
-/// The place of the next element that is for an axis, from a place on; the count of elements where
-/// there is none.
-fn next_for_axis(elems: &[SliceInfoElem], from: usize) -> usize
-    requires { from ≤ length elems.now }
-    ensures within { result ≤ length elems.now }
-    ensures next { drop result elems.now ≡ without_new_axes (drop from elems.now) }
-{
-    let mut place = from;
-    while place < elems.len() && elems[place].is_new_axis() {
-        place += 1;
-    }
-    place
-}
-
-/// The slice of an axis that picks what an element picks of it.
-fn slice_of(len: usize, elem: SliceInfoElem) -> Slice
+/// Whether two elements that fit an axis of `len` coordinates share one of it. The caller ensures that `len` is below 2^63.
+#[inline]
+fn elems_share(len: usize, first: SliceInfoElem, second: SliceInfoElem, fit: Fit) -> bool
     requires len_fits { len < 2 ^ 63 }
-    requires index_fits { IndexFitsIn len elem }
-    ensures picks { (fit : AnyFit) → picks fit len result ≡ elem_picks fit len elem }
-    ensures fits { (fit : AnyFit) → ElemFits fit len elem → SliceFits fit len result }
+    requires first_fits { elem_fault fit len first ≡ None }
+    requires second_fits { elem_fault fit len second ≡ None }
+    ensures { IsTrue result ↔ PicksMeet (elem_picks fit len first) (elem_picks fit len second) }
 {
-    match elem {
-        SliceInfoElem::Slice { start, end, step } => Slice { start, end, step },
-        SliceInfoElem::Index(index) => {
-            let entry = abs_index(len, index) as isize;
-            Slice {
-                start: entry,
-                end: Some(entry + 1),
-                step: 1,
-            }
-        }
-        SliceInfoElem::NewAxis => Slice {
-            start: 0,
-            end: Some(0),
-            step: 1,
-        },
-    }
+    let picks = resolve_elem(len, first, fit).unwrap();
+    picks.intersects(resolve_elem(len, second, fit).unwrap())
 }
 
 /// Whether two slice arguments that fit a shape share an index of it: what `slices_intersect` returns, of lists that were
@@ -81,18 +50,14 @@ pub fn elems_intersect(
     requires second_fits { argument_fault fit shape.now second.now ≡ None }
     ensures { IsTrue result ↔ Meet fit shape.now first.now second.now }
 {
-    let mut first_place = 0;
-    let mut second_place = 0;
-    for len in shape {
-        first_place = next_for_axis(first, first_place);
-        second_place = next_for_axis(second, second_place);
-        let first_slice = slice_of(*len, first[first_place]);
-        let second_slice = slice_of(*len, second[second_place]);
-        if !picks_intersect(*len, first_slice, second_slice, fit) {
+    let mut others = AxisElems::new(shape, second);
+    for (len, elem) in AxisElems::new(shape, first) {
+        let Some((_, other)) = others.next() else {
+            return true;
+        };
+        if !elems_share(len, elem, other, fit) {
             return false;
         }
-        first_place += 1;
-        second_place += 1;
     }
     true
 }

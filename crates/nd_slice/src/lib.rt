@@ -4,6 +4,8 @@
 
 mod arg;
 mod axis;
+mod axis_elems;
+mod bounds;
 mod checks;
 mod collapse;
 mod elem;
@@ -12,10 +14,13 @@ mod fit;
 mod info;
 mod intersect;
 mod picks;
+mod resolve;
 mod slice;
 
 pub use arg::SliceArg;
 pub use axis::do_slice;
+pub use axis_elems::AxisElems;
+pub use bounds::{abs_index, entry_of, to_abs_slice};
 pub use checks::{check_elems, check_slice, in_ndim_of, out_ndim_of};
 pub use collapse::do_collapse_axis;
 pub use elem::{NewAxis, SliceInfoElem};
@@ -26,5 +31,6 @@ pub use intersect::{
     arith_seq_intersect, elems_intersect, extended_gcd, slices_intersect,
     solve_linear_diophantine_eq,
 };
-pub use picks::{abs_index, count_of_picks, entry_of, slice_min_max, to_abs_slice};
+pub use picks::AxisPicks;
+pub use resolve::{resolve_elem, resolve_slice, slice_min_max};
 pub use slice::Slice;

@@ -1,187 +1,156 @@
-//! A slice of one axis: whether it fits, and the coordinates that it picks.
-ghost use Rattle.std.specs.Prelude.{◌≡◌, ◌-◌, ◌*◌, ◌<◌, ◌≤◌, max, pos, ◌≤ℤ◌, ◌↔◌, IsOk, IfOk, OkIff, IsOkUnless, IsTrue, MatchOption, [], length, slice_index};
+//! What an element of a slice argument picks of an axis: how many coordinates, which, and where they lie.
+ghost use Rattle.std.specs.Prelude.{◌≡◌, ◌↔◌, ◌-◌, ◌*◌, ◌<◌, ◌≤◌, ◌^◌, pos, ◌≤ℤ◌, IsTrue, length, slice_index};
 ghost use Rattle.std.specs.List.{All, Contains};
-ghost use Rattle.std.specs.Result.{result_err};
-ghost use Rattle.nd_base.specs.Signed.{magnitude};
-ghost use Rattle.nd_slice.specs.Picks.{meaning, is_bound, bound_meaning, start_meaning, end_meaning, between, picks};
-ghost use Rattle.nd_slice.specs.SliceFault.{slice_fault, index_fault, SliceFits};
+ghost use Rattle.nd_base.specs.Signed.{magnitude, signed as signed_reading};
+ghost use Rattle.nd_base.specs.Size.{limit};
+ghost use Rattle.nd_base.specs.Span.{reach};
+ghost use Rattle.nd_slice.specs.Picked.{picked_stride, first_offset};
+ghost use Rattle.nd_slice.specs.Picks.{between};
+ghost use Rattle.nd_slice.specs.PicksMeet.{PicksMeet};
 
-use crate::fit::Fit;
-use crate::slice::Slice;
-use nd_base::{ErrorKind, ShapeError, from_kind};
-use num_traits::clamp;
+use crate::intersect::arith_seq_intersect;
+use nd_base::{signed, stride_offset, unsigned};
 
-/// The coordinate that an index means on an axis of `len` coordinates, counted from 0: the index
-/// itself, or `len + index` where it is negative.
-///
-/// The caller ensures that the index is at least `-len`; the result may be past the axis.
-///
-/// -1 on an axis of 4: 3. ndarray's `abs_index`.
-#[inline]
-pub fn abs_index(len: usize, index: isize) -> usize
-    requires { pos 0 ≤ℤ meaning len index }
-    ensures { pos result ≡ meaning len index }
-{
-    let distance = index.unsigned_abs();
-    if index < 0 { len - distance } else { distance }
+/// The coordinates that an element of a slice argument picks of an axis: every |`step`|-th from `start` up to, not
+/// including, `end`, from the last one on where `step` is negative. None where `start` is `end`. The project's own.
+#[derive(Clone, Copy, PartialEq, Eq, Debug)]
+pub struct AxisPicks {
+    /// The coordinate at which the range begins, counted from 0.
+    pub start: usize,
+    /// The coordinate that the range stops before, counted from 0.
+    pub end: usize,
+    /// The distance from one pick to the next in coordinates, with its sign; not 0.
+    pub step: isize,
+    ghost order: { start ≤ end },
+    ghost moves: { 0 < magnitude step },
 }
 
-/// The coordinate that an index means on an axis of `len` coordinates, as `abs_index` returns it.
-///
-/// # Errors
-///
-/// `OutOfBounds` where the index is not from `-len` to `len - 1`.
-///
-/// -1 on an axis of 4: 3. The project's own.
-#[inline(always)]
-pub fn entry_of(len: usize, index: isize) -> Result<usize, ShapeError>
-    ensures fault { result_err result ≡ index_fault len index }
-    ensures entry { IfOk result (λ entry. pos entry ≡ meaning len index) }
-{
-    let distance = index.unsigned_abs();
-    if distance < len || (distance == len && index < 0) {
-        Ok(abs_index(len, index))
-    } else {
-        Err(from_kind(ErrorKind::OutOfBounds))
+impl AxisPicks {
+    /// How many coordinates are picked.
+    ///
+    /// 1 to 4 with the step -2: 2. The project's own.
+    #[inline(always)]
+    pub fn count(self) -> usize
+        ensures { result ≡ length (between self.step self.start self.end) }
+    {
+        let len = self.end - self.start;
+        let step = self.step.unsigned_abs();
+        // (a step of one coordinate needs no division)
+        if step == 1 { len } else { len.div_ceil(step) }
     }
-}
 
-/// The coordinate that a bound of a range means, from 0 to `len`. Any other is `OutOfBounds`, or is moved
-/// to the nearer end of the axis.
-#[inline(always)]
-fn abs_bound(len: usize, bound: isize, fit: Fit) -> Result<usize, ShapeError>
-    ensures value { OkIff result (IsTrue (is_bound len (bound_meaning fit len bound)))
-        (magnitude (bound_meaning fit len bound)) }
-    ensures fault { IsOkUnless result ErrorKind.OutOfBounds }
-{
-    let distance = match fit {
-        Fit::Strict => bound.unsigned_abs(),
-        Fit::Clamp => clamp(bound.unsigned_abs(), 0, len),
-    };
-    if distance > len {
-        Err(from_kind(ErrorKind::OutOfBounds))
-    } else if bound < 0 {
-        Ok(len - distance)
-    } else {
-        Ok(distance)
+    /// The coordinate that is picked first. The caller ensures that there is one.
+    #[inline(always)]
+    fn first(self) -> usize
+        requires { self.start < self.end }
+        ensures { result ≡ slice_index (between self.step self.start self.end) 0 }
+    {
+        if self.step < 0 {
+            self.end - 1
+        } else {
+            self.start
+        }
     }
-}
 
-/// The start, the end and the step of a slice on an axis of `len` coordinates, with both bounds
-/// counted from 0.
-///
-/// Both are from 0 to `len`, and an end before the start becomes the start.
-///
-/// # Errors
-///
-/// `OutOfBounds` where a bound means no number from 0 to `len` (never with `Fit::Clamp`); then
-/// `Unsupported` for the step 0.
-///
-/// `-3..;-2` on an axis of 4: (1, 4, -2). ndarray's `to_abs_slice`.
-#[inline]
-pub fn to_abs_slice(len: usize, slice: Slice, fit: Fit) -> Result<(usize, usize, isize), ShapeError>
-    ensures fault { result_err result ≡ slice_fault fit len slice }
-    ensures fits { IsOk result ↔ SliceFits fit len slice }
-    ensures start { IfOk result (λ (start, end, step). pos start ≡ start_meaning fit len slice) }
-    ensures end { IfOk result (λ (start, end, step).
-        end ≡ max start (magnitude (end_meaning fit len slice))) }
-    ensures order { IfOk result (λ (start, end, step). start ≤ end) }
-    ensures within { IfOk result (λ (start, end, step). end ≤ len) }
-    ensures step { IfOk result (λ (start, end, step). step ≡ slice.step) }
-{
-    let start = abs_bound(len, slice.start, fit)?;
-    let end = match slice.end {
-        Some(end) => abs_bound(len, end, fit)?,
-        None => len,
-    };
-    if slice.step == 0 {
-        return Err(from_kind(ErrorKind::Unsupported));
+    /// The distance in coordinates from the first one that is picked to the last. The caller ensures that there is one.
+    #[inline(always)]
+    fn extent(self) -> usize
+        requires { self.start < self.end }
+        ensures extent { result ≡ (length (between self.step self.start self.end) - 1)
+            * magnitude self.step }
+        ensures within { result < self.end - self.start }
+    {
+        (self.count() - 1) * self.step.unsigned_abs()
     }
-    Ok((start, end.max(start), slice.step))
-}
 
-/// The number of coordinates that a step picks from `start` up to, not including, `end`. The caller ensures that
-/// the end is not before the start, and that the step is not 0.
-#[inline(always)]
-pub(crate) fn pick_count(start: usize, end: usize, step: isize) -> usize
-    requires order { start ≤ end }
-    requires moves { 0 < magnitude step }
-    ensures { result ≡ length (between step start end) }
-{
-    (end - start).div_ceil(step.unsigned_abs())
-}
-
-/// The coordinate that a step picks first from `start` up to, not including, `end`: the last of them where
-/// the step is negative. The caller ensures that the end is after the start, and that the step is
-/// not 0.
-#[inline(always)]
-pub(crate) fn first_pick(start: usize, end: usize, step: isize) -> usize
-    requires order { start < end }
-    requires moves { 0 < magnitude step }
-    ensures { result ≡ slice_index (between step start end) 0 }
-{
-    if step < 0 { end - 1 } else { start }
-}
-
-/// The distance in coordinates from the first one that a step picks between two bounds to the last.
-fn pick_extent(start: usize, end: usize, step: isize) -> usize
-    requires order { start < end }
-    requires moves { 0 < magnitude step }
-    ensures extent { result ≡ (length (between step start end) - 1)
-        * magnitude step }
-    ensures within { result < end - start }
-{
-    (pick_count(start, end, step) - 1) * step.unsigned_abs()
-}
-
-/// The least and the greatest coordinate that a step picks between two bounds.
-pub(crate) fn pick_ends(start: usize, end: usize, step: isize) -> (usize, usize)
-    requires order { start < end }
-    requires moves { 0 < magnitude step }
-    ensures least { Contains (between step start end) result.0 }
-    ensures greatest { Contains (between step start end) result.1 }
-    ensures between { All (λ pick. (result.0 ≤ pick) × (pick ≤ result.1))
-        (between step start end) }
-    ensures below { (result.0 < end) × (result.1 < end) }
-{
-    let extent = pick_extent(start, end, step);
-    if step < 0 {
-        (end - 1 - extent, end - 1)
-    } else {
-        (start, start + extent)
+    /// The least and the greatest coordinate that is picked. The caller ensures that there is one.
+    #[inline(always)]
+    pub(crate) fn ends(self) -> (usize, usize)
+        requires { self.start < self.end }
+        ensures least { Contains (between self.step self.start self.end) result.0 }
+        ensures greatest { Contains (between self.step self.start self.end) result.1 }
+        ensures between { All (λ pick. (result.0 ≤ pick) × (pick ≤ result.1))
+            (between self.step self.start self.end) }
+        ensures below { (result.0 < self.end) × (result.1 < self.end) }
+    {
+        let extent = self.extent();
+        if self.step < 0 {
+            (self.end - 1 - extent, self.end - 1)
+        } else {
+            (self.start, self.start + extent)
+        }
     }
-}
 
-/// The number of coordinates that a slice picks of an axis of `len` coordinates.
-///
-/// The caller ensures that the slice fits the axis.
-///
-/// `1..;-2` on an axis of 4: 2. The project's own.
-pub fn count_of_picks(len: usize, slice: Slice, fit: Fit) -> usize
-    requires { SliceFits fit len slice }
-    ensures { result ≡ length (picks fit len slice) }
-{
-    let (start, end, step) = to_abs_slice(len, slice, fit).unwrap();
-    pick_count(start, end, step)
-}
+    /// The distance in elements, with its sign, from coordinate 0 to the one that is picked first, where the axis has that
+    /// stride; 0 where none is picked.
+    ///
+    /// The caller ensures that `end` and (`end` - 1) * |stride| are at most `isize::MAX`.
+    ///
+    /// 1 to 4 with the step -2, stride 5: 15. The project's own.
+    #[inline(always)]
+    pub fn offset(self, stride: usize) -> isize
+        requires small { self.end < 2 ^ 63 }
+        requires span_fits { reach self.end (signed_reading stride) ≤ limit }
+        ensures { result ≡ first_offset (between self.step self.start self.end) (signed_reading stride) }
+    {
+        if self.start < self.end {
+            stride_offset(self.first(), stride)
+        } else {
+            0
+        }
+    }
 
-/// The least and the greatest coordinate that a slice picks of an axis of `len` coordinates; `None`
-/// where it picks none.
-///
-/// The caller ensures that the slice fits the axis.
-///
-/// `1..;-2` on an axis of 4: (1, 3). ndarray's `slice_min_max`.
-pub fn slice_min_max(len: usize, slice: Slice, fit: Fit) -> Option<(usize, usize)>
-    requires { SliceFits fit len slice }
-    ensures picks { MatchOption result (picks fit len slice ≡ [])
-        (λ (least, greatest). Contains (picks fit len slice) least
-        × Contains (picks fit len slice) greatest
-        × All (λ pick. (least ≤ pick) × (pick ≤ greatest)) (picks fit len slice)) }
-{
-    let (start, end, step) = to_abs_slice(len, slice, fit).unwrap();
-    if start < end {
-        Some(pick_ends(start, end, step))
-    } else {
-        None
+    /// The distance in elements from one coordinate that is picked to the next, where the axis has that stride, kept as the
+    /// `usize` of the same bits; 0 where at most one is picked.
+    ///
+    /// The caller ensures that (`end` - 1) * |stride| is at most `isize::MAX`.
+    ///
+    /// 1 to 4 with the step -2, stride 5: -10. The project's own.
+    #[inline(always)]
+    pub fn stride(self, stride: usize) -> usize
+        requires { reach self.end (signed_reading stride) ≤ limit }
+        ensures { signed_reading result ≡ picked_stride
+            (length (between self.step self.start self.end)) (signed_reading stride) self.step }
+    {
+        if self.count() <= 1 {
+            0
+        } else {
+            unsigned(signed(stride) * self.step)
+        }
+    }
+
+    /// The least and the greatest coordinate that is picked, and the step.
+    #[inline(always)]
+    fn sequence(self) -> (isize, isize, isize)
+        requires some { self.start < self.end }
+        requires small { self.end < 2 ^ 63 }
+        ensures least { Contains (between self.step self.start self.end) (magnitude result.0) }
+        ensures greatest { Contains (between self.step self.start self.end) (magnitude result.1) }
+        ensures between { All (λ pick. (magnitude result.0 ≤ pick) × (pick ≤ magnitude result.1))
+            (between self.step self.start self.end) }
+        ensures signs { (pos 0 ≤ℤ result.0) × (pos 0 ≤ℤ result.1) }
+        ensures step { result.2 ≡ self.step }
+    {
+        let (least, greatest) = self.ends();
+        (least as isize, greatest as isize, self.step)
+    }
+
+    /// Whether both pick some coordinate of an axis. The ranges are compared first, which takes no division.
+    ///
+    /// The caller ensures that both ends are at most `isize::MAX`.
+    ///
+    /// 0 to 9 with the step 4, and 2 to 9 with the step 6: true, by 8. The project's own.
+    #[inline]
+    pub fn intersects(self, other: AxisPicks) -> bool
+        requires small { self.end < 2 ^ 63 }
+        requires other_small { other.end < 2 ^ 63 }
+        ensures { IsTrue result ↔ PicksMeet
+            (between self.step self.start self.end) (between other.step other.start other.end) }
+    {
+        // (so no coordinate is in both ranges; in an empty one there is none)
+        if self.start.max(other.start) >= self.end.min(other.end) {
+            return false;
+        }
+        arith_seq_intersect(self.sequence(), other.sequence())
     }
 }

@@ -33,10 +33,10 @@ pub use nd_shape::{
 
 // Slices, and arguments of slices.
 pub use nd_slice::{
-    Fit, NewAxis, Slice, SliceArg, SliceElems, SliceInfo, SliceInfoElem, abs_index,
-    arith_seq_intersect, check_elems, check_slice, count_of_picks, do_collapse_axis, do_slice,
-    elems_intersect, entry_of, extended_gcd, in_ndim_of, out_ndim_of, slice_min_max,
-    slices_intersect, solve_linear_diophantine_eq, to_abs_slice,
+    AxisElems, AxisPicks, Fit, NewAxis, Slice, SliceArg, SliceElems, SliceInfo, SliceInfoElem,
+    abs_index, arith_seq_intersect, check_elems, check_slice, do_collapse_axis, do_slice,
+    elems_intersect, entry_of, extended_gcd, in_ndim_of, out_ndim_of, resolve_elem, resolve_slice,
+    slice_min_max, slices_intersect, solve_linear_diophantine_eq, to_abs_slice,
 };
 
 // Reshapes that move no element.

@@ -13,8 +13,9 @@ fn meets_within(ahead: usize, first_step: usize, second_step: usize, room: usize
     requires second_small { second_step ≤ 2 ^ 63 }
     ensures { IsTrue result ↔ MeetsWithin ahead first_step second_step room }
 {
-    // (0 is such a number, or the only multiple within the room: then no equation is solved)
-    if ahead % first_step == 0 {
+    // (0 is such a number, or the only multiple within the room: then no equation is solved, and for a step of 1 no
+    // remainder is taken)
+    if first_step == 1 || ahead % first_step == 0 {
         return true;
     }
     if room < second_step {

@@ -21,7 +21,8 @@ use crate::strided::Strided;
 use crate::strided::places::offset_place;
 use nd_base::{ErrorKind, INLINE_AXES, LayoutError, Lengths, ShapeError, from_kind, stride_offset};
 use nd_slice::{
-    Fit, Slice, SliceElems, SliceInfoElem, check_elems, do_slice, entry_of, in_ndim_of, out_ndim_of,
+    Fit, Slice, SliceElems, SliceInfoElem, check_elems, entry_of, in_ndim_of, out_ndim_of,
+    resolve_slice,
 };
 use std::alloc::Global;
 
@@ -44,7 +45,7 @@ fn needs_memory(fixed: Option<usize>, ndim: usize) -> bool
 }
 
 /// Slices one axis: the length and the stride that are left, and how many elements the first pick
-/// lies after the first one. Errors: those of `do_slice`.
+/// lies after the first one. Errors: those of `resolve_slice`.
 #[inline(always)]
 fn slice_axis(
     len: usize,
@@ -61,9 +62,8 @@ fn slice_axis(
     ensures offset { IfOk result (λ (count, kept, offset).
         offset ≡ first_offset (picks fit len slice) (signed_reading stride)) }
 {
-    let (mut len, mut stride) = (len, stride);
-    let offset = do_slice(&mut len, &mut stride, slice, fit)?;
-    Ok((len, stride, offset))
+    let picks = resolve_slice(len, slice, fit)?;
+    Ok((picks.count(), picks.stride(stride), picks.offset(stride)))
 }
 
 /// Writes the lengths and the strides that an argument for as many axes as there are leaves, one

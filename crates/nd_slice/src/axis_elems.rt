@@ -1,0 +1,63 @@
+//! The elements of a slice argument that are for the axes of a shape.
+ghost use Rattle.std.specs.Prelude.{◌≡◌};
+ghost use Rattle.std.specs.Iterator.{YieldsFirst, item_count};
+ghost use Rattle.nd_slice.specs.AxisElems.{without_new_axes};
+
+use crate::elem::SliceInfoElem;
+use std::iter::FusedIterator;
+
+/// Iterator over the elements that are for an axis of a shape, each with the length of its axis: all but the new axes, as long
+/// as there is an axis. A contract sees the list of those that are left. The project's own.
+#[derive(Clone, Copy, Debug)]
+pub struct AxisElems<'a> {
+    // The lengths of the axes that are left, and the elements that are.
+    shape: &'a [usize],
+    elems: &'a [SliceInfoElem],
+}
+
+/// The elements from the first that is no new axis on.
+#[inline(always)]
+fn skip_new_axes(elems: &[SliceInfoElem]) -> &[SliceInfoElem]
+    ensures { result.now ≡ without_new_axes elems.now }
+{
+    let mut place = 0;
+    while place < elems.len() && elems[place].is_new_axis() {
+        place += 1;
+    }
+    &elems[place..]
+}
+
+impl<'a> AxisElems<'a> {
+    ghost use Rattle.nd_slice.specs.AxisElems.{axis_elems};
+    ghost use Rattle.nd_slice.specs.AxisElemsLeft.{elems_left};
+
+    /// The elements for the axes of a shape. Each element but a new axis is for the next axis.
+    ///
+    /// `2..,NewAxis,5` on `[4,7]`: 4 with `2..`, 7 with 5. The project's own.
+    #[inline(always)]
+    pub fn new(shape: &'a [usize], elems: &'a [SliceInfoElem]) -> Self
+        ensures { elems_left result ≡ axis_elems shape.now elems.now }
+    {
+        AxisElems { shape, elems }
+    }
+}
+
+impl Iterator for AxisElems<'_> {
+    ghost use Rattle.nd_slice.specs.AxisElemsLeft.{elems_left};
+
+    type Item = (usize, SliceInfoElem);
+
+    ghost next_gives = { YieldsFirst elems_left };
+
+    ghost remaining = { item_count elems_left };
+
+    #[inline(always)]
+    fn next(&mut self) -> Option<(usize, SliceInfoElem)> {
+        let (elem, elems) = skip_new_axes(self.elems).split_first()?;
+        let (len, shape) = self.shape.split_first()?;
+        *self = AxisElems { shape, elems };
+        Some((*len, *elem))
+    }
+}
+
+impl FusedIterator for AxisElems<'_> {}
