@@ -3,9 +3,10 @@ pub use Rattle.nd_base.proofs.laws.Definitions.{all_signed, is_index, limit, mag
 pub use Rattle.nd_slice.specs.declared.fit.Fit.{Fit}
 pub use Rattle.nd_slice.specs.declared.slice.Slice.{Slice}
 pub use Rattle.nd_slice.specs.declared.elem.SliceInfoElem.{SliceInfoElem}
-pub use Rattle.nd_slice.specs.ArgumentFault.{argument_fault, first_fault, in_count, out_count}
+pub use Rattle.nd_slice.specs.ArgumentFault.{argument_fault, elem_fault, fault_of_each, first_fault, in_count, out_count}
+pub use Rattle.nd_slice.specs.AxisElems.{axis_elems, without_new_axes}
 pub use Rattle.nd_slice.specs.Equation.{IsLeastMultiplier, IsLeastSolution, Solves, added_of, with_sign_of}
-pub use Rattle.nd_slice.specs.Meet.{ElemFits, IndexFitsIn, Meet, axis_picks, elem_picks, without_new_axes}
+pub use Rattle.nd_slice.specs.Meet.{Meet, axis_picks, elem_picks}
 pub use Rattle.nd_slice.specs.Picked.{first_offset, picked_stride}
 pub use Rattle.nd_slice.specs.Picks.{between, directed, end_meaning, every, is_bound, is_entry, meaning, nearest, picks, range}
 pub use Rattle.nd_slice.specs.Picks.{slice_with, start_meaning}

@@ -1,4 +1,5 @@
 pub mod ArgumentFault
+pub mod AxisElems
 pub mod Between
 pub mod Meet
 pub mod Offsets

@@ -1,6 +1,5 @@
 pub mod ArgumentFault
 pub mod AxisElems
-pub mod AxisElemsLeft
 pub mod Counts
 pub mod ElementText
 pub mod Equation

@@ -1,14 +1,15 @@
 //! The elements of a slice argument that are for the axes of a shape.
 ghost use Rattle.std.specs.Prelude.{◌≡◌};
 ghost use Rattle.std.specs.Iterator.{YieldsFirst, item_count};
-ghost use Rattle.nd_slice.specs.AxisElems.{without_new_axes};
+ghost use Rattle.nd_slice.specs.AxisElems.{axis_elems, without_new_axes};
 
 use crate::elem::SliceInfoElem;
 use std::iter::FusedIterator;
+use std::marker::Model;
 
 /// Iterator over the elements that are for an axis of a shape, each with the length of its axis: all but the new axes, as long
 /// as there is an axis. A contract sees the list of those that are left. The project's own.
-#[derive(Clone, Copy, Debug)]
+#[derive(Drop)]
 pub struct AxisElems<'a> {
     // The lengths of the axes that are left, and the elements that are.
     shape: &'a [usize],
@@ -27,29 +28,34 @@ fn skip_new_axes(elems: &[SliceInfoElem]) -> &[SliceInfoElem]
     &elems[place..]
 }
 
-impl<'a> AxisElems<'a> {
+impl<'a> Model for AxisElems<'a> {
+    ghost use Rattle.std.specs.Prelude.{List, ℕ};
     ghost use Rattle.nd_slice.specs.AxisElems.{axis_elems};
-    ghost use Rattle.nd_slice.specs.AxisElemsLeft.{elems_left};
+    ghost use Rattle.nd_slice.specs.declared.elem.SliceInfoElem.{SliceInfoElem};
 
+    ghost Value = { List (ℕ × SliceInfoElem) };
+
+    ghost view = { λ left. axis_elems left.shape.now left.elems.now };
+}
+
+impl<'a> AxisElems<'a> {
     /// The elements for the axes of a shape. Each element but a new axis is for the next axis.
     ///
     /// `2..,NewAxis,5` on `[4,7]`: 4 with `2..`, 7 with 5. The project's own.
     #[inline(always)]
     pub fn new(shape: &'a [usize], elems: &'a [SliceInfoElem]) -> Self
-        ensures { elems_left result ≡ axis_elems shape.now elems.now }
+        ensures { result ≡ axis_elems shape.now elems.now }
     {
         AxisElems { shape, elems }
     }
 }
 
 impl Iterator for AxisElems<'_> {
-    ghost use Rattle.nd_slice.specs.AxisElemsLeft.{elems_left};
-
     type Item = (usize, SliceInfoElem);
 
-    ghost next_gives = { YieldsFirst elems_left };
+    ghost next_gives = { YieldsFirst (λ left. left) };
 
-    ghost remaining = { item_count elems_left };
+    ghost remaining = { item_count (λ left. left) };
 
     #[inline(always)]
     fn next(&mut self) -> Option<(usize, SliceInfoElem)> {

@@ -13,7 +13,7 @@ use nd_base::{signed, stride_offset, unsigned};
 
 /// The coordinates that an element of a slice argument picks of an axis: every |`step`|-th from `start` up to, not
 /// including, `end`, from the last one on where `step` is negative. None where `start` is `end`. The project's own.
-#[derive(Clone, Copy, PartialEq, Eq, Debug)]
+#[derive(Clone, Copy, Debug)]
 pub struct AxisPicks {
     /// The coordinate at which the range begins, counted from 0.
     pub start: usize,

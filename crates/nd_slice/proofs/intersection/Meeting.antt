@@ -1,123 +1,65 @@
--- A walk along the axes of a shape, with a place among the elements of each of two slice arguments.
-use Rattle.std.proofs.Common.{suc, ◌+◌, refl, ap, sym, ◌∙◌, subst, arith, drop, get_or, inl, inr, drop-cons, ◌≡◌, ℕ, ◌<◌, ◌↔◌, None, List}
-use Rattle.std.proofs.Common.{[], ◌∷◌, length}
-use Rattle.std.proofs.lemmas.Bool.{cases_lt}
-use Rattle.std.proofs.lemmas.List.{drop_all}
+-- A walk along the axes of a shape with the elements of two slice arguments for them.
+use Rattle.std.proofs.Common.{◌≡◌, ℕ, ◌<◌, ◌^◌, ◌↔◌, None, List, [], ◌∷◌, All, ap, map}
+use Rattle.std.proofs.lemmas.List.Elements.{All-head, All-tail}
 use Rattle.std.specs.List.{AllZip}
-use Rattle.nd_slice.proofs.Definitions.{ElemFits, Fit, IndexFitsIn, PicksMeet, SliceInfoElem, axis_picks, elem_picks, first_fault}
-use Rattle.nd_slice.proofs.Definitions.{in_count, slice_with, without_new_axes}
-use Rattle.nd_slice.specs.declared.elem.SliceInfoElem.TheVariants as elem
-use Rattle.nd_slice.proofs.laws.ArgumentFault.{slice_of_no_fault, index_of_no_fault}
-use Rattle.nd_slice.proofs.laws.Meet.{axis_picks-no_axes}
+use Rattle.nd_base.proofs.laws.Options.{option_or_none}
+use Rattle.nd_slice.proofs.Definitions.{Fit, PicksMeet, SliceInfoElem, elem_fault, elem_picks, fault_of_each}
 
-in_count-without_new_axes : (elems : List SliceInfoElem) → in_count (without_new_axes elems) ≡ in_count elems
-in_count-without_new_axes [] = refl
-in_count-without_new_axes (elem.Slice start end step ∷ elems) = refl
-in_count-without_new_axes (elem.Index index ∷ elems) = refl
-in_count-without_new_axes (elem.NewAxis ∷ elems) = in_count-without_new_axes elems
+abbrev pub lens_of : List (ℕ × SliceInfoElem) → List ℕ
+lens_of elems = map (λ one. one.0) elems
 
--- an element for each axis that is left, and none at fault
-pub record AreLeft (fit : Fit) (shape : List ℕ) (elems : List SliceInfoElem) : Type 0 where
-  pub count : in_count elems ≡ length shape
-  pub none : first_fault fit shape elems ≡ None
+abbrev pub picks_of : Fit → List (ℕ × SliceInfoElem) → List (List ℕ)
+picks_of fit elems = map (λ one. elem_picks fit one.0 one.1) elems
 
--- the element for the next axis, and those after it
-pub record IsNext (fit : Fit) (len : ℕ) (shape : List ℕ) (elems : List SliceInfoElem) (e : SliceInfoElem)
-    (others : List SliceInfoElem) : Type 0 where
-  pub fits : ElemFits fit len e
-  pub left : AreLeft fit shape others
-  pub picks : axis_picks fit (len ∷ shape) elems ≡ elem_picks fit len e ∷ axis_picks fit shape others
+-- what is left of two arguments without fault decides whether they share a pick of every axis
+pub record IsDecided (fit : Fit) (first second : List (List ℕ)) (one other : List (ℕ × SliceInfoElem)) : Type 0 where
+  pub small : All (λ len. len < 2 ^ 63) (lens_of one)
+  pub lens : lens_of one ≡ lens_of other
+  pub fits : fault_of_each fit one ≡ None
+  pub other_fits : fault_of_each fit other ≡ None
+  pub same : AllZip PicksMeet first second ↔ AllZip PicksMeet (picks_of fit one) (picks_of fit other)
 
-module _ (fit : Fit) (len : ℕ) (shape : List ℕ) where
-  same_next : (elems others rest : List SliceInfoElem) (e f : SliceInfoElem) → e ∷ others ≡ f ∷ rest
-      → IsNext fit len shape elems f rest → IsNext fit len shape elems e others
-  same_next elems others rest e f same next =
-      let first : f ≡ e = cc in
-      let after : rest ≡ others = cc in
-      subst (IsNext fit len shape elems e) after (subst (λ x. IsNext fit len shape elems x rest) first next)
+-- the elements of both for the next axis
+pub record AreNext (fit : Fit) (len : ℕ) (e f : SliceInfoElem) : Type 0 where
+  pub small : len < 2 ^ 63
+  pub fits : elem_fault fit len e ≡ None
+  pub other_fits : elem_fault fit len f ≡ None
 
-  after : (elems : List SliceInfoElem) → 1 + in_count elems ≡ 1 + length shape → first_fault fit shape elems ≡ None
-      → AreLeft fit shape elems
-  after elems count none = record { count = omega arith; none = none }
+module _ {fit : Fit} {first second : List (List ℕ)} {one other after after' : List (ℕ × SliceInfoElem)} {len len' : ℕ}
+    {e f : SliceInfoElem} (at : IsDecided fit first second one other) (p : one ≡ (len, e) ∷ after) (q : other ≡ (len', f) ∷ after') where
+  here : IsDecided fit first second ((len, e) ∷ after) ((len', f) ∷ after')
+  here = rw (p, q) at at
 
-  -- the first element that is no new axis is for the next axis
-  next_of : (elems others : List SliceInfoElem) (e : SliceInfoElem) → e ∷ others ≡ without_new_axes elems
-      → AreLeft fit (len ∷ shape) elems → IsNext fit len shape elems e others
-  next_of [] others e same left = absurd (cc)
-  next_of (elem.NewAxis ∷ elems) others e same left =
-      let next = next_of elems others e same (record { count = left.count; none = left.none }) in
-      record { fits = next.fits; left = next.left; picks = next.picks }
-  next_of (elem.Slice start end step ∷ elems) others e same left =
-      let parts = slice_of_no_fault fit len shape (slice_with start end step) elems left.none in
-      let rest = after elems (omega (arith, left.count)) parts.1 in
-      same_next (elem.Slice start end step ∷ elems) others elems e (elem.Slice start end step) same
-      (record { fits = parts.0; left = rest; picks = refl })
-  next_of (elem.Index index ∷ elems) others e same left =
-      let parts = index_of_no_fault fit len shape index elems left.none in
-      let rest = after elems (omega (arith, left.count)) parts.1 in
-      same_next (elem.Index index ∷ elems) others elems e (elem.Index index) same
-      (record { fits = parts.0; left = rest; picks = refl })
+  same_len : len' ≡ len
+  same_len = let lens = here.lens in cc
 
--- the place of that element, found from where the elements that are left begin
-pub record IsPlace (fit : Fit) (len : ℕ) (shape : List ℕ) (elems : List SliceInfoElem) (before place : ℕ) : Type 0 where
-  pub left : AreLeft fit (len ∷ shape) (drop before elems)
-  pub next : drop place elems ≡ without_new_axes (drop before elems)
-
-module _ {fit : Fit} {len : ℕ} {shape : List ℕ} {elems : List SliceInfoElem} {before place : ℕ}
-    (at : IsPlace fit len shape elems before place) where
-  pub place_below : place < length elems
-  place_below = elim (cases_lt place (length elems)) [
-    | inl below ↦ below
-    | inr above ↦
-        let nothing : drop place elems ≡ [] = drop_all place elems above in
-        absurd (omega (arith, at.left.count, in_count-without_new_axes (drop before elems), ap in_count at.next, ap in_count nothing))
-  ]
-
-  pub next_at : (d : SliceInfoElem) → IsNext fit len shape (drop before elems) (get_or elems place d) (drop (place + 1) elems)
-  next_at d =
-      let one_more : suc place ≡ place + 1 = omega arith in
-      let split : get_or elems place d ∷ drop (place + 1) elems ≡ drop place elems =
-      ap (λ n. get_or elems place d ∷ drop n elems) (sym one_more) ∙ sym (drop-cons elems place d place_below) in
-      next_of fit len shape (drop before elems) (drop (place + 1) elems) (get_or elems place d) (split ∙ at.next) at.left
-
--- two arguments share an entry on every axis
-abbrev pub ShareEach : Fit → List ℕ → List SliceInfoElem → List SliceInfoElem → Type 0
-ShareEach fit shape one other = AllZip PicksMeet (axis_picks fit shape one) (axis_picks fit shape other)
-
--- what is left of two arguments decides whether they meet
-pub record IsDecided (fit : Fit) (shape : List ℕ) (first second : List SliceInfoElem) (rest : List ℕ)
-    (one other : List SliceInfoElem) : Type 0 where
-  pub first_left : AreLeft fit rest one
-  pub second_left : AreLeft fit rest other
-  pub same : ShareEach fit shape first second ↔ ShareEach fit rest one other
-
-module _ {fit : Fit} {shape : List ℕ} {first second : List SliceInfoElem} {len : ℕ} {rest : List ℕ} {one other : List SliceInfoElem}
-    {e f : SliceInfoElem} {after after' : List SliceInfoElem}
-    (at : IsDecided fit shape first second (len ∷ rest) one other)
-    (p : IsNext fit len rest one e after) (q : IsNext fit len rest other f after') where
-  here : ShareEach fit shape first second
-      ↔ AllZip PicksMeet (elem_picks fit len e ∷ axis_picks fit rest after) (elem_picks fit len f ∷ axis_picks fit rest after')
-  here = rw (p.picks, q.picks) at at.same
-
-  -- where they share an entry of the next axis, the axes after it decide
-  pub go_on : PicksMeet (elem_picks fit len e) (elem_picks fit len f) → IsDecided fit shape first second rest after after'
-  go_on meet = record {
-    first_left = p.left;
-    second_left = q.left;
-    same = (λ all. (here.0 all).1, λ rest_all. here.1 (meet, rest_all));
+  pub next : AreNext fit len e f
+  next = record {
+    small = All-head (λ n. n < 2 ^ 63) len (lens_of after) here.small;
+    fits = (option_or_none (elem_fault fit len e) here.fits).0;
+    other_fits = rw same_len at ((option_or_none (elem_fault fit len' f) here.other_fits).0);
   }
 
-  -- where they share none, they do not meet
-  pub stop : (PicksMeet (elem_picks fit len e) (elem_picks fit len f) → ⊥) → ShareEach fit shape first second → ⊥
-  stop apart all = apart ((here.0 all).0)
+  both : AllZip PicksMeet first second
+      ↔ (PicksMeet (elem_picks fit len e) (elem_picks fit len f) × AllZip PicksMeet (picks_of fit after) (picks_of fit after'))
+  both = rw same_len at here.same
 
--- after the last axis they meet
-pub at_end : {fit : Fit} {shape : List ℕ} {first second one other : List SliceInfoElem} → IsDecided fit shape first second [] one other
-    → ShareEach fit shape first second
-at_end {fit = fit} {one = one} {other = other} at =
-    at.same.1 (rw (axis_picks-no_axes fit one, axis_picks-no_axes fit other) tt)
+  -- where they share a pick of the next axis, the axes after it decide
+  pub go_on : PicksMeet (elem_picks fit len e) (elem_picks fit len f) → IsDecided fit first second after after'
+  go_on meet = record {
+    small = All-tail (λ n. n < 2 ^ 63) len (lens_of after) here.small;
+    lens = let lens = here.lens in cc;
+    fits = (option_or_none (elem_fault fit len e) here.fits).1;
+    other_fits = (option_or_none (elem_fault fit len' f) here.other_fits).1;
+    same = (λ all. (both.0 all).1, λ rest. both.1 (meet, rest));
+  }
 
-pub fits_in : (fit : Fit) (len : ℕ) (e : SliceInfoElem) → ElemFits fit len e → IndexFitsIn len e
-fits_in fit len (elem.Slice start end step) fits = tt
-fits_in fit len (elem.Index index) fits = fits
-fits_in fit len elem.NewAxis fits = tt
+  -- where they share none, they share none of all axes
+  pub stop : (PicksMeet (elem_picks fit len e) (elem_picks fit len f) → ⊥) → AllZip PicksMeet first second → ⊥
+  stop apart all = apart ((both.0 all).0)
+
+-- after the last axis they do
+pub at_end : {fit : Fit} {first second : List (List ℕ)} {one other : List (ℕ × SliceInfoElem)}
+    → IsDecided fit first second one other → one ≡ [] → AllZip PicksMeet first second
+at_end {other = []} at none = let same = rw none at at.same in same.1 tt
+at_end {other = f ∷ after} at none = absurd (cc at.lens)

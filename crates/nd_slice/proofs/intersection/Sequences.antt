@@ -4,7 +4,7 @@ use Rattle.std.proofs.Common.{le-div_iff_mul-le, mul-le-mul_right, ◌≤ℤ◌,
 use Rattle.std.proofs.Math.Nat.{div-mul_cancel, dvd-mul_right}
 use Rattle.std.proofs.lemmas.Bool.{leb-true, le-leb}
 use Rattle.std.proofs.lemmas.Int.{ints, clamps}
-use Rattle.std.proofs.lemmas.Nat.Gcd.{le_of_dvd, mod-eq-zero_of_dvd}
+use Rattle.std.proofs.lemmas.Nat.Gcd.{dvd-zero, dvd_of_mod-eq-zero, le_of_dvd, mod-eq-zero_of_dvd}
 use Rattle.std.specs.Int.{◌∣◌, int_max, int_min}
 use Rattle.nd_slice.proofs.Definitions.{InSequence, IsLeastMultiplier, MeetsWithin, SequencesMeet, magnitude}
 use Rattle.nd_slice.proofs.intersection.Signs.{of_non_negative, of_non_positive}
@@ -32,6 +32,11 @@ pub meets_by_none : (ahead first_step second_step room : ℕ) → ((number : ℕ
 meets_by_none ahead first_step second_step room none meets =
     let whole : meets.0 / second_step * second_step ≡ meets.0 = div-mul_cancel second_step meets.2 in
     none (meets.0 / second_step) (subst (λ n. first_step ∣ n) (omega arith) meets.3)
+
+-- 0 serves where ahead is a multiple
+pub meets_first : (ahead first_step second_step room : ℕ) → ahead % first_step ≡ 0 → MeetsWithin ahead first_step second_step room
+meets_first ahead first_step second_step room none =
+    (0, omega arith, dvd-zero second_step, subst (λ n. first_step ∣ n) (omega arith) (dvd_of_mod-eq-zero first_step none))
 
 -- where 0 is the only multiple within the room, it decides
 pub meets_at_zero : (ahead first_step second_step room : ℕ) → room < second_step → MeetsWithin ahead first_step second_step room

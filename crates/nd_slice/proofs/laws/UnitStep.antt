@@ -1,6 +1,7 @@
 -- What a slice with a step of 1 picks: every entry of its range, so that pick j is the start plus j. A crop is such a slice of each axis.
 use Rattle.std.proofs.Common.{◌≡◌, ℕ, ◌+◌, ◌-◌, ◌<◌, ◌≤◌, min, ℤ, pos, negsuc, Option, Some, None, List, [], ◌∷◌, length, refl, ap, ◌∙◌}
 use Rattle.std.proofs.Common.{arith, IsTrue, nat_lt, slice_index}
+use Rattle.std.specs.Int.{div_ceil}
 use Rattle.std.specs.List.{range_with_len}
 use Rattle.std.proofs.lemmas.Bool.{and_parts, ltb-true}
 use Rattle.std.proofs.lemmas.Grind.{div_ceil_times}
@@ -15,10 +16,14 @@ use Rattle.nd_slice.specs.declared.elem.SliceInfoElem.TheVariants as elem
 use Rattle.nd_slice.proofs.laws.Between.{length-between, pick_up}
 
 -- ---- of a range
-length-between_one : (start end : ℕ) → length (between (pos 1) start end) ≡ end - start
-length-between_one start end =
+-- a step of 1, or of 1 back, picks as many numbers as there are
+pub length-between_unit : (step : ℤ) (start end : ℕ) → magnitude step ≡ 1 → length (between step start end) ≡ end - start
+length-between_unit step start end unit =
     let whole = div_ceil_times (end - start) 1 (omega arith) in
-    omega (arith, length-between (pos 1) start end (omega arith), whole.0, whole.1)
+    omega (arith, length-between step start end (omega (arith, unit)) ∙ ap (div_ceil (end - start)) unit, whole.0, whole.1)
+
+length-between_one : (start end : ℕ) → length (between (pos 1) start end) ≡ end - start
+length-between_one start end = length-between_unit (pos 1) start end refl
 
 -- a step of 1 picks all numbers from start up to, not including, end
 pub between_one : (start end : ℕ) → between (pos 1) start end ≡ range start end
@@ -27,6 +32,10 @@ between_one start end =
     ext_get_or 0 (between (pos 1) start end) (range start end) (omega (arith, count, length-range_with_len start (end - start)))
     (λ j inside.
     omega (arith, pick_up 1 start end j (omega arith) inside, get_or-range_with_len start (end - start) j 0 (omega (arith, count))))
+
+-- one number alone
+pub between_lone : (number : ℕ) → between (pos 1) number (number + 1) ≡ number ∷ []
+between_lone number = let one : number + 1 - number ≡ 1 = omega arith in between_one number (number + 1) ∙ ap (range_with_len number) one
 
 -- ---- of an axis
 module _ (fit : Fit) (len : ℕ) (start : ℤ) (end : Option ℤ) where

@@ -1,10 +1,7 @@
--- The elements so far were for the axes so far, and the first fault of what is left is the first of all.
-use Rattle.std.proofs.Common.{◌≡◌, ◌+◌, length, drop}
-use Rattle.nd_slice.proofs.Definitions.{first_fault, in_count}
+-- The first fault of the elements that are left is the first of all.
+use Rattle.std.proofs.Common.{◌≡◌}
+use Rattle.nd_slice.proofs.Definitions.{fault_of_each, first_fault}
 use Rattle.nd_slice.proofs.checks.check_elems.Given as goal
 
-abbrev pub invariant-loop-elem : goal.invariant-loop-elem
-invariant-loop-elem l = record {
-  axes : l.axis + in_count (drop l.elem-index l.elems) ≡ length l.shape;
-  fault : first_fault l.fit (drop l.axis l.shape) (drop l.elem-index l.elems) ≡ first_fault l.fit l.shape l.elems;
-}
+abbrev pub invariant-loop-len : goal.invariant-loop-len
+invariant-loop-len l = fault_of_each l.fit l.len-iterator ≡ first_fault l.fit l.shape l.elems

@@ -1,5 +1,16 @@
-use Rattle.nd_slice.proofs.intersection.Sequences.{meets_at_zero, meets_by_least, meets_by_none}
+use Rattle.std.proofs.Common.{◌≡◌, ◌%◌, arith, refl}
+use Rattle.nd_slice.proofs.intersection.Sequences.{meets_at_zero, meets_first, meets_by_least, meets_by_none}
 use Rattle.nd_slice.proofs.intersect.sequence.meets_within.Goals as goal
+use Rattle.nd_slice.proofs.intersect.sequence.meets_within.Goals.{then-first_step-eq1-via-then-first_step-eq1}
+use Rattle.nd_slice.proofs.intersect.sequence.meets_within.Goals.{then-first_step-eq1-via-else-first_step-eq1+then-ahead-first_step-eq0}
+
+pub returns-then-first_step-eq1 : goal.returns-then-first_step-eq1
+returns-then-first_step-eq1 c =
+    let none_left : c.args.ahead % c.args.first_step ≡ 0 = elim c.then-first_step-eq1.branch [
+      | then-first_step-eq1-via-then-first_step-eq1 w ↦ omega (arith, w.if-first_step-eq1.true)
+      | then-first_step-eq1-via-else-first_step-eq1+then-ahead-first_step-eq0 w ↦ w.if-ahead-first_step-eq0.true
+    ] in
+    (λ is. meets_first c.args.ahead c.args.first_step c.args.second_step c.args.room none_left, λ meets. refl)
 
 pub returns-then-room-second_step : goal.returns-then-room-second_step
 returns-then-room-second_step c = (
