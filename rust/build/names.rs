@@ -12,7 +12,7 @@ pub const MODULES: &[(&str, &str, &[&str])] = &[
     ("iter", "core", &["FusedIterator"]),
     ("marker", "core", &["PhantomData"]),
     ("ops", "core", OPERATORS),
-    ("slice", "core", &[]),
+    ("slice", "core", &["Iter"]),
     ("str", "core", &["SplitWhitespace"]),
 ];
 

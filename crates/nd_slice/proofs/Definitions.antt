@@ -4,7 +4,7 @@ pub use Rattle.nd_slice.specs.declared.fit.Fit.{Fit}
 pub use Rattle.nd_slice.specs.declared.slice.Slice.{Slice}
 pub use Rattle.nd_slice.specs.declared.elem.SliceInfoElem.{SliceInfoElem}
 pub use Rattle.nd_slice.specs.ArgumentFault.{argument_fault, elem_fault, fault_of_each, first_fault, in_count, out_count}
-pub use Rattle.nd_slice.specs.AxisElems.{axis_elems, without_new_axes}
+pub use Rattle.nd_slice.specs.AxisElems.{axis_elems}
 pub use Rattle.nd_slice.specs.Equation.{IsLeastMultiplier, IsLeastSolution, Solves, added_of, with_sign_of}
 pub use Rattle.nd_slice.specs.Meet.{Meet, axis_picks, elem_picks}
 pub use Rattle.nd_slice.specs.Picked.{first_offset, picked_stride}

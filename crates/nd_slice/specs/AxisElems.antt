@@ -1,5 +1,5 @@
 -- The elements of a slice argument that are for the axes of a shape, each with the length of its axis.
-use Rattle.std.specs.Prelude.{◌≡◌, ℕ, ℤ, pos, negsuc, None, List, [], ◌∷◌, refl}
+use Rattle.std.specs.Prelude.{◌≡◌, ℕ, pos, negsuc, List, [], ◌∷◌, refl}
 use Rattle.nd_slice.specs.declared.elem.SliceInfoElem.{SliceInfoElem}
 use Rattle.nd_slice.specs.declared.elem.SliceInfoElem.TheVariants as elem
 
@@ -12,13 +12,6 @@ axis_elems [] (elem.Index index ∷ elems) = []
 axis_elems (len ∷ shape) (elem.Slice start end step ∷ elems) = (len, elem.Slice start end step) ∷ axis_elems shape elems
 axis_elems (len ∷ shape) (elem.Index index ∷ elems) = (len, elem.Index index) ∷ axis_elems shape elems
 
--- the elements from the first that is for an axis on
-abbrev pub without_new_axes : List SliceInfoElem → List SliceInfoElem
-without_new_axes [] = []
-without_new_axes (elem.Slice start end step ∷ elems) = elem.Slice start end step ∷ elems
-without_new_axes (elem.Index index ∷ elems) = elem.Index index ∷ elems
-without_new_axes (elem.NewAxis ∷ elems) = without_new_axes elems
-
 -- examples
 new_axis_for_none : axis_elems (4 ∷ 3 ∷ []) (elem.Index (pos 1) ∷ elem.NewAxis ∷ elem.Index (negsuc 0) ∷ [])
     ≡ (4, elem.Index (pos 1)) ∷ (3, elem.Index (negsuc 0)) ∷ []
@@ -29,9 +22,3 @@ no_axis_left = refl
 
 no_element_left : axis_elems (4 ∷ 3 ∷ []) (elem.NewAxis ∷ []) ≡ []
 no_element_left = refl
-
-new_axis_not_passed_over : without_new_axes (elem.Index (pos 1) ∷ elem.NewAxis ∷ []) ≡ elem.Index (pos 1) ∷ elem.NewAxis ∷ []
-new_axis_not_passed_over = refl
-
-new_axis_passed_over : without_new_axes (elem.NewAxis ∷ elem.Index (pos 1) ∷ []) ≡ elem.Index (pos 1) ∷ []
-new_axis_passed_over = refl

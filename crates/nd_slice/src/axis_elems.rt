@@ -1,41 +1,31 @@
 //! The elements of a slice argument that are for the axes of a shape.
 ghost use Rattle.std.specs.Prelude.{◌≡◌};
 ghost use Rattle.std.specs.Iterator.{YieldsFirst, item_count};
-ghost use Rattle.nd_slice.specs.AxisElems.{axis_elems, without_new_axes};
+ghost use Rattle.nd_slice.specs.AxisElems.{axis_elems};
 
 use crate::elem::SliceInfoElem;
 use std::iter::FusedIterator;
 use std::marker::Model;
+use std::slice::Iter;
 
 /// Iterator over the elements that are for an axis of a shape, each with the length of its axis: all but the new axes, as long
 /// as there is an axis. A contract sees the list of those that are left. The project's own.
 #[derive(Drop)]
 pub struct AxisElems<'a> {
     // The lengths of the axes that are left, and the elements that are.
-    shape: &'a [usize],
-    elems: &'a [SliceInfoElem],
-}
-
-/// The elements from the first that is no new axis on.
-#[inline(always)]
-fn skip_new_axes(elems: &[SliceInfoElem]) -> &[SliceInfoElem]
-    ensures { result.now ≡ without_new_axes elems.now }
-{
-    let mut place = 0;
-    while place < elems.len() && elems[place].is_new_axis() {
-        place += 1;
-    }
-    &elems[place..]
+    shape: Iter<'a, usize>,
+    elems: Iter<'a, SliceInfoElem>,
 }
 
 impl<'a> Model for AxisElems<'a> {
     ghost use Rattle.std.specs.Prelude.{List, ℕ};
+    ghost use Rattle.std.specs.Slice.Iter.{iter_rest};
     ghost use Rattle.nd_slice.specs.AxisElems.{axis_elems};
     ghost use Rattle.nd_slice.specs.declared.elem.SliceInfoElem.{SliceInfoElem};
 
     ghost Value = { List (ℕ × SliceInfoElem) };
 
-    ghost view = { λ left. axis_elems left.shape.now left.elems.now };
+    ghost view = { λ left. axis_elems (iter_rest left.shape) (iter_rest left.elems) };
 }
 
 impl<'a> AxisElems<'a> {
@@ -46,7 +36,10 @@ impl<'a> AxisElems<'a> {
     pub fn new(shape: &'a [usize], elems: &'a [SliceInfoElem]) -> Self
         ensures { result ≡ axis_elems shape.now elems.now }
     {
-        AxisElems { shape, elems }
+        AxisElems {
+            shape: shape.iter(),
+            elems: elems.iter(),
+        }
     }
 }
 
@@ -59,10 +52,12 @@ impl Iterator for AxisElems<'_> {
 
     #[inline(always)]
     fn next(&mut self) -> Option<(usize, SliceInfoElem)> {
-        let (elem, elems) = skip_new_axes(self.elems).split_first()?;
-        let (len, shape) = self.shape.split_first()?;
-        *self = AxisElems { shape, elems };
-        Some((*len, *elem))
+        while let Some(elem) = self.elems.next() {
+            if !elem.is_new_axis() {
+                return Some((*self.shape.next()?, *elem));
+            }
+        }
+        None
     }
 }
 

@@ -55,6 +55,7 @@ pub use Rattle.nd_shape.proofs.laws.OwnedRule
 pub use Rattle.nd_shape.proofs.laws.OwnedWalk
 pub use Rattle.nd_shape.proofs.laws.Stretches
 pub use Rattle.nd_slice.proofs.laws.ArgumentFault
+pub use Rattle.nd_slice.proofs.laws.AxisElems
 pub use Rattle.nd_slice.proofs.laws.Between
 pub use Rattle.nd_slice.proofs.laws.Meet
 pub use Rattle.nd_slice.proofs.laws.Offsets

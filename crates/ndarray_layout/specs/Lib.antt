@@ -55,6 +55,7 @@ pub use Rattle.nd_shape.specs.Merge
 pub use Rattle.nd_shape.specs.OwnedRule
 pub use Rattle.nd_shape.specs.OwnedWalk
 pub use Rattle.nd_slice.specs.ArgumentFault
+pub use Rattle.nd_slice.specs.AxisElems
 pub use Rattle.nd_slice.specs.Counts
 pub use Rattle.nd_slice.specs.ElementText
 pub use Rattle.nd_slice.specs.Equation

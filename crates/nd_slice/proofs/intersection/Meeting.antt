@@ -1,5 +1,5 @@
 -- A walk along the axes of a shape with the elements of two slice arguments for them.
-use Rattle.std.proofs.Common.{◌≡◌, ℕ, ◌<◌, ◌^◌, ◌↔◌, None, List, [], ◌∷◌, All, ap, map}
+use Rattle.std.proofs.Common.{◌≡◌, ℕ, ◌<◌, ◌^◌, ◌↔◌, None, List, [], ◌∷◌, All, map}
 use Rattle.std.proofs.lemmas.List.Elements.{All-head, All-tail}
 use Rattle.std.specs.List.{AllZip}
 use Rattle.nd_base.proofs.laws.Options.{option_or_none}

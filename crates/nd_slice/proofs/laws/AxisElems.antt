@@ -1,6 +1,6 @@
 -- The elements of an argument that are for the axes of a shape: one for each axis, where there are as many.
 use Rattle.std.proofs.Common.{◌≡◌, ℕ, refl, ap, arith, List, [], ◌∷◌, length, map}
-use Rattle.nd_slice.proofs.Definitions.{SliceInfoElem, axis_elems, in_count, without_new_axes}
+use Rattle.nd_slice.proofs.Definitions.{SliceInfoElem, axis_elems, in_count}
 use Rattle.nd_slice.specs.declared.elem.SliceInfoElem.TheVariants as elem
 
 -- without axes there are none
@@ -10,22 +10,6 @@ axis_elems-no_axes [] [] none = refl
 axis_elems-no_axes [] (elem.NewAxis ∷ elems) none = axis_elems-no_axes [] elems none
 axis_elems-no_axes [] (elem.Slice start end step ∷ elems) none = refl
 axis_elems-no_axes [] (elem.Index index ∷ elems) none = refl
-
--- none where only new axes are left
-pub axis_elems-none : (shape : List ℕ) (elems : List SliceInfoElem) → length (without_new_axes elems) ≡ 0
-    → axis_elems shape elems ≡ []
-axis_elems-none shape [] none = refl
-axis_elems-none shape (elem.NewAxis ∷ elems) none = axis_elems-none shape elems none
-axis_elems-none shape (elem.Slice start end step ∷ elems) none = absurd (omega arith)
-axis_elems-none shape (elem.Index index ∷ elems) none = absurd (omega arith)
-
--- the first that is no new axis is for the first axis
-pub axis_elems-first : (len : ℕ) (shape : List ℕ) (elems : List SliceInfoElem) (e : SliceInfoElem) (others : List SliceInfoElem)
-    → without_new_axes elems ≡ e ∷ others → axis_elems (len ∷ shape) elems ≡ (len, e) ∷ axis_elems shape others
-axis_elems-first len shape [] e others first = absurd (cc)
-axis_elems-first len shape (elem.NewAxis ∷ elems) e others first = axis_elems-first len shape elems e others first
-axis_elems-first len shape (elem.Slice start end step ∷ elems) e others first = cc
-axis_elems-first len shape (elem.Index index ∷ elems) e others first = cc
 
 -- where there are as many as axes, each axis has one
 pub lens_of_axis_elems : (shape : List ℕ) (elems : List SliceInfoElem) → in_count elems ≡ length shape

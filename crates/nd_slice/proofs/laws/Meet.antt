@@ -1,14 +1,15 @@
 -- Two slice arguments meet exactly where they share an entry on every axis, and exactly where an index of each slice stands for one
 -- index of the shape.
 use Rattle.std.proofs.Common.{refl, ap, sym, ◌∙◌, subst, arith, get_or, ◌≡◌, ℕ, zero, suc, ℤ, ◌<◌, ◌↔◌, IsTrue, nat_lt, None, List, []}
-use Rattle.std.proofs.Common.{◌∷◌, length, Contains}
+use Rattle.std.proofs.Common.{◌∷◌, length, map, Contains}
 use Rattle.std.proofs.lemmas.Bool.{and_parts, and_from, lt-ltb}
 use Rattle.std.specs.List.{AllZip}
-use Rattle.nd_slice.proofs.Definitions.{Fit, IndexFits, Meet, PicksMeet, SliceInfoElem, argument_fault, axis_picks, first_fault, in_count}
-use Rattle.nd_slice.proofs.Definitions.{is_index, magnitude, meaning, selected, slice_with}
+use Rattle.nd_slice.proofs.Definitions.{Fit, IndexFits, Meet, PicksMeet, SliceInfoElem, argument_fault, axis_picks, elem_picks}
+use Rattle.nd_slice.proofs.Definitions.{first_fault, in_count, is_index, magnitude, meaning, selected, slice_with}
 use Rattle.nd_slice.proofs.laws.PickSequences.{contained_below}
 use Rattle.nd_slice.proofs.laws.SliceFault.{entry_below}
 use Rattle.nd_slice.specs.declared.elem.SliceInfoElem.TheVariants as elem
+use Rattle.nd_slice.proofs.laws.AxisElems.{axis_elems-no_axes}
 use Rattle.nd_slice.proofs.laws.ArgumentFault.{elements_of_no_fault, slice_of_no_fault, index_of_no_fault}
 use Rattle.nd_slice.proofs.laws.Selected.{IsOfSlice, selected_is_index, selected_is_picked, picked_is_selected}
 
@@ -82,10 +83,7 @@ meet_symmetric fit shape one other meet = (meet.0, meet.1, meet.3, meet.2)
 
 -- with no axes two arguments meet
 pub axis_picks-no_axes : (fit : Fit) (elems : List SliceInfoElem) → axis_picks fit [] elems ≡ []
-axis_picks-no_axes fit [] = refl
-axis_picks-no_axes fit (elem.NewAxis ∷ elems) = axis_picks-no_axes fit elems
-axis_picks-no_axes fit (elem.Slice start end step ∷ elems) = refl
-axis_picks-no_axes fit (elem.Index index ∷ elems) = refl
+axis_picks-no_axes fit elems = ap (λ left. map (λ one. elem_picks fit one.0 one.1) left) (axis_elems-no_axes [] elems refl)
 
 pub meet_no_axes : (fit : Fit) (one other : List SliceInfoElem) → Meet fit [] one other
 meet_no_axes fit one other = (

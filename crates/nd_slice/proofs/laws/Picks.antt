@@ -2,7 +2,7 @@
 use Rattle.std.proofs.Common.{◌-◌, ◌*◌, inl, inr, arith, le-mul_of_pos_right, ◌≡◌, ℕ, ◌<◌, ◌≤◌, ℤ, pos, ◌+ℤ◌, ◌*ℤ◌, length, slice_index}
 use Rattle.std.proofs.lemmas.Bool.{cases_lt}
 use Rattle.std.specs.Int.{div_ceil}
-use Rattle.nd_slice.proofs.Definitions.{Fit, Slice, SliceFits, end_meaning, magnitude, picks, start_meaning}
+use Rattle.nd_slice.proofs.Definitions.{Fit, Slice, SliceFits, between, end_meaning, magnitude, picks, start_meaning}
 use Rattle.nd_slice.proofs.laws.Between.{length-between, between_within, between_below, between_steps, between_apart, between_once}
 use Rattle.nd_slice.proofs.laws.SliceFault.{step_moves, end_below}
 
@@ -11,6 +11,12 @@ few count step n moves within = elim (cases_lt 0 count) [
   | inl some ↦ omega (arith, within some, le-mul_of_pos_right (count - 1) moves)
   | inr none ↦ omega arith
 ]
+
+-- no more numbers than lie between two bounds
+pub length-between_le : (step : ℤ) (start end : ℕ) → 0 < magnitude step → length (between step start end) ≤ end - start
+length-between_le step start end moves =
+    let count = length (between step start end) in
+    few count (magnitude step) (end - start) moves (λ some. between_within step start end (count - 1) moves (omega arith))
 
 module _ (fit : Fit) (len : ℕ) (slice : Slice) where
   abbrev start : ℕ
@@ -27,11 +33,7 @@ module _ (fit : Fit) (len : ℕ) (slice : Slice) where
   -- at most as many as the axis has entries
   pub length-picks_le : SliceFits fit len slice → length (picks fit len slice) ≤ len
   length-picks_le fits =
-      let count = length (picks fit len slice) in
-      let moves = step_moves fit len slice fits in
-      let within : 0 < count → (count - 1) * magnitude slice.step < end - start =
-      λ some. between_within slice.step start end (count - 1) moves (omega arith) in
-      omega (arith, few count (magnitude slice.step) (end - start) moves within, end_below fit len slice fits)
+      omega (arith, length-between_le slice.step start end (step_moves fit len slice fits), end_below fit len slice fits)
 
   -- each pick of a slice that fits is an entry of the axis
   pub pick_below : (j : ℕ) → SliceFits fit len slice → j < length (picks fit len slice) → slice_index (picks fit len slice) j < len

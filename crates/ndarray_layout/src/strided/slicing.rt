@@ -63,7 +63,8 @@ fn slice_axis(
         offset ≡ first_offset (picks fit len slice) (signed_reading stride)) }
 {
     let picks = resolve_slice(len, slice, fit)?;
-    Ok((picks.count(), picks.stride(stride), picks.offset(stride)))
+    let offset = picks.offset(stride);
+    Ok((picks.count(), picks.stride(stride), offset))
 }
 
 /// Writes the lengths and the strides that an argument for as many axes as there are leaves, one

@@ -1,4 +1,4 @@
-use Rattle.std.proofs.Common.{◌≡◌, ◌<◌, arith}
+use Rattle.std.proofs.Common.{◌<◌, arith}
 use Rattle.nd_slice.proofs.Definitions.{signed}
 use Rattle.nd_slice.proofs.Slicing.{first_below, offset_fits}
 use Rattle.nd_slice.proofs.picks.AxisPicks.offset.Goals as goal

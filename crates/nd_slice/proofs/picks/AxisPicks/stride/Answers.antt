@@ -1,4 +1,4 @@
-use Rattle.std.proofs.Common.{rules, ◌≡◌, arith, sym, ap, ◌∙◌, length, ◌*ℤ◌, FitsSigned, to_z, of_z, w64}
+use Rattle.std.proofs.Common.{rules, ◌≡◌, arith, sym, ◌∙◌, length, ◌*ℤ◌, FitsSigned, to_z, of_z, w64}
 use Rattle.std.proofs.lemmas.Int.{to_z-of_z}
 use Rattle.nd_slice.proofs.Definitions.{between, signed}
 use Rattle.nd_slice.proofs.Slicing.{stride_fits}

@@ -1,39 +1,31 @@
-use Rattle.std.proofs.Common.{rules, FitsSigned, arith}
-use Rattle.std.specs.Int.{w64}
-use Rattle.std.proofs.lemmas.Int.{to_z-of_z}
-use Rattle.nd_slice.specs.declared.slice.Slice.{Slice}
-use Rattle.ndarray_layout.proofs.PickedSize.{slice_picked, index_picked, new_axis_picked, size_small}
-use Rattle.ndarray_layout.proofs.PickedSize.{next_elem, next_axis}
+use Rattle.std.proofs.Common.{rules, ◌≡◌, ◌≤◌, ◌*◌, arith, length, ap, sym, ◌∙◌, None}
+use Rattle.nd_slice.specs.ArgumentFault.{elem_fault}
+use Rattle.nd_slice.specs.AxisElems.{axis_elems}
+use Rattle.nd_slice.specs.Meet.{elem_picks}
+use Rattle.nd_slice.proofs.laws.Picks.{length-between_le}
+use Rattle.ndarray_layout.proofs.PickedSize.{PickedSoFar, next_picked, none_picked, size_small}
 use Rattle.ndarray_layout.proofs.strided.sizes.picked_size.Goals as goal
-use Rattle.ndarray_layout.proofs.strided.sizes.picked_size.Goals.{in-Slice, in-Index, in-NewAxis}
+use Rattle.ndarray_layout.proofs.strided.sizes.picked_size.Goals.{After-count}
+
+pub loop-len-init : goal.loop-len-init
+loop-len-init c =
+    let left : c.into_iter-len-iterator.result ≡ axis_elems c.args.shape.now c.args.elems.now = search rules in
+    rw left (none_picked (omega (arith, c.in_ndim_of.ensures)))
+
+picked : (c : After-count) → PickedSoFar c.args.fit c.args.elems.now c.args.shape.now c.next.new.self (c.loop-len.size * c.count.result)
+picked c =
+    let p = c.in_ok-resolve_elem.field-0 in
+    let none : elem_fault c.args.fit c.in-Some.len c.in-Some.elem ≡ None = sym c.in_ok-resolve_elem.ensures.fault in
+    let count : c.count.result ≡ length (elem_picks c.args.fit c.in-Some.len c.in-Some.elem) = c.count.ensures
+    ∙ ap length c.in_ok-resolve_elem.ensures.picks in
+    let few : c.count.result ≤ c.in-Some.len =
+    omega (arith, c.count.ensures, length-between_le p.step p.start p.end p.moves, c.in_ok-resolve_elem.ensures.within) in
+    next_picked none count few (rw c.in-Some.ensures.steps at c.loop-len.invariant)
 
 pub overflow_mul-size : goal.overflow_mul-size
 overflow_mul-size c =
-    let f : FitsSigned w64 c.in-Slice.start = search rules in
-    let g : FitsSigned w64 c.in-Slice.step = search rules in
-    let known = rw (to_z-of_z w64 c.in-Slice.start f, to_z-of_z w64 c.in-Slice.step g) at c.count_of_picks-size.ensures in
-    let slice : Slice = record { start = c.in-Slice.start; end = c.in-Slice.end; step = c.in-Slice.step } in
-    let here = next_elem c.loop-elem.elem-index _ c.loop-elem-test.true c.in-Slice.is c.loop-elem.invariant in
-    let there = next_axis c.loop-elem.axis (omega arith) here in
-    let after = slice_picked slice known there in
-    omega (arith, size_small c.requires.size_fits after)
+    let at = (goal.at.overflow_mul-size c).After-count in
+    omega (arith, size_small c.requires (picked at))
 
-pub loop-elem-preserved : goal.loop-elem-preserved
-loop-elem-preserved c =
-    elim c.match-elem.branch [
-      | in-Slice w ↦
-          let f : FitsSigned w64 w.in-Slice.start = search rules in
-          let g : FitsSigned w64 w.in-Slice.step = search rules in
-          let known = rw (to_z-of_z w64 w.in-Slice.start f, to_z-of_z w64 w.in-Slice.step g) at w.count_of_picks-size.ensures in
-          let slice : Slice = record { start = w.in-Slice.start; end = w.in-Slice.end; step = w.in-Slice.step } in
-          let here = next_elem c.loop-elem.elem-index _ c.loop-elem-test.true w.in-Slice.is c.loop-elem.invariant in
-          let there = next_axis c.loop-elem.axis (omega arith) here in
-          rw (w.axis-is, w.size-is) (slice_picked slice known there)
-      | in-Index w ↦
-          let here = next_elem c.loop-elem.elem-index _ c.loop-elem-test.true w.in-Index.is c.loop-elem.invariant in
-          let there = next_axis c.loop-elem.axis (omega arith) here in
-          rw (w.axis-is, w.size-is) (index_picked _ there)
-      | in-NewAxis w ↦
-          let here = next_elem c.loop-elem.elem-index _ c.loop-elem-test.true w.in-NewAxis.is c.loop-elem.invariant in
-          rw (w.axis-is, w.size-is) (new_axis_picked here)
-    ]
+pub loop-len-preserved : goal.loop-len-preserved
+loop-len-preserved c = picked ((goal.at.loop-len-preserved c).After-count)
