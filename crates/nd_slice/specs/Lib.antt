@@ -1,6 +1,7 @@
 pub mod ArgumentFault
 pub mod AxisElems
 pub mod Counts
+pub mod ElemRange
 pub mod ElementText
 pub mod Equation
 pub mod Kinds

@@ -1,10 +1,12 @@
 //! Elements of a slice argument on an axis of a length: what they pick, and the errors of those that don't fit.
-ghost use Rattle.std.specs.Prelude.{◌≡◌, ◌≤◌, IfOk, MatchOption, [], length};
+ghost use Rattle.std.specs.Prelude.{◌≡◌, ◌≤◌, IfOk, MatchOption, [], max, pos};
 ghost use Rattle.std.specs.List.{All, Contains};
 ghost use Rattle.std.specs.Result.{result_err};
+ghost use Rattle.nd_base.specs.Signed.{magnitude};
 ghost use Rattle.nd_slice.specs.ArgumentFault.{elem_fault};
+ghost use Rattle.nd_slice.specs.ElemRange.{elem_end, elem_start};
 ghost use Rattle.nd_slice.specs.Meet.{elem_picks};
-ghost use Rattle.nd_slice.specs.Picks.{between, picks};
+ghost use Rattle.nd_slice.specs.Picks.{between, end_meaning, picks, start_meaning};
 ghost use Rattle.nd_slice.specs.SliceFault.{slice_fault, SliceFits};
 
 use crate::bounds::{entry_of, to_abs_slice};
@@ -25,6 +27,8 @@ use nd_base::ShapeError;
 pub fn resolve_slice(len: usize, slice: Slice, fit: Fit) -> Result<AxisPicks, ShapeError>
     ensures fault { result_err result ≡ slice_fault fit len slice }
     ensures picks { IfOk result (λ p. between p.step p.start p.end ≡ picks fit len slice) }
+    ensures start { IfOk result (λ p. pos p.start ≡ start_meaning fit len slice) }
+    ensures end { IfOk result (λ p. p.end ≡ max p.start (magnitude (end_meaning fit len slice))) }
     ensures within { IfOk result (λ p. p.end ≤ len) }
     ensures step { IfOk result (λ p. p.step ≡ slice.step) }
 {
@@ -43,6 +47,8 @@ pub fn resolve_slice(len: usize, slice: Slice, fit: Fit) -> Result<AxisPicks, Sh
 pub fn resolve_elem(len: usize, elem: SliceInfoElem, fit: Fit) -> Result<AxisPicks, ShapeError>
     ensures fault { result_err result ≡ elem_fault fit len elem }
     ensures picks { IfOk result (λ p. between p.step p.start p.end ≡ elem_picks fit len elem) }
+    ensures start { IfOk result (λ p. p.start ≡ elem_start fit len elem) }
+    ensures end { IfOk result (λ p. p.end ≡ elem_end fit len elem) }
     ensures within { IfOk result (λ p. p.end ≤ len) }
 {
     match elem {

@@ -5,7 +5,7 @@ ghost use Rattle.std.specs.List.{All};
 use SliceInfoElem::{Index, NewAxis};
 use nd_base::{ErrorKind, Lengths, ShapeError, new_ix2};
 use nd_slice::{
-    Fit, SliceElems, SliceInfoElem, check_elems, check_slice, in_ndim_of, out_ndim_of,
+    AxisElems, Fit, SliceElems, SliceInfoElem, check_elems, check_slice, in_ndim_of, out_ndim_of,
     slices_intersect,
 };
 use std::alloc::Global;
@@ -48,6 +48,17 @@ pub fn meeting<D: Lengths, A: SliceElems, B: SliceElems>(
         Ok(false) => "apart",
         Err(fault) => name_of(Some(fault.kind())),
     }
+}
+
+/// Whether a row of `AxisElems` holds.
+pub fn elems_hold(alloc: Global, row: &mut Reading<'_>) -> Option<bool> {
+    let (shape, elems) = (row.given.list()?, row.given.elems(alloc)?);
+    for (len, elem) in AxisElems::new(shape.as_slice(), elems.as_slice()) {
+        if !row.answer.is_length(len) || row.answer.elem()? != elem {
+            return Some(false);
+        }
+    }
+    Some(true)
 }
 
 /// What a row says of arguments.

@@ -5,7 +5,8 @@ ghost use Rattle.nd_base.specs.Span.{reach};
 
 use nd_base::{new_ix2, signed, unsigned};
 use nd_slice::{
-    Fit, Slice, SliceInfoElem, do_collapse_axis, do_slice, slice_min_max, to_abs_slice,
+    Fit, Slice, SliceInfoElem, do_collapse_axis, do_slice, resolve_elem, slice_min_max,
+    to_abs_slice,
 };
 use test_tables::{Reading, Words, name_of};
 
@@ -61,6 +62,19 @@ pub fn ends_hold(row: &mut Reading<'_>, fit: Fit) -> Option<bool> {
         Some(ends) => Some((row.answer.length()?, row.answer.length()?) == ends),
         None => Some(row.answer.is("none")),
     }
+}
+
+/// Whether a row of `resolve_elem` holds.
+pub fn picks_hold(row: &mut Reading<'_>, fit: Fit) -> Option<bool> {
+    let (len, elem) = (row.given.length()?, row.given.elem()?);
+    Some(match resolve_elem(len, elem, fit) {
+        Ok(picks) => {
+            let (start, end) = (row.answer.length()?, row.answer.length()?);
+            let (step, count) = (row.answer.number()?, row.answer.length()?);
+            (start, end, step, count) == (picks.start, picks.end, picks.step, picks.count())
+        }
+        Err(fault) => row.answer.is(name_of(Some(fault.kind()))),
+    })
 }
 
 #[test]

@@ -1,6 +1,6 @@
 //! The calls of rows, by their names.
-use crate::arguments::{OfArguments, arguments_hold};
-use crate::axis::{ends_hold, slice_holds};
+use crate::arguments::{OfArguments, arguments_hold, elems_hold};
+use crate::axis::{ends_hold, picks_hold, slice_holds};
 use crate::equations::{divisor_holds, sequences_hold, solution_holds};
 use Fit::{Clamp, Strict};
 use nd_slice::Fit;
@@ -14,6 +14,10 @@ enum Call {
     DoSlice(Fit),
     /// `LEN SLICE => LEAST GREATEST`, or `none`.
     SliceMinMax(Fit),
+    /// `LEN ELEMENT => START END STEP COUNT`: what the element picks of an axis.
+    ResolveElem(Fit),
+    /// `SHAPE ARGUMENT => LEN ELEMENT ..`: the elements for the axes.
+    AxisElems,
     /// `TYPE SHAPE ..`: of arguments.
     Arguments(OfArguments),
     /// `A B => GCD X Y`.
@@ -24,11 +28,14 @@ enum Call {
     ArithSeqIntersect,
 }
 
-static CALLS: [(&str, Call); 11] = [
+static CALLS: [(&str, Call); 14] = [
     ("do_slice", Call::DoSlice(Strict)),
     ("do_slice_clamped", Call::DoSlice(Clamp)),
     ("slice_min_max", Call::SliceMinMax(Strict)),
     ("slice_min_max_clamped", Call::SliceMinMax(Clamp)),
+    ("resolve_elem", Call::ResolveElem(Strict)),
+    ("resolve_elem_clamped", Call::ResolveElem(Clamp)),
+    ("axis_elems", Call::AxisElems),
     ("check_slice", Call::Arguments(OfArguments::Check(Strict))),
     (
         "check_slice_clamped",
@@ -56,6 +63,8 @@ impl Asked for Calls {
         match meaning(&CALLS, row.call)? {
             Call::DoSlice(fit) => slice_holds(reading, fit),
             Call::SliceMinMax(fit) => ends_hold(reading, fit),
+            Call::ResolveElem(fit) => picks_hold(reading, fit),
+            Call::AxisElems => elems_hold(alloc, reading),
             Call::Arguments(asked) => arguments_hold(alloc, reading, asked),
             Call::ExtendedGcd => divisor_holds(reading),
             Call::Solve => solution_holds(reading),

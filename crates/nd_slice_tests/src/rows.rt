@@ -41,9 +41,24 @@ slices_intersect Ix2 4,5 ..;2,NewAxis,.. 1..;3,.. / Ix2 4,5 ..,..;9 ..,3..;6,New
 slices_intersect Ix1 5 ..;-9223372036854775808 4 / Ix0 - - - => meet
 slices_intersect Ix1 5 5 5 => OutOfBounds";
 
+/// What elements pick, and the elements that are for the axes of a shape.
+const RESOLVED: &str = "\
+resolve_elem 4 1..;-2 => 1 4 -2 2
+resolve_elem 4 3..1 => 3 3 1 0
+resolve_elem 4 -1 => 3 4 1 1
+resolve_elem 4 NewAxis => 0 0 1 0
+resolve_elem 9223372036854775807 ..;-9223372036854775808 => 0 9223372036854775807 -9223372036854775808 1
+resolve_elem 4 4 / 4 5.. => OutOfBounds
+resolve_elem 4 ..;0 => Unsupported
+resolve_elem_clamped 4 3..9 => 3 4 1 1
+axis_elems 4,3 1,NewAxis,-1 => 4 1 3 -1
+axis_elems 2,3,4,5,6,7 NewAxis,..,0,NewAxis,NewAxis,1..;2,..,..,-1,NewAxis => 2 .. 3 0 4 1..;2 5 .. 6 .. 7 -1
+axis_elems 4 1,2 => 4 1
+axis_elems 4,3 -1 => 4 -1";
+
 #[test]
 fn r4_rows(rt: HostRuntime) {
-    for table in [FAULTS, LEAST_AND_GREATEST, MEETING] {
+    for table in [FAULTS, LEAST_AND_GREATEST, MEETING, RESOLVED] {
         hold(&rt, rt.alloc(), table, &Calls);
     }
 }

@@ -57,6 +57,7 @@ pub use Rattle.nd_shape.specs.OwnedWalk
 pub use Rattle.nd_slice.specs.ArgumentFault
 pub use Rattle.nd_slice.specs.AxisElems
 pub use Rattle.nd_slice.specs.Counts
+pub use Rattle.nd_slice.specs.ElemRange
 pub use Rattle.nd_slice.specs.ElementText
 pub use Rattle.nd_slice.specs.Equation
 pub use Rattle.nd_slice.specs.Kinds
