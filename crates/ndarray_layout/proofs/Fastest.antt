@@ -21,7 +21,7 @@ use Rattle.ndarray_layout.specs.Rows.{fastest_item, slower_items}
 use Rattle.ndarray_layout.specs.View.{IsView, view_places}
 use Rattle.ndarray_layout.specs.RowsLeft.{with_item}
 use Rattle.ndarray_layout.specs.private.Fastest.{EndsIn}
-use Rattle.ndarray_layout.proofs.reshapes.FlatIndices.{length-index_of_flat}
+use Rattle.ndarray_layout.proofs.matching.FlatOffsets.{length-index_of_flat}
 use Rattle.ndarray_layout.proofs.ByRows.{by_last_axis, rows_from}
 use Rattle.ndarray_layout.proofs.OneAxis.{axis_within}
 use Rattle.ndarray_layout.proofs.ReadView.{places-as_read}

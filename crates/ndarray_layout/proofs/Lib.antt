@@ -18,4 +18,4 @@ pub mod SliceSteps
 pub mod Slices
 pub mod TakenSteps
 pub mod laws
-pub mod reshapes
+pub mod matching

@@ -1,12 +1,11 @@
 -- Laws of strides that keep the places of a layout: there are some exactly where the sizes agree and no joint is bad.
 use Rattle.std.proofs.Common.{◌≡◌, ℕ, ◌-◌, ◌<◌, false, ℤ, pos, List, [], length, get_or, map, reverse, refl, sym, ap, ◌∙◌}
 use Rattle.std.proofs.Common.{inl, inr, arith, subst}
-use Rattle.std.specs.Prelude.{◌↔◌, ◌==◌, Bool, Some, None, if◌then◌else◌}
-use Rattle.std.proofs.lemmas.Bool.{cases_Bool, cases_lt, cond-true, cond-false, eq-eqb, eqb-true}
+use Rattle.std.specs.Prelude.{◌↔◌, None}
+use Rattle.std.proofs.lemmas.Bool.{cases_lt}
 use Rattle.std.proofs.lemmas.Int.{ints}
 use Rattle.std.proofs.lemmas.List.{get_or-map, get_or_past, length-map, length-reverse, reverse-reverse}
 use Rattle.std.proofs.lemmas.List.FromFn.{fill_by_all, length-map-range_with_len}
-use Rattle.nd_base.specs.declared.error.ErrorKind.TheVariants.{IncompatibleShape, IncompatibleLayout}
 use Rattle.nd_base.specs.declared.order.Order.{Order}
 use Rattle.nd_base.specs.declared.order.Order.TheVariants.{RowMajor, ColumnMajor}
 use Rattle.nd_base.proofs.laws.Definitions.{below, indices_in, offset_of, place, places, index_of_flat, index_of_flat_in, as_read}
@@ -20,11 +19,11 @@ use Rattle.ndarray_layout.specs.reshape.ForcedStrides.{forced_strides, offset_at
 use Rattle.ndarray_layout.specs.reshape.Joints.{has_bad_joint}
 use Rattle.ndarray_layout.specs.reshape.Keeps.{Keeps, AgreeOnLonger}
 use Rattle.ndarray_layout.specs.reshape.ReshapeFault.{reshape_fault}
-use Rattle.ndarray_layout.specs.private.ReshapeProgress.{PlacesAlike}
-use Rattle.ndarray_layout.proofs.reshapes.FlatIndices.{length-index_of_flat}
-use Rattle.ndarray_layout.proofs.reshapes.Complete.{good-of-alike, alike-of-good}
-use Rattle.ndarray_layout.proofs.reshapes.Forced.{forced-of-alike, alike-forced}
-use Rattle.ndarray_layout.proofs.reshapes.SamePlaces.{HasIndex, SamePlaces}
+use Rattle.ndarray_layout.proofs.matching.FlatOffsets.{length-index_of_flat}
+use Rattle.ndarray_layout.proofs.matching.Exact.{HaveAsMany, exactly}
+use Rattle.ndarray_layout.proofs.matching.Faults.{fault-none, none-parts}
+use Rattle.ndarray_layout.proofs.matching.Forced.{forced-of-alike, alike-forced}
+use Rattle.ndarray_layout.proofs.matching.HasIndex.{HasIndex, PlacesAlike, SamePlaces}
 
 -- the index of a flat index lies as far as that of the axes as they are read
 pub offset-as_read : (order : Order) (shape : List ℕ) (strides : List ℤ) (r : ℕ) → length shape ≡ length strides
@@ -106,23 +105,33 @@ pub keeps-exactly : (order : Order) {from : List ℕ} {strides : List ℤ} (to :
     → Fits order from strides to ↔ ((others : List ℤ) × Keeps order from strides to others)
 keeps-exactly order {from} {strides} to at more = (λ fits. make fits, λ k. fit k.1)
   where
+    can_match : size from ≡ size to → HaveAsMany (as_read order from) (as_read order strides) (as_read order to)
+    can_match sizes = record {
+      index = has_index-as_read order at;
+      more = is_empty-as_read order to ∙ more;
+      sizes = size-as_read order from ∙ sizes ∙ sym (size-as_read order to);
+    }
+
     fit : {others : List ℤ} → Keeps order from strides to others → Fits order from strides to
-    fit k = (
+    fit {others} k = (
       size-of-keeps k,
-      good-of-alike (has_index-as_read order at) (has_index-as_read order (record { same_count = k.same_count; some = more }))
-          (same-of-keeps at.same_count k),
+      (exactly (as_read order to) (can_match (size-of-keeps k))).good (record {
+        others = as_read order others;
+        same_count = length-as_read order to ∙ k.same_count ∙ sym (length-as_read order others);
+        alike = alike-of-keeps at.same_count k;
+      }),
     )
 
     make : Fits order from strides to → (others : List ℤ) × Keeps order from strides to others
     make fits =
-        let made = alike-of-good (as_read order to) (has_index-as_read order at) (is_empty-as_read order to ∙ more)
-        (size-as_read order from ∙ fits.0 ∙ sym (size-as_read order to)) fits.1 in
-        let others = as_read order made.0 in
-        let equal : length to ≡ length others = sym (length-as_read order to) ∙ made.1 ∙ sym (length-as_read order made.0) in (
+        let made = (exactly (as_read order to) (can_match fits.0)).made fits.1 in
+        let others = as_read order made.others in
+        let equal : length to ≡ length others =
+        sym (length-as_read order to) ∙ made.same_count ∙ sym (length-as_read order made.others) in (
           others,
           keeps-of-alike at.same_count equal fits.0
-              (subst (PlacesAlike (as_read order from) (as_read order strides) (as_read order to)) (sym (as_read-as_read order made.0))
-              made.2),
+              (subst (PlacesAlike (as_read order from) (as_read order strides) (as_read order to)) (sym (as_read-as_read order made.others))
+              made.alike),
         )
 
 -- ---- and then the strides of the definition do
@@ -155,36 +164,13 @@ forced-keeps order {from} {strides} to at more fits =
 -- there is none exactly where the sizes agree and no joint is bad
 pub fault-exactly : (order : Order) (from : List ℕ) (strides : List ℤ) (to : List ℕ)
     → (reshape_fault order from strides to ≡ None) ↔ Fits order from strides to
-fault-exactly order from strides to = (λ none. fit none, λ fits. fault fits)
-  where
-    bad : Bool
-    bad = has_bad_joint (as_read order from) (as_read order strides) (as_read order to)
-
-    same : Bool
-    same = size (as_read order from) == size (as_read order to)
-
-    fault : Fits order from strides to → reshape_fault order from strides to ≡ None
-    fault fits = cond-false bad (Some IncompatibleLayout) (if same then None else Some IncompatibleShape) fits.1
-        ∙ cond-true same None (Some IncompatibleShape) (eq-eqb (size (as_read order from)) (size (as_read order to))
-        (size-as_read order from ∙ fits.0 ∙ sym (size-as_read order to)))
-
-    sizes : bad ≡ false → reshape_fault order from strides to ≡ None → size from ≡ size to
-    sizes good none = elim (cases_Bool same) [
-      | inl equal ↦ sym (size-as_read order from) ∙ eqb-true (size (as_read order from)) (size (as_read order to)) equal
-          ∙ size-as_read order to
-      | inr apart ↦
-          let is_shape = sym (cond-false same None (Some IncompatibleShape) apart)
-          ∙ sym (cond-false bad (Some IncompatibleLayout) (if same then None else Some IncompatibleShape) good) ∙ none in
-          absurd (cc)
-    ]
-
-    fit : reshape_fault order from strides to ≡ None → Fits order from strides to
-    fit none = elim (cases_Bool bad) [
-      | inl bad_one ↦
-          let is_layout = sym (cond-true bad (Some IncompatibleLayout) (if same then None else Some IncompatibleShape) bad_one) ∙ none in
-          absurd (cc)
-      | inr good ↦ (sizes good none, good)
-    ]
+fault-exactly order from strides to = (
+  λ none.
+      let parts = none-parts (as_read order from) (as_read order strides) (as_read order to) none in
+      (sym (size-as_read order from) ∙ parts.0 ∙ size-as_read order to, parts.1),
+  λ fits. fault-none (as_read order from) (as_read order strides) (as_read order to)
+      (size-as_read order from ∙ fits.0 ∙ sym (size-as_read order to)) fits.1,
+)
 
 -- and exactly where some strides keep the places
 pub fault-complete : (order : Order) {from : List ℕ} {strides : List ℤ} (to : List ℕ) → HasIndex from strides → is_empty to ≡ false

@@ -1,14 +1,14 @@
 -- Laws of views whose places are read along another shape.
-use Rattle.std.proofs.Common.{◌≡◌, ◌↔◌, ℕ, ◌<◌, ◌≤◌, ℤ, pos, ◌+ℤ◌, Bool, true, false, cond, eqb, ltb, Option, Some, None, List, [], ◌∷◌}
+use Rattle.std.proofs.Common.{◌≡◌, ◌↔◌, ℕ, ◌<◌, ◌≤◌, ℤ, pos, ◌+ℤ◌, Bool, true, false, cond, ltb, Option, Some, None, List, [], ◌∷◌}
 use Rattle.std.proofs.Common.{length, map, replicate, refl, sym, ap, ◌∙◌, arith}
 use Rattle.std.specs.Prelude.{◌&&◌, ◌||◌}
-use Rattle.std.proofs.lemmas.Bool.{eq-eqb, eqb-true, le-ltb, ltb-false}
+use Rattle.std.proofs.lemmas.Bool.{le-ltb, ltb-false}
 use Rattle.std.proofs.lemmas.Int.{ints}
 use Rattle.std.proofs.lemmas.List.{length-replicate}
 use Rattle.nd_base.specs.declared.error.ErrorKind.{ErrorKind}
-use Rattle.nd_base.specs.declared.error.ErrorKind.TheVariants.{IncompatibleLayout, IncompatibleShape, Overflow}
+use Rattle.nd_base.specs.declared.error.ErrorKind.TheVariants.{IncompatibleShape, Overflow}
 use Rattle.nd_base.specs.declared.order.Order.{Order}
-use Rattle.nd_base.proofs.laws.Definitions.{indices_in, is_index, offset_of, place, flat_index_in, as_read, is_empty, limit, nonzero_size}
+use Rattle.nd_base.proofs.laws.Definitions.{indices_in, is_index, offset_of, place, flat_index_in, is_empty, limit, nonzero_size}
 use Rattle.nd_base.proofs.laws.Definitions.{size, high_span, low_span}
 use Rattle.nd_base.proofs.laws.Indices.{indices_in_of_empty}
 use Rattle.nd_base.proofs.laws.Offset.{offset_bounds}
@@ -17,13 +17,12 @@ use Rattle.nd_base.proofs.laws.FlatIndex.{flat_index_in-lt-size}
 use Rattle.nd_base.proofs.laws.FlatIndex.{same_from_flat_index_in}
 use Rattle.nd_base.proofs.laws.Size.{size_of_empty, size_of_nonempty}
 use Rattle.nd_base.proofs.laws.Turned.{least_offset, greatest_offset}
-use Rattle.ndarray_layout.specs.reshape.Joints.{has_bad_joint}
 use Rattle.ndarray_layout.specs.reshape.ForcedStrides.{forced_strides}
 use Rattle.ndarray_layout.specs.reshape.Keeps.{Keeps}
 use Rattle.ndarray_layout.specs.reshape.ReshapeFault.{reshape_fault}
 use Rattle.nd_base.proofs.laws.Reading.{size-as_read}
-use Rattle.ndarray_layout.proofs.laws.Keeps.{Fits, alike-of-keeps, forced-keeps, keeps-exactly, offset-as_read, size-of-keeps}
-use Rattle.ndarray_layout.proofs.reshapes.SamePlaces.{has_index-of-valid}
+use Rattle.ndarray_layout.proofs.laws.Keeps.{alike-of-keeps, fault-exactly, forced-keeps, keeps-exactly, offset-as_read, size-of-keeps}
+use Rattle.ndarray_layout.proofs.matching.HasIndex.{has_index-of-valid}
 use Rattle.ndarray_layout.specs.Descends.{Descends}
 use Rattle.ndarray_layout.specs.View.{View, IsView, view_places}
 use Rattle.ndarray_layout.proofs.laws.KeepsPlaces.{Descends-kept}
@@ -88,28 +87,6 @@ high_of_zeros [] = refl
 high_of_zeros (len ∷ shape) = omega (arith, high_of_zeros shape)
 
 -- ---- the fault
-no_fault_parts : (bad same : Bool) → cond bad (Some IncompatibleLayout) (cond same None (Some IncompatibleShape)) ≡ None
-    → (bad ≡ false) × (same ≡ true)
-no_fault_parts true same none = absurd (cc)
-no_fault_parts false true none = (refl, refl)
-no_fault_parts false false none = absurd (cc)
-
-fits_of_no_fault : (order : Order) (from : List ℕ) (strides : List ℤ) (to : List ℕ) → reshape_fault order from strides to ≡ None
-    → Fits order from strides to
-fits_of_no_fault order from strides to none =
-    let parts = no_fault_parts (has_bad_joint (as_read order from) (as_read order strides) (as_read order to))
-    (eqb (size (as_read order from)) (size (as_read order to))) none in (
-      sym (size-as_read order from) ∙ eqb-true (size (as_read order from)) (size (as_read order to)) parts.1
-          ∙ size-as_read order to,
-      parts.0,
-    )
-
-no_fault_of_fits : (order : Order) (from : List ℕ) (strides : List ℤ) (to : List ℕ) → Fits order from strides to
-    → reshape_fault order from strides to ≡ None
-no_fault_of_fits order from strides to fits =
-    let sizes : size (as_read order from) ≡ size (as_read order to) = size-as_read order from ∙ fits.0 ∙ sym (size-as_read order to) in
-    rw (fits.1, eq-eqb (size (as_read order from)) (size (as_read order to)) sizes) refl
-
 -- what a view without a refusal has
 none_parts : (large from_empty to_empty : Bool) (fault : Option ErrorKind)
     → cond large (Some Overflow) (cond (from_empty && to_empty) None (cond (from_empty || to_empty) (Some IncompatibleShape) fault)) ≡ None
@@ -160,7 +137,7 @@ reshaped_keeps order shape {view} v none = by (is_empty shape) refl
         shape))
     by true e = empty_keeps (parts.1 ∙ e) e (sym (length-replicate (length shape) (pos 0)))
     by false e = forced-keeps order shape (has_index-of-valid v.valid (parts.1 ∙ e)) e
-        (fits_of_no_fault order view.shape view.strides shape (parts.2 e))
+        ((fault-exactly order view.shape view.strides shape).0 (parts.2 e))
 
 -- a view can be read as one of a shape exactly where that is not refused
 fits_of_no_refusal : (order : Order) (shape : List ℕ) {view : View} → IsView view → reshape_refusal order shape view ≡ None
@@ -177,7 +154,7 @@ no_refusal_of_fits order shape {view} v fits =
     let same = same_emptiness view.shape shape sizes in
     rw (le-ltb limit (nonzero_size shape) fits.0) (none_from (is_empty view.shape) (is_empty shape)
     (reshape_fault order view.shape view.strides shape) same (λ some.
-    no_fault_of_fits order view.shape view.strides shape
+    (fault-exactly order view.shape view.strides shape).1
     ((keeps-exactly order shape (has_index-of-valid v.valid (same ∙ some)) some).1 fits.1)))
 
 pub reshape_refusal-ReshapeFits : (order : Order) (shape : List ℕ) {view : View} → IsView view

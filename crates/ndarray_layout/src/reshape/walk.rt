@@ -6,7 +6,7 @@ ghost use Rattle.nd_base.specs.Indices.{below};
 ghost use Rattle.nd_base.specs.Signed.{signed as signed_reading, all_signed};
 ghost use Rattle.nd_base.specs.Size.{size, nonzero_size, is_empty, limit};
 ghost use Rattle.nd_base.specs.ValidLayout.{IsValidLayout};
-ghost use Rattle.ndarray_layout.specs.private.ReshapeProgress.{CanWalk, IsReached, IsBlock, IsInside, HasStridesUpTo, PlacesAlike, layouts, fault_of};
+ghost use Rattle.ndarray_layout.specs.private.ReshapeProgress.{CanMatch, GoesOn, IsBlock, IsMatched, layouts, left, fault_of, segment};
 ghost use Rattle.ndarray_layout.specs.reshape.ForcedStrides.{forced_strides, stride_at};
 ghost use Rattle.ndarray_layout.specs.reshape.ReshapeFault.{reshape_fault};
 
@@ -20,7 +20,7 @@ struct Reached {
     to_axes: usize,
 }
 
-/// Axes of both shapes that are read next, up to where they have as many indices again. Those of the
+/// Axes of both shapes that are read next, up to where they have as many indices. Those of the
 /// old one step as one axis, by this step.
 #[derive(Clone, Copy)]
 struct Block {
@@ -38,8 +38,9 @@ fn next_block<S: Sequence, T: Sequence>(
     to: &T,
     start: Reached,
 ) -> Result<Block, ShapeError>
-    requires reached { IsReached (layouts (S.items from.now) (S.items strides.now) (T.items to.now))
-        start.from_axes start.to_axes }
+    requires goes_on { GoesOn (layouts (S.items from.now) (S.items strides.now) (T.items to.now))
+        start.to_axes (left (layouts (S.items from.now) (S.items strides.now) (T.items to.now))
+        start.from_axes start.to_axes) }
     requires from_count { length (S.items from.now) ≤ usize.MAX }
     requires to_count { length (T.items to.now) ≤ usize.MAX }
     requires from_left { start.from_axes < length (S.items from.now) }
@@ -49,16 +50,11 @@ fn next_block<S: Sequence, T: Sequence>(
     ensures fault { IfErr result
         (λ kind. fault_of (layouts (S.items from.now) (S.items strides.now) (T.items to.now))
         ≡ Some kind) }
-    ensures reached { IfOk result
-        (λ block. IsReached (layouts (S.items from.now) (S.items strides.now) (T.items to.now))
-        block.end.from_axes block.end.to_axes) }
-    ensures further { IfOk result (λ block. start.to_axes < block.end.to_axes) }
     ensures block { IfOk result
-        (λ block. IsBlock (S.items from.now) (all_signed (S.items strides.now)) start.from_axes
-        block.end.from_axes (signed_reading block.step)) }
-    ensures inside { IfOk result
-        (λ block. IsInside (S.items from.now) (T.items to.now) start.to_axes block.end.from_axes
-        block.end.to_axes) }
+        (λ block. IsBlock (layouts (S.items from.now) (S.items strides.now) (T.items to.now))
+        start.from_axes start.to_axes block.end.from_axes block.end.to_axes
+        (size (segment start.to_axes block.end.to_axes (T.items to.now)))
+        (signed_reading block.step)) }
 {
     let (mut from_end, mut to_end) = (start.from_axes + 1, start.to_axes + 1);
     let mut from_product = item(from, start.from_axes);
@@ -107,7 +103,7 @@ fn write_block<T: Sequence, O: SequenceMut>(
     requires room { length (O.items out.old) ≡ length (T.items to.now) }
     requires ahead { start < end }
     requires within { end ≤ length (T.items to.now) }
-    requires len_fits { (k : ℕ) → k < length (T.items to.now) →
+    requires len_fits { (k : ℕ) → start ≤ k → k < end →
         slice_index (T.items to.now) k ≤ limit }
     requires steps_fit { (k : ℕ) → start ≤ k → k < end →
         FitsSigned w64
@@ -144,7 +140,7 @@ fn advance<S: Sequence, T: Sequence, O: SequenceMut>(
     requires from_left { at.from_axes < length (S.items from.now) }
     requires to_left { at.to_axes < length (T.items to.now) }
     requires room { length (O.items out.old) ≡ length (T.items to.now) }
-    requires written { HasStridesUpTo
+    requires written { IsMatched
         (layouts (S.items from.now) (S.items strides.now) (T.items to.now))
         (all_signed (O.items out.old)) at.from_axes at.to_axes }
     ensures fault { IfErr result
@@ -154,7 +150,7 @@ fn advance<S: Sequence, T: Sequence, O: SequenceMut>(
         (λ next. at.from_axes + at.to_axes < next.from_axes + next.to_axes) }
     ensures room { IfOk result (λ next. length (O.items out.new) ≡ length (T.items to.now)) }
     ensures written { IfOk result
-        (λ next. HasStridesUpTo (layouts (S.items from.now) (S.items strides.now) (T.items to.now))
+        (λ next. IsMatched (layouts (S.items from.now) (S.items strides.now) (T.items to.now))
         (all_signed (O.items out.new)) next.from_axes next.to_axes) }
     ensures target { O.same_target out.old out.new }
 {
@@ -227,18 +223,15 @@ fn walk<S: Sequence, T: Sequence, O: SequenceMut>(
     to: &T,
     out: &mut O,
 ) -> Result<(), ShapeError>
-    requires can_walk { CanWalk
+    requires can_match { CanMatch
         (layouts (S.items from.now) (S.items strides.now) (T.items to.now)) }
     requires room { length (O.items out.old) ≡ length (T.items to.now) }
     ensures fault { IfErr result
         (λ kind. fault_of (layouts (S.items from.now) (S.items strides.now) (T.items to.now))
         ≡ Some kind) }
-    ensures sizes { IfOk result (λ done. size (S.items from.now) ≡ size (T.items to.now)) }
-    ensures alike { IfOk result
-        (λ done. PlacesAlike (S.items from.now) (all_signed (S.items strides.now)) (T.items to.now)
-        (all_signed (O.items out.new))) }
-    ensures strides { IfOk result
-        (λ done. all_signed (O.items out.new)
+    ensures fits { OnOk result
+        (fault_of (layouts (S.items from.now) (S.items strides.now) (T.items to.now)) ≡ None) }
+    ensures strides { OnOk result (all_signed (O.items out.new)
         ≡ map (stride_at (S.items from.now) (all_signed (S.items strides.now)) (T.items to.now))
         (below (length (T.items to.now)))) }
     ensures room { IfOk result (λ done. length (O.items out.new) ≡ length (T.items to.now)) }

@@ -1,5 +1,5 @@
-use Rattle.ndarray_layout.proofs.reshapes.Turned.{keeps-filled, layouts-same}
-use Rattle.ndarray_layout.proofs.reshapes.SamePlaces.{has_index-of-valid}
+use Rattle.ndarray_layout.proofs.matching.Turned.{keeps-filled, layouts-same}
+use Rattle.ndarray_layout.proofs.matching.HasIndex.{has_index-of-valid}
 use Rattle.ndarray_layout.proofs.laws.Keeps.{fault-complete, keeps-agree}
 use Rattle.ndarray_layout.proofs.reshape.reshape_dim.Goals as goal
 

@@ -1,8 +1,7 @@
 use Rattle.std.proofs.Common.{set, ap₂, to_z, ℤ, length-set, ◌≡◌, ◌<◌, ◌≤◌, ◌+◌, ◌-◌, ◌*◌, pos, ◌*ℤ◌, ℕ, List, length, drop, take, get_or}
-use Rattle.std.proofs.Common.{w64, arith, sym, ap, refl, ◌∙◌, subst, get_or-set_other, get_or-set_same, inl, inr}
+use Rattle.std.proofs.Common.{w64, arith, sym, ap, ◌∙◌, subst, get_or-set_other, get_or-set_same, inl, inr}
 use Rattle.std.specs.Int.RustNames.{FitsSigned}
 use Rattle.std.proofs.Math.IntN.{*ℤ_comm}
-use Rattle.std.proofs.Math.Nat.{mul_comm}
 use Rattle.std.proofs.lemmas.Bool.{cases_eq}
 use Rattle.std.proofs.lemmas.List.{length-take-le, get_or-take}
 use Rattle.std.proofs.lemmas.Int.{to_z-of_z, to_z_pos}
@@ -11,29 +10,33 @@ use Rattle.nd_base.proofs.laws.Size.{size_from}
 use Rattle.nd_base.proofs.laws.Times.{times_times}
 use Rattle.ndarray_layout.proofs.reshape.walk.write_block.Goals as goal
 
--- the product from an axis on is its length times the product of the later ones
-more : (lens : List ℕ) (end k rest : ℕ) → end ≤ length lens → 0 < k → k ≤ end → rest ≡ size (drop k (take end lens))
-    → rest * get_or lens (k - 1) 0 ≡ size (drop (k - 1) (take end lens))
-more lens end k rest l g h e =
-    let long = length-take-le end lens l in
+-- an axis before another one, both before the end
+record IsNext (lens : List ℕ) (end k len : ℕ) : Type 0 where
+  pub within : end ≤ length lens
+  pub low : 0 < k
+  pub high : k ≤ end
+  pub len_is : len ≡ get_or lens (k - 1) 0
+
+-- the product from it on is its length times the product of the later ones
+more : {lens : List ℕ} {end k len : ℕ} → IsNext lens end k len → len * size (drop k (take end lens)) ≡ size (drop (k - 1) (take end lens))
+more {lens} {end} {k} at =
+    let low = at.low in
+    let high = at.high in
+    let long = length-take-le end lens at.within in
     let next : k - 1 + 1 ≡ k = omega arith in
-    let here : get_or (take end lens) (k - 1) 0 ≡ get_or lens (k - 1) 0 = get_or-take end lens (k - 1) 0 (omega arith) in
-    let whole = size_from (take end lens) (k - 1) (omega arith) in
-    ap (λ n. n * get_or lens (k - 1) 0) (e ∙ ap (λ n. size (drop n (take end lens))) (sym next))
-    ∙ ap (λ n. size (drop (k - 1 + 1) (take end lens)) * n) (sym here)
-    ∙ mul_comm (size (drop (k - 1 + 1) (take end lens))) (get_or (take end lens) (k - 1) 0)
-    ∙ sym whole
+    ap₂ (λ m n. m * size (drop n (take end lens))) (at.len_is ∙ sym (get_or-take end lens (k - 1) 0 (omega arith))) (sym next)
+    ∙ sym (size_from (take end lens) (k - 1) (omega arith))
 
 -- the next stride, as the code has it
-next-stride : (lens : List ℕ) (end k bits : ℕ) {len : ℕ} (step : ℕ) → end ≤ length lens → 0 < k → k ≤ end → len ≤ limit
-    → to_z w64 bits ≡ pos (size (drop k (take end lens))) *ℤ signed step → len ≡ get_or lens (k - 1) 0
-    → to_z w64 bits *ℤ to_z w64 len ≡ pos (size (drop (k - 1) (take end lens))) *ℤ signed step
-next-stride lens end k bits {len} step l g h small e f =
+next-stride : {lens : List ℕ} {end k len : ℕ} (step : ℤ) (bits : ℕ) → IsNext lens end k len → len ≤ limit
+    → to_z w64 bits ≡ pos (size (drop k (take end lens))) *ℤ step
+    → to_z w64 bits *ℤ to_z w64 len ≡ pos (size (drop (k - 1) (take end lens))) *ℤ step
+next-stride {lens} {end} {k} {len} step bits at small e =
     let rest = size (drop k (take end lens)) in
     ap₂ (λ x y. x *ℤ y) e (to_z_pos w64 len (omega arith))
-    ∙ *ℤ_comm (pos rest *ℤ signed step) (pos len)
-    ∙ times_times len rest (signed step)
-    ∙ ap (λ n. pos n *ℤ signed step) (mul_comm len rest ∙ ap (λ n. rest * n) f ∙ more lens end k rest l g h refl)
+    ∙ *ℤ_comm (pos rest *ℤ step) (pos len)
+    ∙ times_times len rest step
+    ∙ ap (λ n. pos n *ℤ step) (more at)
 
 -- and it is among those that fit
 next-fits : (lens : List ℕ) (end k step : ℕ) {z : ℤ} → 1 < k
@@ -52,8 +55,10 @@ overflow_mul-stride g c =
     let within = c.requires.within in
     let low = c.loop-k-test.true in
     let high = v.high in
-    let z = next-stride lens c.args.end k l.stride-bits c.args.step within (omega arith) high (let small = c.requires.len_fits (k - 1)
-    (omega arith) in let same = c.item.ensures in omega (arith, small, same)) v.stride_is c.item.ensures in
+    let at : IsNext lens c.args.end k c.item.result = record { within = within; low = omega arith; high = high; len_is = c.item.ensures } in
+    let small = c.requires.len_fits (k - 1) (omega arith) (omega arith) in
+    let same = c.item.ensures in
+    let z = next-stride (signed c.args.step) l.stride-bits at (omega (arith, small, same)) v.stride_is in
     next-fits lens c.args.end k c.args.step (omega arith) (c.requires.steps_fit (k - 1 - 1) (omega arith) (omega arith)) z
 
 pub loop-k-preserved : goal.loop-k-preserved
@@ -67,8 +72,10 @@ loop-k-preserved g c =
     let high = v.high in
     let room = v.room in
     let product = to_z w64 l.stride-bits *ℤ to_z w64 c.item.result in
-    let z = next-stride lens c.args.end k l.stride-bits c.args.step within (omega arith) high (let small = c.requires.len_fits (k - 1)
-    (omega arith) in let same = c.item.ensures in omega (arith, small, same)) v.stride_is c.item.ensures in
+    let at : IsNext lens c.args.end k c.item.result = record { within = within; low = omega arith; high = high; len_is = c.item.ensures } in
+    let small = c.requires.len_fits (k - 1) (omega arith) (omega arith) in
+    let same = c.item.ensures in
+    let z = next-stride (signed c.args.step) l.stride-bits at (omega (arith, small, same)) v.stride_is in
     let fits = next-fits lens c.args.end k c.args.step (omega arith) (c.requires.steps_fit (k - 1 - 1) (omega arith) (omega arith)) z in
     let kept = to_z-of_z w64 product fits in
     let value : signed c.unsigned.result ≡ pos (size (drop (k - 1) (take c.args.end lens))) *ℤ signed c.args.step = c.unsigned.ensures.back

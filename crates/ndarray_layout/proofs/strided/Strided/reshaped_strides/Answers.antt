@@ -5,8 +5,8 @@ use Rattle.std.proofs.lemmas.Bool.{false≢true}
 use Rattle.nd_base.proofs.laws.Definitions.{NeedsNoMemory, all_signed, is_empty, limit, nonzero_size}
 use Rattle.ndarray_layout.specs.ReshapedView.{IsReshapeRefusal, reshape_refusal, reshaped_strides as strides_of}
 use Rattle.ndarray_layout.specs.View.{View, view_of}
-use Rattle.ndarray_layout.proofs.reshapes.Views.{HaveIndices, refusal_between, refused_between, both_are, strides_between, strides_of_none}
-use Rattle.ndarray_layout.proofs.reshapes.Views.{within_limit}
+use Rattle.ndarray_layout.proofs.matching.Views.{HaveIndices, refusal_between, refused_between, both_are, strides_between, strides_of_none}
+use Rattle.ndarray_layout.proofs.matching.Views.{within_limit}
 use Rattle.std.specs.Prelude.{length}
 use Rattle.ndarray_layout.proofs.strided.Strided.reshaped_strides.Given.{Over}
 use Rattle.ndarray_layout.proofs.strided.Strided.reshaped_strides.Goals as goal

@@ -1,10 +1,10 @@
 -- A reshape by what is known of the two shapes.
-use Rattle.std.proofs.Common.{◌≡◌, ◌≢◌, ℕ, zero, suc, ◌≤◌, pos, Bool, true, false, not, cond, ltb, Option, Some, None, Result, Ok, Err}
+use Rattle.std.proofs.Common.{◌≡◌, ℕ, zero, suc, ◌≤◌, pos, Bool, true, false, not, cond, ltb, Option, Some, None, Result, Ok, Err}
 use Rattle.std.proofs.Common.{List, ◌∷◌, length, replicate, refl, sym, ap, ◌∙◌}
 use Rattle.std.proofs.Math.Bool.{beq}
 use Rattle.std.proofs.lemmas.Bool.{le-ltb, ltb-false}
-use Rattle.std.specs.Prelude.{◌&&◌, ◌||◌, IfErr}
-use Rattle.nd_base.specs.declared.error.ErrorKind.TheVariants.{IncompatibleShape, Overflow}
+use Rattle.std.specs.Prelude.{IfErr}
+use Rattle.nd_base.specs.declared.error.ErrorKind.TheVariants.{Overflow}
 use Rattle.nd_base.specs.declared.error.LayoutError.{LayoutError}
 use Rattle.nd_base.specs.declared.error.LayoutError.TheVariants.{Shape, Memory}
 use Rattle.nd_base.specs.declared.order.Order.{Order}
@@ -58,10 +58,6 @@ pub strides_between : (order : Order) {shape : List ℕ} {view : View} → HaveI
 strides_between order both = rw both.more refl
 
 -- neither has one
-pub refusal_of_none : (order : Order) (shape : List ℕ) (view : View) → nonzero_size shape ≤ limit → is_empty view.shape ≡ true
-    → is_empty shape ≡ true → reshape_refusal order shape view ≡ None
-refusal_of_none order shape view fits none nothing = rw (le-ltb limit (nonzero_size shape) fits, none, nothing) refl
-
 zeros_signed : (n : ℕ) → all_signed (replicate n 0) ≡ replicate n (pos 0)
 zeros_signed zero = refl
 zeros_signed (suc n) = ap (λ zs. pos 0 ∷ zs) (zeros_signed n)
@@ -69,16 +65,3 @@ zeros_signed (suc n) = ap (λ zs. pos 0 ∷ zs) (zeros_signed n)
 pub strides_of_none : (order : Order) (shape : List ℕ) (view : View) → is_empty shape ≡ true
     → all_signed (replicate (length shape) 0) ≡ reshaped_strides order shape view
 strides_of_none order shape view nothing = rw nothing (zeros_signed (length shape))
-
--- one has one, the other doesn't
-pub refusal_of_one : (order : Order) (shape : List ℕ) (view : View) → nonzero_size shape ≤ limit → is_empty view.shape ≢ is_empty shape
-    → reshape_refusal order shape view ≡ Some IncompatibleShape
-refusal_of_one order shape view fits differ = rw (le-ltb limit (nonzero_size shape) fits) (by (is_empty view.shape) (is_empty shape) differ)
-  where
-    by : (a b : Bool) → a ≢ b
-        → cond (a && b) None (cond (a || b) (Some IncompatibleShape) (reshape_fault order view.shape view.strides shape))
-        ≡ Some IncompatibleShape
-    by true true differ = absurd (differ refl)
-    by true false differ = refl
-    by false true differ = refl
-    by false false differ = absurd (differ refl)

@@ -2,7 +2,7 @@
 use Rattle.std.proofs.Common.{◌≡◌, ℕ, zero, suc, ◌+◌, ◌*◌, ◌/◌, ◌%◌, ◌<◌, ◌≤◌, true, false, ℤ, pos, ◌+ℤ◌, ◌*ℤ◌, List, [], ◌∷◌, length}
 use Rattle.std.proofs.Common.{get_or, drop, map, refl, sym, ap, ap₂, ◌∙◌, inl, inr, arith, add-one}
 use Rattle.std.specs.Prelude.{nat_lt}
-use Rattle.std.proofs.Math.Nat.{div-eq_of_lt, div_self, mod-eq_of_lt, mod_self, mul-le-mul_left, mul_comm, zero-div}
+use Rattle.std.proofs.Math.Nat.{div-eq_of_lt, div_self, mod-eq_of_lt, mod_self, mul-le-mul_left, mul_comm}
 use Rattle.std.proofs.lemmas.Bool.{cases_lt, cond-true, lt-ltb, ltb-true, and_parts}
 use Rattle.std.proofs.lemmas.Int.{ints}
 use Rattle.std.proofs.lemmas.List.FromFn.{length-map-range_with_len, get_or-map-range_with_len}
@@ -11,18 +11,8 @@ use Rattle.nd_base.proofs.laws.FlatIndex.{is_index-index_of_flat}
 use Rattle.nd_base.proofs.laws.Size.{size_of_nonempty, size_from, size_drop_le, drop_nonempty}
 use Rattle.nd_dim.specs.Strides.{size_after}
 use Rattle.ndarray_layout.specs.reshape.ForcedStrides.{offset_at_flat_index, stride_of_one, stride_at}
-use Rattle.ndarray_layout.specs.private.ReshapeProgress.{PlacesAlike}
-use Rattle.ndarray_layout.proofs.reshapes.Joins.{is_empty-rest}
-use Rattle.ndarray_layout.proofs.reshapes.SamePlaces.{HasIndex, SamePlaces}
-
--- the first index lies at the beginning
-offset-first : (lens : List ℕ) (strides : List ℤ) → offset_of strides (index_of_flat lens 0) ≡ pos 0
-offset-first [] strides = refl
-offset-first (len ∷ lens) [] = refl
-offset-first (len ∷ lens) (stride ∷ strides) =
-    let rest = offset-first lens strides in
-    let none : 0 % size lens ≡ 0 = omega arith in
-    rw (zero-div (size lens), none) (omega (arith, ints, rest))
+use Rattle.ndarray_layout.proofs.matching.FlatOffsets.{offset-first}
+use Rattle.ndarray_layout.proofs.matching.HasIndex.{HasIndex, PlacesAlike, SamePlaces, is_empty-rest}
 
 -- an axis of several entries has fewer indices after it than there are
 pub size_after-below : (lens : List ℕ) (axis : ℕ) → is_empty lens ≡ false → axis < length lens → 1 < get_or lens axis 0

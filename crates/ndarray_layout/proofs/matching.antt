@@ -1,0 +1,15 @@
+pub mod BadJoints
+pub mod Blocks
+pub mod Exact
+pub mod Faults
+pub mod FlatOffsets
+pub mod Forced
+pub mod HasIndex
+pub mod Joined
+pub mod Matched
+pub mod OnesRead
+pub mod Steps
+pub mod StridesAt
+pub mod Turned
+pub mod Views
+pub mod WholeSteps
