@@ -8,8 +8,8 @@ use crate::numbers::Numbers;
 use crate::types::{axes_of, dimension, kept, lists_of, of_types, signed_list, strided, strides_of};
 use ndarray_layout::CanIndexCheckMode::ReadOnly;
 use ndarray_layout::{
-    CanIndexCheckMode, Dimension, ErrorKind, IndexCursor, IndexCursorF, LayoutError, Lengths, Order, Row,
-    ShapeError, StrideShape, Strided, Strides, accept, can_index_slice, default_strides, dim_stride_overlap, fortran_strides,
+    CanIndexCheckMode, Dimension, ErrorKind, IndexCursor, IndexCursorF, LayoutError, Lengths, Order, Row, ShapeError,
+    StrideShape, Strided, Strides, accept, can_index_slice, default_strides, dim_stride_overlap, fortran_strides,
     from_kind, is_index, is_layout_c, is_layout_f, low_span, new_ixdyn, offset_from_low_addr_ptr_to_logical_ptr,
     size_of_shape_checked, span_of_lengths, step_by_columns, step_by_rows,
 };
