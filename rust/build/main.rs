@@ -53,6 +53,7 @@ const ALLOWED: &[(&str, &[&str])] = &[
             "clippy::question_mark",
             "clippy::redundant_pattern_matching",
             "clippy::type_complexity",
+            "clippy::while_let_on_iterator",
         ],
     ),
     (
