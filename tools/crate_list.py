@@ -10,15 +10,10 @@ SOURCES = (".rt", ".antt")
 
 @dataclasses.dataclass(frozen=True)
 class Line:
-    """A line of the list: the crate's name, with what stands beside it before the colon, and the libraries that it uses."""
+    """A line of the list: the crate's name, and the libraries that it uses."""
 
     name: str
-    words: tuple
     libraries: tuple
-
-    def text(self):
-        """The line as it is written, with single spaces."""
-        return f"{' '.join((self.name, *self.words))}: {' '.join(self.libraries)}".rstrip()
 
 
 def parse_line(text):
@@ -26,8 +21,7 @@ def parse_line(text):
     head, _, libraries = text.partition("#")[0].partition(":")
     if not head.strip():
         return None
-    name, *words = head.split()
-    return Line(name, tuple(words), tuple(libraries.replace(",", " ").split()))
+    return Line(head.split()[0], tuple(libraries.replace(",", " ").split()))
 
 
 def read_list(top):
