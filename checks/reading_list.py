@@ -5,9 +5,9 @@ file and the lines of its definition, without comments and examples.
 
 usage: checks/reading_list.py
 """
-import functools, re, sys
+import functools, glob, re, sys
 
-from rattle_source import TOP, modules_of, read, self_type
+from rattle_source import TOP, read
 
 PAGE = "docs/PROVED.md"
 CRATES = ["nd_base", "nd_dim", "nd_shape", "nd_slice", "ndarray_layout", "nd_owned", "ndl_session"]
@@ -18,6 +18,8 @@ DEFINED = re.compile(r"(?:infixl \d+ |abbrev )?(?:pub (?:record |data )?)?(\S+)"
 WORD = re.compile(r"(?<![\w'.-])[^\W\d][\w'→-]*|[^\w\s(){},.;]+")
 MEMBER = re.compile(r"(?:\b[A-Z]\w*|⟧)\.([a-z]\w*)")  # `D.list`
 TYPE = re.compile(r"\b[A-Z]\w+")
+BLOCK = re.compile(r"^(?:pub trait (\w+)|impl(?:<.*?>)? (?:([A-Z]\w*)(?:<[^{]*>)? for )?&?(?:'\w+ )?(\w+|\[)).*?^\}", re.M | re.S)
+GHOST = re.compile(r"^    ghost (?!use)(\w+)\b.*?(?=^$|^    \S|^\})", re.M | re.S)
 
 
 def calls_of_the_promise():
@@ -26,31 +28,26 @@ def calls_of_the_promise():
     return list(dict.fromkeys(re.findall(r"`([\w:]+)`", section)))
 
 
+def sources():
+    """The files of the layer's sources."""
+    return [path for crate in CRATES for path in sorted(glob.glob(f"crates/{crate}/src/**/*.rt", recursive=True, root_dir=TOP))]
+
+
 @functools.cache
-def items():
-    """Each item of the layer's sources, as (path, item)."""
-    return [
-        (f"crates/{crate}/src/{module or 'lib'}.rt", item)
-        for crate in CRATES
-        for module, found in modules_of(f"{TOP}/crates/{crate}/src")
-        for item in found
-    ]
+def blocks():
+    """Each `impl` and each public trait of the layer's sources, as (path, trait, type, text); a trait's type is None."""
+    return [(path, found[1] or found[2], found[3], found[0]) for path in sources() for found in BLOCK.finditer(read(path))]
 
 
 def source_of(call):
-    """Where a public call stands, as (path, function)."""
+    """Where a public call stands, as (path, the text up to its body)."""
     owner, _, name = call.rpartition("::")
-    for path, item in items():
-        members = [item] if not owner else item.members if item.kind == "impl" and self_type(item.head) == (owner, None) else []
-        for one in members:
-            if one.kind == "fn" and one.is_public and one.name == name:
-                return path, one
+    inherent = [(path, text) for path, trait, target, text in blocks() if owner and not trait and target == owner]
+    for path, text in inherent or [(path, read(path)) for path in sources()]:
+        found = re.search(rf"^( *)pub fn {name}\b.*?(?=^\1{{$| {{$)", text, re.M | re.S)
+        if found and (owner or not found[1]):
+            return path, re.sub(r"\b(?:requires|ensures)\*? \w+ \{", "{", found[0])
     sys.exit(f"{PAGE}: there is no call {call}")
-
-
-def text_of(call, function):
-    """What a reader sees of a call: its name, its types and its clauses."""
-    return "\n".join([call, function.head, *(fact for _, _, fact in function.clauses)])
 
 
 def file_of(crate, module):
@@ -91,34 +88,32 @@ def words_in(path, text):
 
 @functools.cache
 def ghost_members():
-    """What clauses see a value as: by the name of a trait's member, and by that of a type for its model, each → [(path, member)]."""
-    found, traits = {}, {item.name for _, item in items() if item.kind == "trait"}
-    for path, item in items():
-        target, trait = self_type(item.head) if item.kind == "impl" else (None, None)
-        for member in item.members if trait in {"Model", *traits} else []:
-            if member.kind == "ghost":
-                found.setdefault(target if trait == "Model" else member.name, []).append((path, member))
+    """What clauses see a value as: by the name of a trait's member, and by that of a type for its model, each → [(path, name, text)]."""
+    found, traits = {}, {trait for _, trait, target, _ in blocks() if not target}
+    for path, trait, target, text in blocks():
+        for member in GHOST.finditer(text) if target and trait in {"Model", *traits} else []:
+            found.setdefault(target if trait == "Model" else member[1], []).append((path, member[1], member[0]))
     return found
 
 
-def ghosts_of(call, function):
-    """The ghost members that a call's types and clauses stand on, as [(path, member)]."""
-    text = text_of(call, function)
+def ghosts_of(text):
+    """The ghost members that the types and clauses of a call stand on."""
     return [one for name in dict.fromkeys(MEMBER.findall(text) + TYPE.findall(text)) for one in ghost_members().get(name, [])]
 
 
-def named_by(call, path, function):
+def named_by(call):
     """The words that a call's types and clauses name, and the ghost members there."""
-    found = words_in(path, text_of(call, function))
-    for place, member in ghosts_of(call, function):
-        found += words_in(place, member.head)
+    path, text = source_of(call)
+    found = words_in(path, f"{call} {text}")
+    for place, _, member in ghosts_of(f"{call} {text}"):
+        found += words_in(place, member)
     return found
 
 
 def named_by_the_promise():
     """The words that the calls of the promise name, those of the first call first."""
     calls = calls_of_the_promise()
-    return list(dict.fromkeys(word for call in calls for word in named_by(call, *source_of(call))))
+    return list(dict.fromkeys(word for call in calls for word in named_by(call)))
 
 
 def all_words():
@@ -131,8 +126,8 @@ def all_words():
 
 def all_ghosts():
     """The ghost members of the promise's calls, as (path, name), each once."""
-    ghosts = [one for call in calls_of_the_promise() for one in ghosts_of(call, source_of(call)[1])]
-    return list(dict.fromkeys((path, member.name) for path, member in ghosts))
+    ghosts = [one for call in calls_of_the_promise() for one in ghosts_of(f"{call} {source_of(call)[1]}")]
+    return list(dict.fromkeys((path, name) for path, name, _ in ghosts))
 
 
 def lines_of(words):
