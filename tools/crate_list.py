@@ -35,17 +35,11 @@ def crates_below(lines, name):
     """The lines of a crate and of all that it depends on, each after those of the libraries that it lists."""
     if name not in lines:
         raise LookupError(f"crates.txt names no crate {name}")
-    found, entered = [], set()
-    waiting = [(name, False)]
-    while waiting:
-        crate, is_reached = waiting.pop()
-        if is_reached:
-            found.append(lines[crate])
-        elif crate not in entered:
-            entered.add(crate)
-            waiting.append((crate, True))
-            waiting.extend((library, False) for library in reversed(lines[crate].libraries) if library in lines)
-    return found
+    found = {}
+    for library in lines[name].libraries:
+        if library in lines:
+            found.update((line.name, line) for line in crates_below(lines, library))
+    return [*found.values(), lines[name]]
 
 
 def source_files(top, name):
