@@ -107,7 +107,8 @@ def copy_programs(room):
 def copy_repository(room, *crates):
     """Copies the crates that some of them use, and these themselves, to the room, and returns the copy's folder."""
     lines, copy = read_list(TOP), f"{room.folder}/repository"
-    names = {line.name: line.text() for crate in crates for line in crates_below(lines, crate)}
+    below = [line for crate in crates for line in crates_below(lines, crate)]
+    names = {line.name: f"{line.name}: {' '.join(line.libraries)}" for line in below}
     for name in names:
         copy_crate(f"{TOP}/crates/{name}", f"{copy}/crates/{name}")
     copy_own_crate(f"{copy}/crates/{CRATE}")
