@@ -1,6 +1,6 @@
 -- Slices along an axis: each index that a slice picks has its coordinate in the slice's range there, so slices whose ranges are apart
 -- share no index.
-use Rattle.std.proofs.Common.{◌≡◌, ℕ, zero, suc, ◌+◌, ◌-◌, ◌<◌, ◌≤◌, pos, max, None, Some, Option, List, [], ◌∷◌, ◌++◌, length, get_or, map}
+use Rattle.std.proofs.Common.{◌≡◌, ℕ, ℤ, zero, suc, ◌+◌, ◌-◌, ◌<◌, ◌≤◌, None, Some, Option, List, [], ◌∷◌, ◌++◌, length, get_or, map}
 use Rattle.std.proofs.Common.{inl, inr, ◌⊎◌, take, drop, sym, ap, subst, ◌∙◌, arith}
 use Rattle.std.specs.List.{All, AllZip, Contains}
 use Rattle.std.specs.Prelude.{IfSome, IsSomeAnd}
@@ -9,33 +9,26 @@ use Rattle.std.proofs.lemmas.List.{get_or-drop, length-drop, length-map, take_mo
 use Rattle.std.proofs.lemmas.List.Elements.{All-append, All-cons, All-contains, All-drop}
 use Rattle.std.proofs.lemmas.List.Sorted.{IsNonDecreasingBy-push}
 use Rattle.ndarray_layout.specs.declared.Fit.TheVariants.{Strict}
-use Rattle.ndarray_layout.specs.declared.Slice.{Slice}
 use Rattle.ndarray_layout.specs.declared.SliceInfoElem.{SliceInfoElem}
 use Rattle.ndarray_layout.specs.declared.SliceInfoElem.TheVariants as elem
 use Rattle.ndarray_layout.specs.ArgumentFault.{argument_fault, in_count}
 use Rattle.ndarray_layout.specs.Meet.{Meet, axis_picks, elem_picks}
-use Rattle.ndarray_layout.specs.Picks.{end_meaning, picks, start_meaning}
+use Rattle.ndarray_layout.specs.Picks.{between}
 use Rattle.ndarray_layout.specs.Signed.{magnitude}
-use Rattle.ndarray_layout.specs.SliceFault.{SliceFits}
 use Rattle.ndarray_layout.proofs.laws.ArgumentFault.{elements_of_no_fault}
 use Rattle.ndarray_layout.proofs.laws.Between.{between_above, between_below}
 use Rattle.ndarray_layout.proofs.laws.Meet.{meet_symmetric}
-use Rattle.ndarray_layout.proofs.laws.SliceFault.{step_moves}
 use Rattle.nd_owned.specs.private.Ranges.{AreInOrder, HasRange, IsBetween, IsPast, elem_on, end_on, start_on}
 use Rattle.nd_owned.specs.Writes.{Write, slices_fault}
 use Rattle.nd_owned.proofs.Faults.{this}
 use Rattle.nd_owned.proofs.Slices.{each_fits}
 
--- what a slice that fits picks lies in its range
-pub picks_between : (len : ℕ) (slice : Slice) {start end : ℕ} → SliceFits Strict len slice → pos start ≡ start_meaning Strict len slice
-    → end ≡ max start (magnitude (end_meaning Strict len slice)) → All (IsBetween start end) (picks Strict len slice)
-picks_between len slice {start} {end} fits begin stop = λ k d below.
-    let from = magnitude (start_meaning Strict len slice) in
-    let to = magnitude (end_meaning Strict len slice) in
-    let first : start ≡ from = ap magnitude begin in
-    let low = between_above slice.step from to k (step_moves Strict len slice fits) below in
-    let high = between_below slice.step from to k (step_moves Strict len slice fits) below in
-    let same = get_or_default_zero (picks Strict len slice) k d below in
+-- what a step that moves picks lies in its range
+pub picks_between : (step : ℤ) (start end : ℕ) → 0 < magnitude step → All (IsBetween start end) (between step start end)
+picks_between step start end moves = λ k d below.
+    let low = between_above step start end k moves below in
+    let high = between_below step start end k moves below in
+    let same = get_or_default_zero (between step start end) k d below in
     (omega arith, omega arith)
 
 in_count_le : (elems : List SliceInfoElem) → in_count elems ≤ length elems

@@ -3,34 +3,25 @@ ghost use Rattle.std.specs.Prelude.{◌≡◌, ◌↔◌, ◌⊎◌, ◌<◌, �
 ghost use Rattle.std.specs.List.{All};
 ghost use Rattle.ndarray_layout.specs.declared.Fit.TheVariants.{Strict};
 ghost use Rattle.ndarray_layout.specs.ArgumentFault.{argument_fault};
+ghost use Rattle.ndarray_layout.specs.ElemRange.{elem_end, elem_start};
 ghost use Rattle.ndarray_layout.specs.Meet.{Meet, elem_picks};
 ghost use Rattle.nd_owned.specs.Writes.{write_of};
-ghost use Rattle.nd_owned.specs.private.Ranges.{AreInOrder, HasRange, IsBetween, IsPast, elem_end, elem_start, end_on, start_on};
+ghost use Rattle.nd_owned.specs.private.Ranges.{AreInOrder, HasRange, IsBetween, IsPast, end_on, start_on};
 
 use crate::writes::SliceItems;
-use ndarray_layout::{Fit, Slice, SliceInfoElem, elems_intersect, entry_of, to_abs_slice};
+use ndarray_layout::{Fit, SliceInfoElem, elems_intersect, resolve_elem};
 
-/// Where the range of an element begins on an axis, and what it stops before. `None` for a new axis, and for an element
-/// that doesn't fit.
+/// Where the range of an element begins on an axis, and what it stops before. `None` for an element that doesn't fit.
 #[inline]
 fn range_of(len: usize, elem: SliceInfoElem) -> Option<(usize, usize)>
-    ensures start { IfSome result (λ (start, end). start ≡ elem_start len elem) }
-    ensures end { IfSome result (λ (start, end). end ≡ elem_end len elem) }
+    ensures start { IfSome result (λ (start, end). start ≡ elem_start Strict len elem) }
+    ensures end { IfSome result (λ (start, end). end ≡ elem_end Strict len elem) }
     ensures within { IfSome result (λ (start, end).
         All (IsBetween start end) (elem_picks Strict len elem)) }
 {
-    match elem {
-        SliceInfoElem::Slice { start, end, step } => {
-            match to_abs_slice(len, Slice { start, end, step }, Fit::Strict) {
-                Ok((first, stop, _)) => Some((first, stop)),
-                Err(_) => None,
-            }
-        }
-        SliceInfoElem::Index(index) => match entry_of(len, index) {
-            Ok(entry) => Some((entry, entry + 1)),
-            Err(_) => None,
-        },
-        SliceInfoElem::NewAxis => None,
+    match resolve_elem(len, elem, Fit::Strict) {
+        Ok(picks) => Some((picks.start, picks.end)),
+        Err(_) => None,
     }
 }
 

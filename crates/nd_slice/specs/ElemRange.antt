@@ -1,5 +1,5 @@
--- The range of an axis of which an element of a slice argument picks.
-use Rattle.std.specs.Prelude.{◌≡◌, ℕ, ◌+◌, max, pos, negsuc, Some, None, refl}
+-- The range of an axis of which an element of a slice argument picks, and its step.
+use Rattle.std.specs.Prelude.{◌≡◌, ℕ, ℤ, ◌+◌, max, pos, negsuc, Some, None, refl}
 use Rattle.nd_base.specs.Signed.{magnitude}
 use Rattle.nd_slice.specs.declared.fit.Fit.{Fit}
 use Rattle.nd_slice.specs.declared.fit.Fit.TheVariants.{Strict, Clamp}
@@ -19,6 +19,12 @@ elem_end fit len (elem.Slice start end step) =
     max (magnitude (start_meaning fit len (slice_with start end step))) (magnitude (end_meaning fit len (slice_with start end step)))
 elem_end fit len (elem.Index index) = magnitude (meaning len index) + 1
 elem_end fit len elem.NewAxis = 0
+
+-- its step: 1 for an index and for a new axis
+abbrev pub elem_step : SliceInfoElem → ℤ
+elem_step (elem.Slice start end step) = step
+elem_step (elem.Index index) = pos 1
+elem_step elem.NewAxis = pos 1
 
 -- examples
 from_the_end_begins : elem_start Strict 4 (elem.Slice (negsuc 2) None (negsuc 1)) ≡ 1
@@ -41,3 +47,9 @@ clamped_end = refl
 
 new_axis_has_none : elem_end Strict 4 elem.NewAxis ≡ 0
 new_axis_has_none = refl
+
+step_of_a_slice : elem_step (elem.Slice (negsuc 2) None (negsuc 1)) ≡ negsuc 1
+step_of_a_slice = refl
+
+step_of_an_index : elem_step (elem.Index (negsuc 0)) ≡ pos 1
+step_of_an_index = refl

@@ -4,7 +4,7 @@ ghost use Rattle.std.specs.List.{All, Contains};
 ghost use Rattle.std.specs.Result.{result_err};
 ghost use Rattle.nd_base.specs.Signed.{magnitude};
 ghost use Rattle.nd_slice.specs.ArgumentFault.{elem_fault};
-ghost use Rattle.nd_slice.specs.ElemRange.{elem_end, elem_start};
+ghost use Rattle.nd_slice.specs.ElemRange.{elem_end, elem_start, elem_step};
 ghost use Rattle.nd_slice.specs.Meet.{elem_picks};
 ghost use Rattle.nd_slice.specs.Picks.{between, end_meaning, picks, start_meaning};
 ghost use Rattle.nd_slice.specs.SliceFault.{slice_fault, SliceFits};
@@ -49,6 +49,7 @@ pub fn resolve_elem(len: usize, elem: SliceInfoElem, fit: Fit) -> Result<AxisPic
     ensures picks { IfOk result (λ p. between p.step p.start p.end ≡ elem_picks fit len elem) }
     ensures start { IfOk result (λ p. p.start ≡ elem_start fit len elem) }
     ensures end { IfOk result (λ p. p.end ≡ elem_end fit len elem) }
+    ensures step { IfOk result (λ p. p.step ≡ elem_step elem) }
     ensures within { IfOk result (λ p. p.end ≤ len) }
 {
     match elem {

@@ -1,28 +1,14 @@
 -- Where slices lie along an axis, and slices of which none begins before an earlier one: what the contracts of private functions speak of.
-use Rattle.std.specs.Prelude.{◌≡◌, ℕ, ◌+◌, ◌<◌, ◌≤◌, max, pos, negsuc, Some, List, [], ◌∷◌, length, slice_index, slice_index_or, refl}
+use Rattle.std.specs.Prelude.{◌≡◌, ℕ, ◌<◌, ◌≤◌, pos, negsuc, Some, List, [], ◌∷◌, length, slice_index, slice_index_or, refl}
 use Rattle.std.proofs.Math.Arith.{le→nltb}
 use Rattle.std.specs.List.{All}
 use Rattle.std.specs.List.Sorted.{IsNonDecreasingBy}
 use Rattle.ndarray_layout.specs.declared.Fit.TheVariants.{Strict}
 use Rattle.ndarray_layout.specs.declared.SliceInfoElem.{SliceInfoElem}
 use Rattle.ndarray_layout.specs.declared.SliceInfoElem.TheVariants as elem
+use Rattle.ndarray_layout.specs.ElemRange.{elem_end, elem_start}
 use Rattle.ndarray_layout.specs.Meet.{elem_picks}
-use Rattle.ndarray_layout.specs.Picks.{end_meaning, meaning, slice_with, start_meaning}
-use Rattle.ndarray_layout.specs.Signed.{magnitude}
 use Rattle.nd_owned.specs.Writes.{Write}
-
--- where an element's range begins on an axis of length len
-abbrev pub elem_start : ℕ → SliceInfoElem → ℕ
-elem_start len (elem.Slice start end step) = magnitude (start_meaning Strict len (slice_with start end step))
-elem_start len (elem.Index index) = magnitude (meaning len index)
-elem_start len elem.NewAxis = 0
-
--- and what it stops before
-abbrev pub elem_end : ℕ → SliceInfoElem → ℕ
-elem_end len (elem.Slice start end step) =
-    max (magnitude (start_meaning Strict len (slice_with start end step))) (magnitude (end_meaning Strict len (slice_with start end step)))
-elem_end len (elem.Index index) = magnitude (meaning len index) + 1
-elem_end len elem.NewAxis = 0
 
 -- a number from start up to, not including, end
 abbrev pub IsBetween : ℕ → ℕ → ℕ → Type 0
@@ -34,10 +20,10 @@ elem_on axis slice = slice_index_or slice axis elem.NewAxis
 
 -- where the range of such a slice begins on an axis of a shape, and what it stops before
 abbrev pub start_on : List ℕ → ℕ → List SliceInfoElem → ℕ
-start_on shape axis slice = elem_start (slice_index shape axis) (elem_on axis slice)
+start_on shape axis slice = elem_start Strict (slice_index shape axis) (elem_on axis slice)
 
 abbrev pub end_on : List ℕ → ℕ → List SliceInfoElem → ℕ
-end_on shape axis slice = elem_end (slice_index shape axis) (elem_on axis slice)
+end_on shape axis slice = elem_end Strict (slice_index shape axis) (elem_on axis slice)
 
 -- a slice with as many elements as the shape has axes, whose picks of one axis lie in its range there
 pub record HasRange (shape : List ℕ) (axis : ℕ) (slice : List SliceInfoElem) : Type 0 where
@@ -72,9 +58,6 @@ columns_begin = refl
 
 columns_end : end_on (4 ∷ 5 ∷ []) 1 last_row ≡ 3
 columns_end = refl
-
-end_before_start : elem_end 4 (elem.Slice (pos 3) (Some (pos 1)) (pos 1)) ≡ 3
-end_before_start = refl
 
 not_between : IsBetween 1 3 3 → ⊥
 not_between is = le→nltb 3 4 is.1
